@@ -1,0 +1,1 @@
+// Lists, counting and tables, as laws in specs/. There is no code here.

@@ -1,0 +1,98 @@
+-- The book of a list of calls: what each call answers, from the puzzle and the calls alone.
+--
+--   Asked               a call with its arguments; of reason memory only the length
+--   Reply               refused with a number, done, or the answer of a check
+--   marks ls            the borders with exactly the literals ls decided
+--   reply Z ls a        what the book answers to a when its sequence is ls
+--   after Z ls a        its sequence afterwards
+--   sequence Z as       its sequence after the list as
+--   replies Z as        its answers to the list
+use mathlib.Core.Bool.{Bool, true, false, cond}
+use mathlib.Core.List.{List, [], _∷_, _++_}
+use Prim.Native.Nat.{ℕ}
+use lib.Dec.{eqb, ltb}
+use Rattle.lists.specs.Lists.{any}
+use Rattle.rules.specs.declared.Literal.{Literal}
+use Rattle.rules.specs.declared.Call.{Call}
+use Rattle.rules.specs.declared.Call.the-variants.{Decide, Undo, Check}
+use Rattle.rules.specs.Page.{Puzzle, Mark, undecided, decided}
+use Rattle.rules.specs.Check.{Answer, check}
+
+pub record Asked : Type 0 where
+  pub call : Call
+  pub places : ℕ
+
+pub data Reply : Type 0 where
+  refused : ℕ → Reply
+  done : Reply
+  answered : Answer → Reply
+
+abbrev pub markIf : Bool → Mark → Mark → Mark
+markIf true m n = m
+markIf false m n = n
+
+-- "the puzzle with exactly the sequence's literals decided"
+unfoldable pub marks : List Literal → ℕ → Mark
+marks [] b = undecided
+marks (l ∷ ls) b = markIf (eqb (l .border) b) (decided (l .side)) (marks ls b)
+
+-- "its border is in the sequence"
+unfoldable pub names : List Literal → ℕ → Bool
+names ls b = any (λ (l : Literal). eqb (l .border) b) ls
+
+-- "puts its literal last", "takes the last literal off"
+abbrev pub withLast : List Literal → Literal → List Literal
+withLast ls l = ls ++ (l ∷ [])
+
+unfoldable pub withoutLast : List Literal → List Literal
+withoutLast [] = []
+withoutLast (l ∷ []) = []
+withoutLast (l ∷ k ∷ ls) = l ∷ withoutLast (k ∷ ls)
+
+abbrev pub bareOr : List Literal → Reply → Reply
+bareOr [] r = refused 8
+bareOr (l ∷ ls) r = r
+
+module _ (Z : Puzzle) where
+  -- "A decide answers 6 if its number is not below the border count, 7 if its border is in the sequence; else it is
+  -- done"
+  unfoldable pub decideReply : List Literal → Literal → Reply
+  decideReply ls l = cond (ltb (l .border) (Z .page .borders)) (cond (names ls (l .border)) (refused 7) done)
+      (refused 6)
+
+  -- "and puts its literal last"
+  unfoldable pub decideAfter : List Literal → Literal → List Literal
+  decideAfter ls l = cond (ltb (l .border) (Z .page .borders)) (cond (names ls (l .border)) ls (withLast ls l)) ls
+
+  -- "An undo answers 8 on the empty sequence"; "A check answers 9 if its memory is short; else what Check gives"
+  unfoldable pub replyTo : List Literal → ℕ → Call → Reply
+  replyTo ls places (Decide l) = decideReply ls l
+  replyTo ls places Undo = bareOr ls done
+  replyTo ls places Check = cond (ltb places 16384) (refused 9) (answered (check Z (marks ls)))
+
+  abbrev pub reply : List Literal → Asked → Reply
+  reply ls a = replyTo ls (a .places) (a .call)
+
+  -- "Checks and refused calls do not change the sequence"
+  unfoldable pub afterCall : List Literal → Call → List Literal
+  afterCall ls (Decide l) = decideAfter ls l
+  afterCall ls Undo = withoutLast ls
+  afterCall ls Check = ls
+
+  abbrev pub after : List Literal → Asked → List Literal
+  after ls a = afterCall ls (a .call)
+
+  unfoldable pub sequenceFrom : List Literal → List Asked → List Literal
+  sequenceFrom ls [] = ls
+  sequenceFrom ls (a ∷ calls) = sequenceFrom (after ls a) calls
+
+  unfoldable pub repliesFrom : List Literal → List Asked → List Reply
+  repliesFrom ls [] = []
+  repliesFrom ls (a ∷ calls) = reply ls a ∷ repliesFrom (after ls a) calls
+
+  -- "It keeps a sequence of literals, at first empty"
+  abbrev pub sequence : List Asked → List Literal
+  sequence calls = sequenceFrom [] calls
+
+  abbrev pub replies : List Asked → List Reply
+  replies calls = repliesFrom [] calls

@@ -1,0 +1,56 @@
+-- Codes: the numbers that stand for marks, sides, colours, clues and literals in a board, an image or reason memory.
+--
+--   markOf v            the mark that a border place with the number v has
+--   codeOf side         the number of a decided border
+--   marksIn bs          the borders that an array of such numbers spells
+--   coloursIn cs        the colours that an array of numbers spells
+--   clueOf k            no clue below 0, otherwise the clue k
+--   cluesIn ks          the clues that an array of signed numbers spells
+--   literalCode l       what reason memory holds for the literal l
+--   put m from ls       reason memory m with the literals ls written from the place `from`
+use mathlib.Core.Bool.{Bool, cond}
+use mathlib.Core.List.{List, map}
+use mathlib.Core.Option.{Option, some, none}
+use Prim.Native.Nat.{ℕ, _+_, _*_}
+use lib.Dec.{eqb}
+use lib.IntN.{ℤ, pos, negsuc}
+use lib.ListN.{getD}
+use lib.Seq.{sets}
+use Rattle.rules.specs.declared.Side.{Side}
+use Rattle.rules.specs.declared.Side.the-variants.{Wall, Open}
+use Rattle.rules.specs.declared.Literal.{Literal}
+use Rattle.rules.specs.Page.{Mark, undecided, decided}
+
+-- "borders (0 undecided, 1 wall, 2 open)"
+abbrev pub markOf : ℕ → Mark
+markOf v = cond (eqb v 1) (decided Wall) (cond (eqb v 2) (decided Open) undecided)
+
+abbrev pub codeOf : Side → ℕ
+codeOf Wall = 1
+codeOf Open = 2
+
+unfoldable pub marksIn : List ℕ → ℕ → Mark
+marksIn bs b = markOf (getD bs b 0)
+
+-- "0-coloured or 1-coloured"
+unfoldable pub coloursIn : List ℕ → ℕ → Bool
+coloursIn cs c = eqb (getD cs c 0) 1
+
+-- "−1 is none; 0 is a clue no unit meets"
+abbrev pub clueOf : ℤ → Option ℕ
+clueOf (pos n) = some n
+clueOf (negsuc n) = none
+
+unfoldable pub cluesIn : List ℤ → ℕ → Option ℕ
+cluesIn ks c = clueOf (getD ks c (pos 0))
+
+-- "a literal is 2·border, plus 1 for wall"
+abbrev pub sideCode : Side → ℕ
+sideCode Wall = 1
+sideCode Open = 0
+
+abbrev pub literalCode : Literal → ℕ
+literalCode l = 2 * l .border + sideCode (l .side)
+
+unfoldable pub put : List ℕ → ℕ → List Literal → List ℕ
+put m from ls = sets m from (map literalCode ls)

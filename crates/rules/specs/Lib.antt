@@ -1,0 +1,11 @@
+pub mod Page
+pub mod Rules
+pub mod Flat
+pub mod Codes
+pub mod Groups
+pub mod Reasons
+pub mod Turns
+pub mod Shapes
+pub mod Check
+pub mod Book
+pub mod FlatLaws
