@@ -1,0 +1,59 @@
+//! What stands for the published check where its source is not there: nothing here may be called.
+
+use crate::page::{Groups, Kind, Literal, Puzzle, Transform};
+
+const ABSENT: &str = "built without the published source";
+
+/// A board of the published code.
+#[derive(Clone)]
+pub struct Published;
+
+impl Published {
+    pub fn new(_: usize, _: usize, _: &[i32], _: &[i32]) -> Published {
+        panic!("{ABSENT}")
+    }
+
+    pub fn decide(&mut self, _: usize, _: bool) {
+        panic!("{ABSENT}")
+    }
+
+    pub fn undo(&mut self) {
+        panic!("{ABSENT}")
+    }
+
+    pub fn check(&mut self) -> Option<Vec<Literal>> {
+        panic!("{ABSENT}")
+    }
+
+    pub fn stack(&self) -> Vec<Literal> {
+        panic!("{ABSENT}")
+    }
+
+    pub fn groups(&self, _: Kind) -> Groups {
+        panic!("{ABSENT}")
+    }
+
+    pub fn transforms(&self, _: usize) -> Vec<Transform> {
+        panic!("{ABSENT}")
+    }
+
+    pub fn inside_block(&self, _: usize) -> Vec<Literal> {
+        panic!("{ABSENT}")
+    }
+
+    pub fn inside_unit(&self, _: usize) -> Vec<Literal> {
+        panic!("{ABSENT}")
+    }
+
+    pub fn edge(&self, _: usize) -> Vec<Literal> {
+        panic!("{ABSENT}")
+    }
+
+    pub fn path(&self, _: usize, _: usize) -> Option<Vec<Literal>> {
+        panic!("{ABSENT}")
+    }
+}
+
+pub fn check(_: &Puzzle, _: &[Literal]) -> Option<Vec<Literal>> {
+    panic!("{ABSENT}")
+}

@@ -1,0 +1,122 @@
+//! Document 01's board image, plainly: reading, the alien test, and the calls on one.
+
+use crate::book::{self, Check, ALIEN, BARE, BORDER, PLACES, SHORT, TAKEN};
+use crate::page::{code, Board, Literal, Puzzle};
+
+pub const LENGTH: usize = 11_076;
+const CELLS: usize = 1_024;
+const BORDERS: usize = 1_984;
+const COLOURS_AT: usize = 2;
+const CLUES_AT: usize = COLOURS_AT + CELLS;
+const BORDERS_AT: usize = CLUES_AT + 4 * CELLS;
+const COUNT_AT: usize = BORDERS_AT + BORDERS;
+const STACK_AT: usize = COUNT_AT + 2;
+
+/// The image of a board.
+pub fn write(board: &Board) -> Vec<u8> {
+    let puzzle = &board.puzzle;
+    let mut image = vec![0; LENGTH];
+    image[0] = puzzle.h as u8;
+    image[1] = puzzle.w as u8;
+    for (cell, (&colour, clue)) in puzzle.colours.iter().zip(&puzzle.clues).enumerate() {
+        image[COLOURS_AT + cell] = colour as u8;
+        image[CLUES_AT + 4 * cell..][..4].copy_from_slice(&clue.to_le_bytes());
+    }
+    put(&mut image, COUNT_AT, board.decided.len());
+    for (i, &(border, wall)) in board.decided.iter().enumerate() {
+        image[BORDERS_AT + border] = if wall { 1 } else { 2 };
+        put(&mut image, STACK_AT + 2 * i, border);
+    }
+    image
+}
+
+fn put(image: &mut [u8], at: usize, number: usize) {
+    image[at..at + 2].copy_from_slice(&(number as u16).to_le_bytes());
+}
+
+fn get(image: &[u8], at: usize) -> usize {
+    usize::from(u16::from_le_bytes([image[at], image[at + 1]]))
+}
+
+/// The board of an image, or none if the image is alien: it is a board's exactly if its numbers are
+/// in range and writing the board that they name gives the image back.
+pub fn read(image: &[u8]) -> Option<Board> {
+    if image.len() != LENGTH {
+        return None;
+    }
+    let (h, w) = (usize::from(image[0]), usize::from(image[1]));
+    let cells = (h * w).min(CELLS);
+    let clue = |cell: usize| -> i32 {
+        let bytes = &image[CLUES_AT + 4 * cell..][..4];
+        i32::from_le_bytes(bytes.try_into().unwrap())
+    };
+    let puzzle = Puzzle {
+        h,
+        w,
+        colours: (0..cells)
+            .map(|c| i32::from(image[COLOURS_AT + c]))
+            .collect(),
+        clues: (0..cells).map(clue).collect(),
+    };
+    if book::refusal(&puzzle).is_some() || get(image, COUNT_AT) > puzzle.borders() {
+        return None;
+    }
+    let stack: Vec<usize> = (0..get(image, COUNT_AT))
+        .map(|i| get(image, STACK_AT + 2 * i))
+        .collect();
+    let once = |(i, border): (usize, &usize)| !stack[..i].contains(border);
+    if stack.iter().any(|&border| border >= puzzle.borders()) || !stack.iter().enumerate().all(once)
+    {
+        return None;
+    }
+    let side = |&border: &usize| (border, image[BORDERS_AT + border] == 1);
+    let decided: Vec<Literal> = stack.iter().map(side).collect();
+    let board = Board { puzzle, decided };
+    (write(&board) == image).then_some(board)
+}
+
+pub fn decide(image: &mut [u8], border: u32, side: u32) -> u32 {
+    let Some(mut board) = read(image) else {
+        return ALIEN;
+    };
+    let border = border as usize;
+    if border >= board.puzzle.borders() {
+        return BORDER;
+    }
+    if board.decided.iter().any(|literal| literal.0 == border) {
+        return TAKEN;
+    }
+    board.decided.push((border, side != 0));
+    image.copy_from_slice(&write(&board));
+    0
+}
+
+pub fn undo(image: &mut [u8]) -> u32 {
+    let Some(mut board) = read(image) else {
+        return ALIEN;
+    };
+    if board.decided.pop().is_none() {
+        return BARE;
+    }
+    image.copy_from_slice(&write(&board));
+    0
+}
+
+/// A check writes its literals from the start of `memory`.
+pub fn check(image: &[u8], memory: &mut [u8], check: &mut Check) -> u32 {
+    let Some(board) = read(image) else {
+        return ALIEN;
+    };
+    if memory.len() < 2 * PLACES {
+        return SHORT;
+    }
+    match check(&board.puzzle, &board.decided) {
+        None => 32 + board.undecided() as u32,
+        Some(reason) => {
+            for (i, literal) in reason.iter().enumerate() {
+                put(memory, 2 * i, code(literal));
+            }
+            65_536 + reason.len() as u32
+        }
+    }
+}

@@ -1,0 +1,159 @@
+//! Every colouring and every state of the borders of small pages, with some clues.
+
+mod common;
+
+use common::{contained, fresh, skipped};
+use oracle::page::{Board, Literal, Puzzle};
+use oracle::published::Published;
+use oracle::{plain, rules};
+
+#[derive(Default)]
+struct Tally {
+    passes: usize,
+    conflicts: usize,
+    full_passes: usize,
+    full_conflicts: usize,
+}
+
+struct Walk {
+    board: Board,
+    published: Published,
+    solutions: Vec<Vec<bool>>,
+    tally: Tally,
+}
+
+impl Walk {
+    /// Tries undecided, wall and open on each border from this one on.
+    fn from(&mut self, border: usize) {
+        if border == self.board.puzzle.borders() {
+            return self.judge();
+        }
+        self.from(border + 1);
+        for wall in [true, false] {
+            self.published.decide(border, wall);
+            self.board.decided.push((border, wall));
+            self.from(border + 1);
+            self.board.decided.pop();
+            self.published.undo();
+        }
+    }
+
+    fn judge(&mut self) {
+        let reason = self.published.check();
+        let board = &self.board;
+        let plain = plain::check(board).map(|hit| hit.reason);
+        assert_eq!(plain, reason, "{board:?}");
+        if let Some(reason) = &reason {
+            let held = |literal: &Literal| board.decided.contains(literal);
+            assert!(reason.iter().all(held), "{board:?}");
+            let ruled_out = |walls: &Vec<bool>| contained(walls, reason);
+            assert!(!self.solutions.iter().any(ruled_out), "{board:?}");
+        }
+        let passed = reason.is_none();
+        if board.undecided() == 0 {
+            let walls: Vec<bool> = board.decided.iter().map(|literal| literal.1).collect();
+            assert_eq!(passed, self.solutions.contains(&walls), "{board:?}");
+            self.tally.full_passes += usize::from(passed);
+            self.tally.full_conflicts += usize::from(!passed);
+        }
+        self.tally.passes += usize::from(passed);
+        self.tally.conflicts += usize::from(!passed);
+    }
+}
+
+/// All lists of this length with entries from `from`.
+fn lists(from: &[i32], length: usize) -> Vec<Vec<i32>> {
+    let mut all = vec![vec![]];
+    for _ in 0..length {
+        let longer = |list: &Vec<i32>| -> Vec<Vec<i32>> {
+            let with = |&entry: &i32| [list.as_slice(), &[entry]].concat();
+            from.iter().map(with).collect()
+        };
+        all = all.iter().flat_map(longer).collect();
+    }
+    all
+}
+
+/// Walks over all colourings of a page with each of these lists of clues.
+fn walk(h: usize, w: usize, clues: &[Vec<i32>]) {
+    let mut tally = Tally::default();
+    for colours in lists(&[0, 1], h * w) {
+        for clues in clues {
+            let mut puzzle = Puzzle::without_clues(h, w, colours.clone());
+            puzzle.clues.clone_from(clues);
+            let mut walk = Walk {
+                published: fresh(&puzzle),
+                solutions: rules::all_solutions(&puzzle),
+                board: Board {
+                    puzzle,
+                    decided: vec![],
+                },
+                tally,
+            };
+            walk.from(0);
+            assert!(walk.published.stack().is_empty());
+            tally = walk.tally;
+        }
+    }
+    assert!(tally.conflicts > 0 && tally.full_conflicts > 0);
+    assert_eq!(tally.passes > 0, h * w > 1);
+    assert_eq!(tally.full_passes > 0, (h * w).is_multiple_of(2));
+}
+
+/// No clue, and each of these clues alone in each of these cells.
+fn single(cells: usize, places: &[usize], values: &[i32]) -> Vec<Vec<i32>> {
+    let mut all = vec![vec![-1; cells]];
+    for &place in places {
+        for &value in values {
+            let mut clues = vec![-1; cells];
+            clues[place] = value;
+            all.push(clues);
+        }
+    }
+    all
+}
+
+#[test]
+fn one_row() {
+    if skipped() {
+        return;
+    }
+    for w in 1..=4 {
+        walk(1, w, &lists(&[-1, 0, 1, 2, 3], w));
+    }
+    walk(1, 5, &lists(&[-1, 1, 2], 5));
+}
+
+#[test]
+fn one_column() {
+    if skipped() {
+        return;
+    }
+    for h in 2..=4 {
+        walk(h, 1, &lists(&[-1, 1, 2], h));
+    }
+}
+
+#[test]
+fn two_by_two() {
+    if skipped() {
+        return;
+    }
+    walk(2, 2, &lists(&[-1, 0, 1, 2], 4));
+}
+
+#[test]
+fn two_by_three() {
+    if skipped() {
+        return;
+    }
+    walk(2, 3, &single(6, &[0, 4], &[1, 3]));
+}
+
+#[test]
+fn three_by_two() {
+    if skipped() {
+        return;
+    }
+    walk(3, 2, &single(6, &[3], &[2]));
+}
