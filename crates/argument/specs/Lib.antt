@@ -1,2 +1,43 @@
+-- The argument behind demand 3. To read first: PageLaws (what is asked of a page), Demand (what is claimed), Checks
+-- (what check answers) and DemandLaws (the claim holds).
+
+-- what is asked, and what is claimed
 pub mod Points
 pub mod PageLaws
+pub mod Demand
+-- groups and their numbers
+pub mod ListExtras
+pub mod Joins
+pub mod Numbers
+-- the three steps are sound
+pub mod Marks
+pub mod Keeps
+pub mod Hits
+pub mod Sizes
+pub mod CellScan
+pub mod Sound
+pub mod Paths
+pub mod Walls
+pub mod ShapeLaws
+pub mod Copies
+pub mod Nears
+pub mod Crossings
+pub mod Mates
+-- a reason holds on its board
+pub mod Forms
+pub mod Held
+-- a full board that passes is a solution
+pub mod Fulls
+pub mod Passes
+pub mod Fits
+pub mod Lays
+pub mod Complete
+pub mod Agrees
+-- the answers of check and of the book
+pub mod Checks
+pub mod Sequences
+pub mod BookLaws
+pub mod DemandLaws
+-- how long a reason can be
+pub mod Totals
+pub mod Bound

@@ -1,0 +1,82 @@
+-- What check answers, in the words of the rules.
+--
+--   check-holds         a reason holds on the board it is given on
+--   check-sound         no solution contains a reason
+--   check-full          a full setting passes exactly when it is a solution
+--   check-each          a claim about every hit is one about every reason that check answers
+--   check-kind          an answer is a pass or a conflict
+use mathlib.Core.Path.{_≡_, refl, ap, subst}
+use mathlib.Core.Logic.{_⊎_, inl, inr, _↔_}
+use mathlib.Core.Option.{Option, some, none}
+use Prim.Native.Nat.{ℕ}
+use native.Mathlib.Omega.{arith}
+use Rattle.lists.specs.ListLaws.{first-none, mem-range, range-lt}
+use Rattle.rules.specs.Page.{Puzzle, Mark, Contains}
+use Rattle.rules.specs.Rules.{Solution}
+use Rattle.rules.specs.Check.{Reason, Answer, pass, conflict, hit, undecidedCount, answerOf, check}
+use Rattle.argument.specs.PageLaws.{Bordered, Placed, Listed}
+use Rattle.argument.specs.Demand.{Full, Passes}
+use Rattle.argument.specs.Hits.{Each, each-some, each-or, each-first, else-none}
+use Rattle.argument.specs.Sound.{Sound, sound-block}
+use Rattle.argument.specs.Walls.{sound-walls}
+use Rattle.argument.specs.Mates.{sound-unit}
+use Rattle.argument.specs.Forms.{each-form}
+use Rattle.argument.specs.Held.{held-forms}
+use Rattle.argument.specs.Complete.{solved}
+
+-- the answer and the hit
+answer-hit : (n : ℕ) (o : Option Reason) (r : Reason) → answerOf n o ≡ conflict r → o ≡ some r
+answer-hit n none r e = let z : _≡_ {A = ℕ} 0 1 = cc in absurd (omega arith)
+answer-hit n (some q) r e = let u : q ≡ r = cc in ap some u
+
+answer-none : (n : ℕ) (o : Option Reason) (k : ℕ) → answerOf n o ≡ pass k → o ≡ none
+answer-none n none k e = refl
+answer-none n (some q) k e = let z : _≡_ {A = ℕ} 0 1 = cc in absurd (omega arith)
+
+pub check-kind : (r : Answer) → Passes r ⊎ ((q : Reason) × (r ≡ conflict q))
+check-kind (pass n) = inl (n, refl)
+check-kind (conflict q) = inr (q, refl)
+
+pub check-each : (Q : Reason → Type 0) (Z : Puzzle) (s : ℕ → Mark) → Each Q (hit Z s) → (r : Reason)
+    → check Z s ≡ conflict r → Q r
+unfolding check
+check-each Q Z s h r e =
+    each-some Q r (subst (Each Q) (answer-hit (undecidedCount Z s) (hit Z s) r e) h)
+
+module _ (Z : Puzzle) (K : Bordered (Z .page)) (P : Placed (Z .page)) (I : Listed (Z .page)) where
+  pub check-holds : (s : ℕ → Mark) (r : Reason) → check Z s ≡ conflict r → Contains s r
+  check-holds s r e =
+      check-each (Contains s) Z s (each-form Z s (Contains s) (held-forms Z K s)) r e
+
+  hit-sound : (s : ℕ → Mark) → Each (Sound Z) (hit Z s)
+  unfolding hit
+  hit-sound s =
+      each-or (Sound Z) _ _ (each-first (Sound Z) _ _ (λ B m. sound-block Z K P s B))
+      (each-or (Sound Z) _ _ (each-first (Sound Z) _ _ (λ x m. sound-walls Z K P s x (range-lt _ m)))
+      (each-first (Sound Z) _ _ (λ U m. sound-unit Z K P I s U)))
+
+  pub check-sound : (s : ℕ → Mark) (r : Reason) → check Z s ≡ conflict r → (σ : ℕ → Mark) → Solution Z σ
+      → Contains σ r → ⊥
+  unfolding Sound
+  check-sound s r e =
+      check-each (Sound Z) Z s (hit-sound s) r e
+
+  check-solved : (s : ℕ → Mark) → Full Z s → Passes (check Z s) → Solution Z s
+  unfolding check hit
+  check-solved s full p =
+      let a = else-none _ _ (answer-none (undecidedCount Z s) (hit Z s) (p .0) (p .1)) in
+      let b = else-none _ _ (a .1) in
+      solved Z K P I s full
+      (λ B h. first-none _ _ (a .0) (mem-range _ h))
+      (λ x h. first-none _ _ (b .0) (mem-range _ h))
+      (λ U h. first-none _ _ (b .1) (mem-range _ h))
+
+  check-passes : (s : ℕ → Mark) → Solution Z s → Passes (check Z s)
+  check-passes s sol = go (check-kind (check Z s))
+    where
+      go : Passes (check Z s) ⊎ ((q : Reason) × (check Z s ≡ conflict q)) → Passes (check Z s)
+      go (inl p) = p
+      go (inr q) = absurd (check-sound s (q .0) (q .1) s sol (check-holds s (q .0) (q .1)))
+
+  pub check-full : (s : ℕ → Mark) → Full Z s → (Passes (check Z s) ↔ Solution Z s)
+  check-full s full = (check-solved s full, check-passes s)

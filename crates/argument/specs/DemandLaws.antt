@@ -1,0 +1,109 @@
+-- Demand 3 for the book holds, for every puzzle on a page that meets the page laws and every list of calls.
+--
+--   answered-longer, ruled-longer, stood-longer   what is so in a list is so in a longer one
+--   book-demand         the claim
+use mathlib.Core.Path.{_≡_, _∙_, refl, ap, sym, subst}
+use mathlib.Core.Logic.{_⊎_, inl, inr, _↔_}
+use mathlib.Core.List.{List, _∷_, _++_, append-assoc}
+use Prim.Native.Nat.{ℕ}
+use Rattle.rules.specs.declared.Literal.{Literal}
+use Rattle.rules.specs.Page.{Puzzle, Mark, Contains}
+use Rattle.rules.specs.Rules.{Solution}
+use Rattle.rules.specs.Check.{Reason, Answer, pass, conflict, check}
+use Rattle.rules.specs.Book.{Asked, marks, sequence}
+use Rattle.argument.specs.PageLaws.{Bordered, Placed, Listed}
+use Rattle.argument.specs.Demand.{SameSides, Answered, RuledOut, StoodAt, Passes, BookDemand}
+use Rattle.argument.specs.Agrees.{sides-sym, solution-agrees}
+use Rattle.argument.specs.Checks.{check-kind, check-holds, check-sound, check-full}
+use Rattle.argument.specs.Sequences.{Clean, decided-mem}
+use Rattle.argument.specs.BookLaws.{sequence-clean, answered-check}
+
+module _ (Z : Puzzle) where
+  pub answered-longer : (calls more : List Asked) (ls : List Literal) (r : Answer) → Answered Z calls ls r
+      → Answered Z (calls ++ more) ls r
+  answered-longer calls more ls r a = record {
+    earlier = a .earlier;
+    call = a .call;
+    later = a .later ++ more;
+    split = ap (λ (c : List Asked). c ++ more) (a .split) ∙ append-assoc (a .earlier) (a .call ∷ a .later) more;
+    standing = a .standing;
+    answer = a .answer;
+  }
+
+  pub ruled-longer : (calls more : List Asked) (σ : ℕ → Mark) → RuledOut Z calls σ → RuledOut Z (calls ++ more) σ
+  ruled-longer calls more σ q = record {
+    sequence = q .sequence;
+    reason = q .reason;
+    given = answered-longer calls more (q .sequence) (conflict (q .reason)) (q .given);
+    contains = q .contains;
+  }
+
+  pub stood-longer : (calls more : List Asked) (σ : ℕ → Mark) (r : Answer) → StoodAt Z calls σ r
+      → StoodAt Z (calls ++ more) σ r
+  stood-longer calls more σ r q = record {
+    sequence = q .sequence;
+    check = answered-longer calls more (q .sequence) r (q .check);
+    full = q .full;
+    sides = q .sides;
+  }
+
+  -- the answer is check's, on the marks of the sequence
+  checked : (calls : List Asked) (ls : List Literal) (r : Answer) → Answered Z calls ls r → check Z (marks ls) ≡ r
+  checked calls ls r a = answered-check Z ls (a .call) r (a .answer) .1
+
+  -- the setting that stood has the literals of a reason that holds there
+  stood-contains : (calls : List Asked) (σ : ℕ → Mark) (r : Answer) (q : StoodAt Z calls σ r) (reason : Reason)
+      → Contains (marks (q .sequence)) reason → Contains σ reason
+  unfolding Contains SameSides
+  stood-contains calls σ r q reason c l m =
+      let a = q .check in
+      let clean : Clean Z (q .sequence) = subst (Clean Z) (a .standing) (sequence-clean Z (a .earlier)) in
+      let h = clean .below l (decided-mem (q .sequence) l (c l m)) in
+      sym (q .sides (l .border) h) ∙ c l m
+
+module _ (Z : Puzzle) (K : Bordered (Z .page)) (P : Placed (Z .page)) (I : Listed (Z .page)) where
+  none-ruled : (calls : List Asked) (σ : ℕ → Mark) → Solution Z σ → RuledOut Z calls σ → ⊥
+  none-ruled calls σ sol q =
+      check-sound Z K P I (marks (q .sequence)) (q .reason)
+      (checked Z calls (q .sequence) (conflict (q .reason)) (q .given)) σ sol (q .contains)
+
+  verdicts : (calls : List Asked) (σ : ℕ → Mark) (r : Answer) → StoodAt Z calls σ r → (Passes r ↔ Solution Z σ)
+  verdicts calls σ r q =
+      let e = checked Z calls (q .sequence) r (q .check) in
+      let c = check-full Z K P I (marks (q .sequence)) (q .full) in (
+        λ p. solution-agrees Z K (marks (q .sequence)) σ (q .sides) (c .0 (p .0, e ∙ p .1)),
+        λ sol.
+            let p = c .1 (solution-agrees Z K σ (marks (q .sequence)) (sides-sym Z (marks (q .sequence)) σ (q .sides))
+            sol) in
+            (p .0, sym e ∙ p .1),
+      )
+
+  failed : (calls : List Asked) (σ : ℕ → Mark) (r : Answer) → StoodAt Z calls σ r → (Passes r → ⊥) → RuledOut Z calls σ
+  failed calls σ r q n = go (check-kind r)
+    where
+      go : Passes r ⊎ ((reason : Reason) × (r ≡ conflict reason)) → RuledOut Z calls σ
+      go (inl p) = absurd (n p)
+      go (inr c) =
+          let e = checked Z calls (q .sequence) r (q .check) ∙ c .1 in
+          record {
+            sequence = q .sequence;
+            reason = c .0;
+            given = subst (Answered Z calls (q .sequence)) (c .1) (q .check);
+            contains = stood-contains Z calls σ r q (c .0) (check-holds Z K P I (marks (q .sequence)) (c .0) e);
+          }
+
+  pub book-demand : (calls : List Asked) → BookDemand Z calls
+  book-demand calls = record {
+    held = λ ls r a. check-holds Z K P I (marks ls) r (checked Z calls ls (conflict r) a);
+    noSolution = none-ruled calls;
+    verdict = verdicts calls;
+    otherwise = failed calls;
+    monotone = ruled-longer Z calls;
+    staysIn = λ more σ p. none-ruled (calls ++ more) σ (verdicts calls σ (pass (p .0)) (p .1) .0 (p .0, refl));
+    staysOut = λ more σ q p.
+        none-ruled calls σ (verdicts (calls ++ more) σ (pass (p .0)) (p .1) .0 (p .0, refl)) q;
+    sameVerdict = λ σ q r s t.
+        let a = verdicts calls σ q s in
+        let b = verdicts calls σ r t in
+        (λ p. b .1 (a .0 p), λ p. a .1 (b .0 p));
+  }
