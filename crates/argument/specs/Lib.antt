@@ -41,3 +41,19 @@ pub mod DemandLaws
 -- how long a reason can be
 pub mod Totals
 pub mod Bound
+-- flat pages meet what is asked, and list each of the eight images once
+pub mod Pairs
+pub mod Same
+pub mod TurnLaws
+pub mod FlatList
+pub mod Links
+pub mod FlatLinks
+pub mod FlatPage
+pub mod Order
+pub mod Sorted
+pub mod FlatOnce
+pub mod FlatShapes
+pub mod FlatDemand
+-- small boards: those of document 01, and a solution
+pub mod Boards
+pub mod Witness

@@ -1,22 +1,18 @@
--- A turned shape is the shape moved, as a set of places; sorting keeps the places.
---
---   sort-mem, mem-sort  a sorted list has the places of the list
---   Normal, is-normal   a shape made normal is shifted from its first cell
---   turned-moved        a turned shape is moved by the turn, and has a cell at the origin
-use mathlib.Core.Path.{_≡_, _∙_, refl, ap, sym, subst}
+-- Laws of shapes: sorting keeps the places, and a turned shape is the shape moved, with a cell at the origin.
+use mathlib.Core.Path.{_≡_, refl, sym, ap, _∙_, subst}
 use mathlib.Core.Logic.{_⊎_, inl, inr}
 use mathlib.Core.Bool.{Bool, true, false, cond}
 use mathlib.Core.List.{List, [], _∷_, map, List·Memᴰ·head, List·Memᴰ·tail, List·Memᴰ·not-nil, List·Memᴰ·cases-cons}
 use mathlib.Core.List.{Memᴰ·cast}
 use Rattle.lists.specs.Lists.{_∈_}
 use Rattle.lists.specs.ListLaws.{mem-map, map-find}
-use Rattle.rules.specs.Page.{Point, _⊕_, opposite, Shape}
+use Rattle.rules.specs.Page.{Point, Shape, _⊕_, opposite}
 use Rattle.rules.specs.Shapes.{before, insert, sort, shiftBy, normal, turned}
 use Rattle.argument.specs.Points.{origin, add-opposite}
 use Rattle.argument.specs.PageLaws.{Moved}
 
 -- sorting keeps the cells
-insert-mem : (p q : Point) (ps : List Point) → q ∈ insert p ps → (q ≡ p) ⊎ q ∈ ps
+pub insert-mem : (p q : Point) (ps : List Point) → q ∈ insert p ps → (q ≡ p) ⊎ q ∈ ps
 unfolding insert
 insert-mem p q [] m = List·Memᴰ·cases-cons m
 insert-mem p q (r ∷ ps) m = go (before p r) m (insert-mem p q ps)
@@ -78,35 +74,41 @@ unfolding normal
 is-normal [] js p m = absurd (List·Memᴰ·not-nil m)
 is-normal (q ∷ ps) js p m = record { base = q; base-in = List·Memᴰ·head refl; cells-are = refl; connections-are = refl }
 
-pub sort-moved : (g : Point → Point) (ps : List Point) (p : Point) → p ∈ sort (map g ps)
-    → (a : Point) × a ∈ ps × (p ≡ g a)
-sort-moved g ps p m = map-find g ps (sort-mem p (map g ps) m)
+-- the turned places in any order, shifted
+moved-by : (g : Point → Point) (k : Point) (ps qs : List Point) → ((q : Point) → q ∈ qs → q ∈ map g ps)
+    → ((q : Point) → q ∈ map g ps → q ∈ qs) → Moved g k ps (shiftBy k qs)
+unfolding shiftBy
+moved-by g k ps qs from to =
+    record {
+      there = λ a m. mem-map (λ (z : Point). z ⊕ k) (to (g a) (mem-map g m));
+      back = λ p m.
+          let r = map-find (λ (z : Point). z ⊕ k) qs m in
+          let e = map-find g ps (from (r .0) (r .1)) in
+          (e .0, e .1, r .2 ∙ ap (λ z. z ⊕ k) (e .2));
+    }
 
 -- a turned shape is moved, with a cell at the origin
-pub turned-moved : (g : Point → Point) (t : Shape) → origin ∈ t .cells →
-    (k : Point) × Moved g k (t .cells) ((turned g t) .cells) × Moved g (k ⊕ k) (t .connections)
-    ((turned g t) .connections) × origin ∈ (turned g t) .cells
+pub record TurnedBy (g : Point → Point) (t u : Shape) : Type 0 where
+  pub shift : Point
+  pub cells-moved : Moved g shift (t .cells) (u .cells)
+  pub connections-moved : Moved g (shift ⊕ shift) (t .connections) (u .connections)
+  pub based : origin ∈ u .cells
+
+pub turned-by : (g : Point → Point) (t : Shape) → origin ∈ t .cells → TurnedBy g t (turned g t)
 unfolding turned shiftBy
-turned-moved g t o = (
-  opposite (M .base),
-  record {
-    there = λ a m. subst (λ (l : List Point). (g a ⊕ opposite (M .base)) ∈ l) (sym (M .cells-are))
-        (mem-map (λ (z : Point). z ⊕ opposite (M .base)) (mem-sort (g a) _ (mem-map g m)));
-    back = λ p m. let r = map-find (λ (z : Point). z ⊕ opposite (M .base)) _
-        (subst (λ (l : List Point). p ∈ l) (M .cells-are) m) in let e = sort-moved g (t .cells) (r .0) (r .1) in
-        (e .0, e .1, r .2 ∙ ap (λ z. z ⊕ opposite (M .base)) (e .2));
-  },
-  record {
-    there = λ a m. subst (λ (l : List Point). (g a ⊕ (opposite (M .base) ⊕ opposite (M .base))) ∈ l)
-        (sym (M .connections-are)) (mem-map (λ (z : Point). z ⊕ (opposite (M .base) ⊕ opposite (M .base)))
-        (mem-map g m));
-    back = λ p m. let r = map-find (λ (z : Point). z ⊕ (opposite (M .base) ⊕ opposite (M .base))) _
-        (subst (λ (l : List Point). p ∈ l) (M .connections-are) m) in let e = map-find g (t .connections) (r .1) in
-        (e .0, e .1, r .2 ∙ ap (λ z. z ⊕ (opposite (M .base) ⊕ opposite (M .base))) (e .2));
-  },
-  subst (λ (l : List Point). origin ∈ l) (sym (M .cells-are))
-      (Memᴰ·cast (sym (add-opposite (M .base))) (mem-map (λ (z : Point). z ⊕ opposite (M .base)) (M .base-in))),
-)
+turned-by g t o =
+    record {
+      shift = k;
+      cells-moved = subst (Moved g k (t .cells)) (sym (M .cells-are))
+          (moved-by g k (t .cells) (sort (map g (t .cells))) (λ q. sort-mem q _) (λ q. mem-sort q _));
+      connections-moved = subst (Moved g (k ⊕ k) (t .connections)) (sym (M .connections-are))
+          (moved-by g (k ⊕ k) (t .connections) (map g (t .connections)) (λ q m. m) (λ q m. m));
+      based = subst (λ (l : List Point). origin ∈ l) (sym (M .cells-are))
+          (Memᴰ·cast (sym (add-opposite (M .base))) (mem-map (λ (z : Point). z ⊕ k) (M .base-in)));
+    }
   where
     M : Normal (sort (map g (t .cells))) (map g (t .connections))
     M = is-normal _ _ (g origin) (mem-sort _ _ (mem-map g o))
+
+    k : Point
+    k = opposite (M .base)

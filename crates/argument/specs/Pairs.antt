@@ -1,0 +1,38 @@
+-- Laws of lists that are not about the page: no repeats, from a test of every pair, or kept by an injective map.
+--
+--   pairwise r xs       each element passes the test r with every later one
+use mathlib.Core.Path.{_≡_, refl, sym, ap, subst}
+use mathlib.Core.Bool.{Bool, true, _&&_}
+use mathlib.Core.List.{List, [], _∷_, _++_, map}
+use lib.Dec.{T}
+use Rattle.lists.specs.Lists.{_∈_, Distinct, all}
+use Rattle.lists.specs.ListLaws.{T-and-l, T-and-r, all-mem, map-find}
+
+module _ {A : Type 0} where
+  unfoldable pub pairwise : (A → A → Bool) → List A → Bool
+  pairwise r [] = true
+  pairwise r (x ∷ xs) = all (r x) xs && pairwise r xs
+
+module _ {A B : Type 0} where
+  -- f tells apart what passes the test
+  pub distinct-pairwise : (f : A → B) (r : A → A → Bool) → ((x y : A) → T (r x y) → f x ≡ f y → ⊥) → (xs : List A)
+      → T (pairwise r xs) → Distinct (map f xs)
+  unfolding pairwise
+  distinct-pairwise f r differ [] t = tt
+  distinct-pairwise f r differ (x ∷ xs) t = (
+    λ m.
+        let y = map-find f xs m in
+        differ x (y .0) (all-mem (r x) xs (T-and-l (all (r x) xs) _ t) (y .1)) (y .2),
+    distinct-pairwise f r differ xs (T-and-r (all (r x) xs) _ t),
+  )
+
+  pub distinct-map : (f : A → B) → ((x y : A) → f x ≡ f y → x ≡ y) → (xs : List A) → Distinct xs → Distinct (map f xs)
+  distinct-map f i [] d = tt
+  distinct-map f i (x ∷ xs) d = (
+    λ m. let r = map-find f xs m in d .0 (subst (λ (y : A). y ∈ xs) (i (r .0) x (sym (r .2))) (r .1)),
+    distinct-map f i xs (d .1),
+  )
+
+  pub map-append : (f : A → B) (xs ys : List A) → map f (xs ++ ys) ≡ map f xs ++ map f ys
+  map-append f [] ys = refl
+  map-append f (x ∷ xs) ys = ap (λ zs. f x ∷ zs) (map-append f xs ys)
