@@ -1,0 +1,42 @@
+-- `pop` meets its contract: the index read off the stack is rewritten.
+use native.Mathlib.Omega.{arith}
+use borrow.Author.Needs.{needs}
+use Rattle.board.proofs.Board.pop.Statement.{statement}
+use Rattle.board.proofs.Board.pop.Tie as tie
+
+sub-at : tie.Need-sub-at
+sub-at c = search needs
+
+mul-wide : tie.Need-mul-wide
+mul-wide c = omega arith
+
+element-copy-out-wide : tie.Need-element-copy-out-wide
+element-copy-out-wide c = search needs
+
+wide-requires : tie.Need-wide-requires
+wide-requires c κs = search needs
+
+element-write-b : tie.Need-element-write-b
+element-write-b c = search needs
+
+mul-b : tie.Need-mul-b
+mul-b c = omega arith
+
+element-write-b-2 : tie.Need-element-write-b-2
+element-write-b-2 c = search needs
+
+returns : tie.Need-returns
+returns c = rw (c .wide .ensures)
+
+pub pop-spec : {M : Type 1} → statement M
+pop-spec =
+    tie.close
+    (tie.spec
+    sub-at
+    mul-wide
+    element-copy-out-wide
+    wide-requires
+    element-write-b
+    mul-b
+    element-write-b-2
+    returns)

@@ -1,0 +1,73 @@
+-- `clues_right` meets its contract. The loop's invariant: the clues before i are right.
+use mathlib.Core.Bool.{true}
+use mathlib.Core.Path.{_∙_, _≡_, sym}
+use Prim.Native.Nat.{_-_, _≤_}
+use native.Mathlib.Omega.{arith}
+use borrow.Author.Needs.{needs, sfits-of}
+use lib.IntN.{pos}
+use lib.ListN.{getD}
+use mir.Facts.{toZ-ofZ}
+use mir.Syntax.{w32}
+use Rattle.lists.specs.Tests.{all-end, all-fails, all-more, all-none, allBelow}
+use Rattle.board.specs.Alien.{clueRight, cluesRight}
+use Rattle.board.proofs.conditions.clues_right.Statement.{statement}
+use Rattle.board.proofs.conditions.clues_right.Tie as tie
+
+abbrev Inv-loop : tie.InvT-loop
+Inv-loop clues n i₀ i = (i ≤ n) × (allBelow i (λ x. clueRight (getD clues x (pos 0))) ≡ true)
+
+abbrev μ-loop : tie.MeasureT-loop
+μ-loop clues n i₀ i = n - i
+
+loop-holds : tie.Need-loop-holds Inv-loop μ-loop
+loop-holds c = (search needs, all-none _)
+
+mul-clue-right : tie.Need-mul-clue-right Inv-loop μ-loop
+mul-clue-right c = omega arith
+
+shared-slice-copy-out-clue-right : tie.Need-shared-slice-copy-out-clue-right Inv-loop μ-loop
+shared-slice-copy-out-clue-right c = search needs
+
+clue-right-requires : tie.Need-clue-right-requires Inv-loop μ-loop
+clue-right-requires c κs = tt
+
+add-i : tie.Need-add-i Inv-loop μ-loop
+add-i c = omega arith
+
+loop-less : tie.Need-loop-less Inv-loop μ-loop
+loop-less c = omega arith
+
+loop-again : tie.Need-loop-again Inv-loop μ-loop
+loop-again c =
+    let c₁ = c .before .before .before .before in
+    let z = getD (c₁ .before .args .clues .now) (c₁ .loop .i) (pos 0) in
+    let e = toZ-ofZ {w = w32} {z = z} (sfits-of (c .before .before .clue-right-arg .given)) in
+    (omega arith, all-more _ _ (c₁ .loop .inv .1) (simp e at (sym (c .before .clue-right .ensures) ∙ c .if1 .taken)))
+
+returns : tie.Need-returns Inv-loop μ-loop
+unfolding cluesRight
+returns c =
+    let c₁ = c .before .before .before .before in
+    let z = getD (c₁ .before .args .clues .now) (c₁ .loop .i) (pos 0) in
+    let e = toZ-ofZ {w = w32} {z = z} (sfits-of (c .before .before .clue-right-arg .given)) in
+    sym (all-fails _ _ (c₁ .loop .i) (omega arith) (simp e at (sym (c .before .clue-right .ensures) ∙ c .if1 .left)))
+
+returns-2 : tie.Need-returns-2 Inv-loop μ-loop
+unfolding cluesRight
+returns-2 c = sym (all-end (c .before .loop .i) _ _ (omega arith) (omega arith) (c .before .loop .inv .1))
+
+pub clues-right-spec : {M : Type 1} → statement M
+clues-right-spec =
+    tie.close
+    (tie.spec
+    Inv-loop
+    μ-loop
+    loop-holds
+    mul-clue-right
+    shared-slice-copy-out-clue-right
+    clue-right-requires
+    add-i
+    loop-less
+    loop-again
+    returns
+    returns-2)

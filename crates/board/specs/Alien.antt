@@ -1,0 +1,112 @@
+-- Alien: the conditions on a board's places, and which boards are alien.
+--
+--   sizeRight h w           h and w are a page's
+--   cellsOf h w             the cell count of a page; 0 for another size
+--   bordersOf h w           its border count; 0 for another size
+--   coloursRight cs n       the first n colours are right
+--   clueRight k             k is a clue, or none
+--   cluesRight ks n         the first n clues are right
+--   stacked s n x           border x is among the first n entries of the stack s
+--   entryRight e m seen     the entry e is one of m borders, and no earlier entry
+--   stackRight s m n        the first n entries are right on a page of m borders
+--   borderRight v on        the border place v is right, where `on` says that its border is on the stack
+--   bordersRight bs s n m   the first m borders are right beside the first n entries of s
+--   bordersBy bs seen m     the same, where a list says which borders are on the stack
+--   Marks s m n right seen  what a run over the stack finds: whether it is right, and then the borders on it
+--   zerosFrom l from        the places of l from `from` on are 0
+--   clueZero k              k is 0
+--   zeroCluesFrom ks from   the clues from `from` on are 0
+--   cellsRight b            the colours and the clues of the cells are right
+--   decisionsRight b        the stack has exactly the decided borders, each once
+--   unusedZero b            the unused places are 0
+--   isAlien b               decides and undos cannot produce b from a fresh board; crate reach has the proof
+use mathlib.Core.Path.{_≡_}
+use mathlib.Core.Bool.{Bool, true, false, not, cond, _&&_, Bool·beq}
+use mathlib.Core.List.{List}
+use Prim.Native.Nat.{ℕ, _*_, _<_}
+use lib.Dec.{leb, ltb, eqb}
+use lib.IntN.{ℤ, pos, negsuc}
+use lib.ListN.{length, getD}
+use lib.Signed.{leZ}
+use Rattle.lists.specs.Tests.{allBelow, anyBelow}
+use Rattle.rules.specs.Flat.{borderCount}
+use Rattle.board.specs.declared.Board.{Board}
+use Rattle.board.specs.ListExtras.{allFrom}
+
+-- "Height h and width w are 1 to 32"
+unfoldable pub sizeRight : ℕ → ℕ → Bool
+sizeRight h w = leb 1 h && leb h 32 && leb 1 w && leb w 32
+
+unfoldable pub cellsOf : ℕ → ℕ → ℕ
+cellsOf h w = cond (sizeRight h w) (h * w) 0
+
+unfoldable pub bordersOf : ℕ → ℕ → ℕ
+bordersOf h w = cond (sizeRight h w) (borderCount h w) 0
+
+-- "a colour not 0 or 1"
+unfoldable pub coloursRight : List ℕ → ℕ → Bool
+coloursRight cs n = allBelow n (λ i. leb (getD cs i 0) 1)
+
+-- "a clue below −1 (−1 is none; 0 is a clue no unit meets)"
+abbrev pub clueRight : ℤ → Bool
+clueRight k = leZ (negsuc 0) k
+
+unfoldable pub cluesRight : List ℤ → ℕ → Bool
+cluesRight ks n = allBelow n (λ i. clueRight (getD ks i (pos 0)))
+
+unfoldable pub stacked : List ℕ → ℕ → ℕ → Bool
+stacked s n x = anyBelow n (λ j. eqb (getD s j 0) x)
+
+abbrev pub entryRight : ℕ → ℕ → Bool → Bool
+entryRight e m seen = ltb e m && not seen
+
+unfoldable pub stackRight : List ℕ → ℕ → ℕ → Bool
+stackRight s m n = allBelow n (λ i. entryRight (getD s i 0) m (stacked s i (getD s i 0)))
+
+-- 0 is undecided, 1 wall, 2 open; decided exactly where it is on the stack
+abbrev pub borderRight : ℕ → Bool → Bool
+borderRight v on = leb v 2 && Bool·beq (eqb v 0) (not on)
+
+unfoldable pub bordersRight : List ℕ → List ℕ → ℕ → ℕ → Bool
+bordersRight bs s n m = allBelow m (λ x. borderRight (getD bs x 0) (stacked s n x))
+
+unfoldable pub bordersBy : List ℕ → List Bool → ℕ → Bool
+bordersBy bs seen m = allBelow m (λ x. borderRight (getD bs x 0) (getD seen x false))
+
+pub record Marks (s : List ℕ) (m n : ℕ) (right : Bool) (seen : List Bool) : Type 0 where
+  pub tells : right ≡ stackRight s m n
+  pub marked : right ≡ true → (x : ℕ) → x < 1984 → getD seen x false ≡ stacked s n x
+
+unfoldable pub zerosFrom : List ℕ → ℕ → Bool
+zerosFrom l from = allFrom from (length l) (λ i. eqb (getD l i 0) 0)
+
+abbrev pub clueZero : ℤ → Bool
+clueZero k = leZ (pos 0) k && leZ k (pos 0)
+
+unfoldable pub zeroCluesFrom : List ℤ → ℕ → Bool
+zeroCluesFrom ks from = allFrom from (length ks) (λ i. clueZero (getD ks i (pos 0)))
+
+-- "a bad height, width, colour or clue in one is 5"
+unfoldable pub cellsRight : Board → Bool
+cellsRight b =
+    let cells = b .height * b .width in
+    coloursRight (b .colours) cells && cluesRight (b .clues) cells
+
+-- "the stack of decided borders"
+unfoldable pub decisionsRight : Board → Bool
+decisionsRight b =
+    let m = borderCount (b .height) (b .width) in
+    leb (b .count) m && stackRight (b .stack) m (b .count) && bordersRight (b .borders) (b .stack) (b .count) m
+
+-- "Unused places of a board are 0"
+unfoldable pub unusedZero : Board → Bool
+unusedZero b =
+    let cells = b .height * b .width in
+    zerosFrom (b .colours) cells
+    && zeroCluesFrom (b .clues) cells
+    && zerosFrom (b .borders) (borderCount (b .height) (b .width))
+    && zerosFrom (b .stack) (b .count)
+
+-- "a board or image that decides and undos cannot produce from a fresh board"
+unfoldable pub isAlien : Board → Bool
+isAlien b = not (sizeRight (b .height) (b .width) && cellsRight b && decisionsRight b && unusedZero b)

@@ -1,0 +1,134 @@
+-- Board: what making a board, a decide and an undo return, refused ones too.
+--
+--   numberOf o     the number of a refusal; 0 where the call is done
+--   zeroBoard      the all-zero board
+--   freshBoard     the board of a puzzle, every border undecided
+--   returned o b   an outcome with a board
+--   freshOf        what making a board returns
+--   pushed b n v   the board with border n set to v and put on the stack
+--   popped b       the board with the last border taken off the stack and made undecided
+--   decideOf b l   what a decide returns
+--   undoOf b       what an undo returns
+--   Small ks       the clues fit 32 bits
+--   Typed b        what every value of the code's type Board has
+use mathlib.Core.Path.{_≡_}
+use mathlib.Core.Bool.{true, cond, _&&_}
+use mathlib.Core.List.{List}
+use Prim.Native.Nat.{ℕ, _+_, _-_, _*_}
+use lib.Dec.{ltb, eqb}
+use lib.IntN.{ℤ, pos}
+use lib.ListN.{length, getD, set, replicate}
+use lib.Signed.{leZ}
+use Rattle.lists.specs.Padded.{padded}
+use Rattle.rules.specs.declared.Literal.{Literal}
+use Rattle.rules.specs.Flat.{borderCount}
+use Rattle.rules.specs.Codes.{codeOf}
+use Rattle.board.specs.declared.Board.{Board}
+use Rattle.board.specs.declared.Outcome.{Outcome}
+use Rattle.board.specs.declared.Outcome.the-variants.{Done, Size, Ragged, Colour, Clue}
+use Rattle.board.specs.declared.Outcome.the-variants.{Alien, Border, Taken, Bare, Short}
+use Rattle.board.specs.declared.Returned.{Returned}
+use Rattle.board.specs.Alien.{sizeRight, coloursRight, cluesRight, isAlien}
+
+-- "Numbers and words for unfit calls"
+abbrev pub numberOf : Outcome → ℕ
+numberOf Done = 0
+numberOf Size = 1
+numberOf Ragged = 2
+numberOf Colour = 3
+numberOf Clue = 4
+numberOf Alien = 5
+numberOf Border = 6
+numberOf Taken = 7
+numberOf Bare = 8
+numberOf Short = 9
+
+abbrev pub zeroBoard : Board
+zeroBoard =
+    record {
+      height = 0;
+      width = 0;
+      colours = replicate 1024 0;
+      clues = replicate 1024 (pos 0);
+      borders = replicate 1984 0;
+      stack = replicate 1984 0;
+      count = 0;
+    }
+
+-- "A fresh board has every border undecided"
+abbrev pub freshBoard : ℕ → ℕ → List ℕ → List ℤ → Board
+freshBoard h w cs ks =
+    record {
+      height = h;
+      width = w;
+      colours = padded 1024 0 cs;
+      clues = padded 1024 (pos 0) ks;
+      borders = replicate 1984 0;
+      stack = replicate 1984 0;
+      count = 0;
+    }
+
+abbrev pub returned : Outcome → Board → Returned
+returned o b = record { outcome = o; board = b }
+
+-- "The lowest applicable number is given"; "Making a board when refused returns the all-zero board"
+unfoldable pub freshOf : ℕ → ℕ → List ℕ → List ℤ → Returned
+freshOf h w cs ks =
+    cond (sizeRight h w)
+    (cond (eqb (length cs) (h * w) && eqb (length ks) (h * w))
+    (cond (coloursRight cs (h * w))
+    (cond (cluesRight ks (h * w)) (returned Done (freshBoard h w cs ks)) (returned Clue zeroBoard))
+    (returned Colour zeroBoard))
+    (returned Ragged zeroBoard))
+    (returned Size zeroBoard)
+
+-- "Decide sets a border and pushes it"
+abbrev pub pushed : Board → ℕ → ℕ → Board
+pushed b n v =
+    record {
+      height = b .height;
+      width = b .width;
+      colours = b .colours;
+      clues = b .clues;
+      borders = set (b .borders) n v;
+      stack = set (b .stack) (b .count) n;
+      count = b .count + 1;
+    }
+
+-- "undo pops the last and makes it undecided"; the freed place of the stack is 0
+abbrev pub popped : Board → Board
+popped b =
+    record {
+      height = b .height;
+      width = b .width;
+      colours = b .colours;
+      clues = b .clues;
+      borders = set (b .borders) (getD (b .stack) (b .count - 1) 0) 0;
+      stack = set (b .stack) (b .count - 1) 0;
+      count = b .count - 1;
+    }
+
+-- "Other refusals return the board given"
+unfoldable pub decideOf : Board → Literal → Returned
+decideOf b l =
+    cond (isAlien b)
+    (returned Alien b)
+    (cond (ltb (l .border) (borderCount (b .height) (b .width)))
+    (cond (eqb (getD (b .borders) (l .border) 0) 0)
+    (returned Done (pushed b (l .border) (codeOf (l .side))))
+    (returned Taken b))
+    (returned Border b))
+
+unfoldable pub undoOf : Board → Returned
+undoOf b = cond (isAlien b) (returned Alien b) (cond (eqb (b .count) 0) (returned Bare b) (returned Done (popped b)))
+
+abbrev pub Small : List ℤ → Type 0
+Small ks = (i : ℕ) → leZ (getD ks i (pos 0)) (pos 2147483647) ≡ true
+
+-- the lengths of its arrays, and clues of 32 bits
+pub record Typed (b : Board) : Type 0 where
+  pub colours : length (b .colours) ≡ 1024
+  pub clues : length (b .clues) ≡ 1024
+  pub borders : length (b .borders) ≡ 1984
+  pub stack : length (b .stack) ≡ 1984
+  pub small : Small (b .clues)

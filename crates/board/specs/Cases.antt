@@ -1,0 +1,155 @@
+-- The definitions by cases: what `isAlien`, `freshOf`, `decideOf` and `undoOf` give where their tests are known.
+use mathlib.Core.Path.{_≡_, refl, ap, _∙_}
+use mathlib.Core.Bool.{Bool, true, false, not}
+use mathlib.Core.List.{List}
+use Prim.Native.Nat.{ℕ, _*_, _<_, _≤_}
+use native.Mathlib.Omega.{arith}
+use borrow.Author.Tests.{lt-ltb, le-ltb, le-leb, lt-leb, eq-eqb, ne-eqb}
+use lib.IntN.{ℤ}
+use lib.ListN.{length, getD}
+use Rattle.lists.specs.Tests.{all-cong}
+use Rattle.rules.specs.declared.Literal.{Literal}
+use Rattle.rules.specs.Flat.{borderCount}
+use Rattle.rules.specs.Codes.{codeOf}
+use Rattle.board.specs.declared.Board.{Board}
+use Rattle.board.specs.declared.Outcome.the-variants.{Done, Size, Ragged, Colour, Clue}
+use Rattle.board.specs.declared.Outcome.the-variants.{Alien, Border, Taken, Bare}
+use Rattle.board.specs.Alien.{sizeRight, coloursRight, cluesRight, stackRight, borderRight, bordersRight}
+use Rattle.board.specs.Alien.{bordersBy, Marks, zerosFrom, zeroCluesFrom, cellsRight, decisionsRight}
+use Rattle.board.specs.Alien.{unusedZero, isAlien}
+use Rattle.board.specs.Board.{zeroBoard, freshBoard, returned, freshOf, pushed, popped, decideOf, undoOf}
+
+-- ---- the alien test
+module _ (b : Board) (n : ℕ) (q : n ≡ b .height * b .width) where
+  pub cells-colours : coloursRight (b .colours) n ≡ false → false ≡ cellsRight b
+  unfolding cellsRight
+  cells-colours r = rw (← q, r)
+
+  pub cells-clues : (a : Bool) → coloursRight (b .colours) n ≡ true → a ≡ cluesRight (b .clues) n → a ≡ cellsRight b
+  unfolding cellsRight
+  cells-clues a r s = rw (← q, r) s
+
+  module _ (m : ℕ) (p : m ≡ borderCount (b .height) (b .width)) where
+    pub unused-colours : zerosFrom (b .colours) n ≡ false → false ≡ unusedZero b
+    unfolding unusedZero
+    unused-colours r = rw (← q, r)
+
+    pub unused-clues : zerosFrom (b .colours) n ≡ true → zeroCluesFrom (b .clues) n ≡ false → false ≡ unusedZero b
+    unfolding unusedZero
+    unused-clues r s = rw (← q, r, s)
+
+    pub unused-borders : zerosFrom (b .colours) n ≡ true → zeroCluesFrom (b .clues) n ≡ true
+        → zerosFrom (b .borders) m ≡ false → false ≡ unusedZero b
+    unfolding unusedZero
+    unused-borders r s t = rw (← q, r, s, ← p, t)
+
+    pub unused-stack : (a : Bool) → zerosFrom (b .colours) n ≡ true → zeroCluesFrom (b .clues) n ≡ true
+        → zerosFrom (b .borders) m ≡ true → a ≡ zerosFrom (b .stack) (b .count) → a ≡ unusedZero b
+    unfolding unusedZero
+    unused-stack a r s t u = rw (← q, r, s, ← p, t) u
+
+module _ (b : Board) (m : ℕ) (p : m ≡ borderCount (b .height) (b .width)) where
+  pub decisions-many : m < b .count → false ≡ decisionsRight b
+  unfolding decisionsRight
+  decisions-many t = rw (← p, lt-leb (b .count) m t)
+
+  pub decisions-stack : b .count ≤ m → stackRight (b .stack) m (b .count) ≡ false → false ≡ decisionsRight b
+  unfolding decisionsRight
+  decisions-stack t u = rw (← p, le-leb (b .count) m t, u)
+
+  pub decisions-borders : (vs : List Bool) (a : Bool) → b .count ≤ m → m ≤ 1984 → Marks (b .stack) m (b .count) true vs
+      → a ≡ bordersBy (b .borders) vs m → a ≡ decisionsRight b
+  unfolding decisionsRight bordersBy bordersRight
+  decisions-borders vs a t l u e =
+      e
+      ∙ all-cong m _ _
+      (λ x k. ap (λ (v : Bool). borderRight (getD (b .borders) x 0) v) (u .marked refl x (omega arith)))
+      ∙ rw (← p, le-leb (b .count) m t, ← (u .tells))
+
+module _ (b : Board) where
+  pub alien-size : sizeRight (b .height) (b .width) ≡ false → true ≡ isAlien b
+  unfolding isAlien
+  alien-size p = rw p
+
+  pub alien-cells : sizeRight (b .height) (b .width) ≡ true → cellsRight b ≡ false → true ≡ isAlien b
+  unfolding isAlien
+  alien-cells p q = rw (p, q)
+
+  pub alien-decisions : sizeRight (b .height) (b .width) ≡ true → cellsRight b ≡ true → decisionsRight b ≡ false
+      → true ≡ isAlien b
+  unfolding isAlien
+  alien-decisions p q r = rw (p, q, r)
+
+  pub alien-unused : (a : Bool) → sizeRight (b .height) (b .width) ≡ true → cellsRight b ≡ true
+      → decisionsRight b ≡ true → a ≡ unusedZero b → not a ≡ isAlien b
+  unfolding isAlien
+  alien-unused a p q r s = rw (p, q, r, s)
+
+-- ---- decide
+module _ (b : Board) (l : Literal) where
+  pub decide-alien : isAlien b ≡ true → returned Alien b ≡ decideOf b l
+  unfolding decideOf
+  decide-alien p = rw p
+
+  module _ (p : isAlien b ≡ false) where
+    pub decide-border : borderCount (b .height) (b .width) ≤ l .border → returned Border b ≡ decideOf b l
+    unfolding decideOf
+    decide-border r = rw (p, le-ltb (l .border) (borderCount (b .height) (b .width)) r)
+
+    module _ (r : l .border < borderCount (b .height) (b .width)) where
+      pub decide-taken : (getD (b .borders) (l .border) 0 ≡ 0 → ⊥) → returned Taken b ≡ decideOf b l
+      unfolding decideOf
+      decide-taken s =
+          let m = borderCount (b .height) (b .width) in
+          rw (p, lt-ltb (l .border) m r, ne-eqb (getD (b .borders) (l .border) 0) 0 s)
+
+      pub decide-done : getD (b .borders) (l .border) 0 ≡ 0
+          → returned Done (pushed b (l .border) (codeOf (l .side))) ≡ decideOf b l
+      unfolding decideOf
+      decide-done s =
+          let m = borderCount (b .height) (b .width) in
+          rw (p, lt-ltb (l .border) m r, eq-eqb (getD (b .borders) (l .border) 0) 0 s)
+
+-- ---- undo
+module _ (b : Board) where
+  pub undo-alien : isAlien b ≡ true → returned Alien b ≡ undoOf b
+  unfolding undoOf
+  undo-alien p = rw p
+
+  pub undo-bare : isAlien b ≡ false → b .count ≡ 0 → returned Bare b ≡ undoOf b
+  unfolding undoOf
+  undo-bare p q = rw (p, eq-eqb (b .count) 0 q)
+
+  pub undo-done : isAlien b ≡ false → (b .count ≡ 0 → ⊥) → returned Done (popped b) ≡ undoOf b
+  unfolding undoOf
+  undo-done p q = rw (p, ne-eqb (b .count) 0 q)
+
+-- ---- making a board
+module _ (h w : ℕ) (cs : List ℕ) (ks : List ℤ) where
+  pub fresh-size : sizeRight h w ≡ false → returned Size zeroBoard ≡ freshOf h w cs ks
+  unfolding freshOf
+  fresh-size p = rw p
+
+  module _ (p : sizeRight h w ≡ true) (m : ℕ) (q : m ≡ h * w) where
+    pub fresh-colours : (length cs ≡ m → ⊥) → returned Ragged zeroBoard ≡ freshOf h w cs ks
+    unfolding freshOf
+    fresh-colours r = rw (p, ← q, ne-eqb (length cs) m r)
+
+    module _ (r : length cs ≡ m) where
+      pub fresh-clues : (length ks ≡ m → ⊥) → returned Ragged zeroBoard ≡ freshOf h w cs ks
+      unfolding freshOf
+      fresh-clues s = rw (p, ← q, eq-eqb (length cs) m r, ne-eqb (length ks) m s)
+
+      module _ (s : length ks ≡ m) where
+        pub fresh-colour : coloursRight cs m ≡ false → returned Colour zeroBoard ≡ freshOf h w cs ks
+        unfolding freshOf
+        fresh-colour t = rw (p, ← q, eq-eqb (length cs) m r, eq-eqb (length ks) m s, t)
+
+        module _ (t : coloursRight cs m ≡ true) where
+          pub fresh-clue : cluesRight ks m ≡ false → returned Clue zeroBoard ≡ freshOf h w cs ks
+          unfolding freshOf
+          fresh-clue u = rw (p, ← q, eq-eqb (length cs) m r, eq-eqb (length ks) m s, t, u)
+
+          pub fresh-done : cluesRight ks m ≡ true → returned Done (freshBoard h w cs ks) ≡ freshOf h w cs ks
+          unfolding freshOf
+          fresh-done u = rw (p, ← q, eq-eqb (length cs) m r, eq-eqb (length ks) m s, t, u)

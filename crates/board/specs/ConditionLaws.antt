@@ -1,0 +1,121 @@
+-- Laws of the conditions: a page's size and its counts, and what a run over the stack finds.
+use mathlib.Core.Path.{_≡_, refl, ap, sym, _∙_}
+use mathlib.Core.Bool.{Bool, true, false, cond, not, _&&_, _||_, false≢true, or-true, or-false}
+use mathlib.Core.List.{List}
+use Prim.Native.Nat.{ℕ, _+_, _*_, _<_, _≤_}
+use native.Mathlib.Decide.{ℕ-discrete}
+use native.Mathlib.Omega.{arith}
+use borrow.Author.Tests.{leb-true, le-leb, lt-leb, le-ltb, eq-eqb, ne-eqb}
+use lib.Dec.{leb, eqb}
+use lib.ListN.{length, getD, set}
+use lib.Seq.{getD-set-same, getD-set-other}
+use Rattle.lists.specs.Tests.{and-left, and-right, allBelow, any-none, any-more, all-fails, all-end}
+use Rattle.rules.specs.declared.Side.the-variants.{Open}
+use Rattle.rules.specs.Page.{undecided, decided, isUndecided}
+use Rattle.rules.specs.Flat.{Sized, borderCount}
+use Rattle.rules.specs.FlatLaws.{borders-le}
+use Rattle.board.specs.Alien.{sizeRight, cellsOf, bordersOf, entryRight, stacked, stackRight, borderRight, Marks}
+use Rattle.board.specs.View.{isFree}
+
+pub sized : {h w : ℕ} → sizeRight h w ≡ true → Sized h w
+unfolding sizeRight
+sized {h} {w} e =
+    let a = and-left (leb 1 h && leb h 32 && leb 1 w) (leb w 32) e in
+    let b = and-left (leb 1 h && leb h 32) (leb 1 w) a in
+    record {
+      rows = leb-true 1 h (and-left (leb 1 h) (leb h 32) b);
+      columns = leb-true 1 w (and-right (leb 1 h && leb h 32) (leb 1 w) a);
+      tall = leb-true h 32 (and-right (leb 1 h) (leb h 32) b);
+      wide = leb-true w 32 (and-right (leb 1 h && leb h 32 && leb 1 w) (leb w 32) e);
+    }
+
+pub size-is : {h w : ℕ} → Sized h w → sizeRight h w ≡ true
+unfolding sizeRight
+size-is {h} {w} s = rw (le-leb 1 h (s .rows), le-leb h 32 (s .tall), le-leb 1 w (s .columns), le-leb w 32 (s .wide))
+
+pub cells-of : {h w : ℕ} → Sized h w → cellsOf h w ≡ h * w
+unfolding cellsOf
+cells-of s = rw (size-is s)
+
+pub borders-of : {h w : ℕ} → Sized h w → bordersOf h w ≡ borderCount h w
+unfolding bordersOf
+borders-of s = rw (size-is s)
+
+pub borders-of-le : (h w : ℕ) → bordersOf h w ≤ 1984
+unfolding bordersOf
+borders-of-le h w = go (sizeRight h w) refl
+  where
+    go : (b : Bool) → sizeRight h w ≡ b → cond b (borderCount h w) 0 ≤ 1984
+    go true e = borders-le (sized e)
+    go false e = omega arith
+
+-- ---- the stack
+pub stacked-none : (s : List ℕ) (x : ℕ) → stacked s 0 x ≡ false
+unfolding stacked
+stacked-none s x = any-none (λ j. eqb (getD s j 0) x)
+
+pub stacked-more : (s : List ℕ) (k x : ℕ) → stacked s (k + 1) x ≡ stacked s k x || eqb (getD s k 0) x
+unfolding stacked
+stacked-more s k x = any-more k (λ j. eqb (getD s j 0) x)
+
+-- one more entry is marked
+pub marks-more : (s : List ℕ) (vs : List Bool) (i e : ℕ) → e ≡ getD s i 0 → e < 1984 → length vs ≡ 1984
+    → ((x : ℕ) → x < 1984 → getD vs x false ≡ stacked s i x)
+    → (x : ℕ) → x < 1984 → getD (set vs e true) x false ≡ stacked s (i + 1) x
+marks-more s vs i e p k l v x h = go (ℕ-discrete x e) ∙ sym (stacked-more s i x)
+  where
+    go : Dec (x ≡ e) → getD (set vs e true) x false ≡ stacked s i x || eqb (getD s i 0) x
+    go (yes d) =
+        ap (λ t. getD (set vs e true) t false) d
+        ∙ getD-set-same vs e true false (omega arith)
+        ∙ sym (ap (λ (t : Bool). stacked s i x || t) (eq-eqb (getD s i 0) x (sym (d ∙ p))) ∙ or-true (stacked s i x))
+    go (no d) =
+        getD-set-other vs e x true false d
+        ∙ v x h
+        ∙ sym
+        (ap (λ (t : Bool). stacked s i x || t) (ne-eqb (getD s i 0) x (λ z. d (sym (p ∙ z))))
+        ∙ or-false (stacked s i x))
+
+-- the test of entry i by its mark is that of `stackRight`
+pub entry-is : (s : List ℕ) (m i e : ℕ) (v a : Bool) → e ≡ getD s i 0 → v ≡ stacked s i e → a ≡ entryRight e m v
+    → entryRight (getD s i 0) m (stacked s i (getD s i 0)) ≡ a
+entry-is s m i e v a p q r =
+    sym (r ∙ ap (λ t. entryRight e m t) q ∙ ap (λ t. entryRight t m (stacked s i t)) p)
+
+pub marks-wrong : (s : List ℕ) (vs : List Bool) (m n i : ℕ) → i < n
+    → entryRight (getD s i 0) m (stacked s i (getD s i 0)) ≡ false → Marks s m n false vs
+unfolding stackRight
+marks-wrong s vs m n i l e = record { tells = sym (all-fails n _ i l e); marked = λ z. absurd (false≢true z) }
+
+pub marks-far : (s : List ℕ) (vs : List Bool) (m n i : ℕ) → i < n → m ≤ 1984 → 1984 ≤ getD s i 0 → Marks s m n false vs
+marks-far s vs m n i l k h = marks-wrong s vs m n i l (rw (le-ltb (getD s i 0) m (omega arith)))
+
+pub marks-done : (s : List ℕ) (vs : List Bool) (m n i : ℕ) → i ≤ n → n ≤ i
+    → allBelow i (λ j. entryRight (getD s j 0) m (stacked s j (getD s j 0))) ≡ true
+    → ((x : ℕ) → x < 1984 → getD vs x false ≡ stacked s i x) → Marks s m n true vs
+unfolding stackRight
+marks-done s vs m n i l k e v =
+    let q : i ≡ n = omega arith in
+    record { tells = sym (all-end i n _ l k e); marked = λ _ x w. v x w ∙ ap (λ t. stacked s t x) q }
+
+-- ---- a border place
+pub border-undecided : (v : ℕ) (on : Bool) → v ≡ 0 → not on ≡ borderRight v on
+border-undecided v true p = rw p
+border-undecided v false p = rw p
+
+pub border-decided : (v : ℕ) (on : Bool) → (v ≡ 0 → ⊥) → v ≤ 2 → on ≡ borderRight v on
+border-decided v true p q = rw (ne-eqb v 0 p, le-leb v 2 q)
+border-decided v false p q = rw (ne-eqb v 0 p, le-leb v 2 q)
+
+pub border-far : (v : ℕ) (on : Bool) → 2 < v → false ≡ borderRight v on
+border-far v on p = rw (lt-leb v 2 p)
+
+pub free-wall : (v : ℕ) → v ≡ 1 → false ≡ isFree v
+free-wall v p = rw p
+
+pub free-open : (v : ℕ) → (v ≡ 1 → ⊥) → not (eqb v 2) ≡ isFree v
+free-open v p = rw (ne-eqb v 1 p) (go (eqb v 2))
+  where
+    go : (t : Bool) → not t ≡ isUndecided (cond t (decided Open) undecided)
+    go true = refl
+    go false = refl

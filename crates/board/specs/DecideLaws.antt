@@ -1,0 +1,373 @@
+-- Decide and undo that are done: what they say of the board, that they keep a board from being alien, and that an undo
+-- after a decide gives the board back.
+use mathlib.Core.Path.{_≡_, refl, ap, ap₂, sym, _∙_}
+use mathlib.Core.Bool.{Bool, true, false, not, _||_, or-true, or-false}
+use mathlib.Core.List.{List}
+use Prim.Native.Nat.{ℕ, _+_, _-_, _<_, _≤_}
+use native.Mathlib.Decide.{ℕ-discrete}
+use native.Mathlib.Omega.{arith}
+use borrow.Author.Tests.{ltb-true, ltb-false, eq-eqb, ne-eqb, eqb-true, eqb-false}
+use lib.Dec.{ltb, eqb}
+use lib.ListN.{length, getD, set, length-set}
+use lib.Seq.{getD-set-same, getD-set-other, set-set, set-getD}
+use Rattle.lists.specs.Tests.{any-cong}
+use Rattle.rules.specs.declared.Side.{Side}
+use Rattle.rules.specs.declared.Side.the-variants.{Wall, Open}
+use Rattle.rules.specs.declared.Literal.{Literal}
+use Rattle.rules.specs.Flat.{borderCount}
+use Rattle.rules.specs.Codes.{codeOf}
+use Rattle.board.specs.declared.Board.{Board}
+use Rattle.board.specs.declared.Outcome.{Outcome}
+use Rattle.board.specs.declared.Outcome.the-variants.{Done}
+use Rattle.board.specs.declared.Returned.{Returned}
+use Rattle.board.specs.Alien.{stacked, isAlien}
+use Rattle.board.specs.Board.{numberOf, returned, pushed, popped, decideOf, undoOf, Typed}
+use Rattle.board.specs.ConditionLaws.{stacked-more}
+use Rattle.board.specs.Cases.{decide-alien, decide-border, decide-taken, decide-done}
+use Rattle.board.specs.Cases.{undo-alien, undo-bare, undo-done}
+use Rattle.board.specs.NativeLaws.{Native, native-has, native-of, borders-fit, free-unstacked, room}
+
+pub side-code : (d : Side) → (1 ≤ codeOf d) × (codeOf d ≤ 2)
+side-code Wall = (omega arith, omega arith)
+side-code Open = (omega arith, omega arith)
+
+-- ---- what a call that is done says
+-- a decide of l took b to d
+pub record Decided (b : Board) (l : Literal) (d : Board) : Type 0 where
+  pub known : isAlien b ≡ false
+  pub below : l .border < borderCount (b .height) (b .width)
+  pub free : getD (b .borders) (l .border) 0 ≡ 0
+  pub is : d ≡ pushed b (l .border) (codeOf (l .side))
+
+-- an undo took b to d
+pub record Undone (b d : Board) : Type 0 where
+  pub known : isAlien b ≡ false
+  pub some : 0 < b .count
+  pub is : d ≡ popped b
+
+-- two returns that are equal have one number
+pub one-number : {o p : Outcome} {b d : Board} → returned o b ≡ returned p d → numberOf o ≡ numberOf p
+one-number e = ap (λ (r : Returned). numberOf (r .outcome)) e
+
+pub decided-is : {b : Board} {l : Literal} {d : Board} → decideOf b l ≡ returned Done d → Decided b l d
+decided-is {b} {l} {d} e =
+    go (isAlien b) (ltb (l .border) m) (eqb (getD (b .borders) (l .border) 0) 0) refl refl refl
+  where
+    m : ℕ
+    m = borderCount (b .height) (b .width)
+
+    go : (x y z : Bool) → isAlien b ≡ x → ltb (l .border) m ≡ y → eqb (getD (b .borders) (l .border) 0) 0 ≡ z
+        → Decided b l d
+    go true y z p q r = absurd (let h : 5 ≡ 0 = one-number (decide-alien b l p ∙ e) in omega arith)
+    go false false z p q r =
+        absurd (let h : 6 ≡ 0 = one-number (decide-border b l p (ltb-false (l .border) m q) ∙ e) in omega arith)
+    go false true false p q r =
+        let s = eqb-false (getD (b .borders) (l .border) 0) 0 r in
+        absurd (let h : 7 ≡ 0 = one-number (decide-taken b l p (ltb-true (l .border) m q) s ∙ e) in omega arith)
+    go false true true p q r =
+        let k = ltb-true (l .border) m q in
+        let f = eqb-true (getD (b .borders) (l .border) 0) 0 r in
+        record {
+          known = p;
+          below = k;
+          free = f;
+          is = ap (λ (y : Returned). y .board) (sym e ∙ sym (decide-done b l p k f));
+        }
+
+pub undone-is : {b d : Board} → undoOf b ≡ returned Done d → Undone b d
+undone-is {b} {d} e = go (isAlien b) (ℕ-discrete (b .count) 0) refl
+  where
+    go : (x : Bool) → Dec (b .count ≡ 0) → isAlien b ≡ x → Undone b d
+    go true z p = absurd (let h : 5 ≡ 0 = one-number (undo-alien b p ∙ e) in omega arith)
+    go false (yes z) p = absurd (let h : 8 ≡ 0 = one-number (undo-bare b p z ∙ e) in omega arith)
+    go false (no z) p =
+        record {
+          known = p;
+          some = omega arith;
+          is = ap (λ (y : Returned). y .board) (sym e ∙ sym (undo-done b p z));
+        }
+
+-- ---- the stack with one place stored
+-- entries below the place are as they were
+pub stacked-before : (s : List ℕ) (c n k x : ℕ) → k ≤ c → stacked (set s c n) k x ≡ stacked s k x
+unfolding stacked
+stacked-before s c n k x h =
+    any-cong k (λ j. eqb (getD (set s c n) j 0) x) (λ j. eqb (getD s j 0) x)
+    (λ j l. ap (λ y. eqb y x) (getD-set-other s c j n 0 (λ z. let q : j ≡ c = z in omega arith)))
+
+stacked-set : (s : List ℕ) (c n x : ℕ) → c < length s → stacked (set s c n) (c + 1) x ≡ stacked s c x || eqb n x
+stacked-set s c n x h =
+    stacked-more (set s c n) c x
+    ∙ ap₂ (λ (u v : Bool). u || v) (stacked-before s c n c x (omega arith))
+    (ap (λ y. eqb y x) (getD-set-same s c n 0 h))
+
+-- ---- a decide
+module _ (b : Board) (N : Native b) (T : Typed b) (n v : ℕ) (k : n < borderCount (b .height) (b .width))
+    (p : getD (b .borders) n 0 ≡ 0) where
+  abbrev s : List ℕ
+  s = set (b .stack) (b .count) n
+
+  place : b .count < length (b .stack)
+  place = omega (arith, room b N n k p, borders-fit b N, T .stack)
+
+  index : n < length (b .borders)
+  index = omega (arith, borders-fit b N, T .borders)
+
+  pub new-entry : getD s (b .count) 0 ≡ n
+  new-entry = getD-set-same (b .stack) (b .count) n 0 place
+
+  pub old-entry : (i : ℕ) → (i ≡ b .count → ⊥) → getD s i 0 ≡ getD (b .stack) i 0
+  old-entry i d = getD-set-other (b .stack) (b .count) i n 0 d
+
+  before : (i x : ℕ) → i ≤ b .count → stacked s i x ≡ stacked (b .stack) i x
+  before i x h = stacked-before (b .stack) (b .count) n i x h
+
+  pub pushed-native : 1 ≤ v → v ≤ 2 → Native (pushed b n v)
+  pushed-native w z =
+      record {
+        size = N .size;
+        colour = N .colour;
+        clue = N .clue;
+        few = omega (arith, room b N n k p);
+        entry = λ i h. entry i h (ℕ-discrete i (b .count));
+        once = λ i h. once i h (ℕ-discrete i (b .count));
+        code = λ x h. code x h (ℕ-discrete x n);
+        held = λ x h. held x h (ℕ-discrete x n);
+        noColour = N .noColour;
+        noClue = N .noClue;
+        noBorder = λ x h. getD-set-other (b .borders) n x v 0 (λ q. let e : x ≡ n = q in omega arith) ∙ N .noBorder x h;
+        noEntry = λ i h. old-entry i (λ q. let e : i ≡ b .count = q in omega arith) ∙ N .noEntry i (omega arith);
+      }
+    where
+      m : ℕ
+      m = borderCount (b .height) (b .width)
+
+      entry : (i : ℕ) → i < b .count + 1 → Dec (i ≡ b .count) → getD s i 0 < m
+      entry i h (yes d) = let e : getD s i 0 ≡ n = ap (λ j. getD s j 0) d ∙ new-entry in omega arith
+      entry i h (no d) = let e = old-entry i d in omega (arith, N .entry i (omega arith))
+
+      once : (i : ℕ) → i < b .count + 1 → Dec (i ≡ b .count) → stacked s i (getD s i 0) ≡ false
+      once i h (yes d) =
+          ap (λ j. stacked s j (getD s j 0)) d
+          ∙ ap (λ y. stacked s (b .count) y) new-entry
+          ∙ before (b .count) n (omega arith)
+          ∙ free-unstacked b N n k p
+      once i h (no d) =
+          ap (λ y. stacked s i y) (old-entry i d)
+          ∙ before i (getD (b .stack) i 0) (omega arith)
+          ∙ N .once i (omega arith)
+
+      code : (x : ℕ) → x < m → Dec (x ≡ n) → getD (set (b .borders) n v) x 0 ≤ 2
+      code x h (yes d) = rw (d, getD-set-same (b .borders) n v 0 index) z
+      code x h (no d) = rw (getD-set-other (b .borders) n x v 0 d) (N .code x h)
+
+      held : (x : ℕ) → x < m → Dec (x ≡ n)
+          → eqb (getD (set (b .borders) n v) x 0) 0 ≡ not (stacked s (b .count + 1) x)
+      held x h (yes d) =
+          rw (
+            d,
+            getD-set-same (b .borders) n v 0 index,
+            stacked-set (b .stack) (b .count) n n place,
+            eq-eqb n n refl,
+            or-true (stacked (b .stack) (b .count) n),
+            ne-eqb v 0 (λ q. let e : v ≡ 0 = q in omega arith),
+          )
+      held x h (no d) =
+          rw (
+            getD-set-other (b .borders) n x v 0 d,
+            stacked-set (b .stack) (b .count) n x place,
+            ne-eqb n x (λ q. d (sym q)),
+            or-false (stacked (b .stack) (b .count) x),
+          )
+          (N .held x h)
+
+  pub pushed-typed : Typed (pushed b n v)
+  pushed-typed =
+      record {
+        colours = T .colours;
+        clues = T .clues;
+        borders = length-set (b .borders) n v ∙ T .borders;
+        stack = length-set (b .stack) (b .count) n ∙ T .stack;
+        small = T .small;
+      }
+
+  pub popped-pushed : popped (pushed b n v) ≡ b
+  popped-pushed =
+      let ec : b .count + 1 - 1 ≡ b .count = omega arith in
+      let eb : set (set (b .borders) n v) (getD s (b .count + 1 - 1) 0) 0 ≡ b .borders =
+      ap (λ y. set (set (b .borders) n v) y 0) (ap (λ q. getD s q 0) ec ∙ new-entry)
+      ∙ set-set (b .borders) n v 0
+      ∙ ap (λ y. set (b .borders) n y) (sym p)
+      ∙ set-getD (b .borders) n 0 in
+      let es : set s (b .count + 1 - 1) 0 ≡ b .stack =
+      ap (λ y. set s y 0) ec
+      ∙ set-set (b .stack) (b .count) n 0
+      ∙ ap (λ y. set (b .stack) (b .count) y) (sym (N .noEntry (b .count) (omega arith)))
+      ∙ set-getD (b .stack) (b .count) 0 in
+      λ i.
+      record {
+        height = b .height;
+        width = b .width;
+        colours = b .colours;
+        clues = b .clues;
+        borders = eb i;
+        stack = es i;
+        count = ec i;
+      }
+
+-- ---- an undo
+-- the board with its entry k taken off
+abbrev pub poppedAt : Board → ℕ → Board
+poppedAt b k =
+    record {
+      height = b .height;
+      width = b .width;
+      colours = b .colours;
+      clues = b .clues;
+      borders = set (b .borders) (getD (b .stack) k 0) 0;
+      stack = set (b .stack) k 0;
+      count = k;
+    }
+
+module _ (b : Board) (N : Native b) (T : Typed b) (k : ℕ) (e : b .count ≡ k + 1) where
+  last : ℕ
+  last = getD (b .stack) k 0
+
+  last-below : last < borderCount (b .height) (b .width)
+  unfolding last
+  last-below = N .entry k (omega arith)
+
+  pub popped-at : popped b ≡ poppedAt b k
+  popped-at = let c : b .count - 1 ≡ k = omega arith in ap (poppedAt b) c
+
+  pub popped-native : Native (poppedAt b k)
+  unfolding last
+  popped-native =
+      record {
+        size = N .size;
+        colour = N .colour;
+        clue = N .clue;
+        few = omega (arith, N .few);
+        entry = λ i h. let q = old i (λ z. let r : i ≡ k = z in omega arith) in omega (arith, N .entry i (omega arith));
+        once =
+            λ i h.
+            ap (λ y. stacked (set (b .stack) k 0) i y) (old i (λ z. let r : i ≡ k = z in omega arith))
+            ∙ stacked-before (b .stack) k 0 i (getD (b .stack) i 0) (omega arith)
+            ∙ N .once i (omega arith);
+        code = λ x h. code x h (ℕ-discrete x last);
+        held = λ x h. held x h (ℕ-discrete x last);
+        noColour = N .noColour;
+        noClue = N .noClue;
+        noBorder =
+            λ x h.
+            let l = last-below in
+            getD-set-other (b .borders) last x 0 0 (λ q. let r : x ≡ last = q in omega arith) ∙ N .noBorder x h;
+        noEntry = λ i h. noEntry i h (ℕ-discrete i k);
+      }
+    where
+      m : ℕ
+      m = borderCount (b .height) (b .width)
+
+      index : last < length (b .borders)
+      index = omega (arith, last-below, borders-fit b N, T .borders)
+
+      old : (i : ℕ) → (i ≡ k → ⊥) → getD (set (b .stack) k 0) i 0 ≡ getD (b .stack) i 0
+      old i d = getD-set-other (b .stack) k i 0 0 d
+
+      code : (x : ℕ) → x < m → Dec (x ≡ last) → getD (set (b .borders) last 0) x 0 ≤ 2
+      code x h (yes d) = rw (d, getD-set-same (b .borders) last 0 0 index) (omega arith)
+      code x h (no d) = rw (getD-set-other (b .borders) last x 0 0 d) (N .code x h)
+
+      held : (x : ℕ) → x < m → Dec (x ≡ last)
+          → eqb (getD (set (b .borders) last 0) x 0) 0 ≡ not (stacked (set (b .stack) k 0) k x)
+      held x h (yes d) =
+          rw (
+            d,
+            getD-set-same (b .borders) last 0 0 index,
+            stacked-before (b .stack) k 0 k last (omega arith),
+            N .once k (omega arith),
+          )
+      held x h (no d) =
+          rw (getD-set-other (b .borders) last x 0 0 d, stacked-before (b .stack) k 0 k x (omega arith))
+          (N .held x h
+          ∙ ap not
+          (ap (λ j. stacked (b .stack) j x) e
+          ∙ stacked-more (b .stack) k x
+          ∙ ap (λ (t : Bool). stacked (b .stack) k x || t) (ne-eqb last x (λ q. d (sym q)))
+          ∙ or-false (stacked (b .stack) k x)))
+
+      noEntry : (i : ℕ) → k ≤ i → Dec (i ≡ k) → getD (set (b .stack) k 0) i 0 ≡ 0
+      noEntry i h (yes d) =
+          let g = T .stack in
+          rw d (getD-set-same (b .stack) k 0 0 (omega (arith, borders-fit b N, N .few)))
+      noEntry i h (no d) = old i d ∙ N .noEntry i (omega arith)
+
+  pub popped-typed : Typed (poppedAt b k)
+  popped-typed =
+      record {
+        colours = T .colours;
+        clues = T .clues;
+        borders = length-set (b .borders) (getD (b .stack) k 0) 0 ∙ T .borders;
+        stack = length-set (b .stack) k 0 ∙ T .stack;
+        small = T .small;
+      }
+
+-- ---- the calls
+pub decide-keeps : (b : Board) (l : Literal) {d : Board} → Typed b → decideOf b l ≡ returned Done d → isAlien d ≡ false
+decide-keeps b l T e =
+    let f = decided-is e in
+    let c = side-code (l .side) in
+    ap isAlien (f .is)
+    ∙ native-of _ (pushed-native b (native-has b (f .known)) T _ _ (f .below) (f .free) (c .0) (c .1))
+
+pub decided-typed : (b : Board) (l : Literal) {d : Board} → Typed b → decideOf b l ≡ returned Done d → Typed d
+decided-typed b l T e =
+    let f = decided-is e in
+    rw (f .is) (pushed-typed b (native-has b (f .known)) T _ _ (f .below) (f .free))
+
+pub undone-typed : (b : Board) {d : Board} → Typed b → undoOf b ≡ returned Done d → Typed d
+undone-typed b T e =
+    let f = undone-is e in
+    let c : b .count ≡ b .count - 1 + 1 = omega arith in
+    rw (f .is) (popped-typed b (native-has b (f .known)) T (b .count - 1) c)
+
+pub undo-keeps : (b : Board) {d : Board} → Typed b → undoOf b ≡ returned Done d → isAlien d ≡ false
+undo-keeps b T e =
+    let f = undone-is e in
+    let N = native-has b (f .known) in
+    let c : b .count ≡ b .count - 1 + 1 = omega arith in
+    ap isAlien (f .is) ∙ native-of _ (popped-native b N T (b .count - 1) c)
+
+-- after a decide that was done, an undo is done and gives back the board that the decide was given
+pub undo-decide : (b : Board) (l : Literal) {d : Board} → Typed b → decideOf b l ≡ returned Done d
+    → undoOf d ≡ returned Done b
+undo-decide b l {d} T e =
+    let f = decided-is e in
+    let N = native-has b (f .known) in
+    sym
+    (undo-done d (decide-keeps b l T e)
+    (λ q. let z : b .count + 1 ≡ 0 = sym (ap (λ (y : Board). y .count) (f .is)) ∙ q in omega arith))
+    ∙ ap (returned Done) (ap popped (f .is) ∙ popped-pushed b N T (l .border) (codeOf (l .side)) (f .below) (f .free))
+
+-- ---- what a decide changes: one border and one place of the stack
+pub record Changed (b : Board) (l : Literal) (d : Board) : Type 0 where
+  pub border : getD (d .borders) (l .border) 0 ≡ codeOf (l .side)
+  pub borders : (x : ℕ) → (x ≡ l .border → ⊥) → getD (d .borders) x 0 ≡ getD (b .borders) x 0
+  pub entry : getD (d .stack) (b .count) 0 ≡ l .border
+  pub entries : (i : ℕ) → (i ≡ b .count → ⊥) → getD (d .stack) i 0 ≡ getD (b .stack) i 0
+  pub count : d .count ≡ b .count + 1
+
+pub decide-changes : (b : Board) (l : Literal) {d : Board} → Typed b → decideOf b l ≡ returned Done d → Changed b l d
+decide-changes b l T e =
+    let f = decided-is e in
+    let N = native-has b (f .known) in
+    let n = l .border in
+    let v = codeOf (l .side) in
+    rw (f .is)
+    (record {
+      border = getD-set-same (b .borders) n v 0 (index b N T n v (f .below) (f .free));
+      borders = λ x h. getD-set-other (b .borders) n x v 0 h;
+      entry = new-entry b N T n v (f .below) (f .free);
+      entries = λ i h. getD-set-other (b .stack) (b .count) i n 0 h;
+      count = refl;
+    })

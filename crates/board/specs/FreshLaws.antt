@@ -1,0 +1,114 @@
+-- Making a board that is done: what it says of the puzzle, and that its board is not alien; the all-zero board is.
+use mathlib.Core.Path.{_≡_, refl, ap, sym, _∙_}
+use mathlib.Core.Bool.{Bool, true, false}
+use mathlib.Core.List.{List}
+use Prim.Native.Nat.{ℕ, _*_, _<_}
+use native.Mathlib.Decide.{ℕ-discrete, decLt}
+use native.Mathlib.Omega.{arith}
+use borrow.Author.Tests.{leb-true}
+use lib.Dec.{leb}
+use lib.IntN.{ℤ, pos}
+use lib.ListN.{length, getD, replicate, length-replicate, getD-replicate, List·getD-eq-default}
+use Rattle.lists.specs.Tests.{all-at}
+use Rattle.rules.specs.Flat.{Sized}
+use Rattle.rules.specs.FlatLaws.{counts}
+use Rattle.board.specs.declared.Board.{Board}
+use Rattle.board.specs.declared.Outcome.the-variants.{Done}
+use Rattle.board.specs.declared.Returned.{Returned}
+use Rattle.board.specs.ListExtras.{getD-padded, length-padded}
+use Rattle.board.specs.Alien.{sizeRight, coloursRight, clueRight, cluesRight, isAlien}
+use Rattle.board.specs.Board.{zeroBoard, freshBoard, returned, freshOf, Small, Typed}
+use Rattle.board.specs.ConditionLaws.{sized, stacked-none}
+use Rattle.board.specs.Cases.{fresh-size, fresh-colours, fresh-clues, fresh-colour, fresh-clue, fresh-done}
+use Rattle.board.specs.Cases.{alien-size}
+use Rattle.board.specs.NativeLaws.{Native, native-of}
+use Rattle.board.specs.DecideLaws.{one-number}
+
+-- "the all-zero board, itself alien"
+pub zero-alien : isAlien zeroBoard ≡ true
+unfolding sizeRight
+zero-alien = sym (alien-size zeroBoard refl)
+
+-- making a board of that puzzle gave d
+pub record Made (h w : ℕ) (cs : List ℕ) (ks : List ℤ) (d : Board) : Type 0 where
+  pub size : Sized h w
+  pub colours : length cs ≡ h * w
+  pub clues : length ks ≡ h * w
+  pub colour : coloursRight cs (h * w) ≡ true
+  pub clue : cluesRight ks (h * w) ≡ true
+  pub is : d ≡ freshBoard h w cs ks
+
+pub made-is : {h w : ℕ} {cs : List ℕ} {ks : List ℤ} {d : Board} → freshOf h w cs ks ≡ returned Done d → Made h w cs ks d
+made-is {h} {w} {cs} {ks} {d} e =
+    go (sizeRight h w) (ℕ-discrete (length cs) (h * w)) (ℕ-discrete (length ks) (h * w)) (coloursRight cs (h * w))
+    (cluesRight ks (h * w)) refl refl refl
+  where
+    go : (s : Bool) → Dec (length cs ≡ h * w) → Dec (length ks ≡ h * w) → (c k : Bool) → sizeRight h w ≡ s
+        → coloursRight cs (h * w) ≡ c → cluesRight ks (h * w) ≡ k → Made h w cs ks d
+    go false y z c k p q r = absurd (let n : 1 ≡ 0 = one-number (fresh-size h w cs ks p ∙ e) in omega arith)
+    go true (no y) z c k p q r =
+        absurd (let n : 2 ≡ 0 = one-number (fresh-colours h w cs ks p (h * w) refl y ∙ e) in omega arith)
+    go true (yes y) (no z) c k p q r =
+        absurd (let n : 2 ≡ 0 = one-number (fresh-clues h w cs ks p (h * w) refl y z ∙ e) in omega arith)
+    go true (yes y) (yes z) false k p q r =
+        absurd (let n : 3 ≡ 0 = one-number (fresh-colour h w cs ks p (h * w) refl y z q ∙ e) in omega arith)
+    go true (yes y) (yes z) true false p q r =
+        absurd (let n : 4 ≡ 0 = one-number (fresh-clue h w cs ks p (h * w) refl y z q r ∙ e) in omega arith)
+    go true (yes y) (yes z) true true p q r =
+        record {
+          size = sized p;
+          colours = y;
+          clues = z;
+          colour = q;
+          clue = r;
+          is = ap (λ (t : Returned). t .board) (sym e ∙ sym (fresh-done h w cs ks p (h * w) refl y z q r));
+        }
+
+all-zero : (n x : ℕ) → _≡_ {A = ℕ} (getD (replicate n 0) x 0) 0
+all-zero n x = go (decLt x n)
+  where
+    go : Dec (x < n) → _≡_ {A = ℕ} (getD (replicate n 0) x 0) 0
+    go (yes h) = getD-replicate {A = ℕ} n x 0 0 h
+    go (no h) = List·getD-eq-default (replicate n 0) 0 (omega (arith, length-replicate {A = ℕ} n 0))
+
+module _ {h w : ℕ} {cs : List ℕ} {ks : List ℤ} {d : Board} (M : Made h w cs ks d) where
+  fresh-native : Native (freshBoard h w cs ks)
+  unfolding coloursRight cluesRight
+  fresh-native =
+      record {
+        size = M .size;
+        colour =
+            λ i l.
+            rw (getD-padded 1024 0 cs i)
+            (leb-true (getD cs i 0) 1 (all-at (h * w) (λ j. leb (getD cs j 0) 1) i (M .colour) l));
+        clue =
+            λ i l.
+            rw (getD-padded 1024 (pos 0) ks i) (all-at (h * w) (λ j. clueRight (getD ks j (pos 0))) i (M .clue) l);
+        few = omega arith;
+        entry = λ i l. absurd (omega arith);
+        once = λ i l. absurd (omega arith);
+        code = λ x l. rw (all-zero 1984 x) (omega arith);
+        held = λ x l. rw (all-zero 1984 x, stacked-none (replicate 1984 0) x);
+        noColour = λ i l. let c = M .colours in getD-padded 1024 0 cs i ∙ List·getD-eq-default cs 0 (omega arith);
+        noClue =
+            λ i l. let c = M .clues in getD-padded 1024 (pos 0) ks i ∙ List·getD-eq-default ks (pos 0) (omega arith);
+        noBorder = λ x l. all-zero 1984 x;
+        noEntry = λ i l. all-zero 1984 i;
+      }
+
+  pub made-keeps : isAlien d ≡ false
+  made-keeps = ap isAlien (M .is) ∙ native-of _ fresh-native
+
+  pub made-typed : Small ks → Typed d
+  made-typed s =
+      let c = counts (M .size) in
+      let p = M .colours in
+      let q = M .clues in
+      rw (M .is)
+      (record {
+        colours = length-padded 1024 0 cs (omega arith);
+        clues = length-padded 1024 (pos 0) ks (omega arith);
+        borders = length-replicate {A = ℕ} 1984 0;
+        stack = length-replicate {A = ℕ} 1984 0;
+        small = λ i. rw (getD-padded 1024 (pos 0) ks i) (s i);
+      })

@@ -1,0 +1,13 @@
+pub mod ListExtras
+pub mod Alien
+pub mod Board
+pub mod View
+pub mod ConditionLaws
+pub mod Cases
+pub mod NativeLaws
+pub mod DecideLaws
+pub mod SequenceLaws
+pub mod ViewLaws
+pub mod LiteralLaws
+pub mod FreshLaws
+pub mod StepLaws

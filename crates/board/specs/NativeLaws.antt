@@ -1,0 +1,232 @@
+-- Boards that are not alien: what they have, in plain facts, and how many borders are on their stack.
+use mathlib.Core.Path.{_≡_, refl, ap, sym, _∙_}
+use mathlib.Core.Bool.{Bool, true, false, not, _&&_, _||_, Bool·beq, false≢true}
+use mathlib.Core.List.{List}
+use Prim.Native.Nat.{ℕ, zero, suc, _-_, _*_, _<_, _≤_}
+use native.Mathlib.Numerals.{add-one}
+use native.Mathlib.Decide.{decLt}
+use native.Mathlib.Omega.{arith}
+use borrow.Author.Tests.{leb-true, le-leb, ltb-true, lt-ltb, eq-eqb, eqb-true, not-true, not-false}
+use lib.Dec.{leb, ltb, eqb}
+use lib.IntN.{ℤ, pos, negsuc}
+use lib.ListN.{length, getD, List·getD-eq-default}
+use Rattle.lists.specs.Tests.{and-left, and-right, all-at, all-every}
+use Rattle.lists.specs.Count.{countBelow, count-cong, count-none, count-lt, count-more, count-not}
+use Rattle.rules.specs.Flat.{Sized, borderCount}
+use Rattle.rules.specs.FlatLaws.{borders-le}
+use Rattle.board.specs.declared.Board.{Board}
+use Rattle.board.specs.ListExtras.{from-at, from-every}
+use Rattle.board.specs.Alien.{sizeRight, coloursRight, clueRight, cluesRight, stacked, stackRight, bordersRight}
+use Rattle.board.specs.Alien.{entryRight, borderRight, zerosFrom, clueZero, zeroCluesFrom, cellsRight}
+use Rattle.board.specs.Alien.{decisionsRight, unusedZero, isAlien}
+use Rattle.board.specs.ConditionLaws.{sized, size-is, stacked-none, stacked-more}
+
+pub record Native (b : Board) : Type 0 where
+  pub size : Sized (b .height) (b .width)
+  pub colour : (i : ℕ) → i < b .height * b .width → getD (b .colours) i 0 ≤ 1
+  pub clue : (i : ℕ) → i < b .height * b .width → clueRight (getD (b .clues) i (pos 0)) ≡ true
+  pub few : b .count ≤ borderCount (b .height) (b .width)
+  -- each entry of the stack is a border, and no earlier entry
+  pub entry : (i : ℕ) → i < b .count → getD (b .stack) i 0 < borderCount (b .height) (b .width)
+  pub once : (i : ℕ) → i < b .count → stacked (b .stack) i (getD (b .stack) i 0) ≡ false
+  -- a border is undecided, wall or open, and undecided exactly where it is not on the stack
+  pub code : (x : ℕ) → x < borderCount (b .height) (b .width) → getD (b .borders) x 0 ≤ 2
+  pub held : (x : ℕ) → x < borderCount (b .height) (b .width)
+      → eqb (getD (b .borders) x 0) 0 ≡ not (stacked (b .stack) (b .count) x)
+  -- unused places, and what is read past the end
+  pub noColour : (i : ℕ) → b .height * b .width ≤ i → getD (b .colours) i 0 ≡ 0
+  pub noClue : (i : ℕ) → b .height * b .width ≤ i → getD (b .clues) i (pos 0) ≡ pos 0
+  pub noBorder : (x : ℕ) → borderCount (b .height) (b .width) ≤ x → getD (b .borders) x 0 ≡ 0
+  pub noEntry : (i : ℕ) → b .count ≤ i → getD (b .stack) i 0 ≡ 0
+
+-- ---- places that are 0
+pub zeros-at : (l : List ℕ) (from i : ℕ) → zerosFrom l from ≡ true → from ≤ i → getD l i 0 ≡ 0
+unfolding zerosFrom
+zeros-at l from i e h = go (decLt i (length l))
+  where
+    go : Dec (i < length l) → getD l i 0 ≡ 0
+    go (yes k) = eqb-true (getD l i 0) 0 (from-at from (length l) (λ j. eqb (getD l j 0) 0) i e h k)
+    go (no k) = List·getD-eq-default l 0 (omega arith)
+
+pub zeros-of : (l : List ℕ) (from : ℕ) → ((i : ℕ) → from ≤ i → getD l i 0 ≡ 0) → zerosFrom l from ≡ true
+unfolding zerosFrom
+zeros-of l from f = from-every from (length l) _ (λ i h k. eq-eqb (getD l i 0) 0 (f i h))
+
+clue-zero : (k : ℤ) → clueZero k ≡ true → k ≡ pos 0
+clue-zero (pos n) e = ap pos (let h : n ≤ 0 = leb-true n 0 (and-right (leb 0 n) (leb n 0) e) in omega arith)
+clue-zero (negsuc n) e = absurd (false≢true e)
+
+pub zero-clues-at : (l : List ℤ) (from i : ℕ) → zeroCluesFrom l from ≡ true → from ≤ i → getD l i (pos 0) ≡ pos 0
+unfolding zeroCluesFrom
+zero-clues-at l from i e h = go (decLt i (length l))
+  where
+    go : Dec (i < length l) → getD l i (pos 0) ≡ pos 0
+    go (yes k) = clue-zero (getD l i (pos 0)) (from-at from (length l) (λ j. clueZero (getD l j (pos 0))) i e h k)
+    go (no k) = List·getD-eq-default l (pos 0) (omega arith)
+
+pub zero-clues-of : (l : List ℤ) (from : ℕ) → ((i : ℕ) → from ≤ i → getD l i (pos 0) ≡ pos 0)
+    → zeroCluesFrom l from ≡ true
+unfolding zeroCluesFrom
+zero-clues-of l from f = from-every from (length l) _ (λ i h k. rw (f i h))
+
+-- ---- the test's two directions
+beq-true : (c d : Bool) → Bool·beq c d ≡ true → c ≡ d
+beq-true true true e = refl
+beq-true true false e = sym e
+beq-true false true e = e
+beq-true false false e = refl
+
+beq-refl : (c : Bool) → Bool·beq c c ≡ true
+beq-refl true = refl
+beq-refl false = refl
+
+module _ (b : Board) where
+  cells : ℕ
+  cells = b .height * b .width
+
+  m : ℕ
+  m = borderCount (b .height) (b .width)
+
+  has-cells : sizeRight (b .height) (b .width) ≡ true → cellsRight b ≡ true → decisionsRight b ≡ true
+      → unusedZero b ≡ true → Native b
+  unfolding cellsRight decisionsRight unusedZero coloursRight cluesRight stackRight bordersRight cells m
+  has-cells s c d u =
+      let few : Bool = leb (b .count) m in
+      let stack : Bool = stackRight (b .stack) m (b .count) in
+      let borders : Bool = bordersRight (b .borders) (b .stack) (b .count) m in
+      let zc : Bool = zerosFrom (b .colours) cells in
+      let zk : Bool = zeroCluesFrom (b .clues) cells in
+      let zb : Bool = zerosFrom (b .borders) m in
+      let zs : Bool = zerosFrom (b .stack) (b .count) in
+      let d₂ = and-left (few && stack) borders d in
+      let u₃ = and-left (zc && zk && zb) zs u in
+      let u₂ = and-left (zc && zk) zb u₃ in
+      let entry : (i : ℕ) → i < b .count
+      → ltb (getD (b .stack) i 0) m && not (stacked (b .stack) i (getD (b .stack) i 0)) ≡ true =
+      λ i h.
+      all-at (b .count) (λ j. entryRight (getD (b .stack) j 0) m (stacked (b .stack) j (getD (b .stack) j 0))) i
+      (and-right few stack d₂) h in
+      let border : (x : ℕ) → x < m → leb (getD (b .borders) x 0) 2
+      && Bool·beq (eqb (getD (b .borders) x 0) 0) (not (stacked (b .stack) (b .count) x)) ≡ true =
+      λ x h. all-at m (λ y. borderRight (getD (b .borders) y 0) (stacked (b .stack) (b .count) y)) x
+      (and-right (few && stack) borders d) h in
+      record {
+        size = sized s;
+        colour =
+            λ i h. leb-true (getD (b .colours) i 0) 1
+            (all-at cells (λ j. leb (getD (b .colours) j 0) 1) i
+            (and-left (coloursRight (b .colours) cells) (cluesRight (b .clues) cells) c) h);
+        clue =
+            λ i h. all-at cells (λ j. clueRight (getD (b .clues) j (pos 0))) i
+            (and-right (coloursRight (b .colours) cells) (cluesRight (b .clues) cells) c) h;
+        few = leb-true (b .count) m (and-left few stack d₂);
+        entry = λ i h. ltb-true (getD (b .stack) i 0) m (and-left _ _ (entry i h));
+        once =
+            λ i h.
+            not-true (stacked (b .stack) i (getD (b .stack) i 0))
+            (and-right (ltb (getD (b .stack) i 0) m) _ (entry i h));
+        code = λ x h. leb-true (getD (b .borders) x 0) 2 (and-left _ _ (border x h));
+        held =
+            λ x h. beq-true (eqb (getD (b .borders) x 0) 0) (not (stacked (b .stack) (b .count) x))
+            (and-right (leb (getD (b .borders) x 0) 2) _ (border x h));
+        noColour = λ i h. zeros-at (b .colours) cells i (and-left zc zk u₂) h;
+        noClue = λ i h. zero-clues-at (b .clues) cells i (and-right zc zk u₂) h;
+        noBorder = λ x h. zeros-at (b .borders) m x (and-right (zc && zk) zb u₃) h;
+        noEntry = λ i h. zeros-at (b .stack) (b .count) i (and-right (zc && zk && zb) zs u) h;
+      }
+
+  pub native-has : isAlien b ≡ false → Native b
+  unfolding isAlien
+  native-has e =
+      let s : Bool = sizeRight (b .height) (b .width) in
+      let c : Bool = cellsRight b in
+      let d : Bool = decisionsRight b in
+      let t = not-false (s && c && d && unusedZero b) e in
+      let t₃ = and-left (s && c && d) (unusedZero b) t in
+      let t₂ = and-left (s && c) d t₃ in
+      has-cells (and-left s c t₂) (and-right s c t₂) (and-right (s && c) d t₃)
+      (and-right (s && c && d) (unusedZero b) t)
+
+  module _ (N : Native b) where
+    cells-hold : cellsRight b ≡ true
+    unfolding cellsRight coloursRight cluesRight
+    cells-hold =
+        rw (
+          all-every (b .height * b .width) (λ i. leb (getD (b .colours) i 0) 1)
+              (λ i h. le-leb (getD (b .colours) i 0) 1 (N .colour i h)),
+          all-every (b .height * b .width) (λ i. clueRight (getD (b .clues) i (pos 0))) (N .clue),
+        )
+
+    decisions-hold : decisionsRight b ≡ true
+    unfolding decisionsRight stackRight bordersRight m
+    decisions-hold =
+        rw (
+          le-leb (b .count) m (N .few),
+          all-every (b .count) (λ i. entryRight (getD (b .stack) i 0) m (stacked (b .stack) i (getD (b .stack) i 0)))
+              (λ i h. rw (lt-ltb (getD (b .stack) i 0) m (N .entry i h), N .once i h)),
+          all-every m (λ x. borderRight (getD (b .borders) x 0) (stacked (b .stack) (b .count) x))
+              (λ x h.
+              rw (le-leb (getD (b .borders) x 0) 2 (N .code x h), N .held x h)
+              (beq-refl (not (stacked (b .stack) (b .count) x)))),
+        )
+
+    unused-hold : unusedZero b ≡ true
+    unfolding unusedZero
+    unused-hold =
+        rw (
+          zeros-of (b .colours) (b .height * b .width) (N .noColour),
+          zero-clues-of (b .clues) (b .height * b .width) (N .noClue),
+          zeros-of (b .borders) (borderCount (b .height) (b .width)) (N .noBorder),
+          zeros-of (b .stack) (b .count) (N .noEntry),
+        )
+
+    pub native-of : isAlien b ≡ false
+    unfolding isAlien
+    native-of = rw (size-is (N .size), cells-hold, decisions-hold, unused-hold)
+
+-- ---- how many borders are on the stack
+module _ (b : Board) (N : Native b) where
+  pub borders-fit : borderCount (b .height) (b .width) ≤ 1984
+  borders-fit = borders-le (N .size)
+
+  -- so many borders are among the first k entries
+  stack-counts : (k : ℕ) → k ≤ b .count
+      → countBelow (borderCount (b .height) (b .width)) (λ x. stacked (b .stack) k x) ≡ k
+  stack-counts zero h = count-none _ _ (λ i q. stacked-none (b .stack) i)
+  stack-counts (suc k) h =
+      let m = borderCount (b .height) (b .width) in
+      let s = b .stack in
+      let a : countBelow m (λ x. stacked s k x) ≡ k = stack-counts k (omega arith) in
+      let e : countBelow m (λ x. stacked s (suc k) x) ≡ countBelow m (λ x. stacked s k x || eqb (getD s k 0) x) =
+      count-cong m (λ x. stacked s (suc k) x) (λ x. stacked s k x || eqb (getD s k 0) x)
+      (λ i q. rw (← add-one) (stacked-more s k i)) in
+      let d =
+      count-more m (λ x. stacked s k x) (getD s k 0) (N .entry k (omega arith)) (N .once k (omega arith)) in
+      omega arith
+
+  -- an undecided border is not on the stack
+  pub free-unstacked : (x : ℕ) → x < borderCount (b .height) (b .width) → getD (b .borders) x 0 ≡ 0
+      → stacked (b .stack) (b .count) x ≡ false
+  free-unstacked x h p =
+      not-true (stacked (b .stack) (b .count) x) (sym (N .held x h) ∙ eq-eqb (getD (b .borders) x 0) 0 p)
+
+  -- and leaves room for one more entry
+  pub room : (x : ℕ) → x < borderCount (b .height) (b .width) → getD (b .borders) x 0 ≡ 0
+      → b .count < borderCount (b .height) (b .width)
+  room x h p =
+      omega (
+        arith,
+        stack-counts (b .count) (omega arith),
+        count-lt (borderCount (b .height) (b .width)) (λ y. stacked (b .stack) (b .count) y) x h (free-unstacked x h p),
+      )
+
+  -- the undecided borders are those that are not on the stack
+  pub free-count : countBelow (borderCount (b .height) (b .width)) (λ x. eqb (getD (b .borders) x 0) 0)
+      ≡ borderCount (b .height) (b .width) - b .count
+  free-count =
+      let m = borderCount (b .height) (b .width) in
+      let a =
+      count-cong m (λ x. eqb (getD (b .borders) x 0) 0) (λ x. not (stacked (b .stack) (b .count) x)) (N .held) in
+      let d = count-not m (λ x. stacked (b .stack) (b .count) x) in
+      let e = stack-counts (b .count) (omega arith) in
+      omega arith

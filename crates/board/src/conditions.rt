@@ -1,0 +1,183 @@
+// The conditions that a board's places are tested by.
+ghost use mathlib.Core.Path.{_≡_};
+ghost use Prim.Native.Nat.{_≤_};
+ghost use lib.ListN.{length};
+ghost use Rattle.board.specs.Alien.{sizeRight, coloursRight, clueRight, cluesRight, entryRight, Marks};
+ghost use Rattle.board.specs.Alien.{borderRight, bordersBy, zerosFrom, clueZero, zeroCluesFrom};
+use crate::Board;
+
+// Which borders a stack has, and whether its entries are right.
+pub struct Stacked {
+    pub right: bool,
+    pub seen: [bool; Board::BORDER_LIMIT],
+}
+
+// Whether height and width are 1 to 32.
+pub fn size_right(h: usize, w: usize) -> bool
+    ensures { λ r. ⌜ r ≡ sizeRight h w ⌝ }
+{
+    if h < 1 {
+        return false;
+    }
+    if h > Board::SIDE_LIMIT {
+        return false;
+    }
+    if w < 1 {
+        return false;
+    }
+    w <= Board::SIDE_LIMIT
+}
+
+// Whether the first n colours are 0 or 1.
+pub fn colours_right(colours: &[u8], n: usize) -> bool
+    requires { ⌜ n ≤ length (now colours) ⌝ }
+    ensures { λ r. ⌜ r ≡ coloursRight (now (colours .entry)) n ⌝ }
+{
+    let mut i: usize = 0;
+    while i < n {
+        if colours[i] > 1 {
+            return false;
+        }
+        i += 1;
+    }
+    true
+}
+
+// Whether k is a clue, or -1 for none.
+fn clue_right(k: i32) -> bool
+    ensures { λ r. ⌜ r ≡ clueRight k ⌝ }
+{
+    -1 <= k
+}
+
+// Whether the first n clues are right.
+pub fn clues_right(clues: &[i32], n: usize) -> bool
+    requires { ⌜ n ≤ length (now clues) ⌝ }
+    ensures { λ r. ⌜ r ≡ cluesRight (now (clues .entry)) n ⌝ }
+{
+    let mut i: usize = 0;
+    while i < n {
+        if clue_right(clues[i]) {
+            i += 1;
+        } else {
+            return false;
+        }
+    }
+    true
+}
+
+// A stack entry as an index.
+pub fn wide(x: u16) -> usize
+    ensures { λ r. ⌜ r ≡ x ⌝ }
+{
+    x as usize
+}
+
+// Whether e is one of so many borders, and no earlier entry is the same.
+fn entry_right(e: usize, borders: usize, seen: bool) -> bool
+    ensures { λ r. ⌜ r ≡ entryRight e borders seen ⌝ }
+{
+    if e < borders { !seen } else { false }
+}
+
+// Whether the first count entries are right, and which borders they are.
+pub fn mark_stack(stack: &[u16; Board::BORDER_LIMIT], borders: usize, count: usize) -> Stacked
+    requires { ⌜ (borders ≤ 1984) × (count ≤ borders) ⌝ }
+    ensures { λ r. ⌜ Marks (now (stack .entry)) borders count (r .right) (r .seen) ⌝ }
+{
+    let mut seen = [false; Board::BORDER_LIMIT];
+    let mut i: usize = 0;
+    while i < count {
+        let e = wide(stack[i]);
+        if e >= Board::BORDER_LIMIT {
+            return Stacked { right: false, seen };
+        }
+        if entry_right(e, borders, seen[e]) {
+            seen[e] = true;
+            i += 1;
+        } else {
+            return Stacked { right: false, seen };
+        }
+    }
+    Stacked { right: true, seen }
+}
+
+// Whether v is undecided, wall or open, and decided exactly if on the stack.
+fn border_right(v: u8, on: bool) -> bool
+    ensures { λ r. ⌜ r ≡ borderRight v on ⌝ }
+{
+    if v == 0 {
+        return !on;
+    }
+    if v <= 2 { on } else { false }
+}
+
+// Whether the first n borders are right, by the marks of those on the stack.
+pub fn borders_right<'a>(
+    borders: &'a [u8; Board::BORDER_LIMIT],
+    seen: &'a [bool; Board::BORDER_LIMIT],
+    n: usize,
+) -> bool
+    requires { ⌜ n ≤ 1984 ⌝ }
+    ensures { λ r. ⌜ r ≡ bordersBy (now (borders .entry)) (now (seen .entry)) n ⌝ }
+{
+    let mut i: usize = 0;
+    while i < n {
+        if border_right(borders[i], seen[i]) {
+            i += 1;
+        } else {
+            return false;
+        }
+    }
+    true
+}
+
+// Whether the bytes from a place on are 0.
+pub fn zeros_from(places: &[u8], from: usize) -> bool
+    ensures { λ r. ⌜ r ≡ zerosFrom (now (places .entry)) from ⌝ }
+{
+    let mut i = from;
+    while i < places.len() {
+        if places[i] != 0 {
+            return false;
+        }
+        i += 1;
+    }
+    true
+}
+
+// Whether the stack entries from a place on are 0.
+pub fn zero_entries_from(places: &[u16], from: usize) -> bool
+    ensures { λ r. ⌜ r ≡ zerosFrom (now (places .entry)) from ⌝ }
+{
+    let mut i = from;
+    while i < places.len() {
+        if places[i] != 0 {
+            return false;
+        }
+        i += 1;
+    }
+    true
+}
+
+// Whether k is 0.
+fn clue_zero(k: i32) -> bool
+    ensures { λ r. ⌜ r ≡ clueZero k ⌝ }
+{
+    if 0 <= k { k <= 0 } else { false }
+}
+
+// Whether the clues from a place on are 0.
+pub fn zero_clues_from(places: &[i32], from: usize) -> bool
+    ensures { λ r. ⌜ r ≡ zeroCluesFrom (now (places .entry)) from ⌝ }
+{
+    let mut i = from;
+    while i < places.len() {
+        if clue_zero(places[i]) {
+            i += 1;
+        } else {
+            return false;
+        }
+    }
+    true
+}

@@ -1,0 +1,329 @@
+// The board: its limits, making one, decide and undo, the count of undecided borders, and the test for alien boards.
+ghost use mathlib.Core.Path.{_≡_};
+ghost use Prim.Native.Nat.{_-_, _<_, _≤_};
+ghost use lib.ListN.{getD};
+ghost use Rattle.rules.specs.Codes.{codeOf};
+ghost use Rattle.rules.specs.Flat.{Sized};
+ghost use Rattle.board.specs.Board.{numberOf, zeroBoard, returned, freshOf};
+ghost use Rattle.board.specs.Board.{pushed, popped, decideOf, undoOf};
+ghost use Rattle.board.specs.Alien.{cellsOf, bordersOf, cellsRight, decisionsRight, unusedZero, isAlien};
+ghost use Rattle.board.specs.View.{undecidedOf};
+use rules::Literal;
+use rules::Side;
+
+mod conditions; // conditions.rt: the conditions on sizes, colours, clues, stack entries, borders and unused places
+mod padding; // padding.rt: a puzzle's lists as arrays
+mod counting; // counting.rt: the count of undecided borders
+
+pub struct Board {
+    pub height: usize,
+    pub width: usize,
+    pub colours: [u8; Board::CELL_LIMIT],
+    pub clues: [i32; Board::CELL_LIMIT],
+    pub borders: [u8; Board::BORDER_LIMIT],
+    pub stack: [u16; Board::BORDER_LIMIT],
+    pub count: usize,
+}
+
+// How a call ended: done, or refused with one of 01's words.
+pub enum Outcome {
+    Done,
+    Size,
+    Ragged,
+    Colour,
+    Clue,
+    Alien,
+    Border,
+    Taken,
+    Bare,
+    Short,
+}
+
+// What making a board, a decide or an undo returns.
+pub struct Returned {
+    pub outcome: Outcome,
+    pub board: Board,
+}
+
+// The number of a refusal; 0 where the call is done.
+pub fn number(o: Outcome) -> u32
+    ensures { λ r. ⌜ r ≡ numberOf o ⌝ }
+{
+    match o {
+        Outcome::Done => 0,
+        Outcome::Size => 1,
+        Outcome::Ragged => 2,
+        Outcome::Colour => 3,
+        Outcome::Clue => 4,
+        Outcome::Alien => 5,
+        Outcome::Border => 6,
+        Outcome::Taken => 7,
+        Outcome::Bare => 8,
+        Outcome::Short => 9,
+    }
+}
+
+// What stands in a board for a border of that side.
+pub fn code(s: Side) -> u8
+    ensures { λ r. ⌜ r ≡ codeOf s ⌝ }
+{
+    match s {
+        Side::Wall => 1,
+        Side::Open => 2,
+    }
+}
+
+// How many cells a page of that size has; 0 where it is no page's.
+pub fn cell_count(h: usize, w: usize) -> usize
+    ensures { λ r. ⌜ r ≡ cellsOf h w ⌝ }
+{
+    if conditions::size_right(h, w) {
+        h * w
+    } else {
+        0
+    }
+}
+
+// How many borders a page of that size has; 0 where it is no page's.
+pub fn border_count(h: usize, w: usize) -> usize
+    ensures { λ r. ⌜ r ≡ bordersOf h w ⌝ }
+{
+    if conditions::size_right(h, w) {
+        h * (w - 1) + (h - 1) * w
+    } else {
+        0
+    }
+}
+
+fn refused(outcome: Outcome) -> Returned
+    ensures { λ r. ⌜ r ≡ returned outcome zeroBoard ⌝ }
+{
+    Returned {
+        outcome,
+        board: Board::zero(),
+    }
+}
+
+impl Board {
+    pub const SIDE_LIMIT: usize = 32;
+
+    pub const CELL_LIMIT: usize = 1024;
+
+    pub const BORDER_LIMIT: usize = 1984;
+
+    // The all-zero board, which making a board returns when refused.
+    pub fn zero() -> Self
+        ensures { λ r. ⌜ r ≡ zeroBoard ⌝ }
+    {
+        Board {
+            height: 0,
+            width: 0,
+            colours: [0u8; Board::CELL_LIMIT],
+            clues: [0i32; Board::CELL_LIMIT],
+            borders: [0u8; Board::BORDER_LIMIT],
+            stack: [0u16; Board::BORDER_LIMIT],
+            count: 0,
+        }
+    }
+
+    // A board of that puzzle with every border undecided, or the refusal.
+    pub fn fresh(height: usize, width: usize, colours: &[u8], clues: &[i32]) -> Returned
+        ensures { λ r. ⌜ r ≡ freshOf height width (now (colours .entry)) (now (clues .entry)) ⌝ }
+    {
+        if conditions::size_right(height, width) {
+            let cells = cell_count(height, width);
+            if colours.len() != cells {
+                return refused(Outcome::Ragged);
+            }
+            if clues.len() != cells {
+                return refused(Outcome::Ragged);
+            }
+            if conditions::colours_right(colours, cells) {
+                if conditions::clues_right(clues, cells) {
+                    let c = padding::padded_colours(colours);
+                    let k = padding::padded_clues(clues);
+                    let board = Board {
+                        height,
+                        width,
+                        colours: c,
+                        clues: k,
+                        borders: [0u8; Board::BORDER_LIMIT],
+                        stack: [0u16; Board::BORDER_LIMIT],
+                        count: 0,
+                    };
+                    Returned {
+                        outcome: Outcome::Done,
+                        board,
+                    }
+                } else {
+                    refused(Outcome::Clue)
+                }
+            } else {
+                refused(Outcome::Colour)
+            }
+        } else {
+            refused(Outcome::Size)
+        }
+    }
+
+    // Whether decides and undos cannot produce the board from a fresh one.
+    pub fn alien(self) -> bool
+        ensures { λ r. ⌜ r ≡ isAlien self ⌝ }
+    {
+        if conditions::size_right(self.height, self.width) {
+            if self.cells_right() {
+                if self.decisions_right() {
+                    !self.unused_zero()
+                } else {
+                    true
+                }
+            } else {
+                true
+            }
+        } else {
+            true
+        }
+    }
+
+    // Whether every cell has a right colour and a right clue.
+    fn cells_right(self) -> bool
+        requires { ⌜ Sized (self .height) (self .width) ⌝ }
+        ensures { λ r. ⌜ r ≡ cellsRight self ⌝ }
+    {
+        let cells = cell_count(self.height, self.width);
+        if conditions::colours_right(&self.colours, cells) {
+            conditions::clues_right(&self.clues, cells)
+        } else {
+            false
+        }
+    }
+
+    // Whether the stack has each decided border once, and nothing else.
+    fn decisions_right(self) -> bool
+        requires { ⌜ Sized (self .height) (self .width) ⌝ }
+        ensures { λ r. ⌜ r ≡ decisionsRight self ⌝ }
+    {
+        let total = border_count(self.height, self.width);
+        let count = self.count;
+        if count <= total {
+            let s = conditions::mark_stack(&self.stack, total, count);
+            if s.right {
+                conditions::borders_right(&self.borders, &s.seen, total)
+            } else {
+                false
+            }
+        } else {
+            false
+        }
+    }
+
+    // Whether every unused place is 0.
+    fn unused_zero(self) -> bool
+        requires { ⌜ Sized (self .height) (self .width) ⌝ }
+        ensures { λ r. ⌜ r ≡ unusedZero self ⌝ }
+    {
+        let cells = cell_count(self.height, self.width);
+        let total = border_count(self.height, self.width);
+        let count = self.count;
+        if conditions::zeros_from(&self.colours, cells) {
+            if conditions::zero_clues_from(&self.clues, cells) {
+                if conditions::zeros_from(&self.borders, total) {
+                    conditions::zero_entries_from(&self.stack, count)
+                } else {
+                    false
+                }
+            } else {
+                false
+            }
+        } else {
+            false
+        }
+    }
+
+    // The border n set to the code v, and put on the stack.
+    fn push(self, n: usize, v: u8) -> Self
+        requires { ⌜ (n < 1984) × (self .count < 1984) ⌝ }
+        ensures { λ r. ⌜ r ≡ pushed self n v ⌝ }
+    {
+        let at = self.count;
+        let mut b = self;
+        b.borders[n] = v;
+        b.stack[at] = n as u16;
+        b.count += 1;
+        b
+    }
+
+    // The last border of the stack taken off, and made undecided.
+    fn pop(self) -> Self
+        requires { ⌜ (0 < self .count) × (self .count ≤ 1984) × (getD (self .stack) (self .count - 1) 0 < 1984) ⌝ }
+        ensures { λ r. ⌜ r ≡ popped self ⌝ }
+    {
+        let at = self.count - 1;
+        let n = conditions::wide(self.stack[at]);
+        let mut b = self;
+        b.borders[n] = 0;
+        b.stack[at] = 0;
+        b.count = at;
+        b
+    }
+
+    // The board with the literal's border decided, or the refusal and the board given.
+    pub fn decide(self, l: Literal) -> Returned
+        ensures { λ r. ⌜ r ≡ decideOf self l ⌝ }
+    {
+        if self.alien() {
+            return Returned {
+                outcome: Outcome::Alien,
+                board: self,
+            };
+        }
+        let n = l.border;
+        if border_count(self.height, self.width) <= n {
+            return Returned {
+                outcome: Outcome::Border,
+                board: self,
+            };
+        }
+        if self.borders[n] != 0 {
+            return Returned {
+                outcome: Outcome::Taken,
+                board: self,
+            };
+        }
+        let side = l.side;
+        Returned {
+            outcome: Outcome::Done,
+            board: self.push(n, code(side)),
+        }
+    }
+
+    // The board with its last decision taken back, or the refusal and the board given.
+    pub fn undo(self) -> Returned
+        ensures { λ r. ⌜ r ≡ undoOf self ⌝ }
+    {
+        if self.alien() {
+            return Returned {
+                outcome: Outcome::Alien,
+                board: self,
+            };
+        }
+        if self.count == 0 {
+            return Returned {
+                outcome: Outcome::Bare,
+                board: self,
+            };
+        }
+        Returned {
+            outcome: Outcome::Done,
+            board: self.pop(),
+        }
+    }
+
+    // How many borders are undecided; 0 where the size is no page's.
+    pub fn undecided(self) -> usize
+        ensures { λ r. ⌜ r ≡ undecidedOf self ⌝ }
+    {
+        let total = border_count(self.height, self.width);
+        counting::undecided_in(&self.borders, total)
+    }
+}

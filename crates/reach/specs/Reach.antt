@@ -1,0 +1,254 @@
+-- The alien test is exact: a board is not alien exactly if making a board, decides and undos that are done lead to it.
+use mathlib.Core.Path.{_≡_, refl, ap, sym, _∙_}
+use mathlib.Core.Bool.{Bool, true, false, not, false≢true}
+use mathlib.Core.List.{List, [], _∷_, _++_}
+use mathlib.Core.Logic.{_↔_}
+use Prim.Native.Nat.{ℕ, zero, suc, _+_, _*_, _<_, _≤_}
+use native.Mathlib.Decide.{decLt}
+use native.Mathlib.Omega.{arith}
+use borrow.Author.Tests.{le-leb, eqb-true}
+use lib.Dec.{leb}
+use lib.IntN.{ℤ, pos}
+use lib.Signed.{leZ}
+use lib.ListN.{length, getD, set, take, replicate, length-replicate, getD-replicate, List·getD-eq-default}
+use lib.Seq.{getD-set-same, set-set, set-getD, ext-getD, length-take-le, getD-take}
+use Rattle.lists.specs.Tests.{all-every}
+use Rattle.lists.specs.Padded.{padded}
+use Rattle.rules.specs.declared.Literal.{Literal}
+use Rattle.rules.specs.Flat.{borderCount}
+use Rattle.rules.specs.FlatLaws.{counts}
+use Rattle.rules.specs.Codes.{codeOf}
+use Rattle.board.specs.declared.Board.{Board}
+use Rattle.board.specs.declared.Outcome.the-variants.{Done}
+use Rattle.board.specs.ListExtras.{getD-padded, length-padded}
+use Rattle.board.specs.Alien.{coloursRight, clueRight, cluesRight, stacked, isAlien}
+use Rattle.board.specs.Board.{freshBoard, returned, pushed, freshOf, decideOf, Small, Typed}
+use Rattle.board.specs.View.{sideIn}
+use Rattle.board.specs.ConditionLaws.{size-is, stacked-none}
+use Rattle.board.specs.Cases.{fresh-done, decide-done}
+use Rattle.board.specs.NativeLaws.{Native, native-has, native-of, borders-fit}
+use Rattle.board.specs.DecideLaws.{poppedAt, popped-native, popped-typed, decide-keeps, undo-keeps}
+use Rattle.board.specs.DecideLaws.{decided-typed, undone-typed}
+use Rattle.board.specs.FreshLaws.{made-is, made-keeps, made-typed}
+use Rattle.board.specs.ViewLaws.{entry-held, code-small}
+use Rattle.reach.specs.Produced.{Produced, made, decided, undone, Move, decide, undo, moveOf, Run, stop, next}
+use Rattle.reach.specs.Produced.{Reached}
+
+-- ---- what is produced is not alien
+pub produced-known : (b : Board) → Produced b → (isAlien b ≡ false) × Typed b
+produced-known b (made h w cs ks _ s e) = (made-keeps (made-is e), made-typed (made-is e) s)
+produced-known b (decided c l _ p e) =
+    let r = produced-known c p in (decide-keeps c l (r .1) e, decided-typed c l (r .1) e)
+produced-known b (undone c _ p e) =
+    let r = produced-known c p in (undo-keeps c (r .1) e, undone-typed c (r .1) e)
+
+-- ---- a board with an empty stack is a fresh one
+padded-take : {A : Type 0} (z : A) (n m : ℕ) (l : List A) → length l ≡ n → m ≤ n
+    → ((i : ℕ) → m ≤ i → getD l i z ≡ z) → padded n z (take m l) ≡ l
+padded-take z n m l e h f =
+    let t = length-take-le m l (omega arith) in
+    let w = length-padded n z (take m l) (omega arith) in
+    ext-getD z (padded n z (take m l)) l (w ∙ sym e)
+    (λ i k. getD-padded n z (take m l) i ∙ go i t (decLt i m))
+  where
+    go : (i : ℕ) → length (take m l) ≡ m → Dec (i < m) → getD (take m l) i z ≡ getD l i z
+    go i t (yes q) = getD-take m l i z q
+    go i t (no q) = List·getD-eq-default (take m l) z (omega arith) ∙ sym (f i (omega arith))
+
+zeros : (n : ℕ) (l : List ℕ) → length l ≡ n → ((i : ℕ) → getD l i 0 ≡ 0) → replicate n 0 ≡ l
+zeros n l e f =
+    let w = length-replicate {A = ℕ} n 0 in
+    ext-getD 0 (replicate n 0) l (w ∙ sym e) (λ i k. getD-replicate {A = ℕ} n i 0 0 (omega arith) ∙ sym (f i))
+
+module _ (b : Board) (N : Native b) (T : Typed b) (e : b .count ≡ 0) where
+  cells : ℕ
+  cells = b .height * b .width
+
+  cs : List ℕ
+  cs = take cells (b .colours)
+
+  ks : List ℤ
+  ks = take cells (b .clues)
+
+  few : cells ≤ 1024
+  unfolding cells
+  few = omega (arith, counts (N .size))
+
+  cs-long : length cs ≡ cells
+  unfolding cs
+  cs-long = let f = few in let t = T .colours in length-take-le cells (b .colours) (omega arith)
+
+  ks-long : length ks ≡ cells
+  unfolding ks
+  ks-long = let f = few in let t = T .clues in length-take-le cells (b .clues) (omega arith)
+
+  ks-small : Small ks
+  unfolding ks
+  ks-small i = go (decLt i cells)
+    where
+      go : Dec (i < cells) → leZ (getD (take cells (b .clues)) i (pos 0)) (pos 2147483647) ≡ true
+      go (yes h) = rw (getD-take cells (b .clues) i (pos 0) h) (T .small i)
+      go (no h) = let l = ks-long in rw (List·getD-eq-default (take cells (b .clues)) (pos 0) {n = i} (omega arith))
+
+  border-zero : (x : ℕ) → getD (b .borders) x 0 ≡ 0
+  border-zero x = go (decLt x (borderCount (b .height) (b .width)))
+    where
+      go : Dec (x < borderCount (b .height) (b .width)) → getD (b .borders) x 0 ≡ 0
+      go (yes h) =
+          eqb-true (getD (b .borders) x 0) 0
+          (N .held x h
+          ∙ ap not (ap (λ j. stacked (b .stack) j x) e ∙ stacked-none (b .stack) x))
+      go (no h) = N .noBorder x (omega arith)
+
+  fresh-is : freshBoard (b .height) (b .width) cs ks ≡ b
+  unfolding cs ks cells
+  fresh-is =
+      let f = few in
+      λ i.
+      record {
+        height = b .height;
+        width = b .width;
+        colours = padded-take 0 1024 cells (b .colours) (T .colours) f (N .noColour) i;
+        clues = padded-take (pos 0) 1024 cells (b .clues) (T .clues) f (N .noClue) i;
+        borders = zeros 1984 (b .borders) (T .borders) border-zero i;
+        stack = zeros 1984 (b .stack) (T .stack) (λ j. N .noEntry j (omega arith)) i;
+        count = sym e i;
+      }
+
+  accepted : freshOf (b .height) (b .width) cs ks ≡ returned Done b
+  unfolding cs ks cells coloursRight cluesRight
+  accepted =
+      let f = few in
+      sym
+      (fresh-done (b .height) (b .width) cs ks (size-is (N .size)) cells refl cs-long ks-long
+      (all-every cells (λ i. leb (getD cs i 0) 1)
+      (λ i l. rw (getD-take cells (b .colours) i 0 l) (le-leb (getD (b .colours) i 0) 1 (N .colour i l))))
+      (all-every cells (λ i. clueRight (getD ks i (pos 0)))
+      (λ i l. rw (getD-take cells (b .clues) i (pos 0) l) (N .clue i l))))
+      ∙ ap (returned Done) fresh-is
+
+  bare : Produced b
+  bare = made (b .height) (b .width) cs ks b ks-small accepted
+
+-- ---- a board with a stack is a decide of its last literal
+side-of : (v : ℕ) → v ≤ 2 → (v ≡ 0 → ⊥) → codeOf (sideIn v) ≡ v
+side-of zero h k = absurd (k refl)
+side-of (suc zero) h k = refl
+side-of (suc (suc zero)) h k = refl
+side-of (suc (suc (suc v))) h k = absurd (let z : suc (suc (suc v)) ≤ 2 = h in omega arith)
+
+module _ (b : Board) (N : Native b) (T : Typed b) (k : ℕ) (e : b .count ≡ k + 1) where
+  last : ℕ
+  last = getD (b .stack) k 0
+
+  literal : Literal
+  literal = record { border = last; side = sideIn (getD (b .borders) last 0) }
+
+  repushed : pushed (poppedAt b k) last (codeOf (sideIn (getD (b .borders) last 0))) ≡ b
+  unfolding last
+  repushed =
+      let v = getD (b .borders) last 0 in
+      let p = side-of v (code-small b N last) (entry-held b N k (omega arith)) in
+      λ i.
+      record {
+        height = b .height;
+        width = b .width;
+        colours = b .colours;
+        clues = b .clues;
+        borders =
+            (set-set (b .borders) last 0 (codeOf (sideIn v))
+            ∙ ap (λ y. set (b .borders) last y) p
+            ∙ set-getD (b .borders) last 0) i;
+        stack = (set-set (b .stack) k 0 last ∙ set-getD (b .stack) k 0) i;
+        count = sym e i;
+      }
+
+  redecided : decideOf (poppedAt b k) literal ≡ returned Done b
+  unfolding last literal
+  redecided =
+      let g = T .borders in
+      let m = borders-fit b N in
+      let l = N .entry k (omega arith) in
+      sym
+      (decide-done (poppedAt b k) literal (native-of (poppedAt b k) (popped-native b N T k e)) l
+      (getD-set-same (b .borders) last 0 0 (omega arith)))
+      ∙ ap (returned Done) repushed
+
+produced-at : (k : ℕ) (b : Board) → b .count ≡ k → isAlien b ≡ false → Typed b → Produced b
+produced-at zero b e t T = bare b (native-has b t) T e
+produced-at (suc k) b e t T =
+    let f : b .count ≡ k + 1 = omega arith in
+    let N = native-has b t in
+    decided (poppedAt b k) (literal b N T k f) b
+    (produced-at k (poppedAt b k) refl (native-of (poppedAt b k) (popped-native b N T k f)) (popped-typed b N T k f))
+    (redecided b N T k f)
+
+-- ---- what is not alien is produced
+pub known-produced : (b : Board) → Typed b → isAlien b ≡ false → Produced b
+known-produced b T t = produced-at (b .count) b refl t T
+
+-- "5, alien: a board that decides and undos cannot produce from a fresh board", exactly
+pub alien-exactly : (b : Board) → Typed b → (isAlien b ≡ true) ↔ (Produced b → ⊥)
+alien-exactly b T =
+    (λ a p. false≢true (sym (produced-known b p .0) ∙ a), λ n. go (isAlien b) refl n)
+  where
+    go : (t : Bool) → isAlien b ≡ t → (Produced b → ⊥) → isAlien b ≡ true
+    go true q n = q
+    go false q n = absurd (n (known-produced b T q))
+
+pub known-exactly : (b : Board) → Typed b → (isAlien b ≡ false) ↔ Produced b
+known-exactly b T = (known-produced b T, λ p. produced-known b p .0)
+
+-- ---- the same by an accepted puzzle and one list of moves
+run-last : {a b d : Board} {ms : List Move} (m : Move) → Run a ms b → moveOf b m ≡ returned Done d
+    → Run a (ms ++ (m ∷ [])) d
+run-last m stop e = next e stop
+run-last m (next f r) e = next f (run-last m r e)
+
+pub produced-reached : (b : Board) → Produced b → Reached b
+produced-reached b (made h w cs ks _ s e) =
+    record {
+      height = h;
+      width = w;
+      colours = cs;
+      clues = ks;
+      small = s;
+      start = b;
+      accepted = e;
+      moves = [];
+      run = stop;
+    }
+produced-reached b (decided c l _ p e) =
+    let r = produced-reached c p in
+    record {
+      height = r .height;
+      width = r .width;
+      colours = r .colours;
+      clues = r .clues;
+      small = r .small;
+      start = r .start;
+      accepted = r .accepted;
+      moves = r .moves ++ (decide l ∷ []);
+      run = run-last (decide l) (r .run) e;
+    }
+produced-reached b (undone c _ p e) =
+    let r = produced-reached c p in
+    record {
+      height = r .height;
+      width = r .width;
+      colours = r .colours;
+      clues = r .clues;
+      small = r .small;
+      start = r .start;
+      accepted = r .accepted;
+      moves = r .moves ++ (undo ∷ []);
+      run = run-last undo (r .run) e;
+    }
+
+run-produced : {a b : Board} {ms : List Move} → Produced a → Run a ms b → Produced b
+run-produced p stop = p
+run-produced p (next {m = decide l} e r) = run-produced (decided _ l _ p e) r
+run-produced p (next {m = undo} e r) = run-produced (undone _ _ p e) r
+
+pub reached-produced : (b : Board) → Reached b → Produced b
+reached-produced b r = run-produced (made _ _ _ _ _ (r .small) (r .accepted)) (r .run)
