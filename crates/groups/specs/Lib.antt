@@ -1,0 +1,14 @@
+pub mod Kinds
+pub mod Parts
+pub mod Forests
+pub mod ListExtras
+pub mod KindLaws
+pub mod LabelLaws
+pub mod ForestLaws
+pub mod GridLaws
+pub mod SortLaws
+pub mod NumberLaws
+pub mod PartLaws
+pub mod ResultLaws
+pub mod Asked
+pub mod AskedLaws
