@@ -1,0 +1,25 @@
+-- The two sides by cases.
+use borrow.Author.Needs.{needs}
+use Rattle.reasons.proofs.direction.Statement.{statement}
+use Rattle.reasons.proofs.direction.Tie as tie
+
+enum-told : tie.Need-enum-told
+enum-told c = search needs
+
+enum-told-2 : tie.Need-enum-told-2
+enum-told-2 c = search needs
+
+mul-result : tie.Need-mul-result
+mul-result c = search needs
+
+add-result : tie.Need-add-result
+add-result c = search needs
+
+returns : tie.Need-returns
+returns c = rw (c .enum-told .given .1)
+
+returns-2 : tie.Need-returns-2
+returns-2 c = rw (c .enum-told2 .given .1)
+
+pub direction-spec : {M : Type 1} → statement M
+direction-spec = tie.close (tie.spec enum-told enum-told-2 mul-result add-result returns returns-2)

@@ -1,0 +1,115 @@
+-- Cell by cell: `i` of the part's cells are written.
+use mathlib.Core.Path.{_≡_}
+use mathlib.Core.List.{List}
+use Prim.Native.Nat.{ℕ, _+_, _-_, _≤_}
+use lib.ListN.{getD}
+use Rattle.rules.specs.declared.Literal.{Literal}
+use Rattle.reasons.specs.Memory.{Wrote}
+use Rattle.reasons.specs.Arrays.{Cells, part, scanAt, scanOf}
+use Rattle.reasons.specs.ListExtras.{upTo}
+use Rattle.reasons.specs.MemoryLaws.{loop-none, loop-more, loop-fits, loop-end, wrote-length}
+use Rattle.reasons.specs.ScanLaws.{scan-part}
+use native.Mathlib.Omega.{arith}
+use borrow.Author.Needs.{needs}
+use Rattle.reasons.proofs.scan.Statement.{statement}
+use Rattle.reasons.proofs.scan.Tie as tie
+
+abbrev Inv-loop : tie.InvT-loop
+Inv-loop memory₀ start h w colours borders ids cells from to side same marked count at₀ i₀ memory at i =
+    (i ≤ count)
+    × Wrote memory₀ start
+    (upTo (λ k. scanAt h w colours borders ids side same marked (getD cells (from + k) 0)) i) memory at
+
+abbrev μ-loop : tie.MeasureT-loop
+μ-loop memory₀ start h w colours borders ids cells from to side same marked count at₀ i₀ memory at i = count - i
+
+abbrev at : tie.Start Inv-loop μ-loop → ℕ → List Literal
+at s k =
+    let a = s .args in
+    scanAt (a .h) (a .w) (a .colours .now) (a .borders .now) (a .ids .now) (a .side) (a .same) (a .marked .now)
+    (getD (a .cells .now) (a .from + k) 0)
+
+listed : (s : tie.Start Inv-loop μ-loop) → let a = s .args in Cells (a .h) (a .w) (a .cells .now) (a .from) (a .to)
+listed s = s .pre .4
+
+whole : (s : tie.Start Inv-loop μ-loop) →
+    let a = s .args in
+    scanOf (a .h) (a .w) (a .colours .now) (a .borders .now) (a .ids .now) (a .side) (a .same) (a .marked .now)
+    (part (a .cells .now) (a .from) (a .to))
+    ≡ upTo (at s) (a .to - a .from)
+whole s =
+    let a = s .args in
+    scan-part (a .colours .now) (a .borders .now) (a .ids .now) (a .side) (a .same) (a .marked .now) (listed s)
+
+sub-count : tie.Need-sub-count Inv-loop μ-loop
+sub-count c = omega (arith, listed (c .before))
+
+loop-holds : tie.Need-loop-holds Inv-loop μ-loop
+loop-holds c = (omega arith, loop-none _)
+
+add-wide : tie.Need-add-wide Inv-loop μ-loop
+add-wide c = omega (arith, listed (c .before .before .before))
+
+mul-wide : tie.Need-mul-wide Inv-loop μ-loop
+mul-wide c = omega (arith, listed (c .before .before .before))
+
+element-copy-out-wide : tie.Need-element-copy-out-wide Inv-loop μ-loop
+element-copy-out-wide c = omega (arith, listed (c .before .before .before))
+
+wide-requires : tie.Need-wide-requires Inv-loop μ-loop
+wide-requires c κs = search needs
+
+scan-cell-requires : tie.Need-scan-cell-requires Inv-loop μ-loop
+scan-cell-requires c κs =
+    let s = c .before .before .before .before .before .before in
+    let l = c .before .before .before .before .loop in
+    let e = c .before .wide .ensures in (
+      s .pre .0,
+      s .pre .1,
+      s .pre .2,
+      s .pre .3,
+      rw e (listed s .each (l .i) (omega arith)),
+      rw e (loop-fits (at s) (l .i) (l .inv .1) (s .args .to - s .args .from) (omega arith)
+          (rw (whole s) at (s .pre .5))),
+    )
+
+add-i : tie.Need-add-i Inv-loop μ-loop
+add-i c = omega arith
+
+loop-less : tie.Need-loop-less Inv-loop μ-loop
+loop-less c = omega arith
+
+loop-again : tie.Need-loop-again Inv-loop μ-loop
+loop-again c =
+    let s = c .before .before .before .before .before .before .before .before .before in
+    let l = c .before .before .before .before .before .before .before .loop in
+    let e = c .before .before .before .before .wide .ensures in
+    (omega arith, loop-more (at s) (l .i) (l .inv .1) (rw e at (c .before .before .scan-cell .ensures)))
+
+same-length : tie.Need-same-length Inv-loop μ-loop
+same-length c = wrote-length (c .before .loop .inv .1)
+
+returns : tie.Need-returns Inv-loop μ-loop
+returns c =
+    let s = c .before .before .before in
+    let l = c .before .loop in
+    rw (whole s) (loop-end (at s) (l .i) (l .inv .1) (s .args .to - s .args .from) (omega arith) (omega arith))
+
+pub scan-spec : {M : Type 1} → statement M
+scan-spec =
+    tie.close
+    (tie.spec
+    Inv-loop
+    μ-loop
+    sub-count
+    loop-holds
+    add-wide
+    mul-wide
+    element-copy-out-wide
+    wide-requires
+    scan-cell-requires
+    add-i
+    loop-less
+    loop-again
+    same-length
+    returns)

@@ -1,0 +1,114 @@
+-- The way back: what is written, and the way from `c`, is the whole path.
+use Prim.Native.Nat.{_+_, _-_}
+use lib.ListN.{length}
+use Rattle.rules.specs.FlatLaws.{Counts, counts}
+use Rattle.reasons.specs.Search.{pathIn}
+use Rattle.reasons.specs.MemoryLaws.{wrote-length}
+use Rattle.reasons.specs.PathLaws.{Tracing, tracing-start, tracing-none, tracing-end, tracing-left, tracing-room}
+use Rattle.reasons.specs.PathLaws.{tracing-narrow, tracing-more}
+use native.Mathlib.Omega.{arith}
+use borrow.Author.Needs.{needs}
+use Rattle.reasons.proofs.trace_back.Statement.{statement}
+use Rattle.reasons.proofs.trace_back.Tie as tie
+
+abbrev Inv-loop : tie.InvT-loop
+Inv-loop memory₀ from parent over found borders h w a b c₀ at₀ memory c at =
+    Tracing h w borders a b parent over found memory₀ from c memory at
+
+abbrev μ-loop : tie.MeasureT-loop
+μ-loop memory₀ from parent over found borders h w a b c₀ at₀ memory c at =
+    from + length (pathIn h w borders a b) - at
+
+few : (s : tie.Start Inv-loop μ-loop) → Counts (s .args .h) (s .args .w)
+few s = counts (s .pre .0)
+
+element-copy-out-if1 : tie.Need-element-copy-out-if1 Inv-loop μ-loop
+element-copy-out-if1 c =
+    let s = c .before in
+    omega (arith, few s, s .pre .1, s .pre .2 .lined .founds)
+
+returns : tie.Need-returns Inv-loop μ-loop
+returns c =
+    let s = c .before .before .before in tracing-none (s .pre .2) (s .pre .1) _ _ (c .if1 .taken)
+
+loop-holds : tie.Need-loop-holds Inv-loop μ-loop
+loop-holds c =
+    let s = c .before .before .before in tracing-start (s .pre .2) (s .pre .1) _ _ (c .if1 .left)
+
+mul-wide : tie.Need-mul-wide Inv-loop μ-loop
+mul-wide c =
+    let s = c .before .before .before .before .before .before in
+    omega (arith, few s, c .before .before .loop .inv .inside)
+
+element-copy-out-wide : tie.Need-element-copy-out-wide Inv-loop μ-loop
+element-copy-out-wide c =
+    let s = c .before .before .before .before .before .before in
+    omega (arith, few s, c .before .before .loop .inv .inside, s .pre .2 .lined .overs)
+
+wide-requires : tie.Need-wide-requires Inv-loop μ-loop
+wide-requires c κs = search needs
+
+append-requires : tie.Need-append-requires Inv-loop μ-loop
+append-requires c κs =
+    let s = c .before .before .before .before .before .before .before .before in
+    let t = c .before .before .before .before .loop .inv in
+    let ne = c .before .before .before .loop-test .taken in
+    (tracing-room t ne (s .pre .3), rw (c .wide .ensures) (tracing-narrow t ne))
+
+mul-wide-2 : tie.Need-mul-wide-2 Inv-loop μ-loop
+mul-wide-2 c =
+    let s = c .before .before .before .before .before .before .before .before .before .before .before in
+    omega (arith, few s, c .before .before .before .before .before .before .before .loop .inv .inside)
+
+element-copy-out-wide-2 : tie.Need-element-copy-out-wide-2 Inv-loop μ-loop
+element-copy-out-wide-2 c =
+    let s = c .before .before .before .before .before .before .before .before .before .before .before in
+    omega (
+      arith,
+      few s,
+      c .before .before .before .before .before .before .before .loop .inv .inside,
+      s .pre .2 .lined .parents,
+    )
+
+wide-requires-2 : tie.Need-wide-requires-2 Inv-loop μ-loop
+wide-requires-2 c κs = search needs
+
+loop-less : tie.Need-loop-less Inv-loop μ-loop
+loop-less c =
+    let t = c .before .before .before .before .before .before .before .before .before .loop .inv in
+    let ne = c .before .before .before .before .before .before .before .before .loop-test .taken in
+    omega (arith, tracing-left t ne, c .before .before .before .before .append .ensures .place)
+
+loop-again : tie.Need-loop-again Inv-loop μ-loop
+loop-again c =
+    let t = c .before .before .before .before .before .before .before .before .before .loop .inv in
+    let ne = c .before .before .before .before .before .before .before .before .loop-test .taken in
+    let e = c .before .before .before .before .before .wide .ensures in
+    rw (c .wide2 .ensures) (tracing-more t ne (rw e at (c .before .before .before .before .append .ensures)))
+
+same-length : tie.Need-same-length Inv-loop μ-loop
+same-length c = wrote-length (c .before .loop .inv .wrote)
+
+returns-2 : tie.Need-returns-2 Inv-loop μ-loop
+returns-2 c = tracing-end (c .before .loop .inv) (c .loop-test .left)
+
+pub trace-back-spec : {M : Type 1} → statement M
+trace-back-spec =
+    tie.close
+    (tie.spec
+    Inv-loop
+    μ-loop
+    element-copy-out-if1
+    returns
+    loop-holds
+    mul-wide
+    element-copy-out-wide
+    wide-requires
+    append-requires
+    mul-wide-2
+    element-copy-out-wide-2
+    wide-requires-2
+    loop-less
+    loop-again
+    same-length
+    returns-2)

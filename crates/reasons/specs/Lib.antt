@@ -1,0 +1,12 @@
+pub mod Arrays
+pub mod Memory
+pub mod ListExtras
+pub mod MemoryLaws
+pub mod StepLaws
+pub mod ScanLaws
+pub mod Search
+pub mod SearchLaws
+pub mod PathLaws
+pub mod Lengths
+pub mod FarLaws
+pub mod NumberLaws

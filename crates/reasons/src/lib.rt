@@ -1,0 +1,620 @@
+// 01's reasons: Inside, Edge and Path, written into lent reason memory.
+ghost use mathlib.Core.Path.{_≡_};
+ghost use mathlib.Core.Bool.{true, false, _&&_, Bool·beq};
+ghost use mathlib.Core.List.{[], _∷_, _++_};
+ghost use Prim.Native.Nat.{_+_, _*_, _/_, _%_, _<_, _≤_};
+ghost use lib.ListN.{length, getD, replicate};
+ghost use Rattle.lists.specs.Lists.{keep};
+ghost use Rattle.rules.specs.Page.{wallAt};
+ghost use Rattle.rules.specs.Flat.{Sized, flat};
+ghost use Rattle.rules.specs.Codes.{literalCode, marksIn, coloursIn};
+ghost use Rattle.rules.specs.Groups.{entry};
+ghost use Rattle.reasons.specs.Memory.{Wrote};
+ghost use Rattle.reasons.specs.Arrays.{Arrays, Cells, Part, part, Fits, Stepped, hopOf, hopAt};
+ghost use Rattle.reasons.specs.Arrays.{isMarked, openKept, wallKept, scanCount, scanDirection, scanTest, scanAt};
+ghost use Rattle.reasons.specs.Arrays.{scanOf, insideIn, edgeIn, groupReason};
+ghost use Rattle.reasons.specs.Search.{pathIn, Lined, Looked, Ended};
+use rules::Literal;
+use rules::Side;
+
+// A neighbour of a cell, if there is one: over which border, and which cell.
+pub struct Neighbour {
+    pub some: bool,
+    pub border: usize,
+    pub to: usize,
+}
+
+impl Neighbour {
+    // The neighbour with these fields.
+    fn new(some: bool, border: usize, to: usize) -> Self
+        ensures { λ r. ⌜ r ≡ record { some = some; border = border; to = to } ⌝ }
+    {
+        Self { some, border, to }
+    }
+}
+
+// A number of a list as an index.
+fn wide(x: u16) -> usize
+    ensures { λ r. ⌜ r ≡ x ⌝ }
+{
+    x as usize
+}
+
+// What reason memory holds for a literal.
+fn code(literal: Literal) -> u16
+    requires { ⌜ literal .border < 1984 ⌝ }
+    ensures { λ r. ⌜ r ≡ literalCode literal ⌝ }
+{
+    let twice = (2 * literal.border) as u16;
+    let side = literal.side;
+    match side {
+        Side::Wall => twice + 1,
+        Side::Open => twice,
+    }
+}
+
+// Writes a literal at the place `at`; gives the next place.
+pub fn append(memory: &mut [u16], at: usize, literal: Literal) -> usize
+    requires { ⌜ (at < length (now memory)) × (literal .border < 1984) ⌝ }
+    ensures { λ r. ⌜ Wrote (now (memory .entry)) at (literal ∷ []) (now (memory .exit)) r ⌝ }
+{
+    memory[at] = code(literal);
+    at + 1
+}
+
+// The same, where `kept`; otherwise nothing is written.
+fn append_if(memory: &mut [u16], at: usize, kept: bool, literal: Literal) -> usize
+    requires { ⌜ (at + length (keep kept literal []) ≤ length (now memory)) × (kept ≡ true → literal .border < 1984) ⌝ }
+    ensures { λ r. ⌜ Wrote (now (memory .entry)) at (keep kept literal []) (now (memory .exit)) r ⌝ }
+{
+    if kept {
+        return append(memory, at, literal);
+    }
+    at
+}
+
+// The neighbour of (y,x) above, below, left, right, for d 0, 1, 2, 3.
+pub fn step(h: usize, w: usize, y: usize, x: usize, d: usize) -> Neighbour
+    requires { ⌜ Sized h w × (y < h) × (x < w) ⌝ }
+    ensures { λ r. ⌜ Stepped h w y x d r ⌝ }
+{
+    let c = y * w + x;
+    let side = y * (w - 1) + x;
+    let under = h * (w - 1) + c;
+    if d == 0 {
+        if y == 0 {
+            return Neighbour::new(false, 0, 0);
+        }
+        return Neighbour::new(true, under - w, c - w);
+    }
+    if d == 1 {
+        return Neighbour::new(y + 1 < h, under, c + w);
+    }
+    if d == 2 {
+        if x == 0 {
+            return Neighbour::new(false, 0, 0);
+        }
+        return Neighbour::new(true, side - 1, c - 1);
+    }
+    Neighbour::new(x + 1 < w, side, c + 1)
+}
+
+// The cells c and to have one colour.
+fn one_colour(colours: &[u8; 1024], c: usize, to: usize) -> bool
+    requires { ⌜ (length (now colours) ≡ 1024) × (c < 1024) × (to < 1024) ⌝ }
+    ensures { λ r. ⌜ r ≡ Bool·beq (coloursIn (now (colours .entry)) c) (coloursIn (now (colours .entry)) to) ⌝ }
+{
+    if colours[c] == 1 {
+        return colours[to] == 1;
+    }
+    colours[to] != 1
+}
+
+// The group is marked. A number past the last flag has no mark.
+fn is_marked(marked: &[u8; 1024], group: usize) -> bool
+    requires { ⌜ length (now marked) ≡ 1024 ⌝ }
+    ensures { λ r. ⌜ r ≡ isMarked (now (marked .entry)) group ⌝ }
+{
+    if group < 1024 {
+        return marked[group] == 1;
+    }
+    false
+}
+
+// The border to the neighbour n is open, and its group is marked. False if there is no neighbour.
+fn open_kept<'a>(
+    borders: &'a [u8; 1984],
+    ids: &'a [u16; 1024],
+    marked: &'a [u8; 1024],
+    n: Neighbour,
+) -> bool
+    requires { ⌜ Arrays (now borders) (now ids) × (length (now marked) ≡ 1024) × (n .some ≡ true → Fits n) ⌝ }
+    ensures { λ r. ⌜ r ≡ (n .some && openKept (marksIn (now (borders .entry))) (entry (now (ids .entry)))
+        (isMarked (now (marked .entry))) (hopOf n)) ⌝ }
+{
+    if !n.some {
+        return false;
+    }
+    let border = n.border;
+    let to = n.to;
+    if borders[border] == 2 {
+        return is_marked(marked, wide(ids[to]));
+    }
+    false
+}
+
+// The border to the neighbour n of the cell c is wall, n has the colour of c (or, if `same` is false, the other one),
+// and its group is not marked. False if there is no neighbour.
+fn wall_kept<'a>(
+    colours: &'a [u8; 1024],
+    borders: &'a [u8; 1984],
+    ids: &'a [u16; 1024],
+    same: bool,
+    marked: &'a [u8; 1024],
+    c: usize,
+    n: Neighbour,
+) -> bool
+    requires { ⌜ Arrays (now borders) (now ids) × (length (now colours) ≡ 1024) × (length (now marked) ≡ 1024)
+        × (c < 1024) × (n .some ≡ true → Fits n) ⌝ }
+    ensures { λ r. ⌜ r ≡ (n .some && wallKept (coloursIn (now (colours .entry))) (marksIn (now (borders .entry)))
+        (entry (now (ids .entry))) same (isMarked (now (marked .entry))) c (hopOf n)) ⌝ }
+{
+    if !n.some {
+        return false;
+    }
+    let border = n.border;
+    let to = n.to;
+    if borders[border] != 1 {
+        return false;
+    }
+    if one_colour(colours, c, to) != same {
+        return false;
+    }
+    !is_marked(marked, wide(ids[to]))
+}
+
+// How many directions a scan for borders of that side looks in.
+fn directions(side: Side) -> usize
+    ensures { λ r. ⌜ r ≡ scanCount side ⌝ }
+{
+    match side {
+        Side::Wall => 4,
+        Side::Open => 2,
+    }
+}
+
+// The i-th of them: above, below, left, right for walls, and below, right for open borders.
+fn direction(side: Side, i: usize) -> usize
+    requires { ⌜ i < 4 ⌝ }
+    ensures { λ r. ⌜ r ≡ scanDirection side i ⌝ }
+{
+    match side {
+        Side::Wall => i,
+        Side::Open => 2 * i + 1,
+    }
+}
+
+// The scan keeps the border to the neighbour n of the cell c.
+fn is_kept<'a>(
+    colours: &'a [u8; 1024],
+    borders: &'a [u8; 1984],
+    ids: &'a [u16; 1024],
+    side: Side,
+    same: bool,
+    marked: &'a [u8; 1024],
+    c: usize,
+    n: Neighbour,
+) -> bool
+    requires { ⌜ Arrays (now borders) (now ids) × (length (now colours) ≡ 1024) × (length (now marked) ≡ 1024)
+        × (c < 1024) × (n .some ≡ true → Fits n) ⌝ }
+    ensures { λ r. ⌜ r ≡ (n .some && scanTest (now (colours .entry)) (now (borders .entry)) (now (ids .entry)) side same
+        (now (marked .entry)) c (hopOf n)) ⌝ }
+{
+    match side {
+        Side::Wall => wall_kept(colours, borders, ids, same, marked, c, n),
+        Side::Open => open_kept(borders, ids, marked, n),
+    }
+}
+
+// Writes the borders that the scan keeps of one cell.
+fn scan_cell<'a>(
+    memory: &mut [u16],
+    from: usize,
+    h: usize,
+    w: usize,
+    colours: &'a [u8; 1024],
+    borders: &'a [u8; 1984],
+    ids: &'a [u16; 1024],
+    side: Side,
+    same: bool,
+    marked: &'a [u8; 1024],
+    c: usize,
+) -> usize
+    requires { ⌜ Sized h w × Arrays (now borders) (now ids) × (length (now colours) ≡ 1024)
+        × (length (now marked) ≡ 1024) × (c < h * w) × (from + length (scanAt h w (now colours) (now borders)
+        (now ids) side same (now marked) c) ≤ length (now memory)) ⌝ }
+    ensures { λ r. ⌜ Wrote (now (memory .entry)) from (scanAt h w (now (colours .entry)) (now (borders .entry))
+        (now (ids .entry)) side same (now (marked .entry)) c) (now (memory .exit)) r ⌝ }
+{
+    let y = c / w;
+    let x = c % w;
+    let count = directions(side);
+    let mut at = from;
+    let mut i = 0;
+    while i < count {
+        let d = direction(side, i);
+        let n = step(h, w, y, x, d);
+        let kept = is_kept(colours, borders, ids, side, same, marked, c, n);
+        at = append_if(
+            memory,
+            at,
+            kept,
+            Literal {
+                border: n.border,
+                side,
+            },
+        );
+        i += 1;
+    }
+    at
+}
+
+// Writes what a scan of the cells `cells[from..to]` keeps, from the place `start`; gives the next place. Open borders:
+// below and right, to marked groups. Walls: above, below, left, right, to neighbours of the same colour (of the other,
+// if `same` is false) in groups that are not marked.
+// Step 3's last walls are those to the other colour, with the potential units adjacent to P marked.
+pub fn scan<'a>(
+    memory: &mut [u16],
+    start: usize,
+    h: usize,
+    w: usize,
+    colours: &'a [u8; 1024],
+    borders: &'a [u8; 1984],
+    ids: &'a [u16; 1024],
+    cells: &'a [u16; 1024],
+    from: usize,
+    to: usize,
+    side: Side,
+    same: bool,
+    marked: &'a [u8; 1024],
+) -> usize
+    requires { ⌜ Sized h w × Arrays (now borders) (now ids) × (length (now colours) ≡ 1024)
+        × (length (now marked) ≡ 1024) × Cells h w (now cells) from to × (start + length (scanOf h w (now colours)
+        (now borders) (now ids) side same (now marked) (part (now cells) from to)) ≤ length (now memory)) ⌝ }
+    ensures { λ r. ⌜ Wrote (now (memory .entry)) start (scanOf h w (now (colours .entry)) (now (borders .entry))
+        (now (ids .entry)) side same (now (marked .entry)) (part (now (cells .entry)) from to))
+        (now (memory .exit)) r ⌝ }
+{
+    let count = to - from;
+    let mut at = start;
+    let mut i = 0;
+    while i < count {
+        let c = wide(cells[from + i]);
+        at = scan_cell(
+            memory,
+            at,
+            h,
+            w,
+            colours,
+            borders,
+            ids,
+            side,
+            same,
+            marked,
+            c,
+        );
+        i += 1;
+    }
+    at
+}
+
+// Inside (open borders) or Edge (walls) of the group g, whose cells are `cells[from..to]`, from the place `start`;
+// gives the next place.
+fn group_reason<'a>(
+    memory: &mut [u16],
+    start: usize,
+    h: usize,
+    w: usize,
+    colours: &'a [u8; 1024],
+    borders: &'a [u8; 1984],
+    ids: &'a [u16; 1024],
+    cells: &'a [u16; 1024],
+    from: usize,
+    to: usize,
+    side: Side,
+    g: usize,
+) -> usize
+    requires { ⌜ Sized h w × Arrays (now borders) (now ids) × (length (now colours) ≡ 1024) × (g < 1024)
+        × Part h w (now ids) (now cells) from to g × (start + length (groupReason h w (now colours) (now borders)
+        (now ids) side g) ≤ length (now memory)) ⌝ }
+    ensures { λ r. ⌜ Wrote (now (memory .entry)) start (groupReason h w (now (colours .entry)) (now (borders .entry))
+        (now (ids .entry)) side g) (now (memory .exit)) r ⌝ }
+{
+    let mut marked = [0u8; 1024];
+    marked[g] = 1;
+    scan(
+        memory,
+        start,
+        h,
+        w,
+        colours,
+        borders,
+        ids,
+        cells,
+        from,
+        to,
+        side,
+        true,
+        &marked,
+    )
+}
+
+// Edge of the group g, whose cells are `cells[from..to]`, from the place `start`; gives the next place.
+pub fn edge<'a>(
+    memory: &mut [u16],
+    start: usize,
+    h: usize,
+    w: usize,
+    colours: &'a [u8; 1024],
+    borders: &'a [u8; 1984],
+    ids: &'a [u16; 1024],
+    cells: &'a [u16; 1024],
+    from: usize,
+    to: usize,
+    g: usize,
+) -> usize
+    requires { ⌜ Sized h w × Arrays (now borders) (now ids) × (length (now colours) ≡ 1024) × (g < 1024)
+        × Part h w (now ids) (now cells) from to g × (start + length (edgeIn h w (now colours) (now borders)
+        (now ids) g) ≤ length (now memory)) ⌝ }
+    ensures { λ r. ⌜ Wrote (now (memory .entry)) start (edgeIn h w (now (colours .entry)) (now (borders .entry))
+        (now (ids .entry)) g) (now (memory .exit)) r ⌝ }
+{
+    group_reason(
+        memory,
+        start,
+        h,
+        w,
+        colours,
+        borders,
+        ids,
+        cells,
+        from,
+        to,
+        Side::Wall,
+        g,
+    )
+}
+
+// Inside of the group g, whose cells are `cells[from..to]`, from the place `start`; gives the next place.
+pub fn inside<'a>(
+    memory: &mut [u16],
+    start: usize,
+    h: usize,
+    w: usize,
+    borders: &'a [u8; 1984],
+    ids: &'a [u16; 1024],
+    cells: &'a [u16; 1024],
+    from: usize,
+    to: usize,
+    g: usize,
+) -> usize
+    requires { ⌜ Sized h w × Arrays (now borders) (now ids) × (g < 1024) × Part h w (now ids) (now cells) from to g
+        × (start + length (insideIn h w (now borders) (now ids) g) ≤ length (now memory)) ⌝ }
+    ensures { λ r. ⌜ Wrote (now (memory .entry)) start (insideIn h w (now (borders .entry)) (now (ids .entry)) g)
+        (now (memory .exit)) r ⌝ }
+{
+    // Inside asks no colours
+    let colours = [0u8; 1024];
+    group_reason(
+        memory,
+        start,
+        h,
+        w,
+        &colours,
+        borders,
+        ids,
+        cells,
+        from,
+        to,
+        Side::Open,
+        g,
+    )
+}
+
+// The search looks from the cell c in the direction d: a neighbour over an open border that is not found yet goes to
+// the end of the queue. Gives the queue's new end.
+fn visit(
+    queue: &mut [u16; 1024],
+    parent: &mut [u16; 1024],
+    over: &mut [u16; 1024],
+    found: &mut [u8; 1024],
+    tail: usize,
+    borders: &[u8; 1984],
+    h: usize,
+    w: usize,
+    c: usize,
+    d: usize,
+) -> usize
+    requires { ⌜ Sized h w × (length (now borders) ≡ 1984) × (c < h * w) × (getD (now found) c 0 ≡ 1)
+        × Lined (h * w) (now queue) (now parent) (now over) (now found) tail ⌝ }
+    ensures { λ r. ⌜ Looked h w (now (borders .entry)) c (hopAt h w (c / w) (c % w) d) (now (queue .entry))
+        (now (parent .entry)) (now (over .entry)) (now (found .entry)) tail (now (queue .exit)) (now (parent .exit))
+        (now (over .exit)) (now (found .exit)) r ⌝ }
+{
+    let n = step(h, w, c / w, c % w, d);
+    if !n.some {
+        return tail;
+    }
+    let to = n.to;
+    let border = n.border;
+    if borders[border] != 2 {
+        return tail;
+    }
+    if found[to] == 1 {
+        return tail;
+    }
+    queue[tail] = to as u16;
+    parent[to] = c as u16;
+    over[to] = border as u16;
+    found[to] = 1;
+    tail + 1
+}
+
+// The search looks from the cell c above, below, left, right. Gives the queue's new end.
+fn expand(
+    queue: &mut [u16; 1024],
+    parent: &mut [u16; 1024],
+    over: &mut [u16; 1024],
+    found: &mut [u8; 1024],
+    tail: usize,
+    borders: &[u8; 1984],
+    h: usize,
+    w: usize,
+    c: usize,
+) -> usize
+    requires { ⌜ Sized h w × (length (now borders) ≡ 1984) × (c < h * w) × (getD (now found) c 0 ≡ 1)
+        × Lined (h * w) (now queue) (now parent) (now over) (now found) tail ⌝ }
+    ensures { λ r. ⌜ Looked h w (now (borders .entry)) c (flat h w .around c) (now (queue .entry))
+        (now (parent .entry)) (now (over .entry)) (now (found .entry)) tail (now (queue .exit)) (now (parent .exit))
+        (now (over .exit)) (now (found .exit)) r ⌝ }
+{
+    let mut end = tail;
+    let mut d = 0;
+    while d < 4 {
+        end = visit(queue, parent, over, found, end, borders, h, w, c, d);
+        d += 1;
+    }
+    end
+}
+
+// The search from a, breadth first, until b is found or nothing is left.
+fn hunt(
+    queue: &mut [u16; 1024],
+    parent: &mut [u16; 1024],
+    over: &mut [u16; 1024],
+    found: &mut [u8; 1024],
+    borders: &[u8; 1984],
+    h: usize,
+    w: usize,
+    a: usize,
+    b: usize,
+)
+    requires { ⌜ Sized h w × (length (now borders) ≡ 1984) × (a < h * w) × (b < h * w)
+        × (now queue ≡ replicate 1024 0) × (length (now parent) ≡ 1024) × (length (now over) ≡ 1024)
+        × (now found ≡ replicate 1024 0) ⌝ }
+    ensures { λ r. ⌜ Ended h w (now (borders .entry)) a b (now (parent .exit)) (now (over .exit))
+        (now (found .exit)) ⌝ }
+{
+    queue[0] = a as u16;
+    found[a] = 1;
+    let mut head = 0;
+    let mut tail = 1;
+    while head < tail {
+        if found[b] == 1 {
+            return;
+        }
+        let c = wide(queue[head]);
+        tail = expand(queue, parent, over, found, tail, borders, h, w, c);
+        head += 1;
+    }
+}
+
+// The way back from b to a, written from the place `from`; nothing if b is not found. Gives the next place.
+fn trace_back<'a>(
+    memory: &mut [u16],
+    from: usize,
+    parent: &'a [u16; 1024],
+    over: &'a [u16; 1024],
+    found: &'a [u8; 1024],
+    borders: &'a [u8; 1984],
+    h: usize,
+    w: usize,
+    a: usize,
+    b: usize,
+) -> usize
+    requires { ⌜ Sized h w × (b < h * w) × Ended h w (now borders) a b (now parent) (now over) (now found)
+        × (from + length (pathIn h w (now borders) a b) ≤ length (now memory)) ⌝ }
+    ensures { λ r. ⌜ Wrote (now (memory .entry)) from (pathIn h w (now (borders .entry)) a b) (now (memory .exit)) r ⌝ }
+{
+    if found[b] != 1 {
+        return from;
+    }
+    let mut c = b;
+    let mut at = from;
+    while c != a {
+        at = append(
+            memory,
+            at,
+            Literal {
+                border: wide(over[c]),
+                side: Side::Open,
+            },
+        );
+        c = wide(parent[c]);
+    }
+    at
+}
+
+// Path(a, b), written from the place `from`; gives the next place. Nothing if a or b is not on the page.
+pub fn path(
+    memory: &mut [u16],
+    from: usize,
+    h: usize,
+    w: usize,
+    borders: &[u8; 1984],
+    a: usize,
+    b: usize,
+) -> usize
+    requires { ⌜ Sized h w × (length (now borders) ≡ 1984)
+        × (from + length (pathIn h w (now borders) a b) ≤ length (now memory)) ⌝ }
+    ensures { λ r. ⌜ Wrote (now (memory .entry)) from (pathIn h w (now (borders .entry)) a b) (now (memory .exit)) r ⌝ }
+{
+    if h * w <= a {
+        return from;
+    }
+    if h * w <= b {
+        return from;
+    }
+    let mut queue = [0u16; 1024];
+    let mut parent = [0u16; 1024];
+    let mut over = [0u16; 1024];
+    let mut found = [0u8; 1024];
+    hunt(
+        &mut queue,
+        &mut parent,
+        &mut over,
+        &mut found,
+        borders,
+        h,
+        w,
+        a,
+        b,
+    );
+    trace_back(memory, from, &parent, &over, &found, borders, h, w, a, b)
+}
+
+// Step 2's reason: Path from a cell to its neighbour, then the wall between them. Gives the number of literals.
+pub fn wall_reason(
+    memory: &mut [u16],
+    h: usize,
+    w: usize,
+    borders: &[u8; 1984],
+    a: usize,
+    b: usize,
+    border: usize,
+) -> usize
+    requires { ⌜ Sized h w × (length (now borders) ≡ 1984) × (border < 1984)
+        × (length (pathIn h w (now borders) a b) < length (now memory)) ⌝ }
+    ensures { λ r. ⌜ Wrote (now (memory .entry)) 0 (pathIn h w (now (borders .entry)) a b ++ (wallAt border ∷ []))
+        (now (memory .exit)) r ⌝ }
+{
+    let at = path(memory, 0, h, w, borders, a, b);
+    append(
+        memory,
+        at,
+        Literal {
+            border,
+            side: Side::Wall,
+        },
+    )
+}
