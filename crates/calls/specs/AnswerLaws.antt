@@ -1,0 +1,124 @@
+-- Laws of the answers: what reason memory holds after a call, and that a reason can be read back from it.
+--
+--   literal-of          a literal read from its code
+--   code-once           two literals with one code are equal
+--   reason-in           a reason read from memory that begins with its codes
+--   put-start           memory with a reason written from its start
+--   length-call         a call keeps the length of the memory
+--   check-alien, check-short, check-found   the answer of a check by its cases
+--   memory-alien, memory-short, memory-found   the memory after it by its cases
+use mathlib.Core.Path.{_≡_, refl, ap, sym, _∙_}
+use mathlib.Core.Bool.{Bool, true, false, cond}
+use mathlib.Core.List.{List, [], _∷_, _++_, map}
+use Prim.Native.Nat.{ℕ, _+_, _*_, _/_, _%_, _<_, _≤_}
+use native.Mathlib.Nat.{zero-add}
+use native.Mathlib.Omega.{arith}
+use borrow.Author.Tests.{lt-ltb, le-ltb}
+use lib.Dec.{eqb, ltb}
+use lib.ListN.{length, drop, length-map}
+use lib.Seq.{sets-eq, length-sets, take-at}
+use Rattle.rules.specs.declared.Side.{Side}
+use Rattle.rules.specs.declared.Side.the-variants.{Wall, Open}
+use Rattle.rules.specs.declared.Literal.{Literal}
+use Rattle.rules.specs.declared.Call.{Call}
+use Rattle.rules.specs.declared.Call.the-variants.{Decide, Undo, Check}
+use Rattle.rules.specs.Codes.{sideCode, literalCode, put}
+use Rattle.rules.specs.Check.{Answer as Found, pass, conflict, check}
+use Rattle.board.specs.declared.Board.{Board}
+use Rattle.board.specs.declared.Outcome.the-variants.{Alien, Short}
+use Rattle.board.specs.Alien.{isAlien}
+use Rattle.board.specs.View.{puzzleOf, marksOf}
+use Rattle.calls.specs.declared.Answer.the-variants.{Refused}
+use Rattle.calls.specs.Answers.{literalOf, reasonIn, asAnswer, written, checkAnswer, checkMemory, callMemory}
+
+-- ---- literals and their codes
+code-half : (n : ℕ) (d : Side) → (2 * n + sideCode d) / 2 ≡ n
+code-half n Wall = omega arith
+code-half n Open = omega arith
+
+code-rest : (n : ℕ) (d : Side) → (2 * n + sideCode d) % 2 ≡ sideCode d
+code-rest n Wall = omega arith
+code-rest n Open = omega arith
+
+code-side : (d : Side) → cond (eqb (sideCode d) 1) Wall Open ≡ d
+code-side Wall = refl
+code-side Open = refl
+
+pub literal-of : (l : Literal) → literalOf (literalCode l) ≡ l
+unfolding literalOf
+literal-of l =
+    λ i.
+    record {
+      border = code-half (l .border) (l .side) i;
+      side =
+          (ap (λ v. cond (eqb v 1) Wall Open) (code-rest (l .border) (l .side)) ∙ code-side (l .side)) i;
+    }
+
+pub code-once : (k l : Literal) → literalCode k ≡ literalCode l → k ≡ l
+code-once k l e = sym (literal-of k) ∙ ap literalOf e ∙ literal-of l
+
+literals-of : (r : List Literal) → map literalOf (map literalCode r) ≡ r
+literals-of [] = refl
+literals-of (l ∷ r) = rw (literal-of l, literals-of r)
+
+-- ---- memory
+pub reason-in : (r : List Literal) (rest : List ℕ) → reasonIn (map literalCode r ++ rest) (length r) ≡ r
+unfolding reasonIn
+reason-in r rest =
+    ap (map literalOf) (take-at (map literalCode r) rest (length r) (length-map r literalCode)) ∙ literals-of r
+
+pub put-start : (m : List ℕ) (r : List Literal) → length r ≤ length m
+    → put m 0 r ≡ map literalCode r ++ drop (length r) m
+unfolding put
+put-start m r h =
+    let e = length-map r literalCode in
+    sets-eq (map literalCode r) m 0 (omega arith) ∙ simp (length-map, zero-add)
+
+length-written : (m : List ℕ) (f : Found) → length (written m f) ≡ length m
+unfolding put
+length-written m (pass n) = refl
+length-written m (conflict r) = simp length-sets
+
+module _ (b : Board) (m : List ℕ) where
+  pub check-alien : isAlien b ≡ true → Refused Alien ≡ checkAnswer b (length m)
+  unfolding checkAnswer
+  check-alien t = rw t
+
+  pub memory-alien : isAlien b ≡ true → m ≡ checkMemory b m
+  unfolding checkMemory
+  memory-alien t = rw t
+
+  module _ (t : isAlien b ≡ false) where
+    pub check-short : length m < 16384 → Refused Short ≡ checkAnswer b (length m)
+    unfolding checkAnswer
+    check-short h = rw (t, lt-ltb (length m) 16384 h)
+
+    pub memory-short : length m < 16384 → m ≡ checkMemory b m
+    unfolding checkMemory
+    memory-short h = rw (t, lt-ltb (length m) 16384 h)
+
+    pub check-found : 16384 ≤ length m → asAnswer (check (puzzleOf b) (marksOf b)) ≡ checkAnswer b (length m)
+    unfolding checkAnswer
+    check-found h = rw (t, le-ltb (length m) 16384 h)
+
+    pub memory-found : 16384 ≤ length m → written m (check (puzzleOf b) (marksOf b)) ≡ checkMemory b m
+    unfolding checkMemory
+    memory-found h = rw (t, le-ltb (length m) 16384 h)
+
+length-check : (b : Board) (m : List ℕ) → length (checkMemory b m) ≡ length m
+unfolding checkMemory
+length-check b m = go (isAlien b) (ltb (length m) 16384)
+  where
+    f : Found
+    f = check (puzzleOf b) (marksOf b)
+
+    go : (x y : Bool) → length (cond x m (cond y m (written m f))) ≡ length m
+    go true y = refl
+    go false true = refl
+    go false false = length-written m f
+
+pub length-call : (b : Board) (c : Call) (m : List ℕ) → length (callMemory b c m) ≡ length m
+unfolding callMemory
+length-call b (Decide l) m = refl
+length-call b Undo m = refl
+length-call b Check m = length-check b m

@@ -1,0 +1,125 @@
+-- One call on a board that is not alien: its answer and the memory afterwards are the book's.
+--
+--   reason-short        a reason of a board has at most 16,120 literals
+--   check-written       the memory after a conflict
+--   call-told           the answer of a call is the book's reply
+--   call-written        the memory after a call is what the book's reply says
+use mathlib.Core.Path.{_≡_, refl, ap, sym, _∙_}
+use mathlib.Core.Bool.{Bool, true, false, cond}
+use mathlib.Core.List.{List, _++_, map}
+use Prim.Native.Nat.{ℕ, _≤_}
+use native.Mathlib.Omega.{arith}
+use borrow.Author.Tests.{ltb-false}
+use lib.Dec.{eqb, ltb}
+use lib.ListN.{length, drop}
+use Rattle.rules.specs.declared.Call.{Call}
+use Rattle.rules.specs.declared.Call.the-variants.{Decide, Undo, Check}
+use Rattle.rules.specs.Codes.{literalCode}
+use Rattle.rules.specs.Check.{Reason, Answer as Found, pass, conflict, check}
+use Rattle.rules.specs.Book.{refused, done, answered, marks, replyTo}
+use Rattle.argument.specs.FlatDemand.{flat-short}
+use Rattle.board.specs.declared.Board.{Board}
+use Rattle.board.specs.declared.Outcome.{Outcome}
+use Rattle.board.specs.declared.Outcome.the-variants.{Short}
+use Rattle.board.specs.Alien.{isAlien}
+use Rattle.board.specs.Board.{numberOf, decideOf, undoOf}
+use Rattle.board.specs.View.{puzzleIn, puzzleOf, marksOf, literalsOf, replyOf}
+use Rattle.board.specs.NativeLaws.{native-has}
+use Rattle.board.specs.ViewLaws.{marks-literals}
+use Rattle.board.specs.StepLaws.{decide-reply, undo-reply}
+use Rattle.calls.specs.declared.Answer.the-variants.{Done, Refused}
+use Rattle.calls.specs.Answers.{reasonIn, told, asAnswer, written, checkAnswer, checkMemory, ended, callOf}
+use Rattle.calls.specs.Answers.{callMemory}
+use Rattle.calls.specs.Runs.{memoryAs}
+use Rattle.calls.specs.AnswerLaws.{reason-in, put-start, memory-found}
+
+-- how a decide or an undo ended
+told-ended : (o : Outcome) (m : List ℕ) → told (ended o) m ≡ replyOf o
+told-ended o m = go (eqb (numberOf o) 0)
+  where
+    go : (x : Bool) → told (cond x Done (Refused o)) m ≡ cond x done (refused (numberOf o))
+    go true = refl
+    go false = refl
+
+kept-ended : (o : Outcome) (m : List ℕ) → m ≡ memoryAs m (replyOf o)
+kept-ended o m = go (eqb (numberOf o) 0)
+  where
+    go : (x : Bool) → m ≡ memoryAs m (cond x done (refused (numberOf o)))
+    go true = refl
+    go false = refl
+
+-- an answered check, where the reason fits the memory
+Fits : List ℕ → Found → Type 0
+Fits m f = (r : Reason) → f ≡ conflict r → length r ≤ length m
+
+found-written : (m : List ℕ) (f : Found) → Fits m f → written m f ≡ memoryAs m (answered f)
+unfolding Fits
+found-written m (pass n) h = refl
+found-written m (conflict r) h = put-start m r (h r refl)
+
+found-told : (m : List ℕ) (f : Found) → Fits m f → told (asAnswer f) (written m f) ≡ answered f
+unfolding Fits
+found-told m (pass n) h = refl
+found-told m (conflict r) h =
+    ap (λ (k : Reason). answered (conflict k))
+    (ap (λ k. reasonIn k (length r)) (put-start m r (h r refl)) ∙ reason-in r (drop (length r) m))
+
+module _ (b : Board) (t : isAlien b ≡ false) where
+  pub reason-short : (r : Reason) → check (puzzleOf b) (marksOf b) ≡ conflict r → length r ≤ 16120
+  unfolding puzzleOf puzzleIn
+  reason-short r e =
+      let s = native-has b t .size in
+      flat-short (b .height) (b .width) (omega arith) _ _ s (marksOf b) r e
+
+  module _ (m : List ℕ) where
+    found : Found
+    found = check (puzzleOf b) (marksOf b)
+
+    found-marks : check (puzzleOf b) (marks (literalsOf b)) ≡ found
+    unfolding found
+    found-marks = ap (check (puzzleOf b)) (sym (marks-literals b (native-has b t)))
+
+    fits : ltb (length m) 16384 ≡ false → Fits m found
+    unfolding Fits found
+    fits q r e = let k = reason-short r e in let h = ltb-false (length m) 16384 q in omega arith
+
+    check-told : told (checkAnswer b (length m)) (checkMemory b m)
+        ≡ replyTo (puzzleOf b) (literalsOf b) (length m) Check
+    unfolding checkAnswer checkMemory replyTo found
+    check-told = rw (t, found-marks) (go (ltb (length m) 16384) refl)
+      where
+        go : (x : Bool) → ltb (length m) 16384 ≡ x
+            → told (cond x (Refused Short) (asAnswer found)) (cond x m (written m found))
+            ≡ cond x (refused 9) (answered found)
+        go true q = refl
+        go false q = found-told m found (fits q)
+
+    check-memory : checkMemory b m ≡ memoryAs m (replyTo (puzzleOf b) (literalsOf b) (length m) Check)
+    unfolding checkMemory replyTo found
+    check-memory = rw (t, found-marks) (go (ltb (length m) 16384) refl)
+      where
+        go : (x : Bool) → ltb (length m) 16384 ≡ x
+            → cond x m (written m found) ≡ memoryAs m (cond x (refused 9) (answered found))
+        go true q = refl
+        go false q = found-written m found (fits q)
+
+  pub check-written : (m : List ℕ) (r : Reason) → 16384 ≤ length m → check (puzzleOf b) (marksOf b) ≡ conflict r
+      → checkMemory b m ≡ map literalCode r ++ drop (length r) m
+  check-written m r h e =
+      let k = reason-short r e in
+      sym (memory-found b m t h) ∙ ap (written m) e ∙ put-start m r (omega arith)
+
+  pub call-told : (c : Call) (m : List ℕ)
+      → told (callOf b c m .answer) (callMemory b c m) ≡ replyTo (puzzleOf b) (literalsOf b) (length m) c
+  unfolding callOf callMemory replyTo
+  call-told (Decide l) m = told-ended (decideOf b l .outcome) m ∙ decide-reply b t l
+  call-told Undo m = told-ended (undoOf b .outcome) m ∙ undo-reply b t
+  call-told Check m = check-told m
+
+  pub call-written : (c : Call) (m : List ℕ)
+      → callMemory b c m ≡ memoryAs m (replyTo (puzzleOf b) (literalsOf b) (length m) c)
+  unfolding callMemory replyTo
+  call-written (Decide l) m =
+      kept-ended (decideOf b l .outcome) m ∙ ap (memoryAs m) (decide-reply b t l)
+  call-written Undo m = kept-ended (undoOf b .outcome) m ∙ ap (memoryAs m) (undo-reply b t)
+  call-written Check m = check-memory m

@@ -1,0 +1,266 @@
+-- Demand 3 holds, for every accepted puzzle and every list of calls.
+--
+--   answered-book, answered-run   what a check of the run answers is what the book answers, and back
+--   ruled-book, ruled-run         a setting is ruled out by the run exactly if it is by the book
+--   stood-book, stood-run         a setting stood at a check of the run exactly if it did in the book
+--   from-book           demand 3 for the book gives demand 3 for the run
+--   demand3             the claim, for every accepted puzzle and every list
+use mathlib.Core.Path.{_≡_, refl, ap, sym, subst, _∙_}
+use mathlib.Core.Logic.{_↔_}
+use mathlib.Core.List.{List, [], _∷_, _++_, map, map-append, append-assoc}
+use Prim.Native.Nat.{ℕ}
+use native.Mathlib.Omega.{arith}
+use lib.IntN.{ℤ}
+use Rattle.rules.specs.declared.Literal.{Literal}
+use Rattle.rules.specs.Page.{Mark, Contains}
+use Rattle.rules.specs.Rules.{Solution}
+use Rattle.rules.specs.Codes.{coloursIn, cluesIn}
+use Rattle.rules.specs.Check.{Reason, Answer as Found, pass, conflict}
+use Rattle.rules.specs.Book.{Asked, marks, reply, sequence}
+use Rattle.argument.specs.Demand.{Passes, BookDemand}
+use Rattle.argument.specs.Demand.{Answered as BookAnswered, RuledOut as BookRuledOut, StoodAt as BookStoodAt}
+use Rattle.argument.specs.FlatDemand.{flat-demand}
+use Rattle.board.specs.declared.Board.{Board}
+use Rattle.board.specs.declared.Outcome.{Outcome}
+use Rattle.board.specs.Board.{returned}
+use Rattle.board.specs.View.{puzzleIn, puzzleOf, marksOf, literalsOf}
+use Rattle.board.specs.NativeLaws.{native-has}
+use Rattle.board.specs.FreshLaws.{Made, made-is, made-keeps, made-typed}
+use Rattle.board.specs.ViewLaws.{fresh-puzzle, literals-fresh, marks-literals}
+use Rattle.calls.specs.Runs.{Accepted, startOf, Lent, askedOf, givenBy, toldBy, boardAfter}
+use Rattle.calls.specs.Demand3.{Standing, Answered, RuledOut, StoodAt, Demand3}
+use Rattle.calls.specs.RunLaws.{Built, none, Facts, Bare, built-facts, built-after, step-told, run-told}
+use Rattle.calls.specs.RunLaws.{run-written}
+
+-- a list of calls, split where the book's list is
+record Split (calls : List Lent) (earlier : List Asked) (a : Asked) : Type 0 where
+  before : List Lent
+  call : Lent
+  later : List Lent
+  split : calls ≡ before ++ (call ∷ later)
+  same : map askedOf before ≡ earlier
+  at : askedOf call ≡ a
+
+split-more : {calls : List Lent} {earlier : List Asked} {a k : Asked} (c : Lent) → askedOf c ≡ k
+    → Split calls earlier a → Split (c ∷ calls) (k ∷ earlier) a
+split-more c q s =
+    record {
+      before = c ∷ s .before;
+      call = s .call;
+      later = s .later;
+      split = ap (λ (cs : List Lent). c ∷ cs) (s .split);
+      same = rw (q, s .same);
+      at = s .at;
+    }
+
+split-asked : (calls : List Lent) (earlier : List Asked) (a : Asked) (later : List Asked)
+    → map askedOf calls ≡ earlier ++ (a ∷ later) → Split calls earlier a
+split-asked [] [] a later e = let z : _≡_ {A = ℕ} 0 1 = cc in absurd (omega arith)
+split-asked [] (k ∷ earlier) a later e = let z : _≡_ {A = ℕ} 0 1 = cc in absurd (omega arith)
+split-asked (c ∷ calls) [] a later e =
+    let q : askedOf c ≡ a = cc in
+    record { before = []; call = c; later = calls; split = refl; same = refl; at = q }
+split-asked (c ∷ calls) (k ∷ earlier) a later e =
+    let q : askedOf c ≡ k = cc in
+    let p : map askedOf calls ≡ earlier ++ (a ∷ later) = cc in
+    split-more c q (split-asked calls earlier a later p)
+
+module _ (start : Board) (S : Bare start) where
+  -- the board after some calls
+  after-built : (calls : List Lent)
+      → Built start (sequence (puzzleOf start) (map askedOf calls)) (boardAfter start calls)
+  after-built calls = built-after start S none calls
+
+  after-facts : (calls : List Lent)
+      → Facts start (sequence (puzzleOf start) (map askedOf calls)) (boardAfter start calls)
+  after-facts calls = built-facts start S (after-built calls)
+
+  facts-marks : (ls : List Literal) (b : Board) → Facts start ls b → marksOf b ≡ marks ls
+  facts-marks ls b f = marks-literals b (native-has b (f .known)) ∙ ap marks (f .stack)
+
+  -- ---- what the run answers is what the book answers
+  module _ (calls : List Lent) where
+    pub answered-facts : {b : Board} {f : Found} → Answered start calls b f → Facts start (literalsOf b) b
+    answered-facts {b} a =
+        let g = after-facts (a .earlier) in
+        subst (λ c. Facts start (literalsOf c) c) (a .standing)
+        (subst (λ ls. Facts start ls (boardAfter start (a .earlier))) (sym (g .stack)) g)
+
+    pub answered-book : {b : Board} {f : Found} → Answered start calls b f
+        → BookAnswered (puzzleOf start) (map askedOf calls) (literalsOf b) f
+    answered-book {b} {f} a =
+        let g = after-facts (a .earlier) in
+        let e : sequence (puzzleOf start) (map askedOf (a .earlier)) ≡ literalsOf b =
+        sym (g .stack) ∙ ap literalsOf (a .standing) in
+        record {
+          earlier = map askedOf (a .earlier);
+          call = askedOf (a .call);
+          later = map askedOf (a .later);
+          split = ap (map askedOf) (a .split) ∙ map-append askedOf (a .earlier) (a .call ∷ a .later);
+          standing = e;
+          answer =
+              ap (λ (ls : List Literal). reply (puzzleOf start) ls (askedOf (a .call))) (sym e)
+              ∙ sym (step-told start S (after-built (a .earlier)) (a .call))
+              ∙ ap (λ (c : Board). toldBy (givenBy c (a .call))) (a .standing)
+              ∙ a .answer;
+        }
+
+    pub answered-run : {ls : List Literal} {f : Found} → BookAnswered (puzzleOf start) (map askedOf calls) ls f
+        → (b : Board) × Answered start calls b f × Facts start ls b
+    answered-run {ls} {f} a =
+        let s = split-asked calls (a .earlier) (a .call) (a .later) (a .split) in
+        let b = boardAfter start (s .before) in
+        let e : sequence (puzzleOf start) (map askedOf (s .before)) ≡ ls =
+        ap (sequence (puzzleOf start)) (s .same) ∙ a .standing in (
+          b,
+          record {
+            earlier = s .before;
+            call = s .call;
+            later = s .later;
+            split = s .split;
+            standing = refl;
+            answer =
+                step-told start S (after-built (s .before)) (s .call)
+                ∙ ap (λ (k : List Literal). reply (puzzleOf start) k (askedOf (s .call))) e
+                ∙ ap (reply (puzzleOf start) ls) (s .at)
+                ∙ a .answer;
+          },
+          subst (λ k. Facts start k b) e (after-facts (s .before)),
+        )
+
+    -- ---- ruled out
+    pub ruled-book : (σ : ℕ → Mark) → RuledOut start calls σ → BookRuledOut (puzzleOf start) (map askedOf calls) σ
+    ruled-book σ q =
+        record {
+          sequence = literalsOf (q .board);
+          reason = q .reason;
+          given = answered-book (q .given);
+          contains = q .contains;
+        }
+
+    pub ruled-run : (σ : ℕ → Mark) → BookRuledOut (puzzleOf start) (map askedOf calls) σ → RuledOut start calls σ
+    ruled-run σ q =
+        let r = answered-run (q .given) in
+        record { board = r .0; reason = q .reason; given = r .1; contains = q .contains }
+
+    -- ---- stood
+    pub stood-book : (σ : ℕ → Mark) (f : Found) → StoodAt start calls σ f
+        → BookStoodAt (puzzleOf start) (map askedOf calls) σ f
+    stood-book σ f q =
+        let g = answered-facts (q .check) in
+        let e = facts-marks (literalsOf (q .board)) (q .board) g in
+        record {
+          sequence = literalsOf (q .board);
+          check = answered-book (q .check);
+          full = rw (← e, ← (g .puzzle)) (q .full);
+          sides = rw (← e, ← (g .puzzle)) (q .sides);
+        }
+
+    pub stood-run : (σ : ℕ → Mark) (f : Found) → BookStoodAt (puzzleOf start) (map askedOf calls) σ f
+        → StoodAt start calls σ f
+    stood-run σ f q =
+        let r = answered-run (q .check) in
+        let e = facts-marks (q .sequence) (r .0) (r .2) in
+        record {
+          board = r .0;
+          check = r .1;
+          full = rw (e, r .2 .puzzle) (q .full);
+          sides = rw (e, r .2 .puzzle) (q .sides);
+        }
+
+-- ---- a longer list
+answered-longer : (start : Board) (calls more : List Lent) {b : Board} {f : Found} → Answered start calls b f
+    → Answered start (calls ++ more) b f
+answered-longer start calls more a =
+    record {
+      earlier = a .earlier;
+      call = a .call;
+      later = a .later ++ more;
+      split = ap (λ (cs : List Lent). cs ++ more) (a .split) ∙ append-assoc (a .earlier) (a .call ∷ a .later) more;
+      standing = a .standing;
+      answer = a .answer;
+    }
+
+ruled-longer : (start : Board) (calls more : List Lent) (σ : ℕ → Mark) → RuledOut start calls σ
+    → RuledOut start (calls ++ more) σ
+ruled-longer start calls more σ q =
+    record {
+      board = q .board;
+      reason = q .reason;
+      given = answered-longer start calls more (q .given);
+      contains = q .contains;
+    }
+
+-- ---- the claim
+module _ (start : Board) (S : Bare start) (D : (asked : List Asked) → BookDemand (puzzleOf start) asked) where
+  stands : (calls : List Lent)
+      → Standing start (puzzleOf start) (sequence (puzzleOf start) (map askedOf calls)) (boardAfter start calls)
+  stands calls =
+      let f = after-facts start S calls in
+      record {
+        stack = f .stack;
+        borders = facts-marks start S _ _ f;
+        puzzle = f .puzzle;
+        known = f .known;
+        only = f .only;
+      }
+
+  holds : (calls : List Lent) (b : Board) (r : Reason) → Answered start calls b (conflict r) → Contains (marksOf b) r
+  holds calls b r a =
+      let e = facts-marks start S (literalsOf b) b (answered-facts start S calls a) in
+      rw e (D (map askedOf calls) .held (literalsOf b) r (answered-book start S calls a))
+
+  none-ruled : (calls : List Lent) (σ : ℕ → Mark) → Solution (puzzleOf start) σ → RuledOut start calls σ → ⊥
+  none-ruled calls σ s q = D (map askedOf calls) .noSolution σ s (ruled-book start S calls σ q)
+
+  verdicts : (calls : List Lent) (σ : ℕ → Mark) (f : Found) → StoodAt start calls σ f
+      → (Passes f ↔ Solution (puzzleOf start) σ)
+  verdicts calls σ f q = D (map askedOf calls) .verdict σ f (stood-book start S calls σ f q)
+
+  pub from-book : (calls : List Lent) → Demand3 start (puzzleOf start) calls
+  from-book calls =
+      record {
+        answers = run-told start S none calls;
+        memory = run-written start S none calls;
+        stack = λ earlier later e. stands earlier;
+        held = holds calls;
+        monotone = ruled-longer start calls;
+        noSolution = none-ruled calls;
+        verdict = verdicts calls;
+        otherwise =
+            λ σ f q n.
+            ruled-run start S calls σ (D (map askedOf calls) .otherwise σ f (stood-book start S calls σ f q) n);
+        staysIn =
+            λ more σ p. none-ruled (calls ++ more) σ (verdicts calls σ (pass (p .0)) (p .1) .0 (p .0, refl));
+        staysOut =
+            λ more σ q p. none-ruled calls σ (verdicts (calls ++ more) σ (pass (p .0)) (p .1) .0 (p .0, refl)) q;
+        sameVerdict =
+            λ σ f g s t.
+            D (map askedOf calls) .sameVerdict σ f g (stood-book start S calls σ f s) (stood-book start S calls σ g t);
+      }
+
+-- ---- an accepted puzzle
+module _ (h w : ℕ) (cs : List ℕ) (ks : List ℤ) (A : Accepted h w cs ks) where
+  pub accepted-made : Made h w cs ks (startOf h w cs ks)
+  accepted-made = made-is (ap (λ (o : Outcome). returned o (startOf h w cs ks)) (A .made))
+
+  pub start-bare : Bare (startOf h w cs ks)
+  start-bare =
+      record {
+        known = made-keeps accepted-made;
+        typed = made-typed accepted-made (A .small);
+        empty = ap literalsOf (accepted-made .is) ∙ literals-fresh h w cs ks;
+      }
+
+  pub start-puzzle : puzzleOf (startOf h w cs ks) ≡ puzzleIn h w cs ks
+  start-puzzle = ap puzzleOf (accepted-made .is) ∙ fresh-puzzle h w cs ks
+
+  book-holds : (asked : List Asked) → BookDemand (puzzleIn h w cs ks) asked
+  unfolding puzzleIn
+  book-holds = let s = accepted-made .size in flat-demand h w (omega arith) (coloursIn cs) (cluesIn ks)
+
+  pub demand3 : (calls : List Lent) → Demand3 (startOf h w cs ks) (puzzleIn h w cs ks) calls
+  demand3 calls =
+      subst (λ Z. Demand3 (startOf h w cs ks) Z calls) start-puzzle
+      (from-book (startOf h w cs ks) start-bare
+      (λ asked. subst (λ Z. BookDemand Z asked) (sym start-puzzle) (book-holds asked)) calls)

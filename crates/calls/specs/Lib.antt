@@ -1,0 +1,10 @@
+pub mod Answers
+pub mod Runs
+pub mod Demand3
+pub mod AnswerLaws
+pub mod CallLaws
+pub mod NumberLaws
+pub mod RunLaws
+pub mod Demand3Laws
+pub mod SmallRuns
+pub mod RunWitness

@@ -1,0 +1,146 @@
+-- The number of an answer tells the answer.
+--
+--   outcomeOf v       the refusal with the number v
+--   answerFrom v      the answer with the number v
+--   InRange a         the counts that a call can give, and a refusal that is one
+--   check-count       a pass gives the count of undecided borders
+--   call-range        what a call answers is in range, on every board
+--   answer-from       the answer is read back from its number
+--   number-once       two answers with one number are equal
+use mathlib.Core.Path.{_≡_, refl, ap, sym, _∙_}
+use mathlib.Core.Bool.{Bool, true, false, cond}
+use mathlib.Core.List.{List, [], _∷_}
+use mathlib.Core.Option.{Option, some, none}
+use Prim.Native.Nat.{ℕ, _+_, _-_, _<_, _≤_}
+use native.Mathlib.Omega.{arith}
+use borrow.Author.Tests.{eqb-false, ne-eqb, lt-ltb, le-ltb}
+use lib.Dec.{eqb, ltb}
+use lib.ListN.{length, getD}
+use Rattle.lists.specs.Count.{count-le}
+use Rattle.rules.specs.declared.Call.{Call}
+use Rattle.rules.specs.declared.Call.the-variants.{Decide, Undo, Check}
+use Rattle.rules.specs.Page.{Puzzle, Mark, isUndecided}
+use Rattle.rules.specs.Flat.{flat}
+use Rattle.rules.specs.FlatLaws.{borders-le}
+use Rattle.rules.specs.Check.{Reason, Answer as Found, pass, conflict, hit, undecidedCount, answerOf, check}
+use Rattle.board.specs.declared.Board.{Board}
+use Rattle.board.specs.declared.Outcome.{Outcome}
+use Rattle.board.specs.declared.Outcome.the-variants.{Done as Fine, Size, Ragged, Colour, Clue}
+use Rattle.board.specs.declared.Outcome.the-variants.{Alien, Border, Taken, Bare, Short}
+use Rattle.board.specs.Alien.{isAlien}
+use Rattle.board.specs.Board.{numberOf, decideOf, undoOf}
+use Rattle.board.specs.View.{puzzleIn, puzzleOf, marksOf}
+use Rattle.board.specs.NativeLaws.{native-has}
+use Rattle.calls.specs.declared.Answer.{Answer}
+use Rattle.calls.specs.declared.Answer.the-variants.{Done, Pass, Conflict, Refused}
+use Rattle.calls.specs.Answers.{answerNumber, asAnswer, checkAnswer, ended, callOf}
+use Rattle.calls.specs.CallLaws.{reason-short}
+
+unfoldable pub outcomeOf : ℕ → Outcome
+outcomeOf v =
+    getD (Fine ∷ Size ∷ Ragged ∷ Colour ∷ Clue ∷ Alien ∷ Border ∷ Taken ∷ Bare ∷ Short ∷ []) v Fine
+
+unfoldable pub answerFrom : ℕ → Answer
+answerFrom v =
+    cond (eqb v 0) Done
+    (cond (ltb v 32) (Refused (outcomeOf v))
+    (cond (ltb v 65536) (Pass (v - 32))
+    (Conflict (v - 65536))))
+
+abbrev pub InRange : Answer → Type 0
+InRange Done = Unit {0}
+InRange (Pass n) = n ≤ 1984
+InRange (Conflict n) = n ≤ 16120
+InRange (Refused o) = 0 < numberOf o
+
+-- ---- what a call answers is in range
+pub check-count : (Z : Puzzle) (s : ℕ → Mark) (n : ℕ) → check Z s ≡ pass n → n ≡ undecidedCount Z s
+unfolding check
+check-count Z s n e = go (hit Z s) e
+  where
+    go : (o : Option Reason) → answerOf (undecidedCount Z s) o ≡ pass n → n ≡ undecidedCount Z s
+    go none f = cc
+    go (some r) f = let z : _≡_ {A = ℕ} 0 1 = cc in absurd (omega arith)
+
+ended-range : (o : Outcome) → InRange (ended o)
+ended-range o = go (eqb (numberOf o) 0) refl
+  where
+    go : (x : Bool) → eqb (numberOf o) 0 ≡ x → InRange (cond x Done (Refused o))
+    go true e = tt
+    go false e = let h = eqb-false (numberOf o) 0 e in omega arith
+
+pass-range : (b : Board) → isAlien b ≡ false → (n : ℕ) → check (puzzleOf b) (marksOf b) ≡ pass n → n ≤ 1984
+unfolding puzzleOf puzzleIn undecidedCount flat
+pass-range b t n e =
+    let c = check-count (puzzleOf b) (marksOf b) n e in
+    omega (
+      arith,
+      c,
+      count-le (puzzleOf b .page .borders) (λ x. isUndecided (marksOf b x)),
+      borders-le (native-has b t .size),
+    )
+
+found-range : (b : Board) → isAlien b ≡ false → (f : Found) → check (puzzleOf b) (marksOf b) ≡ f
+    → InRange (asAnswer f)
+found-range b t (pass n) e = pass-range b t n e
+found-range b t (conflict r) e = reason-short b t r e
+
+check-range : (b : Board) (n : ℕ) → InRange (checkAnswer b n)
+unfolding checkAnswer
+check-range b n = go (isAlien b) (ltb n 16384) refl
+  where
+    go : (x y : Bool) → isAlien b ≡ x
+        → InRange (cond x (Refused Alien) (cond y (Refused Short) (asAnswer (check (puzzleOf b) (marksOf b)))))
+    go true y e = omega arith
+    go false true e = omega arith
+    go false false e = found-range b e (check (puzzleOf b) (marksOf b)) refl
+
+pub call-range : (b : Board) (c : Call) (m : List ℕ) → InRange (callOf b c m .answer)
+unfolding callOf
+call-range b (Decide l) m = ended-range (decideOf b l .outcome)
+call-range b Undo m = ended-range (undoOf b .outcome)
+call-range b Check m = check-range b (length m)
+
+-- ---- read back
+outcome-of : (o : Outcome) → (outcomeOf (numberOf o) ≡ o) × (numberOf o < 32)
+unfolding outcomeOf
+outcome-of Fine = (refl, omega arith)
+outcome-of Size = (refl, omega arith)
+outcome-of Ragged = (refl, omega arith)
+outcome-of Colour = (refl, omega arith)
+outcome-of Clue = (refl, omega arith)
+outcome-of Alien = (refl, omega arith)
+outcome-of Border = (refl, omega arith)
+outcome-of Taken = (refl, omega arith)
+outcome-of Bare = (refl, omega arith)
+outcome-of Short = (refl, omega arith)
+
+pub answer-from : (a : Answer) → InRange a → answerFrom (answerNumber a) ≡ a
+unfolding answerFrom
+answer-from Done h = refl
+answer-from (Pass n) h =
+    let e : 32 + n - 32 ≡ n = omega arith in
+    rw (
+      ne-eqb (32 + n) 0 (λ q. let z : 32 + n ≡ 0 = q in omega arith),
+      le-ltb (32 + n) 32 (omega arith),
+      lt-ltb (32 + n) 65536 (omega arith),
+      e,
+    )
+answer-from (Conflict n) h =
+    let e : 65536 + n - 65536 ≡ n = omega arith in
+    rw (
+      ne-eqb (65536 + n) 0 (λ q. let z : 65536 + n ≡ 0 = q in omega arith),
+      le-ltb (65536 + n) 32 (omega arith),
+      le-ltb (65536 + n) 65536 (omega arith),
+      e,
+    )
+answer-from (Refused o) h =
+    let r = outcome-of o in
+    rw (
+      ne-eqb (numberOf o) 0 (λ q. let z : numberOf o ≡ 0 = q in omega arith),
+      lt-ltb (numberOf o) 32 (r .1),
+      r .0,
+    )
+
+pub number-once : (a c : Answer) → InRange a → InRange c → answerNumber a ≡ answerNumber c → a ≡ c
+number-once a c h k e = sym (answer-from a h) ∙ ap answerFrom e ∙ answer-from c k

@@ -1,0 +1,110 @@
+-- A closed witness: two lists of calls on one board, each a decide and a check, at which full settings stood. One of
+-- these is a solution, and passed; the other is none, and is ruled out.
+use mathlib.Core.Path.{_≡_, refl, sym, subst}
+use mathlib.Core.List.{List, [], _∷_}
+use Prim.Native.Nat.{ℕ, zero, suc, _<_}
+use native.Mathlib.Omega.{arith}
+use lib.IntN.{ℤ, pos, negsuc}
+use lib.ListN.{length}
+use Rattle.lists.specs.Lists.{any, all}
+use Rattle.lists.specs.Tests.{allBelow}
+use Rattle.rules.specs.declared.Side.{Side}
+use Rattle.rules.specs.declared.Side.the-variants.{Wall, Open}
+use Rattle.rules.specs.declared.Call.the-variants.{Decide, Check}
+use Rattle.rules.specs.Page.{Puzzle, Mark, undecided}
+use Rattle.rules.specs.Flat.{flat, borderCount}
+use Rattle.rules.specs.Check.{Answer as Found, check}
+use Rattle.rules.specs.Book.{Asked, marks, names, decideReply, decideAfter, replyTo, afterCall, sequenceFrom}
+use Rattle.argument.specs.Demand.{Full, SameSides, Passes, StoodAt as BookStoodAt}
+use Rattle.argument.specs.Witness.{open-solves, wall-fails}
+use Rattle.board.specs.declared.Board.{Board}
+use Rattle.board.specs.Alien.{sizeRight, coloursRight, cluesRight}
+use Rattle.board.specs.Board.{freshOf}
+use Rattle.board.specs.View.{puzzleIn}
+use Rattle.calls.specs.Runs.{Accepted, startOf, Lent}
+use Rattle.calls.specs.Demand3.{RuledOut, StoodAt}
+use Rattle.calls.specs.Demand3Laws.{stood-run, start-bare, start-puzzle, demand3}
+use Rattle.calls.specs.SmallRuns.{small-clues}
+
+-- 1×2, 01, the clue 1 at (0,0)
+abbrev cs : List ℕ
+cs = 0 ∷ 1 ∷ []
+
+abbrev ks : List ℤ
+ks = pos 1 ∷ negsuc 0 ∷ []
+
+abbrev pub start : Board
+start = startOf 1 2 cs ks
+
+accepted : Accepted 1 2 cs ks
+unfolding all freshOf sizeRight coloursRight cluesRight allBelow
+accepted = record { small = small-clues ks refl; made = refl }
+
+-- the border's side, as a setting
+abbrev pub setting : Side → ℕ → Mark
+setting d = marks (record { border = 0; side = d } ∷ [])
+
+-- a decide of that side and a check, with the memory m
+abbrev pub deciding : Side → List ℕ → List Lent
+deciding d m =
+    record { call = Decide (record { border = 0; side = d }); memory = m } ∷ record { call = Check; memory = m } ∷ []
+
+-- what Check gives there
+abbrev pub found : Side → Found
+found d = check (puzzleIn 1 2 cs ks) (setting d)
+
+abbrev asked : Side → ℕ → List Asked
+asked d n =
+    record { call = Decide (record { border = 0; side = d }); places = n } ∷ record { call = Check; places = n } ∷ []
+
+side-full : (d : Side) (b : ℕ) → b < 1 → setting d b ≡ undecided → ⊥
+unfolding marks
+side-full d zero h e = let z : _≡_ {A = ℕ} 0 1 = cc in omega arith
+side-full d (suc b) h e = omega arith
+
+book-stood : (d : Side) → BookStoodAt (puzzleIn 1 2 cs ks) (asked d 16384) (setting d) (found d)
+unfolding puzzleIn flat borderCount sequenceFrom replyTo afterCall decideReply decideAfter names any Full SameSides
+book-stood d =
+    record {
+      sequence = record { border = 0; side = d } ∷ [];
+      check =
+          record {
+            earlier = record { call = Decide (record { border = 0; side = d }); places = 16384 } ∷ [];
+            call = record { call = Check; places = 16384 };
+            later = [];
+            split = refl;
+            standing = refl;
+            answer = refl;
+          };
+      full = λ b h. side-full d b h;
+      sides = λ b h. refl;
+    }
+
+module _ (m : List ℕ) (p : length m ≡ 16384) where
+  pub side-stood : (d : Side) → StoodAt start (deciding d m) (setting d) (found d)
+  side-stood d =
+      stood-run start (start-bare 1 2 cs ks accepted) (deciding d m) (setting d) (found d)
+      (subst (λ (Z : Puzzle). BookStoodAt Z (asked d (length m)) (setting d) (found d))
+      (sym (start-puzzle 1 2 cs ks accepted))
+      (subst (λ n. BookStoodAt (puzzleIn 1 2 cs ks) (asked d n) (setting d) (found d)) (sym p) (book-stood d)))
+
+  pub record Witness : Type 0 where
+    pub open-stood : StoodAt start (deciding Open m) (setting Open) (found Open)
+    pub open-passed : Passes (found Open)
+    pub wall-stood : StoodAt start (deciding Wall m) (setting Wall) (found Wall)
+    pub wall-ruled : RuledOut start (deciding Wall m) (setting Wall)
+
+  pub witness : Witness
+  unfolding puzzleIn
+  witness =
+      let D = demand3 1 2 cs ks accepted in
+      let s = side-stood Open in
+      let t = side-stood Wall in
+      record {
+        open-stood = s;
+        open-passed = D (deciding Open m) .verdict (setting Open) (found Open) s .1 open-solves;
+        wall-stood = t;
+        wall-ruled =
+            D (deciding Wall m) .otherwise (setting Wall) (found Wall) t
+            (λ q. wall-fails (D (deciding Wall m) .verdict (setting Wall) (found Wall) t .0 q));
+      }

@@ -1,0 +1,140 @@
+-- 01's small boards marked P, through the calls: from making the board on, what each call answers.
+--
+--   Answers h w cs ks calls rs   on the board of that puzzle, each with memory for 16,384 literals, the calls answer rs
+--   small-clues, run-answers     how that follows from the book
+--   SmallRuns                    the boards, and the page of 01's example
+use mathlib.Core.Path.{_≡_, refl, ap, _∙_}
+use mathlib.Core.Bool.{true}
+use mathlib.Core.List.{List, [], _∷_, map}
+use Prim.Native.Nat.{ℕ, zero, suc}
+use lib.IntN.{ℤ, pos, negsuc}
+use lib.ListN.{length}
+use lib.Signed.{leZ}
+use Rattle.lists.specs.Lists.{all, filter, any, orElse, flatMap, firstHit}
+use Rattle.lists.specs.Tests.{allBelow, and-left, and-right}
+use Rattle.lists.specs.Count.{countBelow}
+use Rattle.rules.specs.declared.Call.{Call}
+use Rattle.rules.specs.declared.Call.the-variants.{Decide, Undo, Check}
+use Rattle.rules.specs.Page.{wallAt, openAt, _⊕_, opposite}
+use Rattle.rules.specs.Codes.{marksIn, coloursIn, cluesIn}
+use Rattle.rules.specs.Rules.{oneColour, joinsBlock, joinsUnit}
+use Rattle.rules.specs.Groups.{labels, entry, isFirst, numbers, groupCount, members, joinsPotential}
+use Rattle.rules.specs.Reasons.{gather, insideAt, inside, edgeAt, edge, isFound, trace, look, hunt, path}
+use Rattle.rules.specs.Turns.{apply}
+use Rattle.rules.specs.Shapes.{samePoints, insert, sort, shiftBy, normal, turned, connectionsAt, shapeOf, withHalf}
+use Rattle.rules.specs.Shapes.{quarters, withQuarter, withFlip, flatTransforms}
+use Rattle.rules.specs.Check.{pass, conflict, check, hitIf, clueOf, insideBlock, insideUnit, edgeOf, sizeOf}
+use Rattle.rules.specs.Check.{coloured, strayFrom, cellHit, cellHits, smallHit, bigHit, clueHit, blockHitOn, blockHit}
+use Rattle.rules.specs.Check.{wallHit, wallHits, touches, adjacent, mates, judge, laid, transformsOf, placements}
+use Rattle.rules.specs.Check.{farWallsAt, farWalls, unitReason, unitHitIn, unitHitOn, unitHit, hit, undecidedCount}
+use Rattle.rules.specs.Flat.{flat, cellAt, rightOf, belowOf, borderCount, hopIf, hopAbove, hopBelow, hopLeft}
+use Rattle.rules.specs.Flat.{hopRight, aroundAt, aheadAt, flatFirst, flatSecond, flatPlace, flatReadsAt, flatReads}
+use Rattle.rules.specs.Book.{Asked, Reply, refused, done, answered, marks, names, withoutLast, decideReply, decideAfter}
+use Rattle.rules.specs.Book.{replyTo, afterCall, repliesFrom, replies}
+use Rattle.board.specs.declared.Outcome.the-variants.{Done}
+use Rattle.board.specs.Alien.{sizeRight, coloursRight, cluesRight}
+use Rattle.board.specs.Board.{freshOf, Small}
+use Rattle.board.specs.View.{puzzleIn}
+use Rattle.calls.specs.Runs.{startOf, Lent, askedOf, toldBy, runFrom}
+use Rattle.calls.specs.Demand3Laws.{demand3}
+
+abbrev lend : List ℕ → Call → Lent
+lend m c = record { call = c; memory = m }
+
+abbrev ask : ℕ → Call → Asked
+ask n c = record { call = c; places = n }
+
+pub record Answers (h w : ℕ) (cs : List ℕ) (ks : List ℤ) (calls : List Call) (rs : List Reply) : Type 0 where
+  pub answers : (m : List ℕ) → length m ≡ 16384
+      → map toldBy (runFrom (startOf h w cs ks) (map (lend m) calls)) ≡ rs
+
+asked-lent : (m : List ℕ) (calls : List Call) → map askedOf (map (lend m) calls) ≡ map (ask (length m)) calls
+asked-lent m [] = refl
+asked-lent m (c ∷ calls) = ap (λ (asked : List Asked). ask (length m) c ∷ asked) (asked-lent m calls)
+
+pub small-clues : (ks : List ℤ) → all (λ k. leZ k (pos 2147483647)) ks ≡ true → Small ks
+unfolding all
+small-clues [] e i = refl
+small-clues (k ∷ ks) e zero = and-left (leZ k (pos 2147483647)) (all (λ j. leZ j (pos 2147483647)) ks) e
+small-clues (k ∷ ks) e (suc i) =
+    small-clues ks (and-right (leZ k (pos 2147483647)) (all (λ j. leZ j (pos 2147483647)) ks) e) i
+
+run-answers : {h w : ℕ} {cs : List ℕ} {ks : List ℤ} {calls : List Call} {rs : List Reply}
+    → all (λ k. leZ k (pos 2147483647)) ks ≡ true → freshOf h w cs ks .outcome ≡ Done
+    → replies (puzzleIn h w cs ks) (map (ask 16384) calls) ≡ rs → Answers h w cs ks calls rs
+run-answers {h} {w} {cs} {ks} {calls} s a e =
+    record {
+      answers =
+          λ m p.
+          demand3 h w cs ks (record { small = small-clues ks s; made = a }) (map (lend m) calls) .answers
+          ∙ ap (replies (puzzleIn h w cs ks)) (asked-lent m calls ∙ ap (λ n. map (ask n) calls) p)
+          ∙ e;
+    }
+
+abbrev noClue : ℤ
+noClue = negsuc 0
+
+-- 1×2 with the colours 01
+abbrev pub Pair : List ℤ → List Call → List Reply → Type 0
+Pair ks calls rs = Answers 1 2 (0 ∷ 1 ∷ []) ks calls rs
+
+-- 1×4 with the colours 0011
+abbrev pub Four : List Call → List Reply → Type 0
+Four calls rs = Answers 1 4 (0 ∷ 0 ∷ 1 ∷ 1 ∷ []) (noClue ∷ noClue ∷ noClue ∷ noClue ∷ []) calls rs
+
+pub record SmallRuns : Type 0 where
+  -- "1×1 without clue: empty reason"
+  pub one-cell-empty : Answers 1 1 (0 ∷ []) (noClue ∷ []) (Check ∷ []) (answered (conflict []) ∷ [])
+  -- "1×2, colours 00, undecided: empty reason"
+  pub one-colour-empty : Answers 1 2 (0 ∷ 0 ∷ []) (noClue ∷ noClue ∷ []) (Check ∷ []) (answered (conflict []) ∷ [])
+  -- "1×2, 01: undecided passes with 1; open passes with 0; wall: 0w", by the calls of the page that 01 shows
+  pub page : Pair (noClue ∷ noClue ∷ [])
+      (Check ∷ Decide (wallAt 0) ∷ Check ∷ Undo ∷ Decide (openAt 0) ∷ Check ∷ [])
+      (answered (pass 1) ∷ done ∷ answered (conflict (wallAt 0 ∷ [])) ∷ done ∷ done ∷ answered (pass 0) ∷ [])
+  -- "1×2, 01, clue at (0,0): 1 passes undecided; 0 and 2 give the empty reason"
+  pub clue-one-passes : Pair (pos 1 ∷ noClue ∷ []) (Check ∷ []) (answered (pass 1) ∷ [])
+  pub clue-zero-empty : Pair (pos 0 ∷ noClue ∷ []) (Check ∷ []) (answered (conflict []) ∷ [])
+  pub clue-two-empty : Pair (pos 2 ∷ noClue ∷ []) (Check ∷ []) (answered (conflict []) ∷ [])
+  -- "1×3, 010, both open: 0o 1o"
+  pub both-open : Answers 1 3 (0 ∷ 1 ∷ 0 ∷ []) (noClue ∷ noClue ∷ noClue ∷ [])
+      (Decide (openAt 0) ∷ Decide (openAt 1) ∷ Check ∷ [])
+      (done ∷ done ∷ answered (conflict (openAt 0 ∷ openAt 1 ∷ [])) ∷ [])
+  -- "1×4, 0011, all open: passes"
+  pub four-passes : Four (Decide (openAt 0) ∷ Decide (openAt 1) ∷ Decide (openAt 2) ∷ Check ∷ [])
+      (done ∷ done ∷ done ∷ answered (pass 0) ∷ [])
+  -- "border 0 wall, others open: 1o 2o 0w"
+  pub four-wall : Four (Decide (wallAt 0) ∷ Decide (openAt 1) ∷ Decide (openAt 2) ∷ Check ∷ [])
+      (done ∷ done ∷ done ∷ answered (conflict (openAt 1 ∷ openAt 2 ∷ wallAt 0 ∷ [])) ∷ [])
+  -- "2×2, rows 01 and 01; 0, 2, 3 open, 1 wall: 3o 0o 2o 1w"
+  pub wall-in-block : Answers 2 2 (0 ∷ 1 ∷ 0 ∷ 1 ∷ []) (noClue ∷ noClue ∷ noClue ∷ noClue ∷ [])
+      (Decide (openAt 0) ∷ Decide (openAt 2) ∷ Decide (openAt 3) ∷ Decide (wallAt 1) ∷ Check ∷ [])
+      (done ∷ done ∷ done ∷ done ∷ answered (conflict (openAt 3 ∷ openAt 0 ∷ openAt 2 ∷ wallAt 1 ∷ [])) ∷ [])
+  -- refused calls: 6, 7 and 8 of the table
+  pub refusals : Pair (noClue ∷ noClue ∷ [])
+      (Undo ∷ Decide (openAt 1) ∷ Decide (openAt 0) ∷ Decide (wallAt 0) ∷ Check ∷ [])
+      (refused 8 ∷ refused 6 ∷ done ∷ refused 7 ∷ answered (pass 0) ∷ [])
+
+pub small-runs : SmallRuns
+unfolding filter any all orElse flatMap firstHit countBelow _⊕_ opposite marksIn coloursIn cluesIn oneColour joinsBlock
+    joinsUnit labels entry isFirst numbers groupCount members joinsPotential gather insideAt inside edgeAt edge isFound
+    trace look hunt path apply samePoints insert sort shiftBy normal turned connectionsAt shapeOf withHalf quarters
+    withQuarter withFlip flatTransforms check hitIf clueOf insideBlock insideUnit edgeOf sizeOf coloured strayFrom
+    cellHit cellHits smallHit bigHit clueHit blockHitOn blockHit wallHit wallHits touches adjacent mates judge laid
+    transformsOf placements farWallsAt farWalls unitReason unitHitIn unitHitOn unitHit hit undecidedCount flat cellAt
+    rightOf belowOf borderCount hopIf hopAbove hopBelow hopLeft hopRight aroundAt aheadAt flatFirst flatSecond
+    flatPlace flatReadsAt flatReads puzzleIn marks names withoutLast decideReply decideAfter replyTo afterCall
+    repliesFrom freshOf sizeRight coloursRight cluesRight allBelow
+small-runs =
+    record {
+      one-cell-empty = run-answers refl refl refl;
+      one-colour-empty = run-answers refl refl refl;
+      page = run-answers refl refl refl;
+      clue-one-passes = run-answers refl refl refl;
+      clue-zero-empty = run-answers refl refl refl;
+      clue-two-empty = run-answers refl refl refl;
+      both-open = run-answers refl refl refl;
+      four-passes = run-answers refl refl refl;
+      four-wall = run-answers refl refl refl;
+      wall-in-block = run-answers refl refl refl;
+      refusals = run-answers refl refl refl;
+    }

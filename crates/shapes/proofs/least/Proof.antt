@@ -1,0 +1,66 @@
+-- `shapes::least` meets its contract. The loop's invariant: the best is the first in order of the images passed.
+use mathlib.Core.Path.{_≡_, sym, _∙_}
+use Prim.Native.Nat.{_-_, _≤_}
+use native.Mathlib.Omega.{arith}
+use borrow.Author.Needs.{needs}
+use Rattle.shapes.specs.Pairs.{pointOf}
+use Rattle.shapes.specs.Spots.{spots, leastImage}
+use Rattle.shapes.specs.SpotLaws.{spot-in, least-one, earlier-more}
+use Rattle.shapes.proofs.least.Statement.{statement}
+use Rattle.shapes.proofs.least.Tie as tie
+
+abbrev Inv-loop : tie.InvT-loop
+Inv-loop row rows columns n best₀ i₀ best i =
+    (1 ≤ i) × (i ≤ n) × (pointOf best ≡ leastImage row (spots rows columns i))
+
+abbrev μ-loop : tie.MeasureT-loop
+μ-loop row rows columns n best₀ i₀ best i = n - i
+
+image-requires : tie.Need-image-requires Inv-loop μ-loop
+image-requires c κs = (c .pre .0, spot-in (c .pre .1) (c .pre .1 .some))
+
+loop-holds : tie.Need-loop-holds Inv-loop μ-loop
+loop-holds c = (omega arith, c .before .pre .1 .some, c .image .ensures ∙ sym (least-one _ _ _))
+
+image-requires-2 : tie.Need-image-requires-2 Inv-loop μ-loop
+image-requires-2 c κs =
+    (c .before .before .before .pre .0, spot-in (c .before .before .before .pre .1) (search needs))
+
+earlier-requires : tie.Need-earlier-requires Inv-loop μ-loop
+earlier-requires c κs = search needs
+
+add-i : tie.Need-add-i Inv-loop μ-loop
+add-i c = omega arith
+
+loop-less : tie.Need-loop-less Inv-loop μ-loop
+loop-less c = omega arith
+
+loop-again : tie.Need-loop-again Inv-loop μ-loop
+loop-again c =
+    let v = c .before .before .before .loop .inv in (
+      omega arith,
+      omega arith,
+      earlier-more _ _ _ (c .before .before .before .loop .i) (c .before .image2 .result)
+          (c .before .before .before .loop .best)
+          (c .earlier .result) (v .0) (c .before .image2 .ensures) (v .2) (c .earlier .ensures),
+    )
+
+returns : tie.Need-returns Inv-loop μ-loop
+returns c =
+    let e : c .before .loop .i ≡ c .before .before .before .args .n = omega arith in
+    rw e at (c .before .loop .inv .2)
+
+pub least-spec : {M : Type 1} → statement M
+least-spec =
+    tie.close
+    (tie.spec
+    Inv-loop
+    μ-loop
+    image-requires
+    loop-holds
+    image-requires-2
+    earlier-requires
+    add-i
+    loop-less
+    loop-again
+    returns)

@@ -1,0 +1,461 @@
+// Shapes: the eight rows of signs and swaps, a unit's shape, and its listed transforms.
+ghost use mathlib.Core.Path.{_≡_};
+ghost use mathlib.Core.Bool.{true, _&&_, cond};
+ghost use Prim.Native.Nat.{_+_, _-_, _*_, _<_};
+ghost use lib.Dec.{eqb};
+ghost use lib.ListN.{length};
+ghost use lib.IntN.{pos};
+ghost use Rattle.rules.specs.Page.{_⊕_, opposite};
+ghost use Rattle.rules.specs.Flat.{Sized, flat};
+ghost use Rattle.rules.specs.Groups.{entry};
+ghost use Rattle.rules.specs.Turns.{apply};
+ghost use Rattle.rules.specs.Shapes.{before, connectionsAt, shapeOf};
+ghost use Rattle.shapes.specs.Rows.{turnAt, fixes, flipListed, rowsBy, rowsOf};
+ghost use Rattle.shapes.specs.Listing.{listing};
+ghost use Rattle.shapes.specs.Parts.{part, Part, Placed};
+ghost use Rattle.shapes.specs.Joints.{jointIf, Room, Grown, Joined, JointIn};
+ghost use Rattle.shapes.specs.Pairs.{pointAt, pointOf, Small, SmallPair, Sign, turnBy};
+ghost use Rattle.shapes.specs.Spots.{placeAt, spotAt, spots, leastImage, cellIn, hasCell, within};
+ghost use Rattle.shapes.specs.Spots.{SpotIn, Spotted, UnitAt};
+
+// A place on a flat page, down and across.
+pub struct Pair {
+    pub y: i32,
+    pub x: i32,
+}
+
+// The eight rows: whether the coordinates change places, and the signs of the new ones.
+const SWAP: [bool; 8] = [false, false, true, true, false, false, true, true];
+
+const DOWN: [i32; 8] = [1, -1, -1, 1, -1, 1, 1, -1];
+
+const ACROSS: [i32; 8] = [1, -1, 1, -1, 1, -1, 1, -1];
+
+// The place (y,x), its coordinates swapped or not, the new ones times a sign.
+fn turn(swap: bool, down: i32, across: i32, y: i32, x: i32) -> Pair
+    requires { ⌜ Sign down × Sign across × Small y × Small x ⌝ }
+    ensures { λ r. ⌜ r ≡ turnBy swap down across y x ⌝ }
+{
+    if swap {
+        Pair {
+            y: down * x,
+            x: across * y,
+        }
+    } else {
+        Pair {
+            y: down * y,
+            x: across * x,
+        }
+    }
+}
+
+// The place (y,x) turned by a row of the table.
+pub fn apply(row: usize, y: i32, x: i32) -> Pair
+    requires { ⌜ (row < 8) × Small y × Small x ⌝ }
+    ensures { λ r. ⌜ pointOf r ≡ apply (turnAt row) (pointAt y x) ⌝ }
+{
+    turn(SWAP[row], DOWN[row], ACROSS[row], y, x)
+}
+
+// The number with a sign.
+fn signed(x: u16) -> i32
+    ensures { λ r. ⌜ r ≡ pos x ⌝ }
+{
+    x as i32
+}
+
+// The number as an index.
+fn wide(x: u16) -> usize
+    ensures { λ r. ⌜ r ≡ x ⌝ }
+{
+    x as usize
+}
+
+// Whether (y,x) stands before (b,a), by row and then by column.
+fn before(y: i32, x: i32, b: i32, a: i32) -> bool
+    ensures { λ r. ⌜ r ≡ before (pointAt y x) (pointAt b a) ⌝ }
+{
+    if y < b {
+        return true;
+    }
+    if b < y {
+        return false;
+    }
+    x < a
+}
+
+// The one of `p` and `q` that stands first; `q` where they are the same.
+fn earlier(p: Pair, q: Pair) -> Pair
+    ensures { λ r. ⌜ r ≡ cond (before (pointOf p) (pointOf q)) p q ⌝ }
+{
+    if before(p.y, p.x, q.y, q.x) { p } else { q }
+}
+
+// The image of the unit's cell `i` by a row of the table.
+pub fn image<'a>(row: usize, rows: &'a [u16; 1024], columns: &'a [u16; 1024], i: usize) -> Pair
+    requires { ⌜ (row < 8) × SpotIn (now rows) (now columns) i ⌝ }
+    ensures { λ r. ⌜ pointOf r ≡ apply (turnAt row) (spotAt (now (rows .entry)) (now (columns .entry)) i) ⌝ }
+{
+    apply(row, signed(rows[i]), signed(columns[i]))
+}
+
+// The first in order of the images of the unit's `n` cells by a row of the table.
+pub fn least<'a>(row: usize, rows: &'a [u16; 1024], columns: &'a [u16; 1024], n: usize) -> Pair
+    requires { ⌜ (row < 8) × Spotted (now rows) (now columns) n ⌝ }
+    ensures { λ r. ⌜ pointOf r ≡ leastImage row (spots (now (rows .entry)) (now (columns .entry)) n) ⌝ }
+{
+    let mut best = image(row, rows, columns, 0);
+    let mut i: usize = 1;
+    while i < n {
+        best = earlier(image(row, rows, columns, i), best);
+        i += 1;
+    }
+    best
+}
+
+// Whether (y,x) is a cell of the page and of unit `g`.
+fn cell_in(ids: &[u16; 1024], h: usize, w: usize, g: usize, y: usize, x: usize) -> bool
+    requires { ⌜ Sized h w × (length (now ids) ≡ 1024) ⌝ }
+    ensures { λ r. ⌜ r ≡ cellIn h w (entry (now (ids .entry))) g y x ⌝ }
+{
+    if h <= y {
+        return false;
+    }
+    if w <= x {
+        return false;
+    }
+    wide(ids[y * w + x]) == g
+}
+
+// The same of signed coordinates.
+fn has_cell(ids: &[u16; 1024], h: usize, w: usize, g: usize, y: i32, x: i32) -> bool
+    requires { ⌜ Sized h w × (length (now ids) ≡ 1024) ⌝ }
+    ensures { λ r. ⌜ r ≡ hasCell h w (entry (now (ids .entry))) g (pointAt y x) ⌝ }
+{
+    if y < 0 {
+        return false;
+    }
+    if x < 0 {
+        return false;
+    }
+    cell_in(ids, h, w, g, y as usize, x as usize)
+}
+
+// The same of the place `p` shifted by `v`.
+fn lands(ids: &[u16; 1024], h: usize, w: usize, g: usize, p: Pair, v: Pair) -> bool
+    requires { ⌜ Sized h w × (length (now ids) ≡ 1024) × SmallPair p × SmallPair v ⌝ }
+    ensures { λ r. ⌜ r ≡ hasCell h w (entry (now (ids .entry))) g (pointOf p ⊕ pointOf v) ⌝ }
+{
+    has_cell(ids, h, w, g, p.y + v.y, p.x + v.x)
+}
+
+// The shift that lays the place `m` on (y,x).
+fn shift(m: Pair, y: u16, x: u16) -> Pair
+    requires { ⌜ SmallPair m × (y < 32) × (x < 32) ⌝ }
+    ensures { λ r. ⌜ pointOf r ≡ opposite (pointOf m) ⊕ placeAt y x ⌝ }
+{
+    Pair {
+        y: signed(y) - m.y,
+        x: signed(x) - m.x,
+    }
+}
+
+// Whether every image of the unit's cells by a row, shifted by `v`, is a cell of unit `g`.
+fn within<'a>(
+    ids: &'a [u16; 1024],
+    h: usize,
+    w: usize,
+    g: usize,
+    rows: &'a [u16; 1024],
+    columns: &'a [u16; 1024],
+    n: usize,
+    row: usize,
+    v: Pair,
+) -> bool
+    requires { ⌜ (row < 8) × SmallPair v × UnitAt h w (now ids) g (now rows) (now columns) n ⌝ }
+    ensures { λ r. ⌜ r ≡ within h w (entry (now (ids .entry))) g (now (rows .entry)) (now (columns .entry)) n row
+        (pointOf v) ⌝ }
+{
+    let mut i: usize = 0;
+    while i < n {
+        let p = image(row, rows, columns, i);
+        if lands(ids, h, w, g, p, v) {
+            i += 1;
+        } else {
+            return false;
+        }
+    }
+    true
+}
+
+// Whether a row leaves the shape of unit `g` as it is: every image, laid on the first cell, is a cell of it.
+pub fn fixes<'a>(
+    ids: &'a [u16; 1024],
+    h: usize,
+    w: usize,
+    g: usize,
+    rows: &'a [u16; 1024],
+    columns: &'a [u16; 1024],
+    n: usize,
+    row: usize,
+) -> bool
+    requires { ⌜ (row < 8) × UnitAt h w (now ids) g (now rows) (now columns) n ⌝ }
+    ensures { λ r. ⌜ r ≡ fixes (shapeOf (flat h w) (entry (now (ids .entry))) g) row ⌝ }
+{
+    let m = least(row, rows, columns, n);
+    let v = shift(m, rows[0], columns[0]);
+    within(ids, h, w, g, rows, columns, n, row, v)
+}
+
+// Whether one of the four reflections leaves the shape of unit `g` as it is: then no flip is listed.
+fn flip_listed<'a>(
+    ids: &'a [u16; 1024],
+    h: usize,
+    w: usize,
+    g: usize,
+    rows: &'a [u16; 1024],
+    columns: &'a [u16; 1024],
+    n: usize,
+) -> bool
+    requires { ⌜ UnitAt h w (now ids) g (now rows) (now columns) n ⌝ }
+    ensures { λ r. ⌜ r ≡ flipListed (shapeOf (flat h w) (entry (now (ids .entry))) g) ⌝ }
+{
+    if fixes(ids, h, w, g, rows, columns, n, 4) {
+        return true;
+    }
+    if fixes(ids, h, w, g, rows, columns, n, 5) {
+        return true;
+    }
+    if fixes(ids, h, w, g, rows, columns, n, 6) {
+        return true;
+    }
+    fixes(ids, h, w, g, rows, columns, n, 7)
+}
+
+// The listed rows of the table, in order; the places beyond the count are 0.
+pub struct Listed {
+    pub count: usize,
+    pub rows: [u8; 8],
+}
+
+// The listed rows, by whether the half and the quarter leave the shape, and whether a reflection does.
+fn rows_by(half: bool, quarter: bool, listed: bool) -> Listed
+    ensures { λ r. ⌜ r ≡ listing (rowsBy half quarter listed) ⌝ }
+{
+    if half {
+        if quarter {
+            if listed {
+                return Listed {
+                    count: 1,
+                    rows: [0, 0, 0, 0, 0, 0, 0, 0],
+                };
+            }
+            return Listed {
+                count: 2,
+                rows: [0, 4, 0, 0, 0, 0, 0, 0],
+            };
+        }
+        if listed {
+            return Listed {
+                count: 2,
+                rows: [0, 3, 0, 0, 0, 0, 0, 0],
+            };
+        }
+        return Listed {
+            count: 4,
+            rows: [0, 3, 4, 7, 0, 0, 0, 0],
+        };
+    }
+    if listed {
+        return Listed {
+            count: 4,
+            rows: [0, 1, 2, 3, 0, 0, 0, 0],
+        };
+    }
+    Listed {
+        count: 8,
+        rows: [0, 1, 2, 3, 4, 5, 6, 7],
+    }
+}
+
+// The rows by which the transforms of unit `g` are listed.
+pub fn list_rows<'a>(
+    ids: &'a [u16; 1024],
+    h: usize,
+    w: usize,
+    g: usize,
+    rows: &'a [u16; 1024],
+    columns: &'a [u16; 1024],
+    n: usize,
+) -> Listed
+    requires { ⌜ UnitAt h w (now ids) g (now rows) (now columns) n ⌝ }
+    ensures { λ r. ⌜ r ≡ listing (rowsOf (shapeOf (flat h w) (entry (now (ids .entry))) g)) ⌝ }
+{
+    let flipped = flip_listed(ids, h, w, g, rows, columns, n);
+    if fixes(ids, h, w, g, rows, columns, n, 1) {
+        return rows_by(true, fixes(ids, h, w, g, rows, columns, n, 3), flipped);
+    }
+    rows_by(false, false, flipped)
+}
+
+// Writes the rows and columns of the cells `from` to `to` of a list, from the start of the memory.
+// Gives their number.
+pub fn places(
+    cells: &[u16; 1024],
+    from: usize,
+    to: usize,
+    w: usize,
+    rows: &mut [u16; 1024],
+    columns: &mut [u16; 1024],
+) -> usize
+    requires { ⌜ Part (now cells) from to w × (length (now rows) ≡ 1024) × (length (now columns) ≡ 1024) ⌝ }
+    ensures { λ r. ⌜ (r ≡ to - from)
+        × Placed w (part (now (cells .entry)) from to) r (now (rows .exit)) (now (columns .exit)) ⌝ }
+{
+    let width = w as u16;
+    let n = to - from;
+    let mut i: usize = 0;
+    while i < n {
+        let c = cells[from + i];
+        rows[i] = c / width;
+        columns[i] = c % width;
+        i += 1;
+    }
+    n
+}
+
+// Writes the doubled place (y,x) at place `k` of the memory, if `on` and cell `to` is of unit `g`.
+// Gives the next place.
+fn join(
+    ids: &[u16; 1024],
+    g: usize,
+    on: bool,
+    to: usize,
+    y: u16,
+    x: u16,
+    down: &mut [u16; 2048],
+    across: &mut [u16; 2048],
+    k: usize,
+) -> usize
+    requires { ⌜ (length (now ids) ≡ 1024) × (on ≡ true → to < 1024) × Room (now down) (now across) k ⌝ }
+    ensures { λ r. ⌜ Grown (now (down .entry)) (now (across .entry)) k
+        (jointIf (on && eqb (entry (now (ids .entry)) to) g) y x)
+        (now (down .exit)) (now (across .exit)) r ⌝ }
+{
+    if on {
+        if wide(ids[to]) == g {
+            down[k] = y;
+            across[k] = x;
+            return k + 1;
+        }
+    }
+    k
+}
+
+// Writes the connections of the cell (y,x) of unit `g`, below then right, from place `k`; gives the next place.
+fn joints_at(
+    ids: &[u16; 1024],
+    h: usize,
+    w: usize,
+    g: usize,
+    y: usize,
+    x: usize,
+    down: &mut [u16; 2048],
+    across: &mut [u16; 2048],
+    k: usize,
+) -> usize
+    requires { ⌜ Sized h w × (length (now ids) ≡ 1024) × (y < h) × (x < w) × Room (now down) (now across) (k + 1) ⌝ }
+    ensures { λ r. ⌜ Grown (now (down .entry)) (now (across .entry)) k
+        (connectionsAt (flat h w) (entry (now (ids .entry))) g (y * w + x))
+        (now (down .exit)) (now (across .exit)) r ⌝ }
+{
+    let c = y * w + x;
+    let row = 2 * y;
+    let column = 2 * x;
+    let below = y + 1 < h;
+    let right = x + 1 < w;
+    let next = join(
+        ids,
+        g,
+        below,
+        c + w,
+        (row + 1) as u16,
+        column as u16,
+        &mut *down,
+        &mut *across,
+        k,
+    );
+    join(
+        ids,
+        g,
+        right,
+        c + 1,
+        row as u16,
+        (column + 1) as u16,
+        &mut *down,
+        &mut *across,
+        next,
+    )
+}
+
+// Writes the connections of unit `g`, cell by cell, below then right, as doubled places of the page.
+// Gives their number.
+pub fn joints<'a>(
+    ids: &'a [u16; 1024],
+    h: usize,
+    w: usize,
+    g: usize,
+    rows: &'a [u16; 1024],
+    columns: &'a [u16; 1024],
+    n: usize,
+    down: &mut [u16; 2048],
+    across: &mut [u16; 2048],
+) -> usize
+    requires { ⌜ UnitAt h w (now ids) g (now rows) (now columns) n × (length (now down) ≡ 2048)
+        × (length (now across) ≡ 2048) ⌝ }
+    ensures { λ r. ⌜ Joined h w (entry (now (ids .entry))) g (now (down .exit)) (now (across .exit)) r ⌝ }
+{
+    let mut k: usize = 0;
+    let mut i: usize = 0;
+    while i < n {
+        k = joints_at(
+            ids,
+            h,
+            w,
+            g,
+            wide(rows[i]),
+            wide(columns[i]),
+            &mut *down,
+            &mut *across,
+            k,
+        );
+        i += 1;
+    }
+    k
+}
+
+// The place `p` shifted back by twice `m`.
+fn back_twice(p: Pair, m: Pair) -> Pair
+    requires { ⌜ SmallPair p × SmallPair m ⌝ }
+    ensures { λ r. ⌜ pointOf r ≡ pointOf p ⊕ (opposite (pointOf m) ⊕ opposite (pointOf m)) ⌝ }
+{
+    Pair {
+        y: p.y - (m.y + m.y),
+        x: p.x - (m.x + m.x),
+    }
+}
+
+// Connection `j` of the unit's image by a row whose first cell is the image `m`.
+pub fn joint<'a>(
+    row: usize,
+    down: &'a [u16; 2048],
+    across: &'a [u16; 2048],
+    j: usize,
+    m: Pair,
+) -> Pair
+    requires { ⌜ (row < 8) × JointIn (now down) (now across) j × SmallPair m ⌝ }
+    ensures { λ r. ⌜ pointOf r ≡ apply (turnAt row) (spotAt (now (down .entry)) (now (across .entry)) j)
+        ⊕ (opposite (pointOf m) ⊕ opposite (pointOf m)) ⌝ }
+{
+    back_twice(apply(row, signed(down[j]), signed(across[j])), m)
+}
