@@ -5,3 +5,4 @@ pub mod Tests
 pub mod Count
 pub mod Padded
 pub mod Table
+pub mod Appends

@@ -1,0 +1,43 @@
+-- `tally_fault` meets its contract: the faults in their order.
+use mathlib.Core.Path.{_∙_}
+use Rattle.checker.specs.Faults.{tallyFault}
+use borrow.Author.Needs.{needs}
+use Rattle.checker.proofs.blocks.tally_fault.Statement.{statement}
+use Rattle.checker.proofs.blocks.tally_fault.Tie as tie
+
+small-fault-requires : tie.Need-small-fault-requires
+small-fault-requires c κs = search needs
+
+clue-fault-requires : tie.Need-clue-fault-requires
+clue-fault-requires c κs = search needs
+
+or-fault-requires : tie.Need-or-fault-requires
+or-fault-requires c κs = search needs
+
+small-fault-requires-2 : tie.Need-small-fault-requires-2
+small-fault-requires-2 c κs = search needs
+
+or-fault-requires-2 : tie.Need-or-fault-requires-2
+or-fault-requires-2 c κs = search needs
+
+returns : tie.Need-returns
+unfolding tallyFault
+returns c =
+    c .or-fault2 .ensures
+    ∙ rw (
+      c .before .small-fault2 .ensures,
+      c .before .before .or-fault .ensures,
+      c .before .before .before .clue-fault .ensures,
+      c .before .before .before .before .small-fault .ensures,
+    )
+
+pub tally-fault-spec : {M : Type 1} → statement M
+tally-fault-spec =
+    tie.close
+    (tie.spec
+    small-fault-requires
+    clue-fault-requires
+    or-fault-requires
+    small-fault-requires-2
+    or-fault-requires-2
+    returns)

@@ -1,0 +1,58 @@
+-- Each return by the tests that led there.
+use mathlib.Core.Path.{_≡_}
+use mathlib.Core.Bool.{true, false}
+use native.Mathlib.Omega.{arith}
+use borrow.Author.Needs.{needs}
+use borrow.Author.Tests.{eq-eqb, ne-eqb, not-true, not-false}
+use Rattle.rules.specs.Groups.{entry}
+use Rattle.reasons.specs.Arrays.{Fits}
+use Rattle.reasons.specs.ScanLaws.{mark-wall}
+use Rattle.checker.specs.Breaches.{isBreach}
+use Rattle.checker.proofs.walls.is_breach.Statement.{statement}
+use Rattle.checker.proofs.walls.is_breach.Tie as tie
+
+there : (c : tie.Else1) → c .before .before .args .n .some ≡ true
+there c = not-false _ (c .if1 .left)
+
+near : (c : tie.Else1) → Fits (c .before .before .args .n)
+near c = c .before .before .pre .2 (there c)
+
+returns : tie.Need-returns
+returns c = let e : c .before .before .args .n .some ≡ false = not-true _ (c .if1 .taken) in rw e
+
+element-copy-out-if2 : tie.Need-element-copy-out-if2
+element-copy-out-if2 c = omega (arith, near c)
+
+returns-2 : tie.Need-returns-2
+unfolding isBreach
+returns-2 c = rw (there (c .before .before), mark-wall, ne-eqb _ _ (c .if2 .taken))
+
+mul-result : tie.Need-mul-result
+mul-result c = search needs
+
+element-copy-out-result : tie.Need-element-copy-out-result
+element-copy-out-result c = search needs
+
+mul-result-2 : tie.Need-mul-result-2
+mul-result-2 c = omega (arith, near (c .before .before .before))
+
+element-copy-out-result-2 : tie.Need-element-copy-out-result-2
+element-copy-out-result-2 c = omega (arith, near (c .before .before .before))
+
+returns-3 : tie.Need-returns-3
+unfolding isBreach entry
+returns-3 c =
+    rw (there (c .before .before .before .before), mark-wall, eq-eqb _ _ (c .before .before .if2 .left))
+
+pub is-breach-spec : {M : Type 1} → statement M
+is-breach-spec =
+    tie.close
+    (tie.spec
+    returns
+    element-copy-out-if2
+    returns-2
+    mul-result
+    element-copy-out-result
+    mul-result-2
+    element-copy-out-result-2
+    returns-3)

@@ -1,0 +1,16 @@
+pub mod Arrays
+pub mod ArrayLaws
+pub mod Tallies
+pub mod Scan
+pub mod Faults
+pub mod BlockCases
+pub mod Tallied
+pub mod FaultCases
+pub mod Faulty
+pub mod Breaches
+pub mod WallCases
+pub mod Bridges
+pub mod Written
+pub mod WriteCases
+pub mod Bounds
+pub mod Steps

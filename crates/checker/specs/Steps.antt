@@ -1,0 +1,111 @@
+-- Steps 1 and 2 for a caller: with the arrays of crate groups, what is found meets what is asked for writing it, and
+-- what is written is the step's hit.
+--
+--   faultyIn                 what `first_faulty` finds
+--   breachIn                 what `first_breach` finds
+use mathlib.Core.Path.{_≡_, sym, ap, fun-ext, _∙_}
+use mathlib.Core.Bool.{true, false}
+use mathlib.Core.List.{List}
+use mathlib.Core.Option.{some, none}
+use Prim.Native.Nat.{ℕ, _<_}
+use native.Mathlib.Omega.{arith}
+use lib.IntN.{ℤ}
+use Rattle.lists.specs.Lists.{firstHit, range}
+use Rattle.rules.specs.Flat.{Sized, flat}
+use Rattle.rules.specs.Codes.{marksIn, coloursIn, cluesIn}
+use Rattle.rules.specs.Groups.{entry, blockCount}
+use Rattle.rules.specs.Reasons.{inside, edge}
+use Rattle.rules.specs.Check.{hitIf, insideBlock, edgeOf, blockHit, wallHits}
+use Rattle.groups.specs.declared.Kind.the-variants.{Blocks, Potential}
+use Rattle.groups.specs.Kinds.{joinsIn}
+use Rattle.reasons.specs.Arrays.{insideIn, edgeIn}
+use Rattle.checker.specs.declared.Faulty.{Faulty}
+use Rattle.checker.specs.declared.Breach.{Breach}
+use Rattle.checker.specs.Arrays.{Numbered}
+use Rattle.checker.specs.Faults.{isClear, faultReason}
+use Rattle.checker.specs.Faulty.{firstFaulty, faulty-hits, clear-none}
+use Rattle.checker.specs.Breaches.{firstBreach, breachReason, breach-hits}
+use Rattle.checker.specs.Written.{faultLiterals, faultUnit, reasonIn, breachLiterals, fault-some, breach-some}
+use Rattle.checker.specs.Bridges.{puzzleIn, groupsIn, id-under, numbered-of, ids-are, faultIn, faulty-is}
+use Rattle.checker.specs.Bridges.{breach-is}
+use Rattle.checker.specs.Bounds.{fault-under, first-wrong, first-under-all}
+
+module _ {h w : ℕ} (z : Sized h w) (cs : List ℕ) (ks : List ℤ) (bs : List ℕ) where
+  abbrev pub faultyIn : Faulty
+  faultyIn = firstFaulty (faultIn z cs ks bs) (groupsIn Blocks h w cs bs .count)
+
+  pub block-numbered : isClear (faultyIn .fault) ≡ false
+      → let g = groupsIn Blocks h w cs bs in Numbered h w (g .ids) (g .cells) (g .offs) (faultyIn .block)
+  block-numbered e =
+      numbered-of z (joinsIn Blocks h w cs bs) (faultyIn .block)
+      (first-wrong (faultIn z cs ks bs) (groupsIn Blocks h w cs bs .count) e .block)
+
+  pub unit-numbered : let g = groupsIn Potential h w cs bs in
+      Numbered h w (g .ids) (g .cells) (g .offs) (faultUnit (faultyIn .fault))
+  unfolding entry
+  unit-numbered =
+      let link = joinsIn Potential h w cs bs in
+      let some : 0 < groupsIn Potential h w cs bs .count = omega (arith, id-under z link 0) in
+      numbered-of z link (faultUnit (faultyIn .fault))
+      (first-under-all (faultIn z cs ks bs) (groupsIn Potential h w cs bs .count) (groupsIn Blocks h w cs bs .count)
+      some
+      (λ B.
+      fault-under (groupsIn Potential h w cs bs .count) some (coloursIn cs) (cluesIn ks)
+      (entry (groupsIn Potential h w cs bs .ids)) (id-under z link) _ _))
+
+  step-one : firstHit (blockHit (puzzleIn h w cs ks) (marksIn bs))
+      (range (blockCount (puzzleIn h w cs ks) (marksIn bs)))
+      ≡ faultReason (puzzleIn h w cs ks) (marksIn bs) (faultyIn .block) (faultyIn .fault)
+  step-one =
+      faulty-hits (puzzleIn h w cs ks) (marksIn bs)
+      ∙ ap (λ (f : Faulty). faultReason (puzzleIn h w cs ks) (marksIn bs) (f .block) (f .fault))
+      (sym (faulty-is z cs ks bs))
+
+  -- Inside of a block and Edge of a potential unit, from the arrays
+  pub inside-is : (B : ℕ)
+      → insideIn h w bs (groupsIn Blocks h w cs bs .ids) B ≡ insideBlock (puzzleIn h w cs ks) (marksIn bs) B
+  unfolding insideIn insideBlock
+  inside-is B = ap (λ (f : ℕ → ℕ). inside (flat h w) (marksIn bs) f B) (ids-are z cs ks bs Blocks)
+
+  pub edge-is : edgeIn h w cs bs (groupsIn Potential h w cs bs .ids) ≡ edgeOf (puzzleIn h w cs ks) (marksIn bs)
+  unfolding edgeIn edgeOf
+  edge-is =
+      fun-ext (λ P. ap (λ (f : ℕ → ℕ). edge (flat h w) (coloursIn cs) (marksIn bs) f P) (ids-are z cs ks bs Potential))
+
+  reason-is : (f : Faulty)
+      → reasonIn h w cs bs (groupsIn Blocks h w cs bs .ids) (groupsIn Potential h w cs bs .ids) f
+      ≡ faultLiterals (insideBlock (puzzleIn h w cs ks) (marksIn bs) (f .block))
+      (edgeOf (puzzleIn h w cs ks) (marksIn bs)) (f .fault)
+  unfolding reasonIn
+  reason-is f = rw (inside-is (f .block), edge-is)
+
+  pub one-hit : isClear (faultyIn .fault) ≡ false
+      → firstHit (blockHit (puzzleIn h w cs ks) (marksIn bs)) (range (blockCount (puzzleIn h w cs ks) (marksIn bs)))
+      ≡ some (reasonIn h w cs bs (groupsIn Blocks h w cs bs .ids) (groupsIn Potential h w cs bs .ids) faultyIn)
+  one-hit e =
+      step-one ∙ fault-some (puzzleIn h w cs ks) (marksIn bs) (faultyIn .block) (faultyIn .fault) e
+      ∙ ap some (sym (reason-is faultyIn))
+
+  pub one-none : isClear (faultyIn .fault) ≡ true
+      → firstHit (blockHit (puzzleIn h w cs ks) (marksIn bs)) (range (blockCount (puzzleIn h w cs ks) (marksIn bs)))
+      ≡ none
+  one-none e = step-one ∙ clear-none (puzzleIn h w cs ks) (marksIn bs) (faultyIn .block) (faultyIn .fault) e
+
+  abbrev pub breachIn : Breach
+  breachIn = firstBreach (flat h w) (marksIn bs) (entry (groupsIn Blocks h w cs bs .ids))
+
+  step-two : firstHit (wallHits (puzzleIn h w cs ks) (marksIn bs)) (range (flat h w .cells))
+      ≡ breachReason (puzzleIn h w cs ks) (marksIn bs) breachIn
+  step-two =
+      breach-hits (puzzleIn h w cs ks) (marksIn bs)
+      ∙ ap (breachReason (puzzleIn h w cs ks) (marksIn bs)) (sym (breach-is z cs ks bs))
+
+  pub two-hit : breachIn .found ≡ true
+      → firstHit (wallHits (puzzleIn h w cs ks) (marksIn bs)) (range (flat h w .cells))
+      ≡ some (breachLiterals (flat h w) (marksIn bs) breachIn)
+  two-hit e = step-two ∙ breach-some (puzzleIn h w cs ks) (marksIn bs) breachIn e
+
+  pub two-none : breachIn .found ≡ false
+      → firstHit (wallHits (puzzleIn h w cs ks) (marksIn bs)) (range (flat h w .cells)) ≡ none
+  unfolding breachReason hitIf
+  two-none e = step-two ∙ rw e

@@ -1,0 +1,367 @@
+// Step 1: what is wrong with a block.
+ghost use mathlib.Core.Path.{_≡_};
+ghost use mathlib.Core.Bool.{_||_};
+ghost use Prim.Native.Nat.{_+_, _-_, _<_, _≤_};
+ghost use lib.Dec.{eqb};
+ghost use lib.ListN.{getD};
+ghost use Rattle.rules.specs.Codes.{clueOf, coloursIn, cluesIn};
+ghost use Rattle.rules.specs.Groups.{entry};
+ghost use Rattle.rules.specs.Check.{isSome, clash};
+ghost use Rattle.checker.specs.Tallies.{clueIn, optionOf, firstClue, nextPart, nextTally, tallyOf};
+ghost use Rattle.groups.specs.Parts.{partOf};
+ghost use Rattle.reasons.specs.Arrays.{part};
+ghost use Rattle.checker.specs.Arrays.{Listed, Lists, Parted, sizeIn};
+ghost use Rattle.checker.specs.Faults.{orFault, firstFault, isClear, unitsOf, scanFault, smallFault, bigFault};
+ghost use Rattle.checker.specs.Faulty.{firstFaulty};
+ghost use Rattle.checker.specs.Faults.{clueFault, tallyFault, cellFault, faultOn};
+use crate::Clue;
+use crate::Fault;
+use crate::Faulty;
+use crate::Part;
+use crate::Tally;
+use crate::wide;
+
+// The clue that a place of a board spells.
+fn clue_at(k: i32) -> Clue
+    ensures { λ r. ⌜ r ≡ clueIn (clueOf k) ⌝ }
+{
+    if 0 <= k {
+        Clue::Is(k as usize)
+    } else {
+        Clue::Free
+    }
+}
+
+// Whether one of the two holds.
+fn either(a: bool, b: bool) -> bool
+    ensures { λ r. ⌜ r ≡ (a || b) ⌝ }
+{
+    if a {
+        return true;
+    }
+    b
+}
+
+// A part with one cell more.
+fn next_part(p: Part, unit: usize, clued: bool) -> Part
+    requires { ⌜ p .size < 1024 ⌝ }
+    ensures { λ r. ⌜ r ≡ nextPart p unit clued ⌝ }
+{
+    let clued = either(p.clued, clued);
+    if p.size == 0 {
+        return Part {
+            size: 1,
+            unit,
+            clued,
+        };
+    }
+    Part {
+        size: p.size + 1,
+        unit: p.unit,
+        clued,
+    }
+}
+
+// Whether a cell has a clue.
+fn is_clue(k: Clue) -> bool
+    ensures { λ r. ⌜ r ≡ isSome (optionOf k) ⌝ }
+{
+    match k {
+        Clue::Free => false,
+        Clue::Is(_) => true,
+    }
+}
+
+// The first of two clues.
+fn first_clue(a: Clue, b: Clue) -> Clue
+    ensures { λ r. ⌜ r ≡ firstClue a b ⌝ }
+{
+    match a {
+        Clue::Free => b,
+        Clue::Is(n) => Clue::Is(n),
+    }
+}
+
+// A tally with one cell more.
+fn next_tally(t: Tally, colour: u8, unit: usize, clue: Clue) -> Tally
+    requires { ⌜ (t .zero .size < 1024) × (t .one .size < 1024) ⌝ }
+    ensures { λ r. ⌜ r ≡ nextTally t (eqb colour 1) unit clue ⌝ }
+{
+    let zero = t.zero;
+    let one = t.one;
+    let old = t.clue;
+    let first = first_clue(old, clue);
+    let clued = is_clue(clue);
+    if colour == 1 {
+        Tally {
+            zero,
+            one: next_part(one, unit, clued),
+            clue: first,
+        }
+    } else {
+        Tally {
+            zero: next_part(zero, unit, clued),
+            one,
+            clue: first,
+        }
+    }
+}
+
+// What step 1 asks of the cells from..to of a list.
+pub fn tally<'a>(
+    colours: &'a [u8; 1024],
+    clues: &'a [i32; 1024],
+    ids: &'a [u16; 1024],
+    cells: &'a [u16; 1024],
+    from: usize,
+    to: usize,
+) -> Tally
+    requires { ⌜ Listed from to (now cells) ⌝ }
+    ensures { λ r. ⌜ r ≡ tallyOf (coloursIn (now (colours .entry))) (cluesIn (now (clues .entry)))
+        (entry (now (ids .entry)))
+        (part (now (cells .entry)) from to) ⌝ }
+{
+    let mut t = Tally {
+        zero: Part {
+            size: 0,
+            unit: 0,
+            clued: false,
+        },
+        one: Part {
+            size: 0,
+            unit: 0,
+            clued: false,
+        },
+        clue: Clue::Free,
+    };
+    let mut i = from;
+    while i < to {
+        let c = wide(cells[i]);
+        t = next_tally(t, colours[c], wide(ids[c]), clue_at(clues[c]));
+        i += 1;
+    }
+    t
+}
+
+// Whether two cells have clues that differ.
+fn clash(a: Clue, b: Clue) -> bool
+    ensures { λ r. ⌜ r ≡ clash (optionOf a) (optionOf b) ⌝ }
+{
+    let Clue::Is(m) = a else {
+        return false;
+    };
+    let Clue::Is(n) = b else {
+        return false;
+    };
+    m != n
+}
+
+// Whether nothing is wrong.
+fn is_clear(f: Fault) -> bool
+    ensures { λ r. ⌜ r ≡ isClear f ⌝ }
+{
+    match f {
+        Fault::Clear => true,
+        Fault::InsideEdge(_) => false,
+        Fault::Inside => false,
+        Fault::Edge(_) => false,
+        Fault::EdgeInside(_) => false,
+    }
+}
+
+// The first of two faults.
+fn or_fault(f: Fault, g: Fault) -> Fault
+    ensures { λ r. ⌜ r ≡ orFault f g ⌝ }
+{
+    if is_clear(f) {
+        return g;
+    }
+    f
+}
+
+// The potential unit of a block's first cell of a colour.
+fn unit_of(t: Tally, colour: u8) -> usize
+    ensures { λ r. ⌜ r ≡ unitsOf t (eqb colour 1) ⌝ }
+{
+    let zero = t.zero;
+    let one = t.one;
+    if colour == 1 {
+        return one.unit;
+    }
+    zero.unit
+}
+
+// What is wrong at a cell of a block.
+fn cell_fault(t: Tally, colour: u8, unit: usize, clue: Clue) -> Fault
+    ensures { λ r. ⌜ r ≡ scanFault (unitsOf t) (optionOf (t .clue)) (eqb colour 1) unit (optionOf clue) ⌝ }
+{
+    let own = unit_of(t, colour);
+    if own != unit {
+        return Fault::InsideEdge(unit);
+    }
+    let first = t.clue;
+    if clash(first, clue) {
+        return Fault::Inside;
+    }
+    Fault::Clear
+}
+
+// What is wrong where one colour's potential unit of that size is too small for the cells of the other.
+fn small_fault(mine: Part, other: Part, size: usize) -> Fault
+    ensures { λ r. ⌜ r ≡ smallFault mine other size ⌝ }
+{
+    if mine.size == 0 {
+        return Fault::Clear;
+    }
+    if size < other.size {
+        return Fault::InsideEdge(mine.unit);
+    }
+    Fault::Clear
+}
+
+// What is wrong where a clue n is above the size of one colour's potential unit.
+fn big_fault(n: usize, p: Part, size: usize) -> Fault
+    ensures { λ r. ⌜ r ≡ bigFault n p size ⌝ }
+{
+    if p.size == 0 {
+        return Fault::Clear;
+    }
+    if n <= size {
+        return Fault::Clear;
+    }
+    if p.clued {
+        return Fault::Edge(p.unit);
+    }
+    Fault::EdgeInside(p.unit)
+}
+
+// What is wrong with a block's clue.
+fn clue_fault(clue: Clue, p: Part, q: Part, a: usize, b: usize) -> Fault
+    ensures { λ r. ⌜ r ≡ clueFault clue p q a b ⌝ }
+{
+    let Clue::Is(n) = clue else {
+        return Fault::Clear;
+    };
+    if n < p.size {
+        return Fault::Inside;
+    }
+    if n < q.size {
+        return Fault::Inside;
+    }
+    or_fault(big_fault(n, p, a), big_fault(n, q, b))
+}
+
+// What a tally shows; a and b are the sizes of the two potential units.
+fn tally_fault(t: Tally, a: usize, b: usize) -> Fault
+    ensures { λ r. ⌜ r ≡ tallyFault t a b ⌝ }
+{
+    let zero = t.zero;
+    let one = t.one;
+    let clue = t.clue;
+    let small = or_fault(small_fault(one, zero, b), clue_fault(clue, zero, one, a, b));
+    or_fault(small_fault(zero, one, a), small)
+}
+
+// The first fault among the cells from..to of a list.
+fn scan<'a>(
+    t: Tally,
+    colours: &'a [u8; 1024],
+    clues: &'a [i32; 1024],
+    ids: &'a [u16; 1024],
+    cells: &'a [u16; 1024],
+    from: usize,
+    to: usize,
+) -> Fault
+    requires { ⌜ Listed from to (now cells) ⌝ }
+    ensures { λ r. ⌜ r ≡ firstFault
+        (cellFault (coloursIn (now (colours .entry))) (cluesIn (now (clues .entry))) (entry (now (ids .entry)))
+        (unitsOf t) (optionOf (t .clue)))
+        (part (now (cells .entry)) from to) ⌝ }
+{
+    let mut i = from;
+    while i < to {
+        let c = wide(cells[i]);
+        let f = cell_fault(t, colours[c], wide(ids[c]), clue_at(clues[c]));
+        if is_clear(f) {
+            i += 1;
+        } else {
+            return f;
+        }
+    }
+    Fault::Clear
+}
+
+// How many cells a group has, from the places where the groups start.
+fn size_of(offs: &[u16; 1025], g: usize) -> usize
+    requires { ⌜ (g < 1024) × (getD (now offs) g 0 ≤ getD (now offs) (g + 1) 0) ⌝ }
+    ensures { λ r. ⌜ r ≡ sizeIn (now (offs .entry)) g ⌝ }
+{
+    wide(offs[g + 1]) - wide(offs[g])
+}
+
+// What is wrong with the block of the cells from..to; ids and offs are those of the potential units.
+pub fn block_fault<'a>(
+    colours: &'a [u8; 1024],
+    clues: &'a [i32; 1024],
+    ids: &'a [u16; 1024],
+    offs: &'a [u16; 1025],
+    cells: &'a [u16; 1024],
+    from: usize,
+    to: usize,
+) -> Fault
+    requires { ⌜ Listed from to (now cells) × Parted (now ids) (now offs) ⌝ }
+    ensures { λ r. ⌜ r ≡ faultOn (coloursIn (now (colours .entry))) (cluesIn (now (clues .entry)))
+        (entry (now (ids .entry)))
+        (sizeIn (now (offs .entry)))
+        (part (now (cells .entry)) from to) ⌝ }
+{
+    let t = tally(colours, clues, ids, cells, from, to);
+    let f = scan(t, colours, clues, ids, cells, from, to);
+    if is_clear(f) {
+        let zero = t.zero;
+        let one = t.one;
+        return tally_fault(t, size_of(offs, zero.unit), size_of(offs, one.unit));
+    }
+    f
+}
+
+// The first of `count` blocks with which something is wrong; ids and offs are those of the potential units, cells and
+// starts those of the blocks.
+pub fn first_faulty<'a>(
+    colours: &'a [u8; 1024],
+    clues: &'a [i32; 1024],
+    ids: &'a [u16; 1024],
+    offs: &'a [u16; 1025],
+    cells: &'a [u16; 1024],
+    starts: &'a [u16; 1025],
+    count: usize,
+) -> Faulty
+    requires { ⌜ Lists (now cells) (now starts) count × Parted (now ids) (now offs) ⌝ }
+    ensures { λ r. ⌜ r ≡ firstFaulty
+        (λ B. faultOn (coloursIn (now (colours .entry))) (cluesIn (now (clues .entry))) (entry (now (ids .entry)))
+        (sizeIn (now (offs .entry)))
+        (partOf (now (cells .entry)) (now (starts .entry)) B))
+        count ⌝ }
+{
+    let mut b = 0;
+    while b < count {
+        let fault = block_fault(
+            colours,
+            clues,
+            ids,
+            offs,
+            cells,
+            wide(starts[b]),
+            wide(starts[b + 1]),
+        );
+        if is_clear(fault) {
+            b += 1;
+        } else {
+            return Faulty { block: b, fault };
+        }
+    }
+    Faulty {
+        block: count,
+        fault: Fault::Clear,
+    }
+}

@@ -1,0 +1,60 @@
+// Check: the three steps of 01's Check, over the arrays of a board and its groups.
+mod blocks; // blocks.rt: step 1
+mod walls; // walls.rt: step 2
+mod write; // write.rt: their reasons
+
+ghost use mathlib.Core.Path.{_≡_};
+
+// A number of a list as an index.
+fn wide(x: u16) -> usize
+    ensures { λ r. ⌜ r ≡ x ⌝ }
+{
+    x as usize
+}
+
+// A cell's clue.
+pub enum Clue {
+    Free,
+    Is(usize),
+}
+
+// What a block's cells of one colour are: how many, the potential unit of the first, and whether one has a clue.
+pub struct Part {
+    pub size: usize,
+    pub unit: usize,
+    pub clued: bool,
+}
+
+// What step 1 asks of a block's cells: those of each colour, and the first clue.
+pub struct Tally {
+    pub zero: Part,
+    pub one: Part,
+    pub clue: Clue,
+}
+
+// What is wrong with a block B, by the parts of its reason; the number is that of a potential unit P.
+pub enum Fault {
+    Clear,
+    // Inside(B), Edge(P)
+    InsideEdge(usize),
+    // Inside(B)
+    Inside,
+    // Edge(P)
+    Edge(usize),
+    // Edge(P), Inside(B)
+    EdgeInside(usize),
+}
+
+// A block and what is wrong with it.
+pub struct Faulty {
+    pub block: usize,
+    pub fault: Fault,
+}
+
+// A wall between two cells of one block: the cell, the wall and the neighbour over it. Nothing found: all 0.
+pub struct Breach {
+    pub found: bool,
+    pub cell: usize,
+    pub border: usize,
+    pub to: usize,
+}
