@@ -1,0 +1,75 @@
+-- `board` meets its contract: each field is what its reader returns.
+use mathlib.Core.Path.{_∙_}
+use borrow.Author.Needs.{needs}
+use Rattle.image.specs.Image.{boardOf}
+use Rattle.image.proofs.reading.board.Statement.{statement}
+use Rattle.image.proofs.reading.board.Tie as tie
+
+slice-aggregate-copy : tie.Need-slice-aggregate-copy
+slice-aggregate-copy c = search needs
+
+copy-requires : tie.Need-copy-requires
+copy-requires c κs = search needs
+
+slice-aggregate-copy-2 : tie.Need-slice-aggregate-copy-2
+slice-aggregate-copy-2 c = search needs
+
+copy-requires-2 : tie.Need-copy-requires-2
+copy-requires-2 c κs = search needs
+
+clues-requires : tie.Need-clues-requires
+clues-requires c κs = search needs
+
+stack-requires : tie.Need-stack-requires
+stack-requires c κs = search needs
+
+two-requires : tie.Need-two-requires
+two-requires c κs = search needs
+
+shared-slice-read-wide-byte : tie.Need-shared-slice-read-wide-byte
+shared-slice-read-wide-byte c = search needs
+
+wide-byte-requires : tie.Need-wide-byte-requires
+wide-byte-requires c κs = search needs
+
+shared-slice-read-wide-byte-2 : tie.Need-shared-slice-read-wide-byte-2
+shared-slice-read-wide-byte-2 c = search needs
+
+wide-byte-requires-2 : tie.Need-wide-byte-requires-2
+wide-byte-requires-2 c κs = search needs
+
+wide-requires : tie.Need-wide-requires
+wide-requires c κs = search needs
+
+returns : tie.Need-returns
+unfolding boardOf
+returns c =
+    λ i.
+    record {
+      height = c .before .before .before .wide-byte .ensures i;
+      width = c .before .wide-byte2 .ensures i;
+      colours = c .before .before .before .before .before .before .before .before .before .before .before .before .copy
+          .ensures i;
+      clues = c .before .before .before .before .before .before .before .clues .ensures i;
+      borders = c .before .before .before .before .before .before .before .before .before .copy2 .ensures i;
+      stack = c .before .before .before .before .before .before .stack .ensures i;
+      count = (c .wide .ensures ∙ c .before .before .before .before .before .two .ensures) i;
+    }
+
+pub board-spec : {M : Type 1} → statement M
+board-spec =
+    tie.close
+    (tie.spec
+    slice-aggregate-copy
+    copy-requires
+    slice-aggregate-copy-2
+    copy-requires-2
+    clues-requires
+    stack-requires
+    two-requires
+    shared-slice-read-wide-byte
+    wide-byte-requires
+    shared-slice-read-wide-byte-2
+    wide-byte-requires-2
+    wide-requires
+    returns)

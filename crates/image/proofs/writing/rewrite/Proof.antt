@@ -1,0 +1,53 @@
+-- `rewrite` meets its contract: its three stores are those of `written`.
+use mathlib.Core.Path.{_∙_}
+use native.Mathlib.Omega.{arith}
+use borrow.Author.Needs.{needs}
+use lib.ListN.{length-set}
+use Rattle.image.specs.Image.{written}
+use Rattle.image.proofs.writing.rewrite.Statement.{statement}
+use Rattle.image.proofs.writing.rewrite.Tie as tie
+
+add-s : tie.Need-add-s
+add-s c = search needs
+
+slice-write-s : tie.Need-slice-write-s
+slice-write-s c = search needs
+
+put-two-requires : tie.Need-put-two-requires
+put-two-requires c κs = search needs
+
+mul-put-two : tie.Need-mul-put-two
+mul-put-two c = search needs
+
+add-put-two : tie.Need-add-put-two
+add-put-two c = search needs
+
+put-two-requires-2 : tie.Need-put-two-requires-2
+put-two-requires-2 c κs =
+    omega (
+      arith,
+      simp length-set at (c .before .before .before .put-two .kept .0),
+      c .before .before .before .before .before .before .pre .0,
+    )
+
+same-length : tie.Need-same-length
+same-length c = c .before .before .put-two2 .kept .0
+    ∙ simp length-set at (c .before .before .before .before .before .before .put-two .kept .0)
+
+returns : tie.Need-returns
+unfolding written
+returns c = c .before .before .put-two2 .ensures
+    ∙ rw (c .before .before .before .before .before .before .put-two .ensures)
+
+pub rewrite-spec : {M : Type 1} → statement M
+rewrite-spec =
+    tie.close
+    (tie.spec
+    add-s
+    slice-write-s
+    put-two-requires
+    mul-put-two
+    add-put-two
+    put-two-requires-2
+    same-length
+    returns)

@@ -1,0 +1,167 @@
+-- The calls on an image by cases: another length, refused, done; and the bytes that a done call rewrites.
+use mathlib.Core.Path.{_≡_, refl, ap, sym, _∙_}
+use mathlib.Core.Bool.{Bool, true, false, cond}
+use mathlib.Core.List.{List}
+use Prim.Native.Nat.{ℕ, _+_, _-_, _<_, _≤_}
+use native.Mathlib.Omega.{arith}
+use borrow.Author.Tests.{ne-eqb}
+use lib.Dec.{eqb, ltb}
+use lib.ListN.{length, getD}
+use Rattle.rules.specs.Flat.{borderCount}
+use Rattle.rules.specs.Codes.{codeOf}
+use Rattle.board.specs.declared.Board.{Board}
+use Rattle.rules.specs.declared.Literal.{Literal}
+use Rattle.board.specs.declared.Outcome.{Outcome}
+use Rattle.board.specs.declared.Outcome.the-variants.{Done, Alien, Border, Taken, Bare}
+use Rattle.board.specs.declared.Outcome.the-variants.{Size, Ragged, Colour, Clue, Short}
+use Rattle.board.specs.declared.Returned.{Returned}
+use Rattle.board.specs.Alien.{isAlien}
+use Rattle.board.specs.Board.{numberOf, returned, pushed, popped, decideOf, undoOf, Typed}
+use Rattle.board.specs.NativeLaws.{native-has, borders-fit, room}
+use Rattle.board.specs.DecideLaws.{Decided, decided-is, Undone, undone-is}
+use Rattle.image.specs.Image.{boardOf, imageOf, rightLength, Bytes, sideOf, literalOf, ImageCall, decide, undo}
+use Rattle.image.specs.Image.{imageAlien, numberBy, boardBy, imageNumber, imageAfter, written}
+use Rattle.image.specs.LayoutLaws.{written-image}
+use Rattle.image.specs.RoundLaws.{image-board, board-typed, long-is}
+
+-- ---- what a number says of the board
+done-is : (o : Outcome) → numberOf o ≡ 0 → o ≡ Done
+done-is Done e = refl
+done-is Size e = absurd (let z : 1 ≡ 0 = e in omega arith)
+done-is Ragged e = absurd (let z : 2 ≡ 0 = e in omega arith)
+done-is Colour e = absurd (let z : 3 ≡ 0 = e in omega arith)
+done-is Clue e = absurd (let z : 4 ≡ 0 = e in omega arith)
+done-is Alien e = absurd (let z : 5 ≡ 0 = e in omega arith)
+done-is Border e = absurd (let z : 6 ≡ 0 = e in omega arith)
+done-is Taken e = absurd (let z : 7 ≡ 0 = e in omega arith)
+done-is Bare e = absurd (let z : 8 ≡ 0 = e in omega arith)
+done-is Short e = absurd (let z : 9 ≡ 0 = e in omega arith)
+
+pub done-returned : (r : Returned) → numberOf (r .outcome) ≡ 0 → r ≡ returned Done (r .board)
+done-returned r e = let p = done-is (r .outcome) e in λ i. record { outcome = p i; board = r .board }
+
+-- a refused call returns the board given
+pub refused-board : (b : Board) (a : ImageCall) → (numberBy b a ≡ 0 → ⊥) → boardBy b a ≡ b
+unfolding decideOf undoOf
+refused-board b (decide n d) h =
+    go (isAlien b) (ltb n (borderCount (b .height) (b .width))) (eqb (getD (b .borders) n 0) 0) h
+  where
+    l : Literal
+    l = literalOf n d
+
+    of : Bool → Bool → Bool → Returned
+    of x y z =
+        cond x (returned Alien b)
+        (cond y (cond z (returned Done (pushed b n (codeOf (l .side)))) (returned Taken b)) (returned Border b))
+
+    go : (x y z : Bool) → (numberOf (of x y z .outcome) ≡ 0 → ⊥) → of x y z .board ≡ b
+    go true y z f = refl
+    go false false z f = refl
+    go false true false f = refl
+    go false true true f = absurd (f refl)
+refused-board b undo h = go (isAlien b) (eqb (b .count) 0) h
+  where
+    of : Bool → Bool → Returned
+    of x y = cond x (returned Alien b) (cond y (returned Bare b) (returned Done (popped b)))
+
+    go : (x y : Bool) → (numberOf (of x y .outcome) ≡ 0 → ⊥) → of x y .board ≡ b
+    go true y f = refl
+    go false true f = refl
+    go false false f = absurd (f refl)
+
+-- ---- an image of another length
+module _ (s : List ℕ) (a : ImageCall) (h : length s ≡ 11076 → ⊥) where
+  other : rightLength s ≡ false
+  unfolding rightLength
+  other = ne-eqb (length s) 11076 h
+
+  pub length-number : 5 ≡ imageNumber s a
+  unfolding imageNumber
+  length-number = rw other
+
+  pub length-after : s ≡ imageAfter s a
+  unfolding imageAfter
+  length-after = rw other
+
+pub alien-length : (s : List ℕ) → (length s ≡ 11076 → ⊥) → true ≡ imageAlien s
+unfolding imageAlien rightLength
+alien-length s h = rw (ne-eqb (length s) 11076 h)
+
+pub alien-board : (s : List ℕ) → length s ≡ 11076 → isAlien (boardOf s) ≡ imageAlien s
+unfolding imageAlien
+alien-board s e = rw (long-is s e)
+
+-- ---- an image of the right length, whose board is b
+module _ (s : List ℕ) (h : Bytes s) (e : length s ≡ 11076) (b : Board) (q : b ≡ boardOf s) where
+  pub number-is : (a : ImageCall) → numberBy b a ≡ imageNumber s a
+  unfolding imageNumber
+  number-is a = rw (long-is s e, q)
+
+  after-is : (a : ImageCall) → imageAfter s a ≡ imageOf (boardBy b a)
+  unfolding imageAfter
+  after-is a = rw (long-is s e, q)
+
+  image-of : imageOf b ≡ s
+  image-of = ap imageOf q ∙ image-board s h e
+
+  typed : Typed b
+  typed = rw q (board-typed s)
+
+  pub after-refused : (a : ImageCall) → (imageNumber s a ≡ 0 → ⊥) → s ≡ imageAfter s a
+  after-refused a f =
+      sym (after-is a ∙ ap imageOf (refused-board b a (λ z. f (sym (number-is a) ∙ z))) ∙ image-of)
+
+  -- a decide that is done
+  module _ (n d : ℕ) (z : imageNumber s (decide n d) ≡ 0) where
+    decided : Decided b (literalOf n d) (decideOf b (literalOf n d) .board)
+    decided = decided-is (done-returned (decideOf b (literalOf n d)) (number-is (decide n d) ∙ z))
+
+    pub decide-fits : (n < 1984) × (b .count < 1984)
+    decide-fits =
+        let N = native-has b (decided .known) in
+        let m = borders-fit b N in
+        let k = decided .below in
+        (omega arith, omega (arith, room b N n k (decided .free)))
+
+    pub decide-written : written s n (codeOf (sideOf d)) (b .count + 1) (b .count) n ≡ imageAfter s (decide n d)
+    decide-written =
+        ap (λ (x : List ℕ). written x n (codeOf (sideOf d)) (b .count + 1) (b .count) n) (sym image-of)
+        ∙ written-image b typed n (codeOf (sideOf d)) (b .count + 1) (b .count) n (decide-fits .0) (decide-fits .1)
+        ∙ ap imageOf (sym (decided .is))
+        ∙ sym (after-is (decide n d))
+
+    -- the same, from what the code has
+    pub decide-after : (l : Literal) (v : ℕ) (t : List ℕ) → l ≡ literalOf n d → v ≡ codeOf (l .side)
+        → t ≡ written s (l .border) v (b .count + 1) (b .count) (l .border) → t ≡ imageAfter s (decide n d)
+    decide-after l v t x y w =
+        w
+        ∙ ap (λ k. written s (l .border) k (b .count + 1) (b .count) (l .border)) y
+        ∙ ap (λ (j : Literal). written s (j .border) (codeOf (j .side)) (b .count + 1) (b .count) (j .border)) x
+        ∙ decide-written
+
+  -- an undo that is done
+  module _ (z : imageNumber s undo ≡ 0) where
+    undone : Undone b (undoOf b .board)
+    undone = undone-is (done-returned (undoOf b) (number-is undo ∙ z))
+
+    pub undo-fits : (0 < b .count) × (b .count ≤ 1984) × (getD (b .stack) (b .count - 1) 0 < 1984)
+    undo-fits =
+        let N = native-has b (undone .known) in
+        let m = borders-fit b N in
+        let f = N .few in
+        let p = undone .some in
+        (p, omega arith, omega (arith, N .entry (b .count - 1) (omega arith)))
+
+    pub undo-written : written s (getD (b .stack) (b .count - 1) 0) 0 (b .count - 1) (b .count - 1) 0
+        ≡ imageAfter s undo
+    undo-written =
+        let f = undo-fits in
+        let k = b .count - 1 in
+        ap (λ (x : List ℕ). written x (getD (b .stack) k 0) 0 k k 0) (sym image-of)
+        ∙ written-image b typed (getD (b .stack) k 0) 0 k k 0 (f .2) (omega arith)
+        ∙ ap imageOf (sym (undone .is))
+        ∙ sym (after-is undo)
+
+    pub undo-after : (n : ℕ) (t : List ℕ) → n ≡ getD (b .stack) (b .count - 1) 0
+        → t ≡ written s n 0 (b .count - 1) (b .count - 1) 0 → t ≡ imageAfter s undo
+    undo-after n t x w = w ∙ ap (λ j. written s j 0 (b .count - 1) (b .count - 1) 0) x ∙ undo-written

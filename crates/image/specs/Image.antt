@@ -1,0 +1,175 @@
+-- Image: the board that an image spells, the image of a board, and what the calls on an image give.
+--
+--   pair s k           the number of two bytes of s, from place k on
+--   quad s k           the number of four bytes
+--   signed n           the signed number of 32 bits
+--   boardOf s          the board that the image s spells
+--   twoBytes v         two bytes of a number
+--   fourBytes v        four bytes of a number
+--   bitsOf k           the 32 bits of a signed number
+--   imageOf b          the image of a board
+--   rightLength s      the image s has the right length
+--   imageAlien s       decides and undos cannot produce the image s
+--   Bytes s            every element of s is a byte
+--   Proper b           b is a value of the code's type Board, and not alien
+--   sideOf d           the side of a decide's number d
+--   literalOf n d      the literal of a decide on an image
+--   ImageCall          a call on an image, with its numbers
+--   numberBy b a       the number of the call a on the board b, by value
+--   boardBy b a        the board that it returns
+--   imageNumber s a    the number that the call a returns on the image s
+--   imageAfter s a     the image afterwards
+--   written s ..       the image s with one border, the count and one entry of the stack rewritten
+--   numbersFrom s as   the numbers of a list of calls, each on the image that the last one left
+--   imageFrom s as     the image after the list
+--   boardNumbers b as  the same calls on a board, by value: their numbers
+--   boardFrom b as     the board after the list
+--   putCodes m xs n    reason memory with the first n codes of xs written from its start, in two bytes each
+--   putBytes m ls      reason memory beside an image with the literals ls written from its start
+--   isShort m          reason memory below 16,384 literals
+--   answerNumber a     the number of a check's answer
+use mathlib.Core.Path.{_≡_}
+use mathlib.Core.Bool.{Bool, true, false, cond}
+use mathlib.Core.List.{List, [], _∷_, _++_, map}
+use Prim.Native.Nat.{ℕ, _+_, _-_, _*_, _/_, _%_, _<_}
+use lib.Dec.{eqb, ltb}
+use lib.IntN.{ℤ, pos, negsuc}
+use lib.ListN.{length, getD, set, take}
+use lib.Seq.{sets}
+use Rattle.lists.specs.Lists.{flatMap}
+use Rattle.lists.specs.Table.{table}
+use Rattle.rules.specs.declared.Side.{Side}
+use Rattle.rules.specs.declared.Side.the-variants.{Wall, Open}
+use Rattle.rules.specs.declared.Literal.{Literal}
+use Rattle.rules.specs.Codes.{literalCode}
+use Rattle.rules.specs.Check.{Answer, pass, conflict}
+use Rattle.board.specs.declared.Board.{Board}
+use Rattle.board.specs.Alien.{isAlien}
+use Rattle.board.specs.Board.{numberOf, decideOf, undoOf, Typed}
+
+-- ---- an image as a board
+-- "Low byte first"
+abbrev pub pair : List ℕ → ℕ → ℕ
+pair s k = getD s k 0 + 256 * getD s (k + 1) 0
+
+abbrev pub quad : List ℕ → ℕ → ℕ
+quad s k = pair s k + 65536 * pair s (k + 2)
+
+-- "two's complement"
+abbrev pub signed : ℕ → ℤ
+signed n = cond (ltb n 2147483648) (pos n) (negsuc (4294967295 - n))
+
+-- "height, width; 1,024 colours; 1,024 clues of 4 bytes, two's complement; 1,984 borders; stack count, 2 bytes; 1,984
+-- stack entries of 2 bytes"
+unfoldable pub boardOf : List ℕ → Board
+boardOf s =
+    record {
+      height = getD s 0 0;
+      width = getD s 1 0;
+      colours = table 1024 (λ i. getD s (2 + i) 0);
+      clues = table 1024 (λ i. signed (quad s (1026 + 4 * i)));
+      borders = table 1984 (λ i. getD s (5122 + i) 0);
+      stack = table 1984 (λ i. pair s (7108 + 2 * i));
+      count = pair s 7106;
+    }
+
+-- ---- a board as an image
+unfoldable pub twoBytes : ℕ → List ℕ
+twoBytes v = v % 256 ∷ v / 256 % 256 ∷ []
+
+unfoldable pub fourBytes : ℕ → List ℕ
+unfolding twoBytes
+fourBytes v = twoBytes v ++ twoBytes (v / 65536)
+
+abbrev pub bitsOf : ℤ → ℕ
+bitsOf (pos n) = n
+bitsOf (negsuc n) = 4294967295 - n
+
+unfoldable pub imageOf : Board → List ℕ
+imageOf b =
+    (b .height ∷ b .width ∷ [])
+    ++ (b .colours
+    ++ (flatMap (λ (k : ℤ). fourBytes (bitsOf k)) (b .clues)
+    ++ (b .borders
+    ++ (twoBytes (b .count)
+    ++ flatMap twoBytes (b .stack)))))
+
+-- "a board or image that decides and undos cannot produce from a fresh board; image of another length"
+unfoldable pub rightLength : List ℕ → Bool
+rightLength s = eqb (length s) 11076
+
+unfoldable pub imageAlien : List ℕ → Bool
+imageAlien s = cond (rightLength s) (isAlien (boardOf s)) true
+
+abbrev pub Bytes : List ℕ → Type 0
+Bytes s = (i : ℕ) → getD s i 0 < 256
+
+pub record Proper (b : Board) : Type 0 where
+  pub known : isAlien b ≡ false
+  pub typed : Typed b
+
+-- ---- calls on an image
+-- "A decide on an image takes its side as a number, 0 open, any other wall"
+abbrev pub sideOf : ℕ → Side
+sideOf d = cond (eqb d 0) Open Wall
+
+abbrev pub literalOf : ℕ → ℕ → Literal
+literalOf n d = record { border = n; side = sideOf d }
+
+pub data ImageCall : Type 0 where
+  decide : ℕ → ℕ → ImageCall
+  undo : ImageCall
+
+-- "Each image call returns one number: the refusal number; 0 for a decide or undo done"
+abbrev pub numberBy : Board → ImageCall → ℕ
+numberBy b (decide n d) = numberOf (decideOf b (literalOf n d) .outcome)
+numberBy b undo = numberOf (undoOf b .outcome)
+
+abbrev pub boardBy : Board → ImageCall → Board
+boardBy b (decide n d) = decideOf b (literalOf n d) .board
+boardBy b undo = undoOf b .board
+
+unfoldable pub imageNumber : List ℕ → ImageCall → ℕ
+imageNumber s a = cond (rightLength s) (numberBy (boardOf s) a) 5
+
+-- "Decide and undo rewrite the image"
+unfoldable pub imageAfter : List ℕ → ImageCall → List ℕ
+imageAfter s a = cond (rightLength s) (imageOf (boardBy (boardOf s) a)) s
+
+-- the image s with the border n set to v, the count to c, and the entry i of the stack to e: five bytes
+unfoldable pub written : List ℕ → ℕ → ℕ → ℕ → ℕ → ℕ → List ℕ
+written s n v c i e = sets (sets (set s (5122 + n) v) 7106 (twoBytes c)) (7108 + 2 * i) (twoBytes e)
+
+-- ---- lists of calls
+unfoldable pub numbersFrom : List ℕ → List ImageCall → List ℕ
+numbersFrom s [] = []
+numbersFrom s (a ∷ calls) = imageNumber s a ∷ numbersFrom (imageAfter s a) calls
+
+unfoldable pub imageFrom : List ℕ → List ImageCall → List ℕ
+imageFrom s [] = s
+imageFrom s (a ∷ calls) = imageFrom (imageAfter s a) calls
+
+unfoldable pub boardNumbers : Board → List ImageCall → List ℕ
+boardNumbers b [] = []
+boardNumbers b (a ∷ calls) = numberBy b a ∷ boardNumbers (boardBy b a) calls
+
+unfoldable pub boardFrom : Board → List ImageCall → Board
+boardFrom b [] = b
+boardFrom b (a ∷ calls) = boardFrom (boardBy b a) calls
+
+-- ---- reason memory beside an image
+unfoldable pub putCodes : List ℕ → List ℕ → ℕ → List ℕ
+putCodes m codes n = sets m 0 (flatMap twoBytes (take n codes))
+
+-- "a literal is 2·border, plus 1 for wall, in 2 bytes"
+unfoldable pub putBytes : List ℕ → List Literal → List ℕ
+putBytes m ls = sets m 0 (flatMap twoBytes (map literalCode ls))
+
+-- "beside an image, 32,768 bytes"
+unfoldable pub isShort : List ℕ → Bool
+isShort m = ltb (length m) 32768
+
+-- "32 plus the undecided count for a pass; 65,536 plus the literal count for a conflict"
+abbrev pub answerNumber : Answer → ℕ
+answerNumber (pass n) = 32 + n
+answerNumber (conflict ls) = 65536 + length ls

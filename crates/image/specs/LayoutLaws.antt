@@ -1,0 +1,239 @@
+-- Where each part of a board stands in its image: what is read there, and the image of a board with one place changed.
+use mathlib.Core.Path.{_≡_, refl, ap, _∙_}
+use mathlib.Core.List.{List, [], _∷_, _++_}
+use mathlib.Core.Logic.{_⊎_}
+use Prim.Native.Nat.{ℕ, _+_, _*_, _<_, _≤_}
+use native.Mathlib.Omega.{arith}
+use lib.IntN.{ℤ, pos}
+use lib.ListN.{length, getD, set, length-append, length-set, List·getD-append}
+use lib.Seq.{set-append-left, sets}
+use Rattle.lists.specs.Lists.{flatMap}
+use Rattle.board.specs.declared.Board.{Board}
+use Rattle.board.specs.Board.{Typed}
+use Rattle.image.specs.ListExtras.{getD-past, sets-past, getD-sets-apart, length-flat, getD-flat, sets-flat}
+use Rattle.image.specs.Image.{twoBytes, fourBytes, bitsOf, imageOf, written}
+use Rattle.image.specs.ByteLaws.{two-long, four-long, two-over}
+
+-- ---- three parts, and then the rest, which starts at 5122
+module _ (a c k r : List ℕ) (p : length a ≡ 2) (q : length c ≡ 1024) (m : length k ≡ 4096) where
+  getD-rest : (i : ℕ) → getD (a ++ (c ++ (k ++ r))) (5122 + i) 0 ≡ getD r i 0
+  getD-rest i =
+      let e : 5122 + i ≡ 2 + (1024 + (4096 + i)) = omega arith in
+      ap (λ j. getD (a ++ (c ++ (k ++ r))) j 0) e
+      ∙ getD-past a (c ++ (k ++ r)) 2 p (1024 + (4096 + i)) 0
+      ∙ getD-past c (k ++ r) 1024 q (4096 + i) 0
+      ∙ getD-past k r 4096 m i 0
+
+  sets-rest : (i : ℕ) (vs : List ℕ)
+      → sets (a ++ (c ++ (k ++ r))) (5122 + i) vs ≡ a ++ (c ++ (k ++ sets r i vs))
+  sets-rest i vs =
+      let e : 5122 + i ≡ 2 + (1024 + (4096 + i)) = omega arith in
+      ap (λ j. sets (a ++ (c ++ (k ++ r))) j vs) e
+      ∙ sets-past a (c ++ (k ++ r)) 2 (1024 + (4096 + i)) vs p
+      ∙ ap (λ (l : List ℕ). a ++ l) (sets-past c (k ++ r) 1024 (4096 + i) vs q)
+      ∙ ap (λ (l : List ℕ). a ++ (c ++ l)) (sets-past k r 4096 i vs m)
+
+  getD-clues : (i : ℕ) → i < 4096 → getD (a ++ (c ++ (k ++ r))) (1026 + i) 0 ≡ getD k i 0
+  getD-clues i h =
+      let e : 1026 + i ≡ 2 + (1024 + i) = omega arith in
+      ap (λ j. getD (a ++ (c ++ (k ++ r))) j 0) e
+      ∙ getD-past a (c ++ (k ++ r)) 2 p (1024 + i) 0
+      ∙ getD-past c (k ++ r) 1024 q i 0
+      ∙ List·getD-append k r 0 i (omega arith)
+
+abbrev clueBytes : ℤ → List ℕ
+clueBytes k = fourBytes (bitsOf k)
+
+-- ---- a board with one place changed
+module _ (b : Board) where
+  -- the border n is v
+  abbrev pub withBorder : ℕ → ℕ → Board
+  withBorder n v =
+      record {
+        height = b .height;
+        width = b .width;
+        colours = b .colours;
+        clues = b .clues;
+        borders = set (b .borders) n v;
+        stack = b .stack;
+        count = b .count;
+      }
+
+  -- the count is c
+  abbrev pub withCount : ℕ → Board
+  withCount c =
+      record {
+        height = b .height;
+        width = b .width;
+        colours = b .colours;
+        clues = b .clues;
+        borders = b .borders;
+        stack = b .stack;
+        count = c;
+      }
+
+  -- the entry i of the stack is e
+  abbrev pub withEntry : ℕ → ℕ → Board
+  withEntry i e =
+      record {
+        height = b .height;
+        width = b .width;
+        colours = b .colours;
+        clues = b .clues;
+        borders = b .borders;
+        stack = set (b .stack) i e;
+        count = b .count;
+      }
+
+-- ---- what is read
+module _ (b : Board) (T : Typed b) where
+  clues-long : length (flatMap clueBytes (b .clues)) ≡ 4096
+  clues-long = length-flat clueBytes 4 (λ k. four-long (bitsOf k)) (b .clues) ∙ ap (λ j. 4 * j) (T .clues)
+
+  stack-long : length (flatMap twoBytes (b .stack)) ≡ 3968
+  stack-long = length-flat twoBytes 2 two-long (b .stack) ∙ ap (λ j. 2 * j) (T .stack)
+
+  abbrev size : List ℕ
+  size = b .height ∷ b .width ∷ []
+
+  abbrev clues : List ℕ
+  clues = flatMap clueBytes (b .clues)
+
+  abbrev rest : List ℕ
+  rest = b .borders ++ (twoBytes (b .count) ++ flatMap twoBytes (b .stack))
+
+  pub image-long : length (imageOf b) ≡ 11076
+  unfolding imageOf
+  image-long =
+      let g = T .colours in
+      let h = T .borders in
+      omega (
+        arith,
+        clues-long,
+        stack-long,
+        two-long (b .count),
+        length-append (b .colours) (clues ++ rest),
+        length-append clues rest,
+        length-append (b .borders) (twoBytes (b .count) ++ flatMap twoBytes (b .stack)),
+        length-append (twoBytes (b .count)) (flatMap twoBytes (b .stack)),
+      )
+
+  pub colour-at : (i : ℕ) → i < 1024 → getD (imageOf b) (2 + i) 0 ≡ getD (b .colours) i 0
+  unfolding imageOf
+  colour-at i h =
+      let g = T .colours in
+      getD-past size (b .colours ++ (clues ++ rest)) 2 refl i 0
+      ∙ List·getD-append (b .colours) (clues ++ rest) 0 i (omega arith)
+
+  pub clue-at : (i j : ℕ) → i < 1024 → j < 4
+      → getD (imageOf b) (1026 + 4 * i + j) 0 ≡ getD (fourBytes (bitsOf (getD (b .clues) i (pos 0)))) j 0
+  unfolding imageOf
+  clue-at i j h l =
+      let g = T .clues in
+      let e : 1026 + 4 * i + j ≡ 1026 + (4 * i + j) = omega arith in
+      ap (λ n. getD (size ++ (b .colours ++ (clues ++ rest))) n 0) e
+      ∙ getD-clues size (b .colours) clues rest refl (T .colours) clues-long (4 * i + j) (omega arith)
+      ∙ getD-flat clueBytes 4 (λ k. four-long (bitsOf k)) (b .clues) i j (pos 0) 0 (omega arith) l
+
+  rest-at : (i : ℕ) → getD (imageOf b) (5122 + i) 0 ≡ getD rest i 0
+  unfolding imageOf
+  rest-at i = getD-rest size (b .colours) clues rest refl (T .colours) clues-long i
+
+  pub border-at : (n : ℕ) → n < 1984 → getD (imageOf b) (5122 + n) 0 ≡ getD (b .borders) n 0
+  border-at n h =
+      let g = T .borders in
+      rest-at n ∙ List·getD-append (b .borders) (twoBytes (b .count) ++ flatMap twoBytes (b .stack)) 0 n (omega arith)
+
+  pub count-at : (j : ℕ) → j < 2 → getD (imageOf b) (7106 + j) 0 ≡ getD (twoBytes (b .count)) j 0
+  count-at j h =
+      let e : 7106 + j ≡ 5122 + (1984 + j) = omega arith in
+      ap (λ n. getD (imageOf b) n 0) e
+      ∙ rest-at (1984 + j)
+      ∙ getD-past (b .borders) (twoBytes (b .count) ++ flatMap twoBytes (b .stack)) 1984 (T .borders) j 0
+      ∙ List·getD-append (twoBytes (b .count)) (flatMap twoBytes (b .stack)) 0 j (omega (arith, two-long (b .count)))
+
+  pub entry-at : (i j : ℕ) → i < 1984 → j < 2
+      → getD (imageOf b) (7108 + 2 * i + j) 0 ≡ getD (twoBytes (getD (b .stack) i 0)) j 0
+  entry-at i j h l =
+      let g = T .stack in
+      let e : 7108 + 2 * i + j ≡ 5122 + (1984 + (2 + (2 * i + j))) = omega arith in
+      ap (λ n. getD (imageOf b) n 0) e
+      ∙ rest-at (1984 + (2 + (2 * i + j)))
+      ∙ getD-past (b .borders) (twoBytes (b .count) ++ flatMap twoBytes (b .stack)) 1984 (T .borders)
+      (2 + (2 * i + j)) 0
+      ∙ getD-past (twoBytes (b .count)) (flatMap twoBytes (b .stack)) 2 (two-long (b .count)) (2 * i + j) 0
+      ∙ getD-flat twoBytes 2 two-long (b .stack) i j 0 0 (omega arith) l
+
+  -- ---- one place changed
+  rest-sets : (i : ℕ) (vs : List ℕ)
+      → sets (imageOf b) (5122 + i) vs ≡ size ++ (b .colours ++ (clues ++ sets rest i vs))
+  unfolding imageOf
+  rest-sets i vs = sets-rest size (b .colours) clues rest refl (T .colours) clues-long i vs
+
+  pub border-image : (n v : ℕ) → n < 1984 → set (imageOf b) (5122 + n) v ≡ imageOf (withBorder b n v)
+  unfolding imageOf
+  border-image n v h =
+      let g = T .borders in
+      rest-sets n (v ∷ [])
+      ∙ ap (λ (l : List ℕ). size ++ (b .colours ++ (clues ++ l)))
+      (set-append-left (b .borders) (twoBytes (b .count) ++ flatMap twoBytes (b .stack)) n v (omega arith))
+
+  pub count-image : (c : ℕ) → sets (imageOf b) 7106 (twoBytes c) ≡ imageOf (withCount b c)
+  unfolding imageOf
+  count-image c =
+      rest-sets 1984 (twoBytes c)
+      ∙ ap (λ (l : List ℕ). size ++ (b .colours ++ (clues ++ l)))
+      (sets-past (b .borders) (twoBytes (b .count) ++ flatMap twoBytes (b .stack)) 1984 0 (twoBytes c) (T .borders)
+      ∙ ap (λ (l : List ℕ). b .borders ++ l) (two-over (b .count) c (flatMap twoBytes (b .stack))))
+
+  pub entry-image : (i e : ℕ) → i < 1984 → sets (imageOf b) (7108 + 2 * i) (twoBytes e) ≡ imageOf (withEntry b i e)
+  unfolding imageOf
+  entry-image i e h =
+      let g = T .stack in
+      let p : 7108 + 2 * i ≡ 5122 + (1984 + (2 + 2 * i)) = omega arith in
+      ap (λ n. sets (imageOf b) n (twoBytes e)) p
+      ∙ rest-sets (1984 + (2 + 2 * i)) (twoBytes e)
+      ∙ ap (λ (l : List ℕ). size ++ (b .colours ++ (clues ++ l)))
+      (sets-past (b .borders) (twoBytes (b .count) ++ flatMap twoBytes (b .stack)) 1984 (2 + 2 * i) (twoBytes e)
+      (T .borders)
+      ∙ ap (λ (l : List ℕ). b .borders ++ l)
+      (sets-past (twoBytes (b .count)) (flatMap twoBytes (b .stack)) 2 (2 * i) (twoBytes e) (two-long (b .count))
+      ∙ ap (λ (l : List ℕ). twoBytes (b .count) ++ l)
+      (sets-flat twoBytes 2 two-long two-over (b .stack) i e (omega arith))))
+
+-- a border, the count and an entry of the stack
+pub written-image : (b : Board) → Typed b → (n v c i e : ℕ) → n < 1984 → i < 1984
+    → written (imageOf b) n v c i e ≡ imageOf (withEntry (withCount (withBorder b n v) c) i e)
+unfolding written
+written-image b T n v c i e p q =
+    let S : Typed (withBorder b n v) = record {
+      colours = T .colours;
+      clues = T .clues;
+      borders = length-set (b .borders) n v ∙ T .borders;
+      stack = T .stack;
+      small = T .small;
+    } in
+    let U : Typed (withCount (withBorder b n v) c) = record {
+      colours = S .colours;
+      clues = S .clues;
+      borders = S .borders;
+      stack = S .stack;
+      small = S .small;
+    } in
+    ap (λ (s : List ℕ). sets (sets s 7106 (twoBytes c)) (7108 + 2 * i) (twoBytes e)) (border-image b T n v p)
+    ∙ ap (λ (s : List ℕ). sets s (7108 + 2 * i) (twoBytes e)) (count-image (withBorder b n v) S c)
+    ∙ entry-image (withCount (withBorder b n v) c) U i e q
+
+-- the byte k is none of the n from i on
+abbrev pub Apart : ℕ → ℕ → ℕ → Type 0
+Apart k i n = (k < i) ⊎ (i + n ≤ k)
+
+-- every other byte stays
+pub written-else : (s : List ℕ) (n v c i e k : ℕ) → Apart k (5122 + n) 1 → Apart k 7106 2 → Apart k (7108 + 2 * i) 2
+    → getD (written s n v c i e) k 0 ≡ getD s k 0
+unfolding written twoBytes
+written-else s n v c i e k p q r =
+    let t = set s (5122 + n) v in
+    getD-sets-apart (sets t 7106 (twoBytes c)) (7108 + 2 * i) (twoBytes e) k 0 r
+    ∙ getD-sets-apart t 7106 (twoBytes c) k 0 q
+    ∙ getD-sets-apart s (5122 + n) (v ∷ []) k 0 p

@@ -1,0 +1,157 @@
+-- Image and board, there and back; and an image is alien exactly if it is the image of no board that is not.
+use mathlib.Core.Path.{_≡_, refl, ap, ap₂, sym, _∙_}
+use mathlib.Core.Bool.{Bool, true, false, cond, false≢true}
+use mathlib.Core.List.{List, [], _∷_, _++_}
+use mathlib.Core.Logic.{_↔_}
+use Prim.Native.Nat.{ℕ, _+_, _*_, _<_}
+use native.Mathlib.Decide.{decLt}
+use native.Mathlib.Omega.{arith}
+use borrow.Author.Tests.{eq-eqb, eqb-true}
+use lib.Dec.{eqb}
+use lib.IntN.{ℤ, pos, negsuc}
+use lib.ListN.{length, getD, take, drop, length-drop, List·getD-eq-default}
+use lib.Seq.{drop-cons, take-all}
+use lib.Signed.{leZ}
+use Rattle.lists.specs.Lists.{flatMap}
+use Rattle.lists.specs.Table.{table, table-is, getD-table, length-table}
+use Rattle.board.specs.declared.Board.{Board}
+use Rattle.board.specs.Alien.{isAlien}
+use Rattle.board.specs.Board.{Typed}
+use Rattle.board.specs.NativeLaws.{Native, native-has, borders-fit}
+use Rattle.image.specs.ListExtras.{drop-split, flat-part, table-part}
+use Rattle.image.specs.Image.{pair, quad, signed, boardOf, twoBytes, fourBytes, bitsOf, imageOf, rightLength}
+use Rattle.image.specs.Image.{imageAlien, Bytes, Proper}
+use Rattle.image.specs.ByteLaws.{pair-of, quad-of, two-of, four-of, quad-small, bits-signed, signed-small}
+use Rattle.image.specs.ByteLaws.{bits-small, signed-bits}
+use Rattle.image.specs.LayoutLaws.{image-long, colour-at, clue-at, border-at, count-at, entry-at}
+
+-- ---- an image that is read and written again
+module _ (s : List ℕ) (h : Bytes s) (e : length s ≡ 11076) where
+  front : s ≡ (getD s 0 0 ∷ getD s 1 0 ∷ []) ++ drop 2 s
+  front = drop-cons s 0 0 (omega arith) ∙ ap (λ (l : List ℕ). getD s 0 0 ∷ l) (drop-cons s 1 0 (omega arith))
+
+  clue-part : flatMap (λ (k : ℤ). fourBytes (bitsOf k)) (table 1024 (λ i. signed (quad s (1026 + 4 * i))))
+      ≡ take 4096 (drop 1026 s)
+  clue-part =
+      flat-part (λ (k : ℤ). fourBytes (bitsOf k)) 4 1026 1024 (λ i. signed (quad s (1026 + 4 * i))) s
+      (λ i l.
+      ap fourBytes (bits-signed (quad s (1026 + 4 * i)) (quad-small s h (1026 + 4 * i)))
+      ∙ four-of s h (1026 + 4 * i) (omega arith))
+
+  stack-part : flatMap twoBytes (table 1984 (λ i. pair s (7108 + 2 * i))) ≡ drop 7108 s
+  stack-part =
+      flat-part twoBytes 2 7108 1984 (λ i. pair s (7108 + 2 * i)) s (λ i l. two-of s h (7108 + 2 * i) (omega arith))
+      ∙ take-all 3968 (drop 7108 s) (omega (arith, length-drop 7108 s))
+
+  pub image-board : imageOf (boardOf s) ≡ s
+  unfolding imageOf boardOf
+  image-board =
+      let a : List ℕ = getD s 0 0 ∷ getD s 1 0 ∷ [] in
+      let p = table-part 2 1024 0 s (omega arith) in
+      let q = table-part 5122 1984 0 s (omega arith) in
+      let r = two-of s h 7106 (omega arith) in
+      ap₂ (λ (x y : List ℕ). a ++ (x ++ y)) p
+      (ap₂ (λ (x y : List ℕ). x ++ y) clue-part
+      (ap₂ (λ (x y : List ℕ). x ++ y) q
+      (ap₂ (λ (x y : List ℕ). x ++ y) r stack-part ∙ sym (drop-split 2 7106 s)) ∙ sym (drop-split 1984 5122 s))
+      ∙ sym (drop-split 4096 1026 s))
+      ∙ ap (λ (l : List ℕ). a ++ l) (sym (drop-split 1024 2 s))
+      ∙ sym front
+
+-- the board of an image is a value of the code's type
+pub board-typed : (s : List ℕ) → Typed (boardOf s)
+unfolding boardOf
+board-typed s =
+    record {
+      colours = length-table 1024 _;
+      clues = length-table 1024 _;
+      borders = length-table 1984 _;
+      stack = length-table 1984 _;
+      small = λ i. small i (decLt i 1024);
+    }
+  where
+    small : (i : ℕ) → Dec (i < 1024)
+        → leZ (getD (table 1024 (λ j. signed (quad s (1026 + 4 * j)))) i (pos 0)) (pos 2147483647) ≡ true
+    small i (yes l) =
+        rw (getD-table 1024 (λ j. signed (quad s (1026 + 4 * j))) i (pos 0) l)
+        (signed-small (quad s (1026 + 4 * i)))
+    small i (no l) =
+        let g = length-table 1024 (λ j. signed (quad s (1026 + 4 * j))) in
+        rw (List·getD-eq-default (table 1024 (λ j. signed (quad s (1026 + 4 * j)))) (pos 0) {n = i} (omega arith))
+
+-- ---- a board that is written and read again
+module _ (b : Board) (T : Typed b) (N : Native b) where
+  -- every number fits its bytes
+  entry-small : (i : ℕ) → getD (b .stack) i 0 < 65536
+  entry-small i = go (decLt i (b .count))
+    where
+      go : Dec (i < b .count) → getD (b .stack) i 0 < 65536
+      go (yes l) = omega (arith, N .entry i l, borders-fit b N)
+      go (no l) = let z = N .noEntry i (omega arith) in omega arith
+
+  clue-right : (i : ℕ) → leZ (negsuc 0) (getD (b .clues) i (pos 0)) ≡ true
+  clue-right i = go (decLt i (b .height * b .width))
+    where
+      go : Dec (i < b .height * b .width) → leZ (negsuc 0) (getD (b .clues) i (pos 0)) ≡ true
+      go (yes l) = N .clue i l
+      go (no l) = rw (N .noClue i (omega arith))
+
+  clue-is : (i : ℕ) → i < 1024 → getD (b .clues) i (pos 0) ≡ signed (quad (imageOf b) (1026 + 4 * i))
+  clue-is i l =
+      let k = getD (b .clues) i (pos 0) in
+      let p = clue-right i in
+      let q = T .small i in
+      sym
+      (ap signed (quad-of (imageOf b) (1026 + 4 * i) (bitsOf k) (λ j m. clue-at b T i j l m) (bits-small k p q))
+      ∙ signed-bits k p q)
+
+  entry-is : (i : ℕ) → i < 1984 → getD (b .stack) i 0 ≡ pair (imageOf b) (7108 + 2 * i)
+  entry-is i l =
+      sym
+      (pair-of (imageOf b) (7108 + 2 * i) (getD (b .stack) i 0) (λ j m. entry-at b T i j l m) (entry-small i))
+
+  written-read : boardOf (imageOf b) ≡ b
+  unfolding boardOf imageOf
+  written-read =
+      sym
+      (λ i.
+      record {
+        height = b .height;
+        width = b .width;
+        colours = table-is 1024 _ 0 (b .colours) (T .colours) (λ j l. sym (colour-at b T j l)) i;
+        clues = table-is 1024 _ (pos 0) (b .clues) (T .clues) clue-is i;
+        borders = table-is 1984 _ 0 (b .borders) (T .borders) (λ j l. sym (border-at b T j l)) i;
+        stack = table-is 1984 _ 0 (b .stack) (T .stack) entry-is i;
+        count = sym (pair-of (imageOf b) 7106 (b .count) (count-at b T) few) i;
+      })
+    where
+      few : b .count < 65536
+      few = omega (arith, N .few, borders-fit b N)
+
+pub board-image : (b : Board) → Proper b → boardOf (imageOf b) ≡ b
+board-image b P = written-read b (P .typed) (native-has b (P .known))
+
+-- ---- which images are alien
+pub long-is : (s : List ℕ) → length s ≡ 11076 → rightLength s ≡ true
+unfolding rightLength
+long-is s e = eq-eqb (length s) 11076 e
+
+pub image-known : (b : Board) → Proper b → imageAlien (imageOf b) ≡ false
+unfolding imageAlien
+image-known b P = rw (long-is (imageOf b) (image-long b (P .typed)), board-image b P) (P .known)
+
+known-board : (s : List ℕ) → imageAlien s ≡ false → (length s ≡ 11076) × Proper (boardOf s)
+unfolding imageAlien rightLength
+known-board s a = go (eqb (length s) 11076) refl a
+  where
+    go : (t : Bool) → eqb (length s) 11076 ≡ t → cond t (isAlien (boardOf s)) true ≡ false
+        → (length s ≡ 11076) × Proper (boardOf s)
+    go true p q = (eqb-true (length s) 11076 p, record { known = q; typed = board-typed s })
+    go false p q = absurd (false≢true (sym q))
+
+-- an image is not alien exactly if it is the image of a board that is not
+pub alien-image : (s : List ℕ) → Bytes s → (imageAlien s ≡ false) ↔ ((b : Board) × Proper b × (s ≡ imageOf b))
+alien-image s h = (
+  λ a. let r = known-board s a in (boardOf s, r .1, sym (image-board s h (r .0))),
+  λ r. ap imageAlien (r .2) ∙ image-known (r .0) (r .1),
+)
