@@ -170,7 +170,7 @@ joint-mem true Y X y x m =
 joint-mem false Y X y x m = absurd (List·Memᴰ·not-nil m)
 
 near-joint : (h w : ℕ) (number : ℕ → ℕ) (g y x Y X : ℕ) → y < 32 → x < w → w ≤ 32
-    → placeAt Y X ∈ connectionsAt (flat h w) number g (y * w + x) → (Y < 64) × (X < 64)
+    → placeAt Y X ∈ connectionsAt (flat h w) number g (y * w + x) → (Y < 64) × (X < 64) × (1 ≤ Y % 2 + X % 2)
 near-joint h w number g y x Y X a b c m =
     go (List·Memᴰ·append-cases (jointIf p (2 * y + 1) (2 * x))
     (subst (λ (ps : List Point). placeAt Y X ∈ ps) (connections-at h w number g (y * w + x) y x refl b) m))
@@ -181,9 +181,12 @@ near-joint h w number g y x Y X a b c m =
     q : Bool
     q = ltb (x + 1) w && eqb (number (y * w + x + 1)) g
 
-    go : placeAt Y X ∈ jointIf p (2 * y + 1) (2 * x) ⊎ placeAt Y X ∈ jointIf q (2 * y) (2 * x + 1) → (Y < 64) × (X < 64)
-    go (inl n) = let e = joint-mem p (2 * y + 1) (2 * x) Y X n in (omega (arith, e .0), omega (arith, e .1))
-    go (inr n) = let e = joint-mem q (2 * y) (2 * x + 1) Y X n in (omega (arith, e .0), omega (arith, e .1))
+    go : placeAt Y X ∈ jointIf p (2 * y + 1) (2 * x) ⊎ placeAt Y X ∈ jointIf q (2 * y) (2 * x + 1)
+        → (Y < 64) × (X < 64) × (1 ≤ Y % 2 + X % 2)
+    go (inl n) = let e = joint-mem p (2 * y + 1) (2 * x) Y X n in
+        (omega (arith, e .0), omega (arith, e .1), omega (arith, e .0, e .1))
+    go (inr n) = let e = joint-mem q (2 * y) (2 * x + 1) Y X n in
+        (omega (arith, e .0), omega (arith, e .1), omega (arith, e .0, e .1))
 
 pub joint-in : {h w g k : ℕ} {number : ℕ → ℕ} {D A : List ℕ} (j : ℕ) → Sized h w → Joined h w number g D A k → j < k
     → JointIn D A j
@@ -196,4 +199,11 @@ joint-in {h} {w} {g} {k} {number} {D} {A} j s n l =
     let y : c / w < h = div-lt-iff-lt-mul {k = w} (omega (arith, s .columns)) .1 i in
     let b = near-joint h w number g (c / w) (c % w) (getD D j 0) (getD A j 0) (omega (arith, s .tall))
     (mod-lt c (omega (arith, s .columns))) (s .wide) (rw (div-add-mod' c w) (e .2)) in
-    record { inside = omega (arith, n .few); downs = n .downs; acrosses = n .acrosses; down = b .0; across = b .1 }
+    record {
+      inside = omega (arith, n .few);
+      downs = n .downs;
+      acrosses = n .acrosses;
+      down = b .0;
+      across = b .1;
+      odd = b .2;
+    }

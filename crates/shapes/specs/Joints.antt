@@ -3,13 +3,13 @@
 --   jointIf b y x       the doubled place (y,x), if b
 --   Room D A k          the memory has a place k
 --   Grown D A k js D′ A′ r   the memory D and A with k places, and js written after them: r places
---   JointIn D A j       the doubled place of entry j is on the largest page
+--   JointIn D A j       the doubled place of entry j is on the largest page, and lies between two cells
 --   Joining h w number g R C D A k i   it has the k connections of the first i cells of R and C
 --   Joined h w number g D A k   the memory D and A has the k connections of group g
 use mathlib.Core.Path.{_≡_}
 use mathlib.Core.Bool.{Bool, true, false}
 use mathlib.Core.List.{List, [], _∷_, _++_}
-use Prim.Native.Nat.{ℕ, _+_, _*_, _<_, _≤_}
+use Prim.Native.Nat.{ℕ, _+_, _*_, _%_, _<_, _≤_}
 use lib.ListN.{length, getD}
 use Rattle.lists.specs.Lists.{flatMap}
 use Rattle.lists.specs.Table.{table}
@@ -52,3 +52,4 @@ pub record JointIn (D A : List ℕ) (j : ℕ) : Type 0 where
   pub acrosses : length A ≡ 2048
   pub down : getD D j 0 < 64
   pub across : getD A j 0 < 64
+  pub odd : 1 ≤ getD D j 0 % 2 + getD A j 0 % 2

@@ -1,0 +1,179 @@
+-- Laws of a placement as a whole: its connections' readings, one after the other.
+use mathlib.Core.Path.{_≡_, refl, sym, ap, ap₂, _∙_}
+use mathlib.Core.Bool.{Bool, true, false, cond}
+use mathlib.Core.List.{List, [], _∷_, map}
+use mathlib.Core.Option.{Option, some, none}
+use Prim.Native.Nat.{ℕ, zero, suc, _+_, _-_, _*_, _/_, _%_, _<_, _≤_}
+use native.Mathlib.Numerals.{add-one}
+use native.Mathlib.Omega.{arith}
+use lib.IntN.{pos, negsuc, +ℤ-assoc}
+use lib.ListN.{getD}
+use Rattle.lists.specs.Lists.{rangeFrom}
+use Rattle.rules.specs.declared.Placement.{Placement}
+use Rattle.rules.specs.declared.Placement.the-variants.{Fits, Blocked, Cannot}
+use Rattle.rules.specs.Page.{Puzzle, Mark, Point, Shape, _⊕_, isWall}
+use Rattle.rules.specs.Rules.{oneColour}
+use Rattle.rules.specs.Codes.{coloursIn}
+use Rattle.rules.specs.Flat.{flat, flatPlace, flatReads}
+use Rattle.rules.specs.Check.{judge, ended, laid, isFit}
+use Rattle.search.specs.declared.Reading.{Reading}
+use Rattle.search.specs.declared.Reading.the-variants.{Ends, Clear, Walled}
+use Rattle.search.specs.Placing.{puzzle, raised, pointAt, spelled, bare, readRaised, readingOf, isClear, fitsOf}
+
+-- what readings make of a placement
+unfoldable pub after : Placement → List Reading → Placement
+after p [] = p
+after p (Ends ∷ rs) = Cannot
+after p (Clear ∷ rs) = after p rs
+after p (Walled b ∷ rs) = after (Blocked b) rs
+
+pub judge-after : (Z : Puzzle) (s : ℕ → Mark) (last : Option ℕ) (os : List (Option ℕ))
+    → judge Z s last os ≡ after (ended Z s last) (map (readingOf Z s) os)
+unfolding judge after readingOf
+judge-after Z s last [] = refl
+judge-after Z s last (none ∷ os) = refl
+judge-after Z s last (some b ∷ os) = go (oneColour Z b) (isWall (s b)) (λ l. judge-after Z s l os)
+  where
+    go : (t v : Bool) → ((l : Option ℕ) → judge Z s l os ≡ after (ended Z s l) (map (readingOf Z s) os))
+        → cond t (judge Z s (cond v (some b) last) os) Cannot
+        ≡ after (ended Z s last) (cond t (cond v (Walled b) Clear) Ends ∷ map (readingOf Z s) os)
+    go true true ih = ih (some b)
+    go true false ih = ih last
+    go false v ih = refl
+
+-- a blocked placement never fits
+pub blocked-never : (Z : Puzzle) (s : ℕ → Mark) (b : ℕ) (rs : List Reading) → isFit Z s (after (Blocked b) rs) ≡ false
+unfolding after
+blocked-never Z s b [] = refl
+blocked-never Z s b (Ends ∷ rs) = refl
+blocked-never Z s b (Clear ∷ rs) = blocked-never Z s b rs
+blocked-never Z s b (Walled d ∷ rs) = blocked-never Z s d rs
+
+-- the raised place of a connection, with the origin added twice
+module _ (h w o y x : ℕ) where
+  pub place-raised : flat h w .place o ⊕ flat h w .place o ⊕ raised y x ≡ raised (2 * (o / w) + y) (2 * (o % w) + x)
+  unfolding flat flatPlace _⊕_
+  place-raised =
+      let e : o / w + o / w ≡ 2 * (o / w) = omega arith in
+      let f : o % w + o % w ≡ 2 * (o % w) = omega arith in
+      rw (
+        ← +ℤ-assoc (pos (o / w + o / w)) (pos y) (negsuc 63),
+        ← +ℤ-assoc (pos (o % w + o % w)) (pos x) (negsuc 63),
+        e,
+        f,
+      )
+
+-- the readings of a transform's connections
+module _ (h w : ℕ) (cs : List ℕ) (s : ℕ → Mark) (ys xs : List ℕ) (o : ℕ) where
+  unfoldable pub readAt : ℕ → Reading
+  readAt i = readingOf (puzzle h w cs) s (readRaised h w (2 * (o / w) + getD ys i 0) (2 * (o % w) + getD xs i 0))
+
+  -- those of the last m connections, from i on
+  unfoldable pub readFrom : ℕ → ℕ → List Reading
+  readFrom i m = map readAt (rangeFrom i m)
+
+  from-none : (i : ℕ) → readFrom i 0 ≡ []
+  unfolding readFrom
+  from-none i = refl
+
+  pub read-next : (i n : ℕ) → i < n → readFrom i (n - i) ≡ readAt i ∷ readFrom (i + 1) (n - (i + 1))
+  unfolding readFrom
+  read-next i n q = let e : n - i ≡ suc (n - (i + 1)) = omega arith in rw (e, add-one i)
+
+  pub read-none : (i n : ℕ) → n ≤ i → readFrom i (n - i) ≡ []
+  read-none i n q = let e : n - i ≡ 0 = omega arith in rw e (from-none i)
+
+  -- what is read with the origin added twice
+  abbrev shifted : Point → Option ℕ
+  shifted d = flat h w .reads (flat h w .place o ⊕ flat h w .place o ⊕ d)
+
+  read-one : (i : ℕ) → readingOf (puzzle h w cs) s (shifted (pointAt ys xs i)) ≡ readAt i
+  unfolding readAt pointAt readRaised flat
+  read-one i =
+      ap (λ (p : Point). readingOf (puzzle h w cs) s (flatReads h w p))
+      (place-raised h w o (getD ys i 0) (getD xs i 0))
+
+  reads-from : (i m : ℕ)
+      → map (readingOf (puzzle h w cs) s) (map shifted (map (pointAt ys xs) (rangeFrom i m))) ≡ readFrom i m
+  unfolding readFrom
+  reads-from i zero = refl
+  reads-from i (suc m) = ap₂ (λ (r : Reading) (rs : List Reading). r ∷ rs) (read-one i) (reads-from (suc i) m)
+
+  pub laid-after : (n : ℕ) → laid (puzzle h w cs) s (bare (spelled ys xs n)) o ≡ after Fits (readFrom 0 (n - 0))
+  unfolding laid spelled
+  laid-after n =
+      let e : n - 0 ≡ n = omega arith in
+      judge-after (puzzle h w cs) s none _ ∙ rw (e, reads-from 0 n)
+
+  -- a loop that has read the connections before i, of n, and has the placement p so far; W is the whole
+  module _ (i n : ℕ) (p : Placement) {W : Placement} (inv : W ≡ after p (readFrom i (n - i))) where
+    pub turn-done : n ≤ i → p ≡ W
+    unfolding after
+    turn-done q = sym (inv ∙ ap (after p) (read-none i n q))
+
+    module _ (q : i < n) {r : Reading} (e : r ≡ readAt i) where
+      rest : W ≡ after p (r ∷ readFrom (i + 1) (n - (i + 1)))
+      rest = inv ∙ rw (read-next i n q, e)
+
+      pub turn-ends : r ≡ Ends → Cannot ≡ W
+      unfolding after
+      turn-ends t = sym (rest ∙ rw t)
+
+      pub turn-clear : r ≡ Clear → W ≡ after p (readFrom (i + 1) (n - (i + 1)))
+      unfolding after
+      turn-clear t = rest ∙ rw t
+
+      pub turn-wall : (b : ℕ) → r ≡ Walled b → W ≡ after (Blocked b) (readFrom (i + 1) (n - (i + 1)))
+      unfolding after
+      turn-wall b t = rest ∙ rw t
+
+-- the yes or no of it
+clear-is : (r : Reading) → isClear r ≡ true → r ≡ Clear
+clear-is Ends e = let z : _≡_ {A = ℕ} 0 1 = cc in absurd (omega arith)
+clear-is Clear e = refl
+clear-is (Walled b) e = let z : _≡_ {A = ℕ} 0 1 = cc in absurd (omega arith)
+
+unclear-never : (Z : Puzzle) (s : ℕ → Mark) (r : Reading) (rs : List Reading) → isClear r ≡ false
+    → isFit Z s (after Fits (r ∷ rs)) ≡ false
+unfolding after
+unclear-never Z s Ends rs e = refl
+unclear-never Z s Clear rs e = let z : _≡_ {A = ℕ} 0 1 = cc in absurd (omega arith)
+unclear-never Z s (Walled b) rs e = blocked-never Z s b rs
+
+module _ (h w : ℕ) (cs : List ℕ) (s : ℕ → Mark) (ys xs : List ℕ) (o : ℕ) where
+  abbrev whole : ℕ → Placement
+  whole n = laid (puzzle h w cs) s (bare (spelled ys xs n)) o
+
+  module _ (i n : ℕ) (inv : whole n ≡ after Fits (readFrom h w cs s ys xs o i (n - i))) where
+    pub fit-done : n ≤ i → true ≡ fitsOf (puzzle h w cs) s (bare (spelled ys xs n)) o
+    unfolding fitsOf
+    fit-done q = ap (isFit (puzzle h w cs) s) (turn-done h w cs s ys xs o i n Fits inv q)
+
+    module _ (q : i < n) {r : Reading} (e : r ≡ readAt h w cs s ys xs o i) where
+      pub fit-more : isClear r ≡ true → whole n ≡ after Fits (readFrom h w cs s ys xs o (i + 1) (n - (i + 1)))
+      fit-more t = turn-clear h w cs s ys xs o i n Fits inv q e (clear-is r t)
+
+      pub fit-ends : isClear r ≡ false → false ≡ fitsOf (puzzle h w cs) s (bare (spelled ys xs n)) o
+      unfolding fitsOf
+      fit-ends t =
+          sym (ap (isFit (puzzle h w cs) s) (rest h w cs s ys xs o i n Fits inv q e)
+          ∙ unclear-never (puzzle h w cs) s r _ t)
+
+-- clues change no placement
+module _ (h w : ℕ) (cs : List ℕ) (k : ℕ → Option ℕ) (s : ℕ → Mark) where
+  abbrev clued : Puzzle
+  clued = record { page = flat h w; colour = coloursIn cs; clue = k }
+
+  reading-clue : (o : Option ℕ) → readingOf clued s o ≡ readingOf (puzzle h w cs) s o
+  unfolding readingOf oneColour
+  reading-clue none = refl
+  reading-clue (some b) = refl
+
+  pub laid-clue : (t : Shape) (o : ℕ)
+      → laid (record { page = flat h w; colour = coloursIn cs; clue = k }) s t o ≡ laid (puzzle h w cs) s t o
+  unfolding laid
+  laid-clue t o =
+      let os = map (λ d. flat h w .reads (flat h w .place o ⊕ flat h w .place o ⊕ d)) (t .connections) in
+      judge-after clued s none os
+      ∙ (λ i. after Fits (map (λ a. reading-clue a i) os))
+      ∙ sym (judge-after (puzzle h w cs) s none os)

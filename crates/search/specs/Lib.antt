@@ -1,0 +1,13 @@
+pub mod Placing
+pub mod PlacingLaws
+pub mod JudgeLaws
+pub mod Searching
+pub mod ListExtras
+pub mod BlockLaws
+pub mod SearchLaws
+pub mod Mates
+pub mod MateLaws
+pub mod TouchLaws
+pub mod GatherLaws
+pub mod Raising
+pub mod RaiseLaws

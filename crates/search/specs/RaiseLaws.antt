@@ -1,0 +1,103 @@
+-- Laws of raised coordinates: what they stand for, and the transform that two arrays of them spell.
+use mathlib.Core.Path.{_≡_, refl, sym, ap, ap₂, _∙_}
+use mathlib.Core.Bool.{Bool, true, false, cond}
+use mathlib.Core.List.{List, _∷_, map}
+use Prim.Native.Nat.{ℕ, zero, suc, _+_, _-_, _%_, _≤_, _<_}
+use native.Mathlib.Omega.{arith}
+use borrow.Author.Tests.{le-ltb}
+use lib.IntN.{ℤ, pos, negsuc, negℤ, _+ℤ_, +ℤ-assoc, +ℤ-comm}
+use lib.ListN.{getD}
+use Rattle.lists.specs.Lists.{rangeFrom}
+use Rattle.rules.specs.Page.{Point, _⊕_}
+use Rattle.rules.specs.Turns.{signed, apply, coordinate, rowward, columnward}
+use Rattle.search.specs.Placing.{lowered, raised, pointAt, spelled, Raised}
+use Rattle.search.specs.Raising.{liftOf, turnOf, pointOf, pointsOf, movedBy, Lifts, Turnable}
+
+-- a difference of naturals
+minus-pos : (b a : ℕ) → a ≤ b → pos (b - a) ≡ pos b +ℤ negℤ (pos a)
+minus-pos b zero h = let e : b - 0 ≡ b + 0 = omega arith in ap pos e
+minus-pos b (suc a) h = rw (le-ltb b (suc a) h)
+
+-- what a lifted coordinate stands for
+pub lift-lowered : (minus : Bool) (base : ℕ) (k : ℕ) → Lifts minus base k
+    → lowered (liftOf minus base k) ≡ signed minus (pos k) +ℤ lowered base
+lift-lowered true base k l =
+    ap (λ (z : ℤ). z +ℤ negsuc 63) (minus-pos base k (l .down refl)
+    ∙ +ℤ-comm (pos base) (negℤ (pos k)))
+    ∙ +ℤ-assoc (negℤ (pos k)) (pos base) (negsuc 63)
+lift-lowered false base k l =
+    ap (λ (z : ℤ). z +ℤ negsuc 63) (+ℤ-comm (pos base) (pos k))
+    ∙ +ℤ-assoc (pos k) (pos base) (negsuc 63)
+
+pub lift-low : (minus : Bool) (base : ℕ) (k : ℕ) → Lifts minus base k → base < 128 → liftOf minus base k < 128
+lift-low true base k l h = omega arith
+lift-low false base k l h = l .up refl
+
+pub lift-odd : (minus : Bool) (base : ℕ) (k : ℕ) → Lifts minus base k → base % 2 ≡ 0
+    → liftOf minus base k % 2 ≡ k % 2
+lift-odd true base k l h = let d = l .down refl in omega arith
+lift-odd false base k l h = omega arith
+
+-- two arrays of raised coordinates spell the transform
+module _ (swap r c : Bool) (y x : ℕ) (down across : List ℕ) (n : ℕ) (t : Turnable swap r c y x down across n)
+    (ys xs : List ℕ)
+    (rows : (i : ℕ) → i < n → getD ys i 0 ≡ liftOf r y (getD (cond swap across down) i 0))
+    (columns : (i : ℕ) → i < n → getD xs i 0 ≡ liftOf c x (getD (cond swap down across) i 0)) where
+  pub turned-raised : Raised ys xs n
+  turned-raised i h =
+      let a = rows i h in
+      let b = columns i h in
+      let k = t .rows i h in
+      let j = t .columns i h in
+      record {
+        place = omega (arith, t .few);
+        row = rw a (lift-low r y (getD (cond swap across down) i 0) k (t .low .0));
+        column = rw b (lift-low c x (getD (cond swap down across) i 0) j (t .low .1));
+        odd =
+            rw (
+              a,
+              b,
+              lift-odd r y (getD (cond swap across down) i 0) k (t .even .0),
+              lift-odd c x (getD (cond swap down across) i 0) j (t .even .1),
+            )
+            (either swap i (t .odd i h));
+      }
+    where
+      either : (u : Bool) (i : ℕ) → 1 ≤ getD down i 0 % 2 + getD across i 0 % 2
+          → 1 ≤ getD (cond u across down) i 0 % 2 + getD (cond u down across) i 0 % 2
+      either true i h = omega arith
+      either false i h = h
+
+  -- the coordinates before the turn
+  from-row : (u : Bool) (i : ℕ) → pos (getD (cond u across down) i 0)
+      ≡ coordinate (cond u columnward rowward) (pointOf (getD down i 0) (getD across i 0))
+  from-row true i = refl
+  from-row false i = refl
+
+  from-column : (u : Bool) (i : ℕ) → pos (getD (cond u down across) i 0)
+      ≡ coordinate (cond u rowward columnward) (pointOf (getD down i 0) (getD across i 0))
+  from-column true i = refl
+  from-column false i = refl
+
+  turned-at : (i : ℕ) → i < n
+      → pointAt ys xs i
+      ≡ apply (turnOf swap r c) (pointOf (getD down i 0) (getD across i 0)) ⊕ raised y x
+  unfolding pointAt apply _⊕_
+  turned-at i h =
+      let a = lift-lowered r y (getD (cond swap across down) i 0) (t .rows i h) in
+      let b = lift-lowered c x (getD (cond swap down across) i 0) (t .columns i h) in
+      let p = ap lowered (rows i h) ∙ a ∙ ap (λ (z : ℤ). signed r z +ℤ lowered y) (from-row swap i) in
+      let q = ap lowered (columns i h) ∙ b ∙ ap (λ (z : ℤ). signed c z +ℤ lowered x) (from-column swap i) in
+      λ e. record { layer = pos 0; row = p e; column = q e }
+
+  turned-from : (i m : ℕ) → i + m ≤ n
+      → map (pointAt ys xs) (rangeFrom i m)
+      ≡ map (λ j. apply (turnOf swap r c) j ⊕ raised y x)
+      (map (λ k. pointOf (getD down k 0) (getD across k 0)) (rangeFrom i m))
+  turned-from i zero h = refl
+  turned-from i (suc m) h =
+      ap₂ (λ (p : Point) (ps : List Point). p ∷ ps) (turned-at i (omega arith)) (turned-from (suc i) m (omega arith))
+
+  pub turned-spelled : spelled ys xs n ≡ movedBy (apply (turnOf swap r c)) (raised y x) (pointsOf down across n)
+  unfolding spelled movedBy pointsOf
+  turned-spelled = turned-from 0 n (omega arith)

@@ -1,0 +1,152 @@
+-- Laws of the search: the parts that it goes through lie in their lists, and what it answers is the check's.
+use mathlib.Core.Path.{_≡_, refl, sym, ap, _∙_}
+use mathlib.Core.Bool.{Bool}
+use mathlib.Core.List.{List, [], _∷_, map, List·Memᴰ·head, List·Memᴰ·tail}
+use Prim.Native.Nat.{ℕ, zero, suc, _+_, _-_, _*_, _≤_, _<_}
+use native.Mathlib.Omega.{arith}
+use lib.ListN.{length, getD, drop, length-append}
+use lib.Seq.{getD-take, getD-drop}
+use Rattle.lists.specs.Lists.{_∈_, any, flatMap}
+use Rattle.lists.specs.ListLaws.{filter-mem, range-lt}
+use Rattle.rules.specs.Page.{Puzzle, Shape, Mark}
+use Rattle.rules.specs.Codes.{marksIn}
+use Rattle.rules.specs.Flat.{flat}
+use Rattle.rules.specs.Groups.{members, potentialOf}
+use Rattle.rules.specs.Check.{laid, isFit, blockers, mates}
+use Rattle.reasons.specs.Arrays.{Cells, part}
+use Rattle.reasons.specs.ListExtras.{upTo, up-more}
+use Rattle.search.specs.Placing.{puzzle, fitsOf}
+use Rattle.search.specs.ListExtras.{any-append, flat-append}
+use Rattle.search.specs.Mates.{Grouped, Known, Listed}
+use Rattle.search.specs.GatherLaws.{listed-part, up-mono}
+use Rattle.search.specs.Searching.{Beside, groupIn, fitsAmong, fitsBeside, blockOf, blocksAmong, blocksBeside}
+
+module _ {h w : ℕ} {cells : List ℕ} {from to : ℕ} (p : Cells h w cells from to) where
+  pub cells-reach : to ≤ length cells
+  cells-reach = omega (arith, p .end, p .long)
+
+  pub cells-at : (i : ℕ) → from ≤ i → i < to → getD cells i 0 < h * w
+  cells-at i a b =
+      let e : from + (i - from) ≡ i = omega arith in
+      rw e at (p .each (i - from) (omega arith))
+
+pub mates-reach : {h w : ℕ} {cells offs mates : List ℕ} {from to : ℕ} → Beside h w cells offs mates from to
+    → to ≤ length mates
+mates-reach p = omega (arith, p .end, p .long)
+
+module _ {A B : Type 0} where
+  any-map : (p : B → Bool) (f : A → B) (xs : List A) → any p (map f xs) ≡ any (λ x. p (f x)) xs
+  unfolding any
+  any-map p f [] = refl
+  any-map p f (x ∷ xs) = rw (any-map p f xs)
+
+  any-flat : (p : B → Bool) (f : A → List B) (xs : List A) → any p (flatMap f xs) ≡ any (λ x. any p (f x)) xs
+  unfolding any flatMap
+  any-flat p f [] = refl
+  any-flat p f (x ∷ xs) = any-append p (f x) (flatMap f xs) ∙ rw (any-flat p f xs)
+
+module _ {A B C : Type 0} where
+  flat-map : (f : B → List C) (g : A → B) (xs : List A) → flatMap f (map g xs) ≡ flatMap (λ x. f (g x)) xs
+  unfolding flatMap
+  flat-map f g [] = refl
+  flat-map f g (x ∷ xs) = rw (flat-map f g xs)
+
+  flat-flat : (f : B → List C) (g : A → List B) (xs : List A)
+      → flatMap f (flatMap g xs) ≡ flatMap (λ x. flatMap f (g x)) xs
+  unfolding flatMap
+  flat-flat f g [] = refl
+  flat-flat f g (x ∷ xs) = flat-append f (g x) (flatMap g xs) ∙ rw (flat-flat f g xs)
+
+any-same : (f g : ℕ → Bool) (xs : List ℕ) → ((x : ℕ) → x ∈ xs → f x ≡ g x) → any f xs ≡ any g xs
+unfolding any
+any-same f g [] h = refl
+any-same f g (x ∷ xs) h = rw (h x (List·Memᴰ·head refl), any-same f g xs (λ y m. h y (List·Memᴰ·tail m)))
+
+flat-same : {A : Type 0} (f g : ℕ → List A) (xs : List ℕ) → ((x : ℕ) → x ∈ xs → f x ≡ g x) → flatMap f xs ≡ flatMap g xs
+unfolding flatMap
+flat-same f g [] h = refl
+flat-same f g (x ∷ xs) h = rw (h x (List·Memᴰ·head refl), flat-same f g xs (λ y m. h y (List·Memᴰ·tail m)))
+
+-- the placements of one transform at the cells of some potential units, and the mates of p among them
+module _ {h w : ℕ} {cs bs cells offs : List ℕ} {count : ℕ} (g : Grouped h w cs bs cells offs count) (t : Shape) where
+  abbrev Z : Puzzle
+  Z = puzzle h w cs
+
+  abbrev s : ℕ → Mark
+  s = marksIn bs
+
+  pub placed-fits : (gs : List ℕ) → ((q : ℕ) → q ∈ gs → q < count)
+      → any (isFit Z s) (flatMap (λ Q. map (laid Z s t) (members (flat h w) (potentialOf Z s) Q)) gs)
+      ≡ fitsBeside Z s t cells offs gs
+  unfolding fitsBeside fitsAmong fitsOf groupIn
+  placed-fits gs low =
+      any-flat (isFit Z s) (λ Q. map (laid Z s t) (members (flat h w) (potentialOf Z s) Q)) gs
+      ∙ any-same _ _ gs
+      (λ q m.
+      any-map (isFit Z s) (laid Z s t) (members (flat h w) (potentialOf Z s) q)
+      ∙ ap (any (λ o. isFit Z s (laid Z s t o))) (sym (g .group q (low q m))))
+
+  pub placed-blocks : (gs : List ℕ) → ((q : ℕ) → q ∈ gs → q < count)
+      → flatMap (blockers Z s) (flatMap (λ Q. map (laid Z s t) (members (flat h w) (potentialOf Z s) Q)) gs)
+      ≡ blocksBeside Z s t cells offs gs
+  unfolding blocksBeside blocksAmong blockOf groupIn
+  placed-blocks gs low =
+      flat-flat (blockers Z s) (λ Q. map (laid Z s t) (members (flat h w) (potentialOf Z s) Q)) gs
+      ∙ flat-same _ _ gs
+      (λ q m.
+      flat-map (blockers Z s) (laid Z s t) (members (flat h w) (potentialOf Z s) q)
+      ∙ ap (flatMap (λ o. blockers Z s (laid Z s t o))) (sym (g .group q (low q m))))
+
+-- the mates of p stand in the list
+mem-getD : (xs : List ℕ) (i : ℕ) → i < length xs → getD xs i 0 ∈ xs
+mem-getD [] i h = absurd (omega arith)
+mem-getD (x ∷ xs) zero h = List·Memᴰ·head refl
+mem-getD (x ∷ xs) (suc i) h = List·Memᴰ·tail (mem-getD xs i (omega arith))
+
+pub mates-low : {h w : ℕ} {cs bs cells offs : List ℕ} {count : ℕ} → Grouped h w cs bs cells offs count
+    → (p q : ℕ) → q ∈ mates (puzzle h w cs) (marksIn bs) p → q < count
+unfolding mates
+mates-low g p q m = rw (g .all) (range-lt _ (filter-mem _ _ m))
+
+module _ {h w : ℕ} {cs bs ids cells offs : List ℕ} {count : ℕ} (g : Grouped h w cs bs cells offs count)
+    (k : Known h w cs bs ids) {list starts : List ℕ} (l : Listed (mates (puzzle h w cs) (marksIn bs)) list starts count)
+    (p : ℕ) (hp : p < count) where
+  entry-low : (i : ℕ) → getD starts p 0 ≤ i → i < getD starts (p + 1) 0 → getD list i 0 < count
+  entry-low i a b =
+      let f = mates (puzzle h w cs) (marksIn bs) in
+      let e : part list (getD starts p 0) (getD starts (p + 1) 0) ≡ f p = listed-part l p hp in
+      let j : getD starts p 0 + (i - getD starts p 0) ≡ i = omega arith in
+      let n : length (f p) ≡ getD starts (p + 1) 0 - getD starts p 0 =
+      omega (
+        arith,
+        l .starts p (omega arith),
+        l .starts (p + 1) (omega arith),
+        ap length (up-more f p),
+        length-append (upTo f p) (f p),
+      ) in
+      let v : getD (f p) (i - getD starts p 0) 0 ≡ getD list i 0 =
+      rw (
+        ← e,
+        getD-take (getD starts (p + 1) 0 - getD starts p 0) (drop (getD starts p 0) list) (i - getD starts p 0) 0
+            (omega arith),
+        getD-drop (getD starts p 0) list (i - getD starts p 0) 0,
+        j,
+      ) in
+      rw v at (mates-low g p _ (mem-getD (f p) (i - getD starts p 0) (omega arith)))
+
+  pub beside-of : Beside h w cells offs list (getD starts p 0) (getD starts (p + 1) 0)
+  beside-of =
+      let f = mates (puzzle h w cs) (marksIn bs) in
+      let c : count ≤ 1024 = rw (g .all) (k .few) in
+      record {
+        long = l .long;
+        order = omega (
+          arith,
+          l .starts p (omega arith),
+          l .starts (p + 1) (omega arith),
+          up-mono f p (p + 1) (omega arith),
+        );
+        end = omega (arith, l .starts (p + 1) (omega arith), up-mono f (p + 1) count (omega arith), l .room);
+        low = λ i a b. omega (arith, entry-low i a b);
+        each = λ i a b. g .each (getD list i 0) (entry-low i a b);
+      }

@@ -1,0 +1,47 @@
+-- Searching: where a transform is laid, and what that gives.
+--
+--   Beside              a part of the list of mates; each of its entries is a group of the page
+--   groupIn cells offs Q   the cells of group Q, by the list of cells and the places where the groups start
+--   fitsAmong t xs      the transform t fits at one of the cells xs
+--   fitsBeside t gs     it fits at a cell of one of the groups
+--   blockOf t o         the blocker of the placement of t with its origin at cell o, if it has one
+--   blocksAmong t xs, blocksBeside t gs   the blockers of its placements there, in order
+use mathlib.Core.Bool.{Bool}
+use mathlib.Core.Path.{_≡_}
+use mathlib.Core.List.{List}
+use Prim.Native.Nat.{ℕ, _+_, _≤_, _<_}
+use lib.ListN.{length, getD}
+use Rattle.lists.specs.Lists.{any, flatMap}
+use Rattle.rules.specs.declared.Literal.{Literal}
+use Rattle.rules.specs.Page.{Puzzle, Shape, Mark}
+use Rattle.rules.specs.Check.{laid, blockers}
+use Rattle.reasons.specs.Arrays.{Cells, part}
+use Rattle.search.specs.Placing.{fitsOf}
+
+unfoldable pub groupIn : List ℕ → List ℕ → ℕ → List ℕ
+groupIn cells offs Q = part cells (getD offs Q 0) (getD offs (Q + 1) 0)
+
+pub record Beside (h w : ℕ) (cells offs mates : List ℕ) (from to : ℕ) : Type 0 where
+  pub long : length mates ≡ 4096
+  pub order : from ≤ to
+  pub end : to ≤ 4096
+  pub low : (i : ℕ) → from ≤ i → i < to → getD mates i 0 < 1024
+  pub each : (i : ℕ) → from ≤ i → i < to
+      → Cells h w cells (getD offs (getD mates i 0) 0) (getD offs (getD mates i 0 + 1) 0)
+
+module _ (Z : Puzzle) (s : ℕ → Mark) (t : Shape) where
+  unfoldable pub fitsAmong : List ℕ → Bool
+  fitsAmong xs = any (fitsOf Z s t) xs
+
+  unfoldable pub blockOf : ℕ → List Literal
+  blockOf o = blockers Z s (laid Z s t o)
+
+  unfoldable pub blocksAmong : List ℕ → List Literal
+  blocksAmong xs = flatMap blockOf xs
+
+  module _ (cells offs : List ℕ) where
+    unfoldable pub fitsBeside : List ℕ → Bool
+    fitsBeside gs = any (λ Q. fitsAmong (groupIn cells offs Q)) gs
+
+    unfoldable pub blocksBeside : List ℕ → List Literal
+    blocksBeside gs = flatMap (λ Q. blocksAmong (groupIn cells offs Q)) gs

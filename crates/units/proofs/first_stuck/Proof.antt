@@ -1,0 +1,91 @@
+-- The loop's invariant: the answer is the first from u on that does not fit.
+use mathlib.Core.Path.{_≡_, sym, _∙_}
+use mathlib.Core.Bool.{Bool}
+use Prim.Native.Nat.{ℕ, _≤_, _-_}
+use native.Mathlib.Omega.{arith}
+use Rattle.rules.specs.Codes.{marksIn}
+use Rattle.search.specs.Placing.{puzzle}
+use Rattle.units.specs.Fitting.{Lent}
+use Rattle.units.specs.Stuck.{fitsUnit, firstFail, firstFrom}
+use Rattle.units.specs.StuckLaws.{fail-start, fail-done, fail-here, fail-next}
+use Rattle.units.specs.ReadyLaws.{unit-few}
+use Rattle.units.proofs.first_stuck.Statement.{statement}
+use Rattle.units.proofs.first_stuck.Tie as tie
+
+abbrev Inv-loop : tie.InvT-loop
+Inv-loop h w colours borders ids units unit-offs count potential cells offs mates starts rows₀ columns₀ down₀ across₀
+    ys₀ xs₀ u₀ rows columns down across ys xs u =
+    (u ≤ count) × Lent rows columns down across ys xs ×
+    (firstFail (fitsUnit (puzzle h w colours) (marksIn borders)) count
+    ≡ firstFrom (fitsUnit (puzzle h w colours) (marksIn borders)) u (count - u))
+
+abbrev μ-loop : tie.MeasureT-loop
+μ-loop h w colours borders ids units unit-offs count potential cells offs mates starts rows₀ columns₀ down₀ across₀
+    ys₀ xs₀ u₀ rows columns down across ys xs u = count - u
+
+-- the test of a unit
+abbrev test : tie.Start Inv-loop μ-loop → ℕ → Bool
+test s = fitsUnit (puzzle (s .args .h) (s .args .w) (s .args .colours .now)) (marksIn (s .args .borders .now))
+
+loop-holds : tie.Need-loop-holds Inv-loop μ-loop
+loop-holds c = (omega arith, c .pre .2, fail-start (test c) (c .args .count))
+
+fits-at-requires : tie.Need-fits-at-requires Inv-loop μ-loop
+fits-at-requires c κs =
+    let t = c .before .before .before .before .before .before in
+    let s = t .before .before in
+    (s .pre .0, rw (s .pre .1) at (t .loop-test .taken), t .before .loop .inv .1)
+
+add-u : tie.Need-add-u Inv-loop μ-loop
+add-u c =
+    let t = c .before .before .before .before .before .before .before .before in
+    let s = t .before .before in omega (arith, t .loop-test .taken, s .pre .1, unit-few (s .pre .0))
+
+loop-less : tie.Need-loop-less Inv-loop μ-loop
+loop-less c =
+    let t = c .before .before .before .before .before .before .before .before in omega (arith, t .loop-test .taken)
+
+loop-again : tie.Need-loop-again Inv-loop μ-loop
+loop-again c =
+    let t = c .before .before .before .before .before .before .before .before in
+    let l = t .before in
+    let s = l .before in
+    let e = c .before .fits-at .ensures in (
+      omega (arith, t .loop-test .taken),
+      e .1,
+      fail-next (test s) (s .args .count) (l .loop .u) (l .loop .inv .2) (t .loop-test .taken)
+          (sym (e .0) ∙ c .if1 .taken),
+    )
+
+returns : tie.Need-returns Inv-loop μ-loop
+returns c =
+    let t = c .before .before .before .before .before .before .before .before in
+    let l = t .before in
+    let s = l .before in
+    let e = c .before .fits-at .ensures in (
+      fail-here (test s) (s .args .count) (l .loop .u) (l .loop .inv .2) (t .loop-test .taken)
+          (sym (e .0) ∙ c .if1 .left),
+      e .1,
+    )
+
+returns-2 : tie.Need-returns-2 Inv-loop μ-loop
+returns-2 c =
+    let l = c .before in
+    let s = l .before in (
+      fail-done (test s) (s .args .count) (l .loop .u) (l .loop .inv .2) (c .loop-test .left) (l .loop .inv .0),
+      l .loop .inv .1,
+    )
+
+pub first-stuck-spec : {M : Type 1} → statement M
+first-stuck-spec =
+    tie.close
+    (tie.spec
+    Inv-loop
+    μ-loop
+    loop-holds
+    fits-at-requires
+    add-u
+    loop-less
+    loop-again
+    returns
+    returns-2)

@@ -1,0 +1,163 @@
+-- A unit fits exactly if one of the listed rows makes it fit; row 0 is the first of them.
+use mathlib.Core.Path.{_≡_, refl, sym, ap, _∙_, subst}
+use mathlib.Core.Bool.{Bool, true, false, _||_}
+use mathlib.Core.List.{List, [], _∷_}
+use Prim.Native.Nat.{ℕ, zero, suc, _-_, _<_, _≤_}
+use native.Mathlib.Omega.{arith}
+use lib.ListN.{length, getD}
+use Rattle.lists.specs.Lists.{any}
+use Rattle.lists.specs.Padded.{padded}
+use Rattle.rules.specs.Page.{Mark, Point, Puzzle, Shape}
+use Rattle.rules.specs.Flat.{Sized, flat}
+use Rattle.rules.specs.Groups.{entry}
+use Rattle.rules.specs.Check.{laid}
+use Rattle.rules.specs.Shapes.{shapeOf, flatTransforms}
+use Rattle.reasons.specs.Arrays.{part}
+use Rattle.search.specs.Placing.{bare, fitsOf}
+use Rattle.search.specs.Searching.{fitsAmong, fitsBeside}
+use Rattle.search.specs.ListExtras.{part-none}
+use Rattle.shapes.specs.declared.Listed.{Listed}
+use Rattle.shapes.specs.Listing.{listing}
+use Rattle.shapes.specs.Rows.{image, fixes, flipListed, rowsBy, rowsOf}
+use Rattle.shapes.specs.Parts.{Part, Placed}
+use Rattle.shapes.specs.PartLaws.{unit-at}
+use Rattle.shapes.specs.Spots.{spots, UnitAt}
+use Rattle.shapes.specs.Joints.{Joined}
+use Rattle.shapes.specs.UnitLaws.{transforms-flat}
+use Rattle.units.specs.ListExtras.{any-map, any-cong, any-none}
+use Rattle.units.specs.Images.{imageJoints}
+use Rattle.units.specs.ImageLaws.{image-is}
+use Rattle.units.specs.Fitting.{UnitIn, Rows, fitsBy, fitsTurned}
+
+-- the listed rows: row 0, and the others
+row-first : (a b c : Bool) → rowsBy a b c ≡ 0 ∷ part (padded 8 0 (rowsBy a b c)) 1 (length (rowsBy a b c))
+row-first true true true = refl
+row-first true true false = refl
+row-first true false true = refl
+row-first true false false = refl
+row-first false true true = refl
+row-first false true false = refl
+row-first false false true = refl
+row-first false false false = refl
+
+pub rows-first : (t : Shape) → rowsOf t ≡ 0 ∷ part (listing (rowsOf t) .rows) 1 (listing (rowsOf t) .count)
+unfolding rowsOf
+rows-first t = row-first (fixes t 1) (fixes t 3) (flipListed t)
+
+four : (a b c d : ℕ) → a < 8 → b < 8 → c < 8 → d < 8 → (j : ℕ) → getD (a ∷ b ∷ c ∷ d ∷ 0 ∷ 0 ∷ 0 ∷ 0 ∷ []) j 0 < 8
+four a b c d p q r s zero = p
+four a b c d p q r s (suc zero) = q
+four a b c d p q r s (suc (suc zero)) = r
+four a b c d p q r s (suc (suc (suc zero))) = s
+four a b c d p q r s (suc (suc (suc (suc zero)))) = omega arith
+four a b c d p q r s (suc (suc (suc (suc (suc zero))))) = omega arith
+four a b c d p q r s (suc (suc (suc (suc (suc (suc zero)))))) = omega arith
+four a b c d p q r s (suc (suc (suc (suc (suc (suc (suc zero))))))) = omega arith
+four a b c d p q r s (suc (suc (suc (suc (suc (suc (suc (suc j)))))))) = omega arith
+
+eight : (j : ℕ) → _<_ (getD (0 ∷ 1 ∷ 2 ∷ 3 ∷ 4 ∷ 5 ∷ 6 ∷ 7 ∷ []) j 0) 8
+eight zero = omega arith
+eight (suc zero) = omega arith
+eight (suc (suc zero)) = omega arith
+eight (suc (suc (suc zero))) = omega arith
+eight (suc (suc (suc (suc zero)))) = omega arith
+eight (suc (suc (suc (suc (suc zero))))) = omega arith
+eight (suc (suc (suc (suc (suc (suc zero)))))) = omega arith
+eight (suc (suc (suc (suc (suc (suc (suc zero))))))) = omega arith
+eight (suc (suc (suc (suc (suc (suc (suc (suc j)))))))) = omega arith
+
+row-low : (a b c : Bool) (j : ℕ) → getD (padded 8 0 (rowsBy a b c)) j 0 < 8
+row-low true true true j = four 0 0 0 0 (omega arith) (omega arith) (omega arith) (omega arith) j
+row-low true true false j = four 0 4 0 0 (omega arith) (omega arith) (omega arith) (omega arith) j
+row-low true false true j = four 0 3 0 0 (omega arith) (omega arith) (omega arith) (omega arith) j
+row-low true false false j = four 0 3 4 7 (omega arith) (omega arith) (omega arith) (omega arith) j
+row-low false b true j = four 0 1 2 3 (omega arith) (omega arith) (omega arith) (omega arith) j
+row-low false b false j = eight j
+
+row-few : (a b c : Bool) → (1 ≤ length (rowsBy a b c)) × (length (rowsBy a b c) ≤ 8)
+row-few true true true = (omega arith, omega arith)
+row-few true true false = (omega arith, omega arith)
+row-few true false true = (omega arith, omega arith)
+row-few true false false = (omega arith, omega arith)
+row-few false b true = (omega arith, omega arith)
+row-few false b false = (omega arith, omega arith)
+
+row-long : (a b c : Bool) → length (padded 8 0 (rowsBy a b c)) ≡ 8
+row-long true true true = refl
+row-long true true false = refl
+row-long true false true = refl
+row-long true false false = refl
+row-long false b true = refl
+row-long false b false = refl
+
+pub rows-listed : (t : Shape) {r : Listed} → r ≡ listing (rowsOf t) → Rows r
+unfolding rowsOf
+rows-listed t e =
+    let f = row-few (fixes t 1) (fixes t 3) (flipListed t) in
+    subst Rows (sym e)
+    (record {
+      long = row-long (fixes t 1) (fixes t 3) (flipListed t);
+      some = f .0;
+      few = f .1;
+      low = λ j l. row-low (fixes t 1) (fixes t 3) (flipListed t) j;
+    })
+
+module _ (Z : Puzzle) (s : ℕ → Mark) (cells offs : List ℕ) where
+  -- a placement looks at the connections only
+  fits-bare : (t : Shape) (gs : List ℕ)
+      → fitsBeside Z s (bare (t .connections)) cells offs gs ≡ fitsBeside Z s t cells offs gs
+  unfolding fitsBeside fitsAmong fitsOf laid
+  fits-bare t gs = refl
+
+  -- no adjacent unit
+  fits-none : (t : Shape) → fitsBeside Z s t cells offs [] ≡ false
+  unfolding fitsBeside any
+  fits-none t = refl
+
+  pub turned-none : {gs : List ℕ} (t : Shape) → gs ≡ [] → fitsTurned Z s cells offs gs t ≡ false
+  unfolding fitsTurned
+  turned-none t e = rw e (any-none _ fits-none (flatTransforms t))
+
+  module _ {h w g n k : ℕ} {ids R C D A : List ℕ} (u : UnitAt h w ids g R C n) (j : Joined h w (entry ids) g D A k)
+      (gs : List ℕ) where
+    abbrev shape : Shape
+    shape = shapeOf (flat h w) (entry ids) g
+
+    abbrev fit : ℕ → Bool
+    fit r = fitsBy Z s cells offs gs (spots R C n) (spots D A k) r
+
+    turned-rows : fitsTurned Z s cells offs gs shape ≡ any fit (rowsOf shape)
+    unfolding fitsTurned fitsBy
+    turned-rows =
+        ap (any (λ t. fitsBeside Z s t cells offs gs)) (transforms-flat h w (entry ids) g (u .sized .columns))
+        ∙ (any-map (λ t. fitsBeside Z s t cells offs gs) (λ r. image r shape) (rowsOf shape)
+        ∙ any-cong (λ r. fitsBeside Z s (image r shape) cells offs gs) fit
+        (λ r.
+        sym (fits-bare (image r shape) gs)
+        ∙ ap (λ js. fitsBeside Z s (bare js) cells offs gs) (image-is u j r)) (rowsOf shape))
+
+    -- row 0, then the others
+    split : fitsTurned Z s cells offs gs shape
+        ≡ fit 0 || any fit (part (listing (rowsOf shape) .rows) 1 (listing (rowsOf shape) .count))
+    unfolding any
+    split = turned-rows ∙ ap (any fit) (rows-first shape)
+
+    pub fits-first : fit 0 ≡ true → fitsTurned Z s cells offs gs shape ≡ true
+    fits-first e = split ∙ rw e
+
+    pub fits-others : {r : Listed} {b : Bool} → fit 0 ≡ false → r ≡ listing (rowsOf shape)
+        → b ≡ any fit (part (r .rows) 1 (r .count)) → b ≡ fitsTurned Z s cells offs gs shape
+    fits-others {r} e d c = c ∙ (ap (λ (l : Listed). any fit (part (l .rows) 1 (l .count))) d ∙ sym (split ∙ rw e))
+
+-- what the unit's part gives to its places
+module _ {h w : ℕ} {ids : List ℕ} {g : ℕ} {cells : List ℕ} {first last : ℕ} (z : Sized h w)
+    (u : UnitIn h w ids g cells first last) where
+  pub unit-part : Part cells first last w
+  unit-part =
+      record { long = u .long; order = omega (arith, u .some); inside = u .end; some = z .columns; wide = z .wide }
+
+  pub unit-placed : {n : ℕ} {R C : List ℕ} → n ≡ last - first → Placed w (part cells first last) n R C
+      → UnitAt h w ids g R C n
+  unit-placed {n} {R} {C} e p =
+      unit-at h w ids g (part cells first last) R C n z (u .numbers) (u .group) p (omega (arith, u .some))
+      (omega (arith, u .some, u .end))

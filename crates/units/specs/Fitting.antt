@@ -1,0 +1,52 @@
+-- Whether a unit fits beside its potential unit.
+--
+--   Lent R C D A Y X    the lengths of the lent memory: rows and columns, doubled places, raised doubled places
+--   UnitIn h w ids g cells first last   the places first to last of the list are the cells of unit g, at least one
+--   Rows r              a list of at most eight rows of the table, at least one
+--   fitsBy              the unit's image by a row of the table fits at a cell of one of the groups
+--   fitsTurned          one of a shape's listed transforms does
+use mathlib.Core.Path.{_≡_}
+use mathlib.Core.Bool.{Bool}
+use mathlib.Core.List.{List}
+use Prim.Native.Nat.{ℕ, _<_, _≤_}
+use lib.ListN.{length, getD}
+use Rattle.lists.specs.Lists.{any}
+use Rattle.rules.specs.Page.{Mark, Point, Puzzle, Shape}
+use Rattle.rules.specs.Flat.{flat}
+use Rattle.rules.specs.Groups.{entry, members}
+use Rattle.rules.specs.Shapes.{flatTransforms}
+use Rattle.reasons.specs.Arrays.{part}
+use Rattle.search.specs.Placing.{bare}
+use Rattle.search.specs.Searching.{fitsBeside}
+use Rattle.shapes.specs.declared.Listed.{Listed}
+use Rattle.shapes.specs.Spots.{spots}
+use Rattle.units.specs.Images.{imageJoints}
+
+pub record Lent (R C D A Y X : List ℕ) : Type 0 where
+  pub rows : length R ≡ 1024
+  pub columns : length C ≡ 1024
+  pub downs : length D ≡ 2048
+  pub acrosses : length A ≡ 2048
+  pub ys : length Y ≡ 2048
+  pub xs : length X ≡ 2048
+
+pub record UnitIn (h w : ℕ) (ids : List ℕ) (g : ℕ) (cells : List ℕ) (first last : ℕ) : Type 0 where
+  pub numbers : length ids ≡ 1024
+  pub long : length cells ≡ 1024
+  pub some : first < last
+  pub end : last ≤ 1024
+  pub group : part cells first last ≡ members (flat h w) (entry ids) g
+
+pub record Rows (r : Listed) : Type 0 where
+  pub long : length (r .rows) ≡ 8
+  pub some : 1 ≤ r .count
+  pub few : r .count ≤ 8
+  pub low : (j : ℕ) → j < r .count → getD (r .rows) j 0 < 8
+
+module _ (Z : Puzzle) (s : ℕ → Mark) (cells offs mates : List ℕ) where
+  -- places, connections, row
+  unfoldable pub fitsBy : List Point → List Point → ℕ → Bool
+  fitsBy ps js r = fitsBeside Z s (bare (imageJoints r ps js)) cells offs mates
+
+  unfoldable pub fitsTurned : Shape → Bool
+  fitsTurned t = any (λ u. fitsBeside Z s u cells offs mates) (flatTransforms t)

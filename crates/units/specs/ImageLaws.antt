@@ -1,0 +1,222 @@
+-- A row of the table and a raised shift make a unit's image, and all its connections can be raised.
+use mathlib.Core.Path.{_≡_, refl, sym, ap, ap₂, _∙_, subst}
+use mathlib.Core.Bool.{Bool, true, false, cond}
+use mathlib.Core.List.{List, [], _∷_, map, List·Memᴰ·head}
+use Prim.Native.Nat.{ℕ, zero, suc, _+_, _-_, _*_, _%_, _<_, _≤_}
+use native.Mathlib.Omega.{arith}
+use borrow.Author.Tests.{le-ltb}
+use lib.IntN.{ℤ, pos, negsuc, negℤ, _+ℤ_, _-ℤ_, +ℤ-comm, +ℤ-negℤ-cancel}
+use lib.Signed.{mag}
+use lib.ListN.{length, getD}
+use Rattle.lists.specs.Lists.{_∈_}
+use Rattle.lists.specs.ListLaws.{map-find}
+use Rattle.rules.specs.Page.{Point, _⊕_, opposite}
+use Rattle.rules.specs.Turns.{signed, apply}
+use Rattle.rules.specs.Shapes.{sort, shiftBy, shapeOf}
+use Rattle.rules.specs.Flat.{flat}
+use Rattle.rules.specs.Groups.{entry}
+use Rattle.argument.specs.Points.{point-eq}
+use Rattle.shapes.specs.declared.Pair.{Pair}
+use Rattle.shapes.specs.Pairs.{pointAt, pointOf}
+use Rattle.shapes.specs.Rows.{turnAt, image}
+use Rattle.shapes.specs.Spots.{placeAt, spotAt, spots, leastImage, Near, Spotted, UnitAt}
+use Rattle.shapes.specs.SpotLaws.{length-spots, near-least}
+use Rattle.shapes.specs.SortLaws.{sort-mem}
+use Rattle.shapes.specs.FixLaws.{least-image}
+use Rattle.shapes.specs.UnitLaws.{image-joints}
+use Rattle.shapes.specs.Joints.{Joined}
+use Rattle.shapes.specs.JointLaws.{joint-in}
+use Rattle.shapes.specs.ListExtras.{map-map, table-find}
+use Rattle.search.specs.Placing.{lowered, raised}
+use Rattle.search.specs.Raising.{turnOf, pointsOf, movedBy, Lifts, Turnable}
+use Rattle.units.specs.ListExtras.{map-range}
+use Rattle.units.specs.Images.{raiseOf, swaps, upwards, leftwards, imageJoints, Jointed}
+
+-- the raised shift
+pub raise-sum : (v : ℤ) → mag v < 33 → pos 64 +ℤ (negℤ v +ℤ negℤ v) ≡ pos (raiseOf v)
+raise-sum (pos zero) h = refl
+raise-sum (pos (suc a)) h =
+    rw (le-ltb 64 (suc (suc (a + a))) (omega arith))
+    (let e : 64 - suc (suc (a + a)) ≡ 64 - 2 * suc a = omega arith in ap pos e)
+raise-sum (negsuc a) h = let e : 64 + (suc a + suc a) ≡ 66 + 2 * a = omega arith in ap pos e
+
+pub raise-small : (v : ℤ) → mag v < 33 → raiseOf v < 256
+raise-small (pos a) h = omega arith
+raise-small (negsuc a) h = omega arith
+
+lower-raise : (v : ℤ) → mag v < 33 → lowered (raiseOf v) ≡ negℤ v +ℤ negℤ v
+lower-raise v h =
+    ap (λ (z : ℤ). z -ℤ pos 64) (sym (raise-sum v h) ∙ +ℤ-comm (pos 64) (negℤ v +ℤ negℤ v))
+    ∙ +ℤ-negℤ-cancel (negℤ v +ℤ negℤ v) (pos 64)
+
+true-false : {C : Type 0} → _≡_ {A = Bool} true false → C
+true-false e = let z : _≡_ {A = ℕ} 0 1 = cc in absurd (omega arith)
+
+raise-lifts : (minus : Bool) (a d : ℕ) → a < 32 → d < 64 → Lifts minus (raiseOf (signed minus (pos a))) d
+raise-lifts true zero d h k =
+    record { small = omega arith; down = λ e. omega arith; up = λ e. true-false e }
+raise-lifts true (suc a) d h k =
+    record { small = omega arith; down = λ e. omega arith; up = λ e. true-false e }
+raise-lifts false a d h k =
+    record { small = omega arith; down = λ e. true-false (sym e); up = λ e. omega arith }
+
+raise-low : (minus : Bool) (a : ℕ) → a < 32 → raiseOf (signed minus (pos a)) < 128
+raise-low true zero h = omega arith
+raise-low true (suc a) h = omega arith
+raise-low false a h = omega arith
+
+raise-even : (minus : Bool) (a : ℕ) → a < 32 → raiseOf (signed minus (pos a)) % 2 ≡ 0
+raise-even true zero h = refl
+raise-even true (suc a) h = omega arith
+raise-even false a h = omega arith
+
+-- the table
+row-turn : (r : ℕ) → r < 8 → turnAt r ≡ turnOf (getD swaps r false) (getD upwards r false) (getD leftwards r false)
+row-turn zero l = refl
+row-turn (suc zero) l = refl
+row-turn (suc (suc zero)) l = refl
+row-turn (suc (suc (suc zero))) l = refl
+row-turn (suc (suc (suc (suc zero)))) l = refl
+row-turn (suc (suc (suc (suc (suc zero))))) l = refl
+row-turn (suc (suc (suc (suc (suc (suc zero)))))) l = refl
+row-turn (suc (suc (suc (suc (suc (suc (suc zero))))))) l = refl
+row-turn (suc (suc (suc (suc (suc (suc (suc (suc r)))))))) l = absurd (omega arith)
+
+turn-place : (swap up left : Bool) (y x : ℕ)
+    → apply (turnOf swap up left) (placeAt y x)
+    ≡ pointAt (signed up (pos (cond swap x y))) (signed left (pos (cond swap y x)))
+unfolding apply
+turn-place true up left y x = refl
+turn-place false up left y x = refl
+
+-- the first image is the image of a cell
+least-in : (r : ℕ) (ps : List Point) → 1 ≤ length ps → leastImage r ps ∈ map (apply (turnAt r)) ps
+least-in r [] h = absurd (omega arith)
+least-in r (p ∷ ps) h =
+    let q = least-image r p ps in
+    sort-mem (map (apply (turnAt r)) (p ∷ ps))
+    (subst (λ (l : List Point). leastImage r (p ∷ ps) ∈ l) (sym (q .1)) (List·Memᴰ·head refl))
+
+least-of : (r : ℕ) (R C : List ℕ) (n : ℕ) → 1 ≤ n
+    → (i : ℕ) × (i < n) × (leastImage r (spots R C n) ≡ apply (turnAt r) (spotAt R C i))
+unfolding spots
+least-of r R C n h =
+    let m = map-find (apply (turnAt r)) (spots R C n) (least-in r (spots R C n) (rw (length-spots R C n) h)) in
+    let t = table-find n (spotAt R C) (m .1) in
+    (t .0, t .1, m .2 ∙ ap (apply (turnAt r)) (t .2))
+
+either : (u : Bool) (D A : List ℕ) (i : ℕ) → getD D i 0 < 64 → getD A i 0 < 64 → getD (cond u A D) i 0 < 64
+either true D A i h k = k
+either false D A i h k = h
+
+one : (u : Bool) (y x : ℕ) → y < 32 → x < 32 → cond u x y < 32
+one true y x h k = k
+one false y x h k = h
+
+points-spots : (D A : List ℕ) (k : ℕ) → pointsOf D A k ≡ spots D A k
+unfolding pointsOf spots
+points-spots D A k = map-range (spotAt D A) k
+
+module _ (r : ℕ) (low : r < 8) (R C : List ℕ) (n : ℕ) (s : Spotted R C n) (D A : List ℕ) (k : ℕ) (j : Jointed D A k)
+    (p : Pair) (first : pointOf p ≡ leastImage r (spots R C n)) where
+  abbrev swap : Bool
+  swap = getD swaps r false
+
+  abbrev up : Bool
+  up = getD upwards r false
+
+  abbrev left : Bool
+  left = getD leftwards r false
+
+  near : Near (pointOf p)
+  near = subst Near (sym first) (near-least r R C n s)
+
+  pub down-near : mag (p .y) < 33
+  down-near = near .row
+
+  pub across-near : mag (p .x) < 33
+  across-near = near .column
+
+  abbrev cell : ℕ
+  cell = least-of r R C n (s .some) .0
+
+  abbrev down : ℕ
+  down = cond swap (getD C cell 0) (getD R cell 0)
+
+  abbrev across : ℕ
+  across = cond swap (getD R cell 0) (getD C cell 0)
+
+  at : pointOf p ≡ pointAt (signed up (pos down)) (signed left (pos across))
+  at =
+      first ∙ (least-of r R C n (s .some) .2
+      ∙ (ap (λ t. apply t (spotAt R C cell)) (row-turn r low) ∙ turn-place swap up left (getD R cell 0) (getD C cell 0)))
+
+  down-is : p .y ≡ signed up (pos down)
+  down-is = ap (λ q. q .row) at
+
+  across-is : p .x ≡ signed left (pos across)
+  across-is = ap (λ q. q .column) at
+
+  down-low : down < 32
+  down-low =
+      let i = least-of r R C n (s .some) .1 in one swap (getD R cell 0) (getD C cell 0) (s .down cell i) (s .across cell i)
+
+  across-low : across < 32
+  across-low =
+      let i = least-of r R C n (s .some) .1 in one swap (getD C cell 0) (getD R cell 0) (s .across cell i) (s .down cell i)
+
+  pub turnable : Turnable swap up left (raiseOf (p .y)) (raiseOf (p .x)) D A k
+  turnable =
+      record {
+        few = j .few;
+        low = (
+          subst (λ (v : ℤ). raiseOf v < 128) (sym down-is) (raise-low up down down-low),
+          subst (λ (v : ℤ). raiseOf v < 128) (sym across-is) (raise-low left across across-low),
+        );
+        even = (
+          subst (λ (v : ℤ). raiseOf v % 2 ≡ 0) (sym down-is) (raise-even up down down-low),
+          subst (λ (v : ℤ). raiseOf v % 2 ≡ 0) (sym across-is) (raise-even left across across-low),
+        );
+        rows =
+            λ i l.
+            subst (λ (v : ℤ). Lifts up (raiseOf v) (getD (cond swap A D) i 0)) (sym down-is)
+            (raise-lifts up down (getD (cond swap A D) i 0) down-low
+            (either swap D A i (j .each i l .down) (j .each i l .across)));
+        columns =
+            λ i l.
+            subst (λ (v : ℤ). Lifts left (raiseOf v) (getD (cond swap D A) i 0)) (sym across-is)
+            (raise-lifts left across (getD (cond swap D A) i 0) across-low
+            (either swap A D i (j .each i l .across) (j .each i l .down)));
+        odd = λ i l. j .each i l .odd;
+      }
+
+  raised-back : raised (raiseOf (p .y)) (raiseOf (p .x))
+      ≡ opposite (leastImage r (spots R C n)) ⊕ opposite (leastImage r (spots R C n))
+  unfolding _⊕_ opposite
+  raised-back =
+      point-eq {q = opposite (pointOf p) ⊕ opposite (pointOf p)} refl (lower-raise (p .y) down-near)
+      (lower-raise (p .x) across-near)
+      ∙ ap (λ q. opposite q ⊕ opposite q) first
+
+  pub moved-image : movedBy (apply (turnOf swap up left)) (raised (raiseOf (p .y)) (raiseOf (p .x))) (pointsOf D A k)
+      ≡ imageJoints r (spots R C n) (spots D A k)
+  unfolding movedBy imageJoints shiftBy
+  moved-image =
+      let v = opposite (leastImage r (spots R C n)) ⊕ opposite (leastImage r (spots R C n)) in
+      ap (λ t. movedBy (apply t) (raised (raiseOf (p .y)) (raiseOf (p .x))) (pointsOf D A k)) (sym (row-turn r low))
+      ∙ (ap₂ (λ q js. movedBy (apply (turnAt r)) q js) raised-back (points-spots D A k)
+      ∙ sym (map-map (λ q. q ⊕ v) (apply (turnAt r)) (spots D A k)))
+
+-- the connections of a unit's image
+pub image-is : {h w g n k : ℕ} {ids R C D A : List ℕ} → UnitAt h w ids g R C n → Joined h w (entry ids) g D A k
+    → (r : ℕ) → image r (shapeOf (flat h w) (entry ids) g) .connections ≡ imageJoints r (spots R C n) (spots D A k)
+unfolding imageJoints
+image-is {h} {w} {g} {n} {k} {ids} {R} {C} {D} {A} u j r =
+    let P = spots R C n in
+    image-joints h w (entry ids) g (u .sized .columns) P (u .here) (rw (length-spots R C n) (u .spotted .some)) r
+    ∙ ap (λ js. shiftBy (opposite (leastImage r P) ⊕ opposite (leastImage r P)) (map (apply (turnAt r)) js))
+    (sym (j .here))
+
+pub jointed : {h w g n k : ℕ} {ids R C D A : List ℕ} → UnitAt h w ids g R C n → Joined h w (entry ids) g D A k
+    → Jointed D A k
+jointed u j = record { few = j .few; each = λ i l. joint-in i (u .sized) j l }

@@ -1,0 +1,227 @@
+-- What the arrays of the units, of the potential units and of their mates give to the search.
+use mathlib.Core.Path.{_≡_, refl, sym, ap, _∙_, subst}
+use mathlib.Core.Bool.{Bool}
+use mathlib.Core.List.{List, [], _∷_, map, List·Memᴰ·not-nil}
+use Prim.Native.Nat.{ℕ, _+_, _-_, _*_, _<_, _≤_}
+use native.Mathlib.Omega.{arith}
+use borrow.Author.Tests.{lt-ltb}
+use lib.Dec.{ltb}
+use lib.ListN.{length, getD}
+use Rattle.lists.specs.Lists.{_∈_, any, flatMap}
+use Rattle.rules.specs.Page.{Mark, Puzzle, Shape}
+use Rattle.rules.specs.Flat.{Sized, flat}
+use Rattle.rules.specs.FlatLaws.{counts}
+use Rattle.rules.specs.Codes.{marksIn}
+use Rattle.rules.specs.Rules.{joinsUnit}
+use Rattle.rules.specs.Groups.{entry, numbers, members, groupCount}
+use Rattle.rules.specs.Groups.{joinsPotential, unitOf, unitCount, potentialOf, potentialCount}
+use Rattle.rules.specs.Shapes.{shapeOf, flatTransforms}
+use Rattle.rules.specs.Check.{laid, isFit, mates, placements, transformsOf}
+use Rattle.argument.specs.FlatPage.{flat-bordered}
+use Rattle.argument.specs.Numbers.{members-some}
+use Rattle.reasons.specs.Arrays.{Cells, part}
+use Rattle.groups.specs.declared.Kind.the-variants.{Units, Potential}
+use Rattle.groups.specs.declared.Groups.{Groups}
+use Rattle.groups.specs.Kinds.{linkOf, coloured, joinsIn}
+use Rattle.groups.specs.Parts.{groupsOf, partOf, startOf}
+use Rattle.groups.specs.SortLaws.{start-zero}
+use Rattle.groups.specs.PartLaws.{ids-entry, ids-length, ids-lt, count-le, offs-at, offs-next, offs-le, cells-long}
+use Rattle.groups.specs.PartLaws.{cells-lt, part-members, cell-at}
+use Rattle.search.specs.Placing.{puzzle, Drawn}
+use Rattle.search.specs.Searching.{Beside, fitsBeside}
+use Rattle.search.specs.SearchLaws.{placed-fits, mates-low, beside-of}
+use Rattle.search.specs.GatherLaws.{listed-part}
+use Rattle.search.specs.Mates.{Known, Grouped, Listed}
+use Rattle.units.specs.ListExtras.{any-flat, any-cong}
+use Rattle.units.specs.Fitting.{UnitIn, fitsTurned}
+use Rattle.units.specs.Stuck.{Ready, headOf, fitsOn, fitsUnit}
+
+head-is : (xs : List ℕ) → 1 ≤ length xs → (rest : List ℕ) × (xs ≡ headOf xs ∷ rest)
+head-is [] h = absurd (omega arith)
+head-is (x ∷ xs) h = (xs, refl)
+
+some-length : {x : ℕ} (xs : List ℕ) → x ∈ xs → 1 ≤ length xs
+some-length [] m = absurd (List·Memᴰ·not-nil m)
+some-length (y ∷ xs) m = omega arith
+
+-- the groups of a flat page, by any test of its borders
+module _ {h w : ℕ} (z : Sized h w) (link : ℕ → Bool) where
+  abbrev L : Groups
+  L = groupsOf (flat h w) link
+
+  abbrev number : ℕ → ℕ
+  number = entry (numbers (flat h w) link)
+
+  some : 1 ≤ flat h w .cells
+  unfolding flat
+  some = counts z .some
+
+  few : flat h w .cells ≤ 1024
+  unfolding flat
+  few = counts z .cells
+
+  full : (g : ℕ) → g < L .count → 1 ≤ length (members (flat h w) number g)
+  unfolding groupsOf
+  full g l = let m = members-some (flat h w) (flat-bordered h w (omega (arith, z .columns))) link g l in some-length _ (m .1)
+
+  rises : (g : ℕ) → g < L .count → getD (L .offs) g 0 < getD (L .offs) (g + 1) 0
+  unfolding groupsOf
+  rises g l = omega (arith, full g l, offs-next (flat h w) link some few g l)
+
+  ends : (g : ℕ) → g < L .count → getD (L .offs) (g + 1) 0 ≤ h * w
+  unfolding groupsOf flat
+  ends g l = offs-le (flat h w) link some few (g + 1) (omega arith)
+
+  group : (g : ℕ) → part (L .cells) (getD (L .offs) g 0) (getD (L .offs) (g + 1) 0) ≡ members (flat h w) number g
+  unfolding partOf
+  group g = part-members (flat h w) link some few g
+
+  lies : (g : ℕ) → g < L .count → Cells h w (L .cells) (getD (L .offs) g 0) (getD (L .offs) (g + 1) 0)
+  unfolding flat
+  lies g l =
+      record {
+        long = cells-long (flat h w) link some few;
+        order = omega (arith, rises g l);
+        end = omega (arith, ends g l, counts z .cells);
+        each = λ i b. cells-lt (flat h w) link some few (getD (L .offs) g 0 + i) (omega (arith, rises g l, ends g l));
+      }
+
+  head-at : (g : ℕ) → g < L .count → getD (L .cells) (getD (L .offs) g 0) 0 ≡ headOf (members (flat h w) number g)
+  unfolding groupsOf
+  head-at g l =
+      let e : getD (L .offs) g 0 + 0 ≡ getD (L .offs) g 0 = omega arith in
+      rw e at (cell-at (flat h w) link some few g l 0 (full g l))
+
+-- the arrays together
+module _ {h w : ℕ} {cs bs ids cells offs pids pcells poffs list starts : List ℕ}
+    (r : Ready h w cs bs ids cells offs pids pcells poffs list starts) where
+  abbrev Z : Puzzle
+  Z = puzzle h w cs
+
+  abbrev s : ℕ → Mark
+  s = marksIn bs
+
+  abbrev size : Sized h w
+  size = r .drawn .sized
+
+  abbrev own : ℕ → Bool
+  own = joinsIn Units h w cs bs
+
+  abbrev wide : ℕ → Bool
+  wide = joinsIn Potential h w cs bs
+
+  units-are : entry ids ≡ unitOf Z s
+  unfolding joinsIn linkOf coloured
+  units-are = ap entry (r .units-ids) ∙ ids-entry (flat h w) own (some size own) (few size own)
+
+  pub unit-count : groupsOf (flat h w) own .count ≡ unitCount Z s
+  unfolding groupsOf joinsIn linkOf coloured
+  unit-count = refl
+
+  pub unit-few : groupsOf (flat h w) own .count ≤ 1024
+  unfolding flat
+  unit-few = omega (arith, count-le (flat h w) own (some size own) (few size own), counts size .cells)
+
+  pub potential-known : Known h w cs bs pids
+  unfolding groupsOf joinsIn linkOf coloured entry flat
+  potential-known =
+      record {
+        number =
+            λ c l.
+            ap (λ (f : ℕ → ℕ). f c)
+            (ap entry (r .potential-ids) ∙ ids-entry (flat h w) wide (some size wide) (few size wide));
+        few = omega (arith, count-le (flat h w) wide (some size wide) (few size wide), counts size .cells);
+        below = λ c l. rw (r .potential-ids) (ids-lt (flat h w) wide (some size wide) (few size wide) c l);
+      }
+
+  pub potential-grouped : Grouped h w cs bs pcells poffs (groupsOf (flat h w) wide .count)
+  unfolding groupsOf joinsIn linkOf coloured
+  potential-grouped =
+      rw (r .potential-cells, r .potential-offs)
+      (record {
+        all = refl;
+        first =
+            offs-at (flat h w) wide (some size wide) (few size wide) 0 (omega arith)
+            ∙ start-zero (entry (numbers (flat h w) wide)) (flat h w .cells);
+        each = lies size wide;
+        group = λ p l. group size wide p;
+      })
+
+  module _ (u : ℕ) (l : u < groupsOf (flat h w) own .count) where
+    pub unit-in : UnitIn h w ids u cells (getD offs u 0) (getD offs (u + 1) 0)
+    unit-in =
+        rw (r .units-ids, r .units-cells, r .units-offs)
+        (record {
+          numbers = ids-length (flat h w) own (some size own) (few size own);
+          long = cells-long (flat h w) own (some size own) (few size own);
+          some = rises size own u l;
+          end = omega (arith, ends size own u l, counts size .cells);
+          group =
+              group size own u
+              ∙ ap (λ f. members (flat h w) f u) (sym (ids-entry (flat h w) own (some size own) (few size own)));
+        })
+
+    pub head-low : getD cells (getD offs u 0) 0 < h * w
+    unfolding flat
+    head-low =
+        rw (r .units-cells, r .units-offs)
+        (cells-lt (flat h w) own (some size own) (few size own) (getD (groupsOf (flat h w) own .offs) u 0)
+        (omega (arith, rises size own u l, ends size own u l)))
+
+    -- the unit's potential unit
+    abbrev home : ℕ
+    home = getD pids (getD cells (getD offs u 0) 0) 0
+
+    home-is : home ≡ potentialOf Z s (getD cells (getD offs u 0) 0)
+    home-is = potential-known .number (getD cells (getD offs u 0) 0) head-low
+
+    home-count : home < groupsOf (flat h w) wide .count
+    home-count = rw (potential-grouped .all) (potential-known .below (getD cells (getD offs u 0) 0) head-low)
+
+    pub home-low : home < 1024
+    home-low = omega (arith, potential-known .below (getD cells (getD offs u 0) 0) head-low, potential-known .few)
+
+    pub unit-beside : Beside h w pcells poffs list (getD starts home 0) (getD starts (home + 1) 0)
+    unit-beside = beside-of potential-grouped potential-known (r .adjacent) home home-count
+
+    transforms-are : transformsOf Z s u ≡ flatTransforms (shapeOf (flat h w) (entry ids) u)
+    unfolding transformsOf flat
+    transforms-are =
+        rw (lt-ltb u (unitCount Z s) (rw unit-count at l))
+        (ap (λ f. flatTransforms (shapeOf (flat h w) f u)) (sym units-are))
+
+    placed : (p : ℕ) → any (isFit Z s) (placements Z s u p)
+        ≡ fitsTurned Z s pcells poffs (mates Z s p) (shapeOf (flat h w) (entry ids) u)
+    unfolding placements fitsTurned
+    placed p =
+        any-flat (isFit Z s)
+        (λ t. flatMap (λ Q. map (laid Z s t) (members (flat h w) (potentialOf Z s) Q)) (mates Z s p))
+        (transformsOf Z s u)
+        ∙ (any-cong _ (λ t. fitsBeside Z s t pcells poffs (mates Z s p))
+        (λ t. placed-fits potential-grouped t (mates Z s p) (λ q m. mates-low potential-grouped p q m))
+        (transformsOf Z s u)
+        ∙ ap (any (λ t. fitsBeside Z s t pcells poffs (mates Z s p))) transforms-are)
+
+    head-of : getD cells (getD offs u 0) 0 ≡ headOf (members (flat h w) (unitOf Z s) u)
+    unfolding joinsIn linkOf coloured
+    head-of = rw (r .units-cells, r .units-offs) (head-at size own u l)
+
+    first-cell : (xs : List ℕ) → 1 ≤ length xs → fitsOn Z s u xs ≡ any (isFit Z s) (placements Z s u (potentialOf Z s (headOf xs)))
+    unfolding fitsOn
+    first-cell [] h = absurd (omega arith)
+    first-cell (x ∷ xs) h = refl
+
+    own-full : 1 ≤ length (members (flat h w) (unitOf Z s) u)
+    unfolding joinsIn linkOf coloured
+    own-full = full size own u l
+
+    -- what the code finds for a unit is what the definition asks
+    pub fits-unit : fitsTurned Z s pcells poffs (part list (getD starts home 0) (getD starts (home + 1) 0))
+        (shapeOf (flat h w) (entry ids) u) ≡ fitsUnit Z s u
+    unfolding fitsUnit
+    fits-unit =
+        ap (λ gs. fitsTurned Z s pcells poffs gs (shapeOf (flat h w) (entry ids) u))
+        (listed-part (r .adjacent) home home-count)
+        ∙ (sym (placed home)
+        ∙ (ap (λ p. any (isFit Z s) (placements Z s u p)) (home-is ∙ ap (potentialOf Z s) head-of)
+        ∙ sym (first-cell (members (flat h w) (unitOf Z s) u) own-full)))

@@ -1,0 +1,65 @@
+-- Step 3's search for a unit that does not fit.
+--
+--   fitsOn U xs         a placement of unit U fits; xs are its cells
+--   fitsUnit U          the same
+--   firstFrom f i n, firstFail f n   the first number from i on, from 0 on, that fails the test, among n
+--   headOf xs           the first of some cells
+--   stuckHit n          step 3's reason, by the first of n units that does not fit
+--   Ready               the arrays: units, potential units, and the potential units adjacent to each of them
+use mathlib.Core.Path.{_≡_}
+use mathlib.Core.Bool.{Bool, true, false, not, cond}
+use mathlib.Core.List.{List, [], _∷_}
+use mathlib.Core.Option.{Option, some, none}
+use Prim.Native.Nat.{ℕ, zero, suc}
+use lib.Dec.{ltb}
+use lib.ListN.{getD}
+use Rattle.lists.specs.Lists.{any}
+use Rattle.rules.specs.Page.{Mark, Puzzle}
+use Rattle.rules.specs.Flat.{flat}
+use Rattle.rules.specs.Codes.{marksIn}
+use Rattle.rules.specs.Groups.{members, unitOf, potentialOf}
+use Rattle.rules.specs.Check.{Reason, isFit, placements, mates, unitReason}
+use Rattle.groups.specs.declared.Kind.the-variants.{Units, Potential}
+use Rattle.groups.specs.Kinds.{joinsIn}
+use Rattle.groups.specs.Parts.{groupsOf}
+use Rattle.search.specs.Placing.{puzzle, Drawn}
+use Rattle.search.specs.Mates.{Listed}
+
+-- the first number from i on that fails the test, among n; i + n if none does
+unfoldable pub firstFrom : (ℕ → Bool) → ℕ → ℕ → ℕ
+firstFrom f i zero = i
+firstFrom f i (suc n) = cond (f i) (firstFrom f (suc i) n) i
+
+unfoldable pub firstFail : (ℕ → Bool) → ℕ → ℕ
+firstFail f n = firstFrom f 0 n
+
+abbrev pub headOf : List ℕ → ℕ
+headOf xs = getD xs 0 0
+
+module _ (Z : Puzzle) (s : ℕ → Mark) where
+  -- "Per unit U in potential unit P": that of its cells; no cell, no hit
+  unfoldable pub fitsOn : ℕ → List ℕ → Bool
+  fitsOn U [] = true
+  fitsOn U (x ∷ xs) = any (isFit Z s) (placements Z s U (potentialOf Z s x))
+
+  unfoldable pub fitsUnit : ℕ → Bool
+  fitsUnit U = fitsOn U (members (Z .page) (unitOf Z s) U)
+
+  -- the potential unit of unit U
+  unfoldable pub potentialIn : ℕ → ℕ
+  potentialIn U = potentialOf Z s (headOf (members (Z .page) (unitOf Z s) U))
+
+  -- the reason of the unit at which a search among n stopped
+  unfoldable pub stuckHit : ℕ → ℕ → Option Reason
+  stuckHit n U = cond (ltb U n) (some (unitReason Z s U (potentialIn U))) none
+
+pub record Ready (h w : ℕ) (cs bs ids cells offs pids pcells poffs list starts : List ℕ) : Type 0 where
+  pub drawn : Drawn h w cs
+  pub units-ids : ids ≡ groupsOf (flat h w) (joinsIn Units h w cs bs) .ids
+  pub units-cells : cells ≡ groupsOf (flat h w) (joinsIn Units h w cs bs) .cells
+  pub units-offs : offs ≡ groupsOf (flat h w) (joinsIn Units h w cs bs) .offs
+  pub potential-ids : pids ≡ groupsOf (flat h w) (joinsIn Potential h w cs bs) .ids
+  pub potential-cells : pcells ≡ groupsOf (flat h w) (joinsIn Potential h w cs bs) .cells
+  pub potential-offs : poffs ≡ groupsOf (flat h w) (joinsIn Potential h w cs bs) .offs
+  pub adjacent : Listed (mates (puzzle h w cs) (marksIn bs)) list starts
+      (groupsOf (flat h w) (joinsIn Potential h w cs bs) .count)

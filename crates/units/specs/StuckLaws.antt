@@ -1,0 +1,92 @@
+-- Laws of the search for a unit that does not fit: what it stops at is step 3's hit.
+use mathlib.Core.Path.{_≡_, refl, sym, ap, _∙_}
+use mathlib.Core.Bool.{Bool, true, false, not, cond}
+use mathlib.Core.List.{List, [], _∷_}
+use mathlib.Core.Option.{Option, some, none}
+use Prim.Native.Nat.{ℕ, zero, suc, _+_, _-_, _<_, _≤_}
+use native.Mathlib.Numerals.{add-one}
+use native.Mathlib.Omega.{arith}
+use borrow.Author.Tests.{lt-ltb, le-ltb}
+use lib.Dec.{ltb}
+use Rattle.lists.specs.Lists.{any, firstHit, orElse, range, rangeFrom}
+use Rattle.rules.specs.Page.{Mark, Puzzle}
+use Rattle.rules.specs.Groups.{members, unitOf, potentialOf}
+use Rattle.rules.specs.Check.{Reason, hitIf, isFit, placements, unitReason, unitHitIn, unitHitOn, unitHit}
+use Rattle.units.specs.Stuck.{firstFrom, firstFail, headOf, fitsOn, fitsUnit, potentialIn, stuckHit}
+
+-- the loop
+module _ (f : ℕ → Bool) (n i : ℕ) (inv : firstFail f n ≡ firstFrom f i (n - i)) where
+  pub fail-done : n ≤ i → i ≤ n → n ≡ firstFail f n
+  unfolding firstFrom
+  fail-done h k =
+      let e : n - i ≡ 0 = omega arith in
+      let d : n ≡ i = omega arith in
+      d ∙ sym (inv ∙ rw e)
+
+  module _ (h : i < n) where
+    next : n - i ≡ suc (n - (i + 1))
+    next = omega arith
+
+    pub fail-here : f i ≡ false → i ≡ firstFail f n
+    unfolding firstFrom
+    fail-here e = sym (inv ∙ rw (next, e))
+
+    pub fail-next : f i ≡ true → firstFail f n ≡ firstFrom f (i + 1) (n - (i + 1))
+    unfolding firstFrom
+    fail-next e = inv ∙ rw (next, e, add-one i)
+
+pub fail-start : (f : ℕ → Bool) (n : ℕ) → firstFail f n ≡ firstFrom f 0 (n - 0)
+unfolding firstFail
+fail-start f n = let e : n - 0 ≡ n = omega arith in rw e
+
+from-low : (f : ℕ → Bool) (i n : ℕ) → i ≤ firstFrom f i n
+unfolding firstFrom
+from-low f i zero = omega arith
+from-low f i (suc n) = go (f i) (from-low f (suc i) n)
+  where
+    go : (b : Bool) → suc i ≤ firstFrom f (suc i) n → i ≤ cond b (firstFrom f (suc i) n) i
+    go true h = omega arith
+    go false h = omega arith
+
+module _ (Z : Puzzle) (s : ℕ → Mark) where
+  hit-on : (U : ℕ) (xs : List ℕ)
+      → unitHitOn Z s U xs ≡ hitIf (not (fitsOn Z s U xs)) (unitReason Z s U (potentialOf Z s (headOf xs)))
+  unfolding unitHitOn unitHitIn fitsOn hitIf
+  hit-on U [] = refl
+  hit-on U (x ∷ xs) = refl
+
+  hit-unit : (U : ℕ) → unitHit Z s U ≡ hitIf (not (fitsUnit Z s U)) (unitReason Z s U (potentialIn Z s U))
+  unfolding unitHit fitsUnit potentialIn
+  hit-unit U = hit-on U (members (Z .page) (unitOf Z s) U)
+
+  hits-from : (i n : ℕ)
+      → firstHit (unitHit Z s) (rangeFrom i n) ≡ stuckHit Z s (i + n) (firstFrom (fitsUnit Z s) i n)
+  unfolding firstHit orElse stuckHit hitIf firstFrom
+  hits-from i zero = rw (le-ltb i (i + 0) (omega arith))
+  hits-from i (suc n) =
+      rw (hit-unit i) (go (fitsUnit Z s i) (hits-from (suc i) n))
+    where
+      go : (b : Bool)
+          → firstHit (unitHit Z s) (rangeFrom (suc i) n) ≡ stuckHit Z s (suc i + n) (firstFrom (fitsUnit Z s) (suc i) n)
+          → orElse (hitIf (not b) (unitReason Z s i (potentialIn Z s i))) (firstHit (unitHit Z s) (rangeFrom (suc i) n))
+          ≡ stuckHit Z s (i + suc n) (cond b (firstFrom (fitsUnit Z s) (suc i) n) i)
+      go true e =
+          let d : suc i + n ≡ i + suc n = omega arith in
+          e ∙ ap (λ k. stuckHit Z s k (firstFrom (fitsUnit Z s) (suc i) n)) d
+      go false e = rw (lt-ltb i (i + suc n) (omega arith))
+
+  -- step 3 is the reason of the first unit that does not fit
+  pub stuck-hit : (n : ℕ) → firstHit (unitHit Z s) (range n) ≡ stuckHit Z s n (firstFail (fitsUnit Z s) n)
+  unfolding firstFail
+  stuck-hit n =
+      let e : 0 + n ≡ n = omega arith in
+      hits-from 0 n ∙ ap (λ k. stuckHit Z s k (firstFrom (fitsUnit Z s) 0 n)) e
+
+  pub stuck-none : (n : ℕ) → firstFail (fitsUnit Z s) n ≡ n → firstHit (unitHit Z s) (range n) ≡ none
+  unfolding stuckHit
+  stuck-none n e = stuck-hit n ∙ rw (e, le-ltb n n (omega arith))
+
+  pub stuck-some : (n : ℕ) {U : ℕ} → firstFail (fitsUnit Z s) n ≡ U → U < n
+      → firstHit (unitHit Z s) (range n) ≡ some (unitReason Z s U (potentialIn Z s U))
+  unfolding stuckHit
+  stuck-some n {U} e h = stuck-hit n ∙ rw (e, lt-ltb U n h)
