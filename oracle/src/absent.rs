@@ -45,6 +45,14 @@ impl Published {
         panic!("{ABSENT}")
     }
 
+    pub fn group_reasons(&self) -> [Vec<Vec<Literal>>; 3] {
+        panic!("{ABSENT}")
+    }
+
+    pub fn group_counts(&self) -> [usize; 3] {
+        panic!("{ABSENT}")
+    }
+
     pub fn edge(&self, _: usize) -> Vec<Literal> {
         panic!("{ABSENT}")
     }

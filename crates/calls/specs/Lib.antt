@@ -8,3 +8,4 @@ pub mod RunLaws
 pub mod Demand3Laws
 pub mod SmallRuns
 pub mod RunWitness
+pub mod CheckLaws

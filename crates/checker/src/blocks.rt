@@ -157,7 +157,7 @@ fn clash(a: Clue, b: Clue) -> bool
 }
 
 // Whether nothing is wrong.
-fn is_clear(f: Fault) -> bool
+pub fn is_clear(f: Fault) -> bool
     ensures { λ r. ⌜ r ≡ isClear f ⌝ }
 {
     match f {

@@ -1,7 +1,7 @@
 // Check: the three steps of 01's Check, over the arrays of a board and its groups.
-mod blocks; // blocks.rt: step 1
-mod walls; // walls.rt: step 2
-mod write; // write.rt: their reasons
+pub mod blocks; // blocks.rt: step 1
+pub mod walls; // walls.rt: step 2
+pub mod write; // write.rt: their reasons
 
 ghost use mathlib.Core.Path.{_≡_};
 

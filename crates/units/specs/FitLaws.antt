@@ -2,12 +2,14 @@
 use mathlib.Core.Path.{_≡_, refl, sym, ap, _∙_, subst}
 use mathlib.Core.Bool.{Bool, true, false, _||_}
 use mathlib.Core.List.{List, [], _∷_}
-use Prim.Native.Nat.{ℕ, zero, suc, _-_, _<_, _≤_}
+use Prim.Native.Nat.{ℕ, _-_, _≤_}
 use native.Mathlib.Omega.{arith}
+use lib.Dec.{T, ltb, ltb→lt}
 use lib.ListN.{length, getD}
-use Rattle.lists.specs.Lists.{any}
+use Rattle.lists.specs.Lists.{any, all}
+use Rattle.lists.specs.ListLaws.{all-mem}
 use Rattle.lists.specs.Padded.{padded}
-use Rattle.rules.specs.Page.{Mark, Point, Puzzle, Shape}
+use Rattle.rules.specs.Page.{Mark, Puzzle, Shape}
 use Rattle.rules.specs.Flat.{Sized, flat}
 use Rattle.rules.specs.Groups.{entry}
 use Rattle.rules.specs.Check.{laid}
@@ -15,8 +17,8 @@ use Rattle.rules.specs.Shapes.{shapeOf, flatTransforms}
 use Rattle.reasons.specs.Arrays.{part}
 use Rattle.search.specs.Placing.{bare, fitsOf}
 use Rattle.search.specs.Searching.{fitsAmong, fitsBeside}
-use Rattle.search.specs.ListExtras.{part-none}
 use Rattle.shapes.specs.declared.Listed.{Listed}
+use Rattle.shapes.specs.ListExtras.{mem-getD}
 use Rattle.shapes.specs.Listing.{listing}
 use Rattle.shapes.specs.Rows.{image, fixes, flipListed, rowsBy, rowsOf}
 use Rattle.shapes.specs.Parts.{Part, Placed}
@@ -25,7 +27,6 @@ use Rattle.shapes.specs.Spots.{spots, UnitAt}
 use Rattle.shapes.specs.Joints.{Joined}
 use Rattle.shapes.specs.UnitLaws.{transforms-flat}
 use Rattle.units.specs.ListExtras.{any-map, any-cong, any-none}
-use Rattle.units.specs.Images.{imageJoints}
 use Rattle.units.specs.ImageLaws.{image-is}
 use Rattle.units.specs.Fitting.{UnitIn, Rows, fitsBy, fitsTurned}
 
@@ -44,35 +45,14 @@ pub rows-first : (t : Shape) → rowsOf t ≡ 0 ∷ part (listing (rowsOf t) .ro
 unfolding rowsOf
 rows-first t = row-first (fixes t 1) (fixes t 3) (flipListed t)
 
-four : (a b c d : ℕ) → a < 8 → b < 8 → c < 8 → d < 8 → (j : ℕ) → getD (a ∷ b ∷ c ∷ d ∷ 0 ∷ 0 ∷ 0 ∷ 0 ∷ []) j 0 < 8
-four a b c d p q r s zero = p
-four a b c d p q r s (suc zero) = q
-four a b c d p q r s (suc (suc zero)) = r
-four a b c d p q r s (suc (suc (suc zero))) = s
-four a b c d p q r s (suc (suc (suc (suc zero)))) = omega arith
-four a b c d p q r s (suc (suc (suc (suc (suc zero))))) = omega arith
-four a b c d p q r s (suc (suc (suc (suc (suc (suc zero)))))) = omega arith
-four a b c d p q r s (suc (suc (suc (suc (suc (suc (suc zero))))))) = omega arith
-four a b c d p q r s (suc (suc (suc (suc (suc (suc (suc (suc j)))))))) = omega arith
-
-eight : (j : ℕ) → _<_ (getD (0 ∷ 1 ∷ 2 ∷ 3 ∷ 4 ∷ 5 ∷ 6 ∷ 7 ∷ []) j 0) 8
-eight zero = omega arith
-eight (suc zero) = omega arith
-eight (suc (suc zero)) = omega arith
-eight (suc (suc (suc zero))) = omega arith
-eight (suc (suc (suc (suc zero)))) = omega arith
-eight (suc (suc (suc (suc (suc zero))))) = omega arith
-eight (suc (suc (suc (suc (suc (suc zero)))))) = omega arith
-eight (suc (suc (suc (suc (suc (suc (suc zero))))))) = omega arith
-eight (suc (suc (suc (suc (suc (suc (suc (suc j)))))))) = omega arith
-
-row-low : (a b c : Bool) (j : ℕ) → getD (padded 8 0 (rowsBy a b c)) j 0 < 8
-row-low true true true j = four 0 0 0 0 (omega arith) (omega arith) (omega arith) (omega arith) j
-row-low true true false j = four 0 4 0 0 (omega arith) (omega arith) (omega arith) (omega arith) j
-row-low true false true j = four 0 3 0 0 (omega arith) (omega arith) (omega arith) (omega arith) j
-row-low true false false j = four 0 3 4 7 (omega arith) (omega arith) (omega arith) (omega arith) j
-row-low false b true j = four 0 1 2 3 (omega arith) (omega arith) (omega arith) (omega arith) j
-row-low false b false j = eight j
+row-low : (a b c : Bool) → T (all (λ r. ltb r 8) (padded 8 0 (rowsBy a b c)))
+unfolding all
+row-low true true true = tt
+row-low true true false = tt
+row-low true false true = tt
+row-low true false false = tt
+row-low false b true = tt
+row-low false b false = tt
 
 row-few : (a b c : Bool) → (1 ≤ length (rowsBy a b c)) × (length (rowsBy a b c) ≤ 8)
 row-few true true true = (omega arith, omega arith)
@@ -92,15 +72,22 @@ row-long false b false = refl
 
 pub rows-listed : (t : Shape) {r : Listed} → r ≡ listing (rowsOf t) → Rows r
 unfolding rowsOf
-rows-listed t e =
-    let f = row-few (fixes t 1) (fixes t 3) (flipListed t) in
-    subst Rows (sym e)
-    (record {
-      long = row-long (fixes t 1) (fixes t 3) (flipListed t);
-      some = f .0;
-      few = f .1;
-      low = λ j l. row-low (fixes t 1) (fixes t 3) (flipListed t) j;
-    })
+rows-listed t e = subst Rows (sym e) (facts (fixes t 1) (fixes t 3) (flipListed t))
+  where
+    facts : (a b c : Bool) → Rows (listing (rowsBy a b c))
+    facts a b c =
+        let f = row-few a b c in
+        let l = row-long a b c in
+        record {
+          long = l;
+          some = f .0;
+          few = f .1;
+          low =
+              λ j h.
+              ltb→lt (getD (padded 8 0 (rowsBy a b c)) j 0) 8
+              (all-mem (λ r. ltb r 8) (padded 8 0 (rowsBy a b c)) (row-low a b c)
+              (mem-getD (padded 8 0 (rowsBy a b c)) j 0 (omega (arith, f .1))));
+        }
 
 module _ (Z : Puzzle) (s : ℕ → Mark) (cells offs : List ℕ) where
   -- a placement looks at the connections only

@@ -19,7 +19,6 @@ use Rattle.reasons.specs.Arrays.{part}
 use Rattle.search.specs.Placing.{bare}
 use Rattle.search.specs.Searching.{fitsBeside}
 use Rattle.shapes.specs.declared.Listed.{Listed}
-use Rattle.shapes.specs.Spots.{spots}
 use Rattle.units.specs.Images.{imageJoints}
 
 pub record Lent (R C D A Y X : List ℕ) : Type 0 where

@@ -12,7 +12,7 @@ use Rattle.lists.specs.Lists.{_∈_}
 use Rattle.lists.specs.ListLaws.{map-find}
 use Rattle.rules.specs.Page.{Point, _⊕_, opposite}
 use Rattle.rules.specs.Turns.{signed, apply}
-use Rattle.rules.specs.Shapes.{sort, shiftBy, shapeOf}
+use Rattle.rules.specs.Shapes.{shiftBy, shapeOf}
 use Rattle.rules.specs.Flat.{flat}
 use Rattle.rules.specs.Groups.{entry}
 use Rattle.argument.specs.Points.{point-eq}
@@ -149,7 +149,8 @@ module _ (r : ℕ) (low : r < 8) (R C : List ℕ) (n : ℕ) (s : Spotted R C n) 
   at : pointOf p ≡ pointAt (signed up (pos down)) (signed left (pos across))
   at =
       first ∙ (least-of r R C n (s .some) .2
-      ∙ (ap (λ t. apply t (spotAt R C cell)) (row-turn r low) ∙ turn-place swap up left (getD R cell 0) (getD C cell 0)))
+      ∙ (ap (λ t. apply t (spotAt R C cell)) (row-turn r low)
+      ∙ turn-place swap up left (getD R cell 0) (getD C cell 0)))
 
   down-is : p .y ≡ signed up (pos down)
   down-is = ap (λ q. q .row) at
@@ -159,11 +160,13 @@ module _ (r : ℕ) (low : r < 8) (R C : List ℕ) (n : ℕ) (s : Spotted R C n) 
 
   down-low : down < 32
   down-low =
-      let i = least-of r R C n (s .some) .1 in one swap (getD R cell 0) (getD C cell 0) (s .down cell i) (s .across cell i)
+      let i = least-of r R C n (s .some) .1 in
+      one swap (getD R cell 0) (getD C cell 0) (s .down cell i) (s .across cell i)
 
   across-low : across < 32
   across-low =
-      let i = least-of r R C n (s .some) .1 in one swap (getD C cell 0) (getD R cell 0) (s .across cell i) (s .down cell i)
+      let i = least-of r R C n (s .some) .1 in
+      one swap (getD C cell 0) (getD R cell 0) (s .across cell i) (s .down cell i)
 
   pub turnable : Turnable swap up left (raiseOf (p .y)) (raiseOf (p .x)) D A k
   turnable =

@@ -6,3 +6,4 @@ pub mod FitLaws
 pub mod Stuck
 pub mod StuckLaws
 pub mod ReadyLaws
+pub mod ClueLaws

@@ -1,20 +1,18 @@
 -- What the arrays of the units, of the potential units and of their mates give to the search.
-use mathlib.Core.Path.{_≡_, refl, sym, ap, _∙_, subst}
+use mathlib.Core.Path.{_≡_, refl, sym, ap, _∙_}
 use mathlib.Core.Bool.{Bool}
 use mathlib.Core.List.{List, [], _∷_, map, List·Memᴰ·not-nil}
 use Prim.Native.Nat.{ℕ, _+_, _-_, _*_, _<_, _≤_}
 use native.Mathlib.Omega.{arith}
 use borrow.Author.Tests.{lt-ltb}
-use lib.Dec.{ltb}
 use lib.ListN.{length, getD}
 use Rattle.lists.specs.Lists.{_∈_, any, flatMap}
-use Rattle.rules.specs.Page.{Mark, Puzzle, Shape}
+use Rattle.rules.specs.Page.{Mark, Puzzle}
 use Rattle.rules.specs.Flat.{Sized, flat}
 use Rattle.rules.specs.FlatLaws.{counts}
 use Rattle.rules.specs.Codes.{marksIn}
-use Rattle.rules.specs.Rules.{joinsUnit}
-use Rattle.rules.specs.Groups.{entry, numbers, members, groupCount}
-use Rattle.rules.specs.Groups.{joinsPotential, unitOf, unitCount, potentialOf, potentialCount}
+use Rattle.rules.specs.Groups.{entry, numbers, members}
+use Rattle.rules.specs.Groups.{unitOf, unitCount, potentialOf}
 use Rattle.rules.specs.Shapes.{shapeOf, flatTransforms}
 use Rattle.rules.specs.Check.{laid, isFit, mates, placements, transformsOf}
 use Rattle.argument.specs.FlatPage.{flat-bordered}
@@ -23,15 +21,15 @@ use Rattle.reasons.specs.Arrays.{Cells, part}
 use Rattle.groups.specs.declared.Kind.the-variants.{Units, Potential}
 use Rattle.groups.specs.declared.Groups.{Groups}
 use Rattle.groups.specs.Kinds.{linkOf, coloured, joinsIn}
-use Rattle.groups.specs.Parts.{groupsOf, partOf, startOf}
+use Rattle.groups.specs.Parts.{groupsOf, partOf}
 use Rattle.groups.specs.SortLaws.{start-zero}
 use Rattle.groups.specs.PartLaws.{ids-entry, ids-length, ids-lt, count-le, offs-at, offs-next, offs-le, cells-long}
 use Rattle.groups.specs.PartLaws.{cells-lt, part-members, cell-at}
-use Rattle.search.specs.Placing.{puzzle, Drawn}
+use Rattle.search.specs.Placing.{puzzle}
 use Rattle.search.specs.Searching.{Beside, fitsBeside}
 use Rattle.search.specs.SearchLaws.{placed-fits, mates-low, beside-of}
 use Rattle.search.specs.GatherLaws.{listed-part}
-use Rattle.search.specs.Mates.{Known, Grouped, Listed}
+use Rattle.search.specs.Mates.{Known, Grouped}
 use Rattle.units.specs.ListExtras.{any-flat, any-cong}
 use Rattle.units.specs.Fitting.{UnitIn, fitsTurned}
 use Rattle.units.specs.Stuck.{Ready, headOf, fitsOn, fitsUnit}
@@ -52,17 +50,18 @@ module _ {h w : ℕ} (z : Sized h w) (link : ℕ → Bool) where
   abbrev number : ℕ → ℕ
   number = entry (numbers (flat h w) link)
 
-  some : 1 ≤ flat h w .cells
+  pub some : 1 ≤ flat h w .cells
   unfolding flat
   some = counts z .some
 
-  few : flat h w .cells ≤ 1024
+  pub few : flat h w .cells ≤ 1024
   unfolding flat
   few = counts z .cells
 
   full : (g : ℕ) → g < L .count → 1 ≤ length (members (flat h w) number g)
   unfolding groupsOf
-  full g l = let m = members-some (flat h w) (flat-bordered h w (omega (arith, z .columns))) link g l in some-length _ (m .1)
+  full g l = let m = members-some (flat h w) (flat-bordered h w (omega (arith, z .columns))) link g l in
+      some-length _ (m .1)
 
   rises : (g : ℕ) → g < L .count → getD (L .offs) g 0 < getD (L .offs) (g + 1) 0
   unfolding groupsOf
@@ -92,6 +91,33 @@ module _ {h w : ℕ} (z : Sized h w) (link : ℕ → Bool) where
       let e : getD (L .offs) g 0 + 0 ≡ getD (L .offs) g 0 = omega arith in
       rw e at (cell-at (flat h w) link some few g l 0 (full g l))
 
+-- the potential units are what the search asks for
+module _ {h w : ℕ} (z : Sized h w) (cs bs : List ℕ) where
+  abbrev joins : ℕ → Bool
+  joins = joinsIn Potential h w cs bs
+
+  pub known-of : Known h w cs bs (groupsOf (flat h w) joins .ids)
+  unfolding groupsOf joinsIn linkOf coloured entry flat
+  known-of =
+      record {
+        number = λ c l. ap (λ (f : ℕ → ℕ). f c) (ids-entry (flat h w) joins (some z joins) (few z joins));
+        few = omega (arith, count-le (flat h w) joins (some z joins) (few z joins), counts z .cells);
+        below = λ c l. ids-lt (flat h w) joins (some z joins) (few z joins) c l;
+      }
+
+  pub grouped-of : Grouped h w cs bs (groupsOf (flat h w) joins .cells) (groupsOf (flat h w) joins .offs)
+      (groupsOf (flat h w) joins .count)
+  unfolding groupsOf joinsIn linkOf coloured
+  grouped-of =
+      record {
+        all = refl;
+        first =
+            offs-at (flat h w) joins (some z joins) (few z joins) 0 (omega arith)
+            ∙ start-zero (entry (numbers (flat h w) joins)) (flat h w .cells);
+        each = lies z joins;
+        group = λ p l. group z joins p;
+      }
+
 -- the arrays together
 module _ {h w : ℕ} {cs bs ids cells offs pids pcells poffs list starts : List ℕ}
     (r : Ready h w cs bs ids cells offs pids pcells poffs list starts) where
@@ -110,7 +136,7 @@ module _ {h w : ℕ} {cs bs ids cells offs pids pcells poffs list starts : List 
   abbrev wide : ℕ → Bool
   wide = joinsIn Potential h w cs bs
 
-  units-are : entry ids ≡ unitOf Z s
+  pub units-are : entry ids ≡ unitOf Z s
   unfolding joinsIn linkOf coloured
   units-are = ap entry (r .units-ids) ∙ ids-entry (flat h w) own (some size own) (few size own)
 
@@ -123,29 +149,10 @@ module _ {h w : ℕ} {cs bs ids cells offs pids pcells poffs list starts : List 
   unit-few = omega (arith, count-le (flat h w) own (some size own) (few size own), counts size .cells)
 
   pub potential-known : Known h w cs bs pids
-  unfolding groupsOf joinsIn linkOf coloured entry flat
-  potential-known =
-      record {
-        number =
-            λ c l.
-            ap (λ (f : ℕ → ℕ). f c)
-            (ap entry (r .potential-ids) ∙ ids-entry (flat h w) wide (some size wide) (few size wide));
-        few = omega (arith, count-le (flat h w) wide (some size wide) (few size wide), counts size .cells);
-        below = λ c l. rw (r .potential-ids) (ids-lt (flat h w) wide (some size wide) (few size wide) c l);
-      }
+  potential-known = rw (r .potential-ids) (known-of size cs bs)
 
   pub potential-grouped : Grouped h w cs bs pcells poffs (groupsOf (flat h w) wide .count)
-  unfolding groupsOf joinsIn linkOf coloured
-  potential-grouped =
-      rw (r .potential-cells, r .potential-offs)
-      (record {
-        all = refl;
-        first =
-            offs-at (flat h w) wide (some size wide) (few size wide) 0 (omega arith)
-            ∙ start-zero (entry (numbers (flat h w) wide)) (flat h w .cells);
-        each = lies size wide;
-        group = λ p l. group size wide p;
-      })
+  potential-grouped = rw (r .potential-cells, r .potential-offs) (grouped-of size cs bs)
 
   module _ (u : ℕ) (l : u < groupsOf (flat h w) own .count) where
     pub unit-in : UnitIn h w ids u cells (getD offs u 0) (getD offs (u + 1) 0)
@@ -172,10 +179,10 @@ module _ {h w : ℕ} {cs bs ids cells offs pids pcells poffs list starts : List 
     abbrev home : ℕ
     home = getD pids (getD cells (getD offs u 0) 0) 0
 
-    home-is : home ≡ potentialOf Z s (getD cells (getD offs u 0) 0)
+    pub home-is : home ≡ potentialOf Z s (getD cells (getD offs u 0) 0)
     home-is = potential-known .number (getD cells (getD offs u 0) 0) head-low
 
-    home-count : home < groupsOf (flat h w) wide .count
+    pub home-count : home < groupsOf (flat h w) wide .count
     home-count = rw (potential-grouped .all) (potential-known .below (getD cells (getD offs u 0) 0) head-low)
 
     pub home-low : home < 1024
@@ -184,7 +191,7 @@ module _ {h w : ℕ} {cs bs ids cells offs pids pcells poffs list starts : List 
     pub unit-beside : Beside h w pcells poffs list (getD starts home 0) (getD starts (home + 1) 0)
     unit-beside = beside-of potential-grouped potential-known (r .adjacent) home home-count
 
-    transforms-are : transformsOf Z s u ≡ flatTransforms (shapeOf (flat h w) (entry ids) u)
+    pub transforms-are : transformsOf Z s u ≡ flatTransforms (shapeOf (flat h w) (entry ids) u)
     unfolding transformsOf flat
     transforms-are =
         rw (lt-ltb u (unitCount Z s) (rw unit-count at l))
@@ -202,11 +209,12 @@ module _ {h w : ℕ} {cs bs ids cells offs pids pcells poffs list starts : List 
         (transformsOf Z s u)
         ∙ ap (any (λ t. fitsBeside Z s t pcells poffs (mates Z s p))) transforms-are)
 
-    head-of : getD cells (getD offs u 0) 0 ≡ headOf (members (flat h w) (unitOf Z s) u)
+    pub head-of : getD cells (getD offs u 0) 0 ≡ headOf (members (flat h w) (unitOf Z s) u)
     unfolding joinsIn linkOf coloured
     head-of = rw (r .units-cells, r .units-offs) (head-at size own u l)
 
-    first-cell : (xs : List ℕ) → 1 ≤ length xs → fitsOn Z s u xs ≡ any (isFit Z s) (placements Z s u (potentialOf Z s (headOf xs)))
+    first-cell : (xs : List ℕ) → 1 ≤ length xs
+        → fitsOn Z s u xs ≡ any (isFit Z s) (placements Z s u (potentialOf Z s (headOf xs)))
     unfolding fitsOn
     first-cell [] h = absurd (omega arith)
     first-cell (x ∷ xs) h = refl

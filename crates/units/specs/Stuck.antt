@@ -4,10 +4,11 @@
 --   fitsUnit U          the same
 --   firstFrom f i n, firstFail f n   the first number from i on, from 0 on, that fails the test, among n
 --   headOf xs           the first of some cells
---   stuckHit n          step 3's reason, by the first of n units that does not fit
+--   potentialIn U       the potential unit of unit U: that of its first cell
+--   stuckHit n U        step 3's hit, where U is the first of n units that does not fit, or n
 --   Ready               the arrays: units, potential units, and the potential units adjacent to each of them
 use mathlib.Core.Path.{_≡_}
-use mathlib.Core.Bool.{Bool, true, false, not, cond}
+use mathlib.Core.Bool.{Bool, true, cond}
 use mathlib.Core.List.{List, [], _∷_}
 use mathlib.Core.Option.{Option, some, none}
 use Prim.Native.Nat.{ℕ, zero, suc}

@@ -2,16 +2,15 @@
 use mathlib.Core.Path.{_≡_, refl, sym, ap, _∙_}
 use mathlib.Core.Bool.{Bool, true, false, not, cond}
 use mathlib.Core.List.{List, [], _∷_}
-use mathlib.Core.Option.{Option, some, none}
+use mathlib.Core.Option.{some, none}
 use Prim.Native.Nat.{ℕ, zero, suc, _+_, _-_, _<_, _≤_}
 use native.Mathlib.Numerals.{add-one}
 use native.Mathlib.Omega.{arith}
 use borrow.Author.Tests.{lt-ltb, le-ltb}
-use lib.Dec.{ltb}
-use Rattle.lists.specs.Lists.{any, firstHit, orElse, range, rangeFrom}
+use Rattle.lists.specs.Lists.{firstHit, orElse, range, rangeFrom}
 use Rattle.rules.specs.Page.{Mark, Puzzle}
 use Rattle.rules.specs.Groups.{members, unitOf, potentialOf}
-use Rattle.rules.specs.Check.{Reason, hitIf, isFit, placements, unitReason, unitHitIn, unitHitOn, unitHit}
+use Rattle.rules.specs.Check.{hitIf, unitReason, unitHitIn, unitHitOn, unitHit}
 use Rattle.units.specs.Stuck.{firstFrom, firstFail, headOf, fitsOn, fitsUnit, potentialIn, stuckHit}
 
 -- the loop
@@ -38,15 +37,6 @@ module _ (f : ℕ → Bool) (n i : ℕ) (inv : firstFail f n ≡ firstFrom f i (
 pub fail-start : (f : ℕ → Bool) (n : ℕ) → firstFail f n ≡ firstFrom f 0 (n - 0)
 unfolding firstFail
 fail-start f n = let e : n - 0 ≡ n = omega arith in rw e
-
-from-low : (f : ℕ → Bool) (i n : ℕ) → i ≤ firstFrom f i n
-unfolding firstFrom
-from-low f i zero = omega arith
-from-low f i (suc n) = go (f i) (from-low f (suc i) n)
-  where
-    go : (b : Bool) → suc i ≤ firstFrom f (suc i) n → i ≤ cond b (firstFrom f (suc i) n) i
-    go true h = omega arith
-    go false h = omega arith
 
 module _ (Z : Puzzle) (s : ℕ → Mark) where
   hit-on : (U : ℕ) (xs : List ℕ)

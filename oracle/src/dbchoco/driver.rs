@@ -121,6 +121,28 @@ impl Published {
         board.reason_for_unit(&board.compute_board_info(), unit)
     }
 
+    /// Inside of each block, Inside of each unit, Edge of each potential unit.
+    pub fn group_reasons(&self) -> [Vec<Vec<Literal>>; 3] {
+        let board = &self.constraint.board;
+        let info = board.compute_board_info();
+        let blocks = 0..info.blocks.num_groups();
+        let units = 0..info.units.num_groups();
+        let potential = 0..info.potential_units.num_groups();
+        [
+            blocks.map(|i| board.reason_for_block(&info, i)).collect(),
+            units.map(|i| board.reason_for_unit(&info, i)).collect(),
+            potential
+                .map(|i| board.reason_for_potential_unit_boundary(&info, i))
+                .collect(),
+        ]
+    }
+
+    /// How many blocks, units and potential units there are: the groupings alone, to be timed.
+    pub fn group_counts(&self) -> [usize; 3] {
+        let info = self.constraint.board.compute_board_info();
+        [info.blocks, info.units, info.potential_units].map(|groups| groups.num_groups())
+    }
+
     /// Edge of a potential unit.
     pub fn edge(&self, potential: usize) -> Vec<Literal> {
         let board = &self.constraint.board;

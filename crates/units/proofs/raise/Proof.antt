@@ -1,5 +1,5 @@
 -- The numbers are small, so the machine's sum and difference are those of the definition.
-use mathlib.Core.Path.{_≡_, ap, _∙_}
+use mathlib.Core.Path.{ap, _∙_}
 use native.Mathlib.Omega.{arith}
 use lib.IntN.{pos, natAbs}
 use Rattle.shapes.specs.PairLaws.{sum-fits, twice-fits, twice-back}

@@ -1,5 +1,5 @@
 -- The search lays what the turn wrote, and that is the image.
-use mathlib.Core.Path.{_≡_, ap, _∙_}
+use mathlib.Core.Path.{ap, _∙_}
 use borrow.Author.Needs.{needs}
 use Rattle.rules.specs.Codes.{marksIn}
 use Rattle.reasons.specs.Arrays.{part}

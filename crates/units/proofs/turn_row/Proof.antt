@@ -33,7 +33,8 @@ raise-requires-2 c κs =
     let p = c .before .before .before .least .result in
     let n : mag (p .x) < 33 =
     across-near (s .args .row) (s .pre .0) (s .args .rows .now) (s .args .columns .now) (s .args .n) (s .pre .1)
-    (s .args .down .now) (s .args .across .now) (s .args .k) (s .pre .2) p (c .before .before .before .least .ensures) in
+    (s .args .down .now) (s .args .across .now) (s .args .k) (s .pre .2) p (c .before .before .before .least .ensures)
+    in
     rw (small-back (p .x) (omega arith)) n
 
 array-read-turn : tie.Need-array-read-turn

@@ -1,0 +1,82 @@
+-- What the search for a hit finds over a board's arrays is the answer of a check.
+use mathlib.Core.Path.{_≡_, refl, sym, ap, _∙_}
+use mathlib.Core.Bool.{Bool, true, false}
+use mathlib.Core.List.{List}
+use mathlib.Core.Option.{Option, some, none}
+use Prim.Native.Nat.{ℕ, _*_, _<_, _≤_}
+use native.Mathlib.Decide.{decLt}
+use native.Mathlib.Omega.{arith}
+use lib.ListN.{length, getD}
+use Rattle.rules.specs.Page.{Puzzle, Mark}
+use Rattle.rules.specs.Codes.{marksIn, put}
+use Rattle.rules.specs.Check.{Reason, hit, check, answerOf, undecidedCount}
+use Rattle.board.specs.declared.Board.{Board}
+use Rattle.board.specs.Alien.{isAlien}
+use Rattle.board.specs.View.{puzzleOf, marksOf, undecidedOf}
+use Rattle.board.specs.View as view
+use Rattle.board.specs.NativeLaws.{Native, native-has}
+use Rattle.board.specs.ViewLaws.{undecided-rules}
+use Rattle.checker.specs.Bridges.{puzzleIn}
+use Rattle.search.specs.Placing.{Drawn}
+use Rattle.hits.specs.declared.Found.{Found}
+use Rattle.hits.specs.declared.Found.the-variants.{Nothing, Reason as Given}
+use Rattle.hits.specs.Found.{foundOf, writtenBy}
+use Rattle.hits.specs.HitLaws.{Answers}
+use Rattle.calls.specs.declared.Answer.{Answer}
+use Rattle.calls.specs.declared.Answer.the-variants.{Pass, Conflict}
+use Rattle.calls.specs.Answers.{asAnswer, written, checkAnswer, checkMemory}
+use Rattle.calls.specs.AnswerLaws.{check-found, memory-found}
+
+module _ (b : Board) (t : isAlien b ≡ false) where
+  -- the colours are 0 or 1, those of unused places too
+  pub drawn-of : Drawn (b .height) (b .width) (b .colours)
+  drawn-of =
+      let n = native-has b t in
+      record {
+        sized = n .size;
+        two =
+            λ c. elim (decLt c (b .height * b .width)) [
+              | yes l ↦ n .colour c l
+              | no l ↦ omega (arith, n .noColour c (omega arith))
+            ];
+      }
+
+  abbrev hitOf : Option Reason
+  hitOf = hit (puzzleIn (b .height) (b .width) (b .colours) (b .clues)) (marksIn (b .borders))
+
+  same-hit : hitOf ≡ hit (puzzleOf b) (marksOf b)
+  unfolding puzzleOf marksOf view.puzzleIn
+  same-hit = refl
+
+  checked : (o : Option Reason) → hitOf ≡ o
+      → check (puzzleOf b) (marksOf b) ≡ answerOf (undecidedCount (puzzleOf b) (marksOf b)) o
+  unfolding check
+  checked o e = ap (answerOf (undecidedCount (puzzleOf b) (marksOf b))) (sym same-hit ∙ e)
+
+  module _ (m after : List ℕ) (h : 16384 ≤ length m) where
+    pub nothing-found : Answers hitOf m after Nothing
+        → (Pass (undecidedOf b) ≡ checkAnswer b (length m)) × (after ≡ checkMemory b m)
+    unfolding foundOf writtenBy asAnswer written
+    nothing-found a = go hitOf refl (a .found) (a .memory)
+      where
+        go : (o : Option Reason) → hitOf ≡ o → Nothing ≡ foundOf o → after ≡ writtenBy o m
+            → (Pass (undecidedOf b) ≡ checkAnswer b (length m)) × (after ≡ checkMemory b m)
+        go none e f g = (
+          ap Pass (undecided-rules b (native-has b t)) ∙ (sym (ap asAnswer (checked none e)) ∙ check-found b m t h),
+          g ∙ (sym (ap (written m) (checked none e)) ∙ memory-found b m t h),
+        )
+        go (some r) e f g = let z : _≡_ {A = ℕ} 0 1 = cc in absurd (omega arith)
+
+    pub reason-found : (n : ℕ) → Answers hitOf m after (Given n)
+        → (Conflict n ≡ checkAnswer b (length m)) × (after ≡ checkMemory b m)
+    unfolding foundOf writtenBy asAnswer written
+    reason-found n a = go hitOf refl (a .found) (a .memory)
+      where
+        go : (o : Option Reason) → hitOf ≡ o → Given n ≡ foundOf o → after ≡ writtenBy o m
+            → (Conflict n ≡ checkAnswer b (length m)) × (after ≡ checkMemory b m)
+        go none e f g = let z : _≡_ {A = ℕ} 0 1 = cc in absurd (omega arith)
+        go (some r) e f g =
+            let q : n ≡ length r = cc in (
+              ap Conflict q ∙ (sym (ap asAnswer (checked (some r) e)) ∙ check-found b m t h),
+              g ∙ (sym (ap (written m) (checked (some r) e)) ∙ memory-found b m t h),
+            )

@@ -1,0 +1,97 @@
+-- What steps 1 and 2 find over the arrays of a board is the hit of the definitions.
+use mathlib.Core.Path.{_≡_, sym, ap, _∙_}
+use mathlib.Core.Bool.{Bool, true, false}
+use mathlib.Core.List.{List}
+use mathlib.Core.Option.{Option, some, none}
+use Prim.Native.Nat.{ℕ}
+use native.Mathlib.Omega.{arith}
+use lib.IntN.{ℤ}
+use lib.ListN.{length}
+use Rattle.lists.specs.Lists.{orElse}
+use Rattle.rules.specs.Flat.{Sized, flat}
+use Rattle.rules.specs.Codes.{marksIn}
+use Rattle.rules.specs.Check.{Reason}
+use Rattle.reasons.specs.Memory.{Wrote}
+use Rattle.groups.specs.declared.Kind.the-variants.{Blocks, Potential}
+use Rattle.checker.specs.declared.Faulty.{Faulty}
+use Rattle.checker.specs.declared.Breach.{Breach}
+use Rattle.checker.specs.Arrays.{Numbered}
+use Rattle.checker.specs.Faults.{isClear}
+use Rattle.checker.specs.Written.{faultUnit, reasonIn, breachLiterals}
+use Rattle.checker.specs.Bridges.{puzzleIn, groupsIn}
+use Rattle.checker.specs.Steps.{faultyIn, breachIn, block-numbered, unit-numbered, one-hit, one-none, two-hit, two-none}
+use Rattle.hits.specs.declared.Found.{Found}
+use Rattle.hits.specs.declared.Found.the-variants.{Nothing, Reason as Given}
+use Rattle.hits.specs.Found.{foundOf, writtenBy, blocksHit, wallsHit}
+
+-- what was found and written, as the code answers it
+pub record Answers (o : Option Reason) (m after : List ℕ) (r : Found) : Type 0 where
+  pub found : r ≡ foundOf o
+  pub memory : after ≡ writtenBy o m
+
+pub answers-of : {o : Option Reason} {m after : List ℕ} {r : Found} → r ≡ foundOf o → after ≡ writtenBy o m
+    → Answers o m after r
+answers-of e f = record { found = e; memory = f }
+
+pub answers-none : {o : Option Reason} (m : List ℕ) → o ≡ none → Answers o m m Nothing
+unfolding foundOf writtenBy
+answers-none m e = record { found = rw e; memory = rw e }
+
+pub answers-some : {o : Option Reason} {m after : List ℕ} {r : Reason} {n : ℕ} → o ≡ some r → Wrote m 0 r after n
+    → Answers o m after (Given n)
+unfolding foundOf writtenBy
+answers-some e w = record { found = rw (e, w .place) (ap Given (omega arith)); memory = rw e (w .memory) }
+
+-- one search after another: the first one's hit stands, and where there was none the memory is still the old one
+pub answers-first : (a b : Option Reason) {m after : List ℕ} {r : Found} (n : ℕ) → r ≡ Given n → Answers a m after r
+    → Answers (orElse a b) m after r
+unfolding foundOf orElse
+answers-first (some q) b n e t = t
+answers-first none b n e t = let z : _≡_ {A = ℕ} 0 1 = (let u = t .found in cc) in absurd (omega arith)
+
+pub answers-next : (a b : Option Reason) {m mid after : List ℕ} {r : Found} → Answers a m mid Nothing
+    → Answers b mid after r → Answers (orElse a b) m after r
+unfolding foundOf writtenBy orElse
+answers-next none b t u = record { found = u .found; memory = u .memory ∙ ap (writtenBy b) (t .memory) }
+answers-next (some q) b t u = let z : _≡_ {A = ℕ} 0 1 = (let v = t .found in cc) in absurd (omega arith)
+
+-- step 1: r is what first_faulty found
+module _ {h w : ℕ} (z : Sized h w) (cs : List ℕ) (ks : List ℤ) (bs : List ℕ) (r : Faulty)
+    (is : r ≡ faultyIn z cs ks bs) where
+  pub blocks-clear : isClear (r .fault) ≡ true → blocksHit (puzzleIn h w cs ks) (marksIn bs) ≡ none
+  unfolding blocksHit
+  blocks-clear e = one-none z cs ks bs (ap (λ (f : Faulty). isClear (f .fault)) (sym is) ∙ e)
+
+  pub blocks-fault : isClear (r .fault) ≡ false
+      → blocksHit (puzzleIn h w cs ks) (marksIn bs)
+      ≡ some (reasonIn h w cs bs (groupsIn Blocks h w cs bs .ids) (groupsIn Potential h w cs bs .ids) r)
+  unfolding blocksHit
+  blocks-fault e =
+      one-hit z cs ks bs (ap (λ (f : Faulty). isClear (f .fault)) (sym is) ∙ e)
+      ∙ ap (λ (f : Faulty). some (reasonIn h w cs bs (groupsIn Blocks h w cs bs .ids)
+      (groupsIn Potential h w cs bs .ids) f))
+      (sym is)
+
+  -- the block and the potential unit that a fault names have their parts
+  pub fault-block : isClear (r .fault) ≡ false
+      → Numbered h w (groupsIn Blocks h w cs bs .ids) (groupsIn Blocks h w cs bs .cells)
+      (groupsIn Blocks h w cs bs .offs) (r .block)
+  fault-block e = rw is (block-numbered z cs ks bs (ap (λ (f : Faulty). isClear (f .fault)) (sym is) ∙ e))
+
+  pub fault-unit : Numbered h w (groupsIn Potential h w cs bs .ids) (groupsIn Potential h w cs bs .cells)
+      (groupsIn Potential h w cs bs .offs) (faultUnit (r .fault))
+  fault-unit = rw is (unit-numbered z cs ks bs)
+
+-- step 2: b is what first_breach found
+module _ {h w : ℕ} (z : Sized h w) (cs : List ℕ) (ks : List ℤ) (bs : List ℕ) (b : Breach)
+    (is : b ≡ breachIn z cs ks bs) where
+  pub walls-clear : b .found ≡ false → wallsHit (puzzleIn h w cs ks) (marksIn bs) ≡ none
+  unfolding wallsHit
+  walls-clear e = two-none z cs ks bs (ap (λ (f : Breach). f .found) (sym is) ∙ e)
+
+  pub walls-breach : b .found ≡ true
+      → wallsHit (puzzleIn h w cs ks) (marksIn bs) ≡ some (breachLiterals (flat h w) (marksIn bs) b)
+  unfolding wallsHit
+  walls-breach e =
+      two-hit z cs ks bs (ap (λ (f : Breach). f .found) (sym is) ∙ e)
+      ∙ ap (λ (f : Breach). some (breachLiterals (flat h w) (marksIn bs) f)) (sym is)

@@ -1,0 +1,32 @@
+-- `size_fits` meets its contract, test by test.
+use Rattle.page.specs.Judge.{sizeFits}
+use borrow.Author.Tests.{lt-leb, le-leb}
+use Rattle.page.proofs.fitness.size_fits.Statement.{statement}
+use Rattle.page.proofs.fitness.size_fits.Tie as tie
+
+returns : tie.Need-returns
+unfolding sizeFits
+returns c = simp (lt-leb _ _ (c .if1 .taken))
+
+returns-2 : tie.Need-returns-2
+unfolding sizeFits
+returns-2 c = simp (le-leb _ _ (c .before .if1 .left), lt-leb _ _ (c .if2 .taken))
+
+returns-3 : tie.Need-returns-3
+unfolding sizeFits
+returns-3 c = simp (
+  le-leb _ _ (c .before .before .if1 .left),
+  le-leb _ _ (c .before .if2 .left),
+  lt-leb _ _ (c .if3 .taken),
+)
+
+returns-4 : tie.Need-returns-4
+unfolding sizeFits
+returns-4 c = simp (
+  le-leb _ _ (c .before .before .if1 .left),
+  le-leb _ _ (c .before .if2 .left),
+  le-leb _ _ (c .if3 .left),
+)
+
+pub size-fits-spec : {M : Type 1} → statement M
+size-fits-spec = tie.close (tie.spec returns returns-2 returns-3 returns-4)

@@ -1,0 +1,127 @@
+-- `size_at` meets its contract: each word and number read is what the reader reads there.
+use Rattle.page.specs.Grammar.{size}
+use Rattle.page.specs.Places.{sizeOf, placeOf, numberOf}
+use Rattle.page.specs.ReaderLaws.{told}
+use Rattle.page.specs.Readers.{lead, both, trail, done, onto, also}
+use borrow.Author.Needs.{needs}
+use Rattle.page.proofs.lines.size_at.Statement.{statement}
+use Rattle.page.proofs.lines.size_at.Tie as tie
+
+slice-aggregate-word-at : tie.Need-slice-aggregate-word-at
+slice-aggregate-word-at c = search needs
+
+word-at-requires : tie.Need-word-at-requires
+word-at-requires c κs = search needs
+
+enum-known-a : tie.Need-enum-known-a
+enum-known-a c = search needs
+
+enum-told : tie.Need-enum-told
+enum-told c = search needs
+
+returns : tie.Need-returns
+unfolding size lead both trail done onto also sizeOf placeOf numberOf
+returns c = rw (told (placeOf _) (c .before .before .word-at .ensures) (c .enum-told .given .1))
+
+number-at-requires : tie.Need-number-at-requires
+number-at-requires c κs = search needs
+
+enum-known-h : tie.Need-enum-known-h
+enum-known-h c = search needs
+
+enum-told-2 : tie.Need-enum-told-2
+enum-told-2 c = search needs
+
+returns-2 : tie.Need-returns-2
+unfolding size lead both trail done onto also sizeOf placeOf numberOf
+returns-2 c = rw (
+  told (placeOf _) (c .before .before .before .before .before .before .word-at .ensures)
+      (c .before .before .before .before .a .given .1),
+  told (numberOf _) (c .before .before .number-at .ensures) (c .enum-told2 .given .1),
+)
+
+number-at-requires-2 : tie.Need-number-at-requires-2
+number-at-requires-2 c κs = search needs
+
+enum-known-w : tie.Need-enum-known-w
+enum-known-w c = search needs
+
+enum-told-3 : tie.Need-enum-told-3
+enum-told-3 c = search needs
+
+returns-3 : tie.Need-returns-3
+unfolding size lead both trail done onto also sizeOf placeOf numberOf
+returns-3 c = rw (
+  told (placeOf _)
+      (c .before .before .before .before .before .before .before .before .before .before .word-at .ensures)
+      (c .before .before .before .before .before .before .before .before .a .given .1),
+  told (numberOf _) (c .before .before .before .before .before .before .number-at .ensures)
+      (c .before .before .before .before .h .given .1),
+  told (numberOf _) (c .before .before .number-at2 .ensures) (c .enum-told3 .given .1),
+)
+
+slice-aggregate-word-at-2 : tie.Need-slice-aggregate-word-at-2
+slice-aggregate-word-at-2 c = search needs
+
+word-at-requires-2 : tie.Need-word-at-requires-2
+word-at-requires-2 c κs = search needs
+
+enum-known-next : tie.Need-enum-known-next
+enum-known-next c = search needs
+
+enum-told-4 : tie.Need-enum-told-4
+enum-told-4 c = search needs
+
+returns-4 : tie.Need-returns-4
+unfolding size lead both trail done onto also sizeOf placeOf numberOf
+returns-4 c = rw (
+  told (placeOf _)
+      (c .before .before .before .before .before .before .before .before .before .before .before .before .before .before
+      .before .word-at .ensures) (c .before .before .before .before .before .before .before .before .before .before
+      .before .before .before .a .given .1),
+  told (numberOf _) (c .before .before .before .before .before .before .before .before .before .before .before
+      .number-at .ensures) (c .before .before .before .before .before .before .before .before .before .h .given .1),
+  told (numberOf _) (c .before .before .before .before .before .before .before .number-at2 .ensures)
+      (c .before .before .before .before .before .w .given .1),
+  told (placeOf _) (c .before .before .word-at2 .ensures) (c .enum-told4 .given .1),
+)
+
+returns-5 : tie.Need-returns-5
+unfolding size lead both trail done onto also sizeOf placeOf numberOf
+returns-5 c = rw (
+  told (placeOf _)
+      (c .before .before .before .before .before .before .before .before .before .before .before .before .before .before
+      .before .before .word-at .ensures)
+      (c .before .before .before .before .before .before .before .before .before .before .before .before .before .before
+      .a .given .1),
+  told (numberOf _) (c .before .before .before .before .before .before .before .before .before .before .before
+      .before .number-at .ensures) (c .before .before .before .before .before .before .before .before .before .before
+      .h .given .1),
+  told (numberOf _) (c .before .before .before .before .before .before .before .before .number-at2 .ensures)
+      (c .before .before .before .before .before .before .w .given .1),
+  told (placeOf _) (c .before .before .before .word-at2 .ensures) (c .before .next .given .1),
+)
+
+pub size-at-spec : {M : Type 1} → statement M
+size-at-spec =
+    tie.close
+    (tie.spec
+    slice-aggregate-word-at
+    word-at-requires
+    enum-known-a
+    enum-told
+    returns
+    number-at-requires
+    enum-known-h
+    enum-told-2
+    returns-2
+    number-at-requires-2
+    enum-known-w
+    enum-told-3
+    returns-3
+    slice-aggregate-word-at-2
+    word-at-requires-2
+    enum-known-next
+    enum-told-4
+    returns-4
+    returns-5)

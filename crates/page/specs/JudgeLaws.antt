@@ -1,0 +1,134 @@
+-- Laws of the judgement, one for each return of the code.
+use mathlib.Core.Path.{_≡_, sym, ap, _∙_}
+use mathlib.Core.Bool.{Bool, true, false, _&&_}
+use mathlib.Core.List.{List, [], _∷_}
+use mathlib.Core.Option.{none, some}
+use Prim.Native.Nat.{ℕ, suc, _+_, _-_, _*_, _/_, _<_, _≤_}
+use native.Mathlib.Decide.{ℕ-discrete}
+use native.Mathlib.Omega.{arith}
+use lib.Dec.{leb, eqb}
+use lib.ListN.{length}
+use borrow.Author.Tests.{eq-eqb, ne-eqb, le-leb, lt-leb, leb-true}
+use Rattle.lists.specs.Lists.{all}
+use Rattle.lists.specs.Table.{length-table}
+use Rattle.lists.specs.Tests.{and-left, and-right, and-fails, allBelow, all-fails, all-every, all-at}
+use Rattle.rules.specs.Flat.{Sized}
+use Rattle.page.specs.Grammar.{Sheet, pageOf}
+use Rattle.page.specs.Places.{digitAt, digitsIn}
+use Rattle.page.specs.ListExtras.{all-table}
+use Rattle.page.specs.Judge.{refused, accepted, sizeFits, rowsFit, low, twoColours, cluesLow}
+use Rattle.page.specs.Judge.{judgeSheet, verdict, judge}
+
+pub sized : (h w : ℕ) → sizeFits h w ≡ true → Sized h w
+unfolding sizeFits
+sized h w e =
+    let a : leb h 32 && (leb 1 w && leb w 32) ≡ true = and-right (leb 1 h) _ e in
+    let b : leb 1 w && leb w 32 ≡ true = and-right (leb h 32) _ a in
+    record {
+      rows = leb-true 1 h (and-left (leb 1 h) _ e);
+      columns = leb-true 1 w (and-left (leb 1 w) _ b);
+      tall = leb-true h 32 (and-left (leb h 32) _ a);
+      wide = leb-true w 32 (and-right (leb 1 w) _ b);
+    }
+
+pub length-digits : (s : List ℕ) (a e : ℕ) → length (digitsIn s a e) ≡ e - a
+unfolding digitsIn
+length-digits s a e = length-table (e - a) (λ i. digitAt s (a + i))
+
+-- the digits from a up to p are 0 or 1
+unfoldable pub LowTo : List ℕ → ℕ → ℕ → Type 0
+LowTo s a p = allBelow (p - a) (λ i. low (digitAt s (a + i))) ≡ true
+
+module _ (s : List ℕ) (a : ℕ) where
+  low-digits : (e : ℕ) → all low (digitsIn s a e) ≡ allBelow (e - a) (λ i. low (digitAt s (a + i)))
+  unfolding digitsIn
+  low-digits e = all-table low (e - a) (λ i. digitAt s (a + i))
+
+  pub low-none : LowTo s a a
+  unfolding LowTo allBelow
+  low-none = let e : a - a ≡ 0 = omega arith in rw e
+
+  pub low-more : (p : ℕ) → a ≤ p → digitAt s p ≤ 1 → LowTo s a p → LowTo s a (p + 1)
+  unfolding LowTo allBelow low
+  low-more p h l t =
+      let e : p + 1 - a ≡ suc (p - a) = omega arith in
+      let f : a + (p - a) ≡ p = omega arith in
+      rw (e, t, f, le-leb (digitAt s p) 1 l)
+
+  pub low-fails : (p e : ℕ) → a ≤ p → p < e → 1 < digitAt s p → all low (digitsIn s a e) ≡ false
+  unfolding low
+  low-fails p e h k l =
+      let f : a + (p - a) ≡ p = omega arith in
+      low-digits e ∙ all-fails (e - a) (λ i. low (digitAt s (a + i))) (p - a) (omega arith)
+      (rw f (lt-leb (digitAt s p) 1 l))
+
+  pub low-all : (p e : ℕ) → e ≤ p → LowTo s a p → all low (digitsIn s a e) ≡ true
+  unfolding LowTo
+  low-all p e h t =
+      low-digits e ∙ all-every (e - a) (λ i. low (digitAt s (a + i)))
+      (λ i l. all-at (p - a) (λ i. low (digitAt s (a + i))) i t (omega arith))
+
+-- rows
+one-less : (n m : ℕ) → 0 < n → eqb n (suc m) ≡ eqb (n - 1) m
+one-less n m l = go (ℕ-discrete (n - 1) m)
+  where
+    go : Dec (n - 1 ≡ m) → eqb n (suc m) ≡ eqb (n - 1) m
+    go (yes q) = eq-eqb n (suc m) (omega arith) ∙ sym (eq-eqb (n - 1) m q)
+    go (no q) = ne-eqb n (suc m) (λ e. q (omega arith)) ∙ sym (ne-eqb (n - 1) m q)
+
+module _ (h w : ℕ) {rows : List (List ℕ)} where
+  pub rows-none : rows ≡ [] → rowsFit h w rows ≡ eqb h 0
+  unfolding rowsFit all
+  rows-none e = rw e
+
+  module _ {ds : List ℕ} {more : List (List ℕ)} (e : rows ≡ ds ∷ more) where
+    pub rows-many : h ≡ 0 → rowsFit h w rows ≡ false
+    unfolding rowsFit
+    rows-many z =
+        rw e
+        (and-fails (all (λ (k : List ℕ). eqb (length k) w) (ds ∷ more)) (eqb h (length (ds ∷ more)))
+        (ne-eqb h (length (ds ∷ more)) (λ q. omega arith)))
+
+    pub rows-other : (length ds ≡ w → ⊥) → rowsFit h w rows ≡ false
+    unfolding rowsFit all
+    rows-other n = rw (e, ne-eqb (length ds) w n)
+
+    pub rows-more : 0 < h → length ds ≡ w → rowsFit h w rows ≡ rowsFit (h - 1) w more
+    unfolding rowsFit all
+    rows-more p q =
+        rw (e, eq-eqb (length ds) w q)
+        (ap (λ (b : Bool). all (λ (k : List ℕ). eqb (length k) w) more && b) (one-less h (length more) p))
+
+-- the verdict
+module _ (p : Sheet) where
+  pub not-sized : sizeFits (p .height) (p .width) ≡ false → judgeSheet p ≡ refused 1
+  unfolding judgeSheet
+  not-sized e = rw e
+
+  module _ (a : sizeFits (p .height) (p .width) ≡ true) where
+    pub ragged : rowsFit (p .height) (p .width) (p .rows) ≡ false → judgeSheet p ≡ refused 2
+    unfolding judgeSheet
+    ragged e = rw (a, e)
+
+    module _ (b : rowsFit (p .height) (p .width) (p .rows) ≡ true) where
+      pub coloured : twoColours (p .rows) ≡ false → judgeSheet p ≡ refused 3
+      unfolding judgeSheet
+      coloured e = rw (a, b, e)
+
+      module _ (c : twoColours (p .rows) ≡ true) where
+        pub misprint : cluesLow (p .height * p .width / 2) (p .clues) ≡ false → judgeSheet p ≡ refused 11
+        unfolding judgeSheet
+        misprint e = rw (a, b, c, e)
+
+        pub right : cluesLow (p .height * p .width / 2) (p .clues) ≡ true → judgeSheet p ≡ accepted p
+        unfolding judgeSheet
+        right e = rw (a, b, c, e)
+
+module _ (s : List ℕ) where
+  pub malformed : pageOf s ≡ none → judge s ≡ refused 10
+  unfolding judge verdict
+  malformed e = rw e
+
+  pub formed : (p : Sheet) → pageOf s ≡ some p → judge s ≡ judgeSheet p
+  unfolding judge verdict
+  formed p e = rw e

@@ -1,0 +1,17 @@
+pub mod Readers
+pub mod Grammar
+pub mod Places
+pub mod ReaderLaws
+pub mod Decimal
+pub mod Printed
+pub mod NumberText
+pub mod Many
+pub mod PageText
+pub mod ListExtras
+pub mod FormLaws
+pub mod Judge
+pub mod JudgeLaws
+pub mod Filling
+pub mod PuzzleLaws
+pub mod PageTheorem
+pub mod Examples

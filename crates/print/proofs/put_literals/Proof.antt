@@ -1,0 +1,85 @@
+-- `put_literals` meets its contract, literal by literal.
+use Prim.Native.Nat.{_-_}
+use Rattle.print.specs.Pieces.{Putting, putting-none, putting-more, putting-stop}
+use borrow.Author.Needs.{needs}
+use native.Mathlib.Omega.{arith}
+use Rattle.print.proofs.put_literals.Statement.{statement}
+use Rattle.print.proofs.put_literals.Tie as tie
+
+abbrev Inv-loop : tie.InvT-loop
+Inv-loop out₀ codes from to next₀ count₀ out next count = Putting codes from out₀ out next count
+
+abbrev μ-loop : tie.MeasureT-loop
+μ-loop out₀ codes from to next₀ count₀ out next count = to - next
+
+loop-holds : tie.Need-loop-holds Inv-loop μ-loop
+loop-holds c = putting-none _ _ _
+
+same-length : tie.Need-same-length Inv-loop μ-loop
+same-length c = c .before .before .loop .inv .length
+
+returns : tie.Need-returns Inv-loop μ-loop
+returns c = putting-stop _ (c .before .before .loop .inv) (λ a b x y z. omega arith)
+
+sub-if2 : tie.Need-sub-if2 Inv-loop μ-loop
+sub-if2 c = c .before .before .loop .inv .fits
+
+same-length-2 : tie.Need-same-length-2 Inv-loop μ-loop
+same-length-2 c = c .before .before .before .loop .inv .length
+
+returns-2 : tie.Need-returns-2 Inv-loop μ-loop
+returns-2 c = putting-stop _ (c .before .before .before .loop .inv) (λ a b x y z. omega arith)
+
+mul-literal-text : tie.Need-mul-literal-text Inv-loop μ-loop
+mul-literal-text c = search needs
+
+shared-slice-read-literal-text : tie.Need-shared-slice-read-literal-text Inv-loop μ-loop
+shared-slice-read-literal-text c = search needs
+
+literal-text-requires : tie.Need-literal-text-requires Inv-loop μ-loop
+literal-text-requires c κs = search needs
+
+put-line-requires : tie.Need-put-line-requires Inv-loop μ-loop
+put-line-requires c κs = (
+  c .before .literal-text .ensures .small,
+  omega (arith, c .before .before .before .before .before .before .loop .inv .fits),
+)
+
+add-next : tie.Need-add-next Inv-loop μ-loop
+add-next c = search needs
+
+loop-less : tie.Need-loop-less Inv-loop μ-loop
+loop-less c = search needs
+
+loop-again : tie.Need-loop-again Inv-loop μ-loop
+loop-again c = putting-more (c .before .before .before .before .before .before .before .before .before .loop .inv)
+    (c .before .before .put-line .ensures) (c .before .before .before .before .literal-text .ensures .text)
+    (omega (arith, c .before .before .before .before .before .before .before .before .before .loop .inv .fits))
+
+same-length-3 : tie.Need-same-length-3 Inv-loop μ-loop
+same-length-3 c = c .before .loop .inv .length
+
+returns-3 : tie.Need-returns-3 Inv-loop μ-loop
+returns-3 c = putting-stop _ (c .before .loop .inv) (λ a b x y z. omega arith)
+
+pub put-literals-spec : {M : Type 1} → statement M
+put-literals-spec =
+    tie.close
+    (tie.spec
+    Inv-loop
+    μ-loop
+    loop-holds
+    same-length
+    returns
+    sub-if2
+    same-length-2
+    returns-2
+    mul-literal-text
+    shared-slice-read-literal-text
+    literal-text-requires
+    put-line-requires
+    add-next
+    loop-less
+    loop-again
+    same-length-3
+    returns-3)

@@ -1,0 +1,81 @@
+-- The loop's invariant: the words before i are written.
+use mathlib.Core.Path.{_≡_, refl, ap, _∙_}
+use Prim.Native.Nat.{_-_, _≤_}
+use native.Mathlib.Omega.{arith}
+use borrow.Author.Needs.{needs}
+use lib.ListN.{length, take}
+use lib.Seq.{sets, length-sets, take-all}
+use Rattle.probe.specs.ProbeLaws.{sets-more}
+use Rattle.probe.proofs.write.Statement.{statement}
+use Rattle.probe.proofs.write.Tie as tie
+
+abbrev Inv-loop : tie.InvT-loop
+Inv-loop memory₀ at words i₀ memory i = (i ≤ length words) × (memory ≡ sets memory₀ at (take i words))
+
+abbrev μ-loop : tie.MeasureT-loop
+μ-loop memory₀ at words i₀ memory i = length words - i
+
+loop-holds : tie.Need-loop-holds Inv-loop μ-loop
+loop-holds c = (search needs, refl)
+
+mul-memory : tie.Need-mul-memory Inv-loop μ-loop
+mul-memory c = omega arith
+
+shared-slice-read-memory : tie.Need-shared-slice-read-memory Inv-loop μ-loop
+shared-slice-read-memory c = search needs
+
+add-memory : tie.Need-add-memory Inv-loop μ-loop
+add-memory c = omega arith
+
+mul-memory-2 : tie.Need-mul-memory-2 Inv-loop μ-loop
+mul-memory-2 c = omega arith
+
+slice-write-memory : tie.Need-slice-write-memory Inv-loop μ-loop
+slice-write-memory c =
+    let r = c .before .before .loop in
+    let a = c .before .before .before .args in
+    let e : length (r .memory) ≡ length (a .memory .now) =
+    ap length (r .inv .1) ∙ length-sets (a .memory .now) (a .at) (take (r .i) (a .words .now)) in
+    omega (arith, e, r .inv .0, c .before .before .before .pre)
+
+add-i : tie.Need-add-i Inv-loop μ-loop
+add-i c = omega arith
+
+loop-less : tie.Need-loop-less Inv-loop μ-loop
+loop-less c = omega arith
+
+loop-again : tie.Need-loop-again Inv-loop μ-loop
+loop-again c =
+    let r = c .before .before .loop in
+    let a = c .before .before .before .args in
+    (omega arith, rw (r .inv .1) (sets-more (a .memory .now) (a .at) (a .words .now) (r .i) (omega arith)))
+
+same-length : tie.Need-same-length Inv-loop μ-loop
+same-length c =
+    let a = c .before .before .args in
+    let r = c .before .loop in
+    ap length (r .inv .1) ∙ length-sets (a .memory .now) (a .at) (take (r .i) (a .words .now))
+
+returns : tie.Need-returns Inv-loop μ-loop
+returns c =
+    let a = c .before .before .args in
+    let r = c .before .loop in
+    r .inv .1 ∙ rw (take-all (r .i) (a .words .now) (omega arith))
+
+pub write-spec : {M : Type 1} → statement M
+write-spec =
+    tie.close
+    (tie.spec
+    Inv-loop
+    μ-loop
+    loop-holds
+    mul-memory
+    shared-slice-read-memory
+    add-memory
+    mul-memory-2
+    slice-write-memory
+    add-i
+    loop-less
+    loop-again
+    same-length
+    returns)

@@ -1,0 +1,189 @@
+-- Laws of the probes: the lengths of their arrays and words, a group's part, and the two cases of an answer.
+use mathlib.Core.Path.{_≡_, refl}
+use mathlib.Core.Bool.{Bool, true, false, _&&_, cond}
+use mathlib.Core.List.{List, [], _∷_, _++_, map}
+use Prim.Native.Nat.{ℕ, _+_, _*_, _<_, _≤_}
+use native.Mathlib.Omega.{arith}
+use native.Mathlib.Nat.{le-trans}
+use lib.Dec.{leb}
+use borrow.Author.Tests.{leb-true}
+use lib.ListN.{length, getD, set, take, length-map, length-append}
+use lib.Seq.{sets, take-suc, length-take-le}
+use native.Mathlib.Numerals.{add-one}
+use Rattle.lists.specs.Table.{length-table}
+use Rattle.rules.specs.declared.Side.{Side}
+use Rattle.rules.specs.declared.Side.the-variants.{Wall, Open}
+use Rattle.rules.specs.declared.Literal.{Literal}
+use Rattle.rules.specs.Flat.{Sized, flat}
+use Rattle.rules.specs.FlatLaws.{counts}
+use Rattle.rules.specs.Codes.{literalCode, put}
+use Rattle.lists.specs.Lists.{flatMap}
+use Rattle.rules.specs.Groups.{entry, groupCount, members}
+use Rattle.rules.specs.Reasons.{inside, edge}
+use Rattle.rules.specs.Codes.{marksIn, coloursIn}
+use Rattle.board.specs.Alien.{sizeRight, cellsOf}
+use Rattle.board.specs.ConditionLaws.{sized}
+use Rattle.groups.specs.Kinds.{joinsIn}
+use Rattle.groups.specs.Parts.{groupsOf, partOf}
+use Rattle.groups.specs.PartLaws.{ids-entry, ids-length, count-le, offs-next, offs-le, cells-long, offs-length}
+use Rattle.groups.specs.PartLaws.{members-cells, members-none, part-members}
+use Rattle.groups.specs.SortLaws.{cells-length, size-le}
+use Rattle.reasons.specs.Arrays.{Part, groupReason, insideIn, edgeIn}
+use Rattle.reasons.specs.Lengths.{inside-le, edge-le, path-le}
+use Rattle.reasons.specs.ListExtras.{sets-append}
+use Rattle.reasons.specs.Memory.{Wrote}
+use Rattle.reasons.specs.Search.{pathIn}
+use Rattle.probe.specs.Probe.{places, isFit, kindOf, groupsIn, reasonWords}
+use Rattle.probe.specs.Probe.{Long, Written, Answered}
+
+pub places-length : (n : ℕ) (l : List ℕ) → length (places n l) ≡ n
+unfolding places
+places-length n l = length-table n (entry l)
+
+-- a loop that writes words one by one
+pub sets-more : (m : List ℕ) (at : ℕ) (ws : List ℕ) (i : ℕ) → i < length ws
+    → set (sets m at (take i ws)) (at + i) (getD ws i 0) ≡ sets m at (take (i + 1) ws)
+sets-more m at ws i h =
+    let e : length (take i ws) ≡ i = length-take-le i ws (omega arith) in
+    rw (add-one i, take-suc ws i 0 h, sets-append m at (take i ws) (getD ws i 0 ∷ []), e)
+
+-- a size that has cells is a page's
+pub sized-of : {h w : ℕ} → 1 ≤ cellsOf h w → Sized h w
+unfolding cellsOf
+sized-of {h} {w} l = sized (go (sizeRight h w) l)
+  where
+    go : (v : Bool) → 1 ≤ cond v (h * w) 0 → v ≡ true
+    go true k = refl
+    go false k = absurd (omega arith)
+
+-- what a fit call may count on
+pub record Fit (h w room : ℕ) : Type 0 where
+  pub size : Sized h w
+  pub large : 16384 ≤ room
+
+pub fit : {h w room : ℕ} → isFit h w room ≡ true → Fit h w room
+unfolding isFit
+fit {h} {w} {room} e = go (leb 1 (cellsOf h w)) (leb 16384 room) refl refl e
+  where
+    go : (a b : Bool) → leb 1 (cellsOf h w) ≡ a → leb 16384 room ≡ b → (a && b) ≡ true → Fit h w room
+    go true true p q r = record { size = sized-of (leb-true _ _ p); large = leb-true _ _ q }
+    go true false p q r = let z : _≡_ {A = ℕ} 0 1 = cc in absurd (omega arith)
+    go false b p q r = let z : _≡_ {A = ℕ} 0 1 = cc in absurd (omega arith)
+
+module _ {h w : ℕ} {m words : List ℕ} where
+  pub unfit : isFit h w (length m) ≡ false → Answered h w m words m 65535
+  unfit e = record { memory = rw e; count = rw e }
+
+  pub done : {after : List ℕ} {r : ℕ} → isFit h w (length m) ≡ true → Written m words after r
+      → Answered h w m words after r
+  done e a = record { memory = rw e (a .memory); count = rw e (a .count) }
+
+-- literals from the start of the memory
+pub literals : {m after : List ℕ} {r : ℕ} {ls : List Literal} → Wrote m 0 ls after r
+    → Written m (map literalCode ls) after r
+unfolding put
+literals {ls = ls} a =
+    record { memory = a .memory; count = omega (arith, a .place, length-map ls literalCode) }
+
+-- groups, written part by part
+pub parts : (m ids cells offs : List ℕ) (count : ℕ) → length ids ≡ 1024 → length cells ≡ 1024 → length offs ≡ 1025
+    → Written m (ids ++ ((count ∷ []) ++ (cells ++ offs)))
+    (sets (sets (sets (sets m 0 ids) 1024 (count ∷ [])) 1025 cells) 2049 offs) 3074
+parts m ids cells offs count i c o =
+    record {
+      memory =
+          rw (
+            sets-append m 0 ids ((count ∷ []) ++ (cells ++ offs)),
+            i,
+            sets-append (sets m 0 ids) 1024 (count ∷ []) (cells ++ offs),
+            sets-append (sets (sets m 0 ids) 1024 (count ∷ [])) 1025 cells offs,
+            c,
+          );
+      count =
+          omega (
+            arith,
+            length-append ids ((count ∷ []) ++ (cells ++ offs)),
+            length-append (count ∷ []) (cells ++ offs),
+            length-append cells offs,
+          );
+    }
+
+-- a page's groups
+module _ {h w : ℕ} (z : Sized h w) (cs bs : List ℕ) (k : ℕ) where
+  abbrev link : ℕ → Bool
+  link = joinsIn (kindOf k) h w (places 1024 cs) (places 1984 bs)
+
+  some : 1 ≤ flat h w .cells
+  unfolding flat
+  some = counts z .some
+
+  small : flat h w .cells ≤ 1024
+  unfolding flat
+  small = counts z .cells
+
+  count-is : groupsIn h w cs bs k .count ≡ groupCount (flat h w) link
+  unfolding groupsIn groupsOf
+  count-is = refl
+
+  pub long : Long (groupsIn h w cs bs k)
+  unfolding groupsIn
+  long =
+      record {
+        ids = ids-length (flat h w) link some small;
+        count = le-trans (count-le (flat h w) link some small) small;
+        cells = cells-long (flat h w) link some small;
+        offs = offs-length (flat h w) link some small;
+      }
+
+  -- the part that reasons ask for
+  pub group-part : (g : ℕ) → g < groupsIn h w cs bs k .count
+      → Part h w (groupsIn h w cs bs k .ids) (groupsIn h w cs bs k .cells) (getD (groupsIn h w cs bs k .offs) g 0)
+      (getD (groupsIn h w cs bs k .offs) (g + 1) 0) g
+  unfolding groupsIn partOf
+  group-part g l =
+      let G = flat h w in
+      let q : g < groupCount G link = omega (arith, count-is) in
+      record {
+        long = cells-long G link some small;
+        order = omega (arith, offs-next G link some small g q);
+        end = omega (arith, offs-le G link some small (g + 1) (omega arith), small);
+        group = rw (ids-entry G link some small) (part-members G link some small g);
+      }
+
+  -- "A number that no group has gives an empty part"
+  no-members : (g : ℕ) → groupsIn h w cs bs k .count ≤ g
+      → members (flat h w) (entry (groupsIn h w cs bs k .ids)) g ≡ []
+  unfolding groupsIn
+  no-members g l =
+      rw (ids-entry (flat h w) link some small) (members-none (flat h w) link some small g (omega (arith, count-is)))
+
+  pub no-reason : (side : Side) (g : ℕ) → groupsIn h w cs bs k .count ≤ g → reasonWords h w cs bs k side g ≡ []
+  unfolding reasonWords insideIn edgeIn inside edge flatMap
+  no-reason Wall g l = rw (no-members g l)
+  no-reason Open g l = rw (no-members g l)
+
+  members-few : (g : ℕ) → length (members (flat h w) (entry (groupsIn h w cs bs k .ids)) g) ≤ 1024
+  members-few g =
+      let number = entry (groupsIn h w cs bs k .ids) in
+      rw (members-cells (flat h w) number g)
+      (omega (arith, cells-length number (flat h w .cells) g, size-le number (flat h w .cells) g, small))
+
+  pub reason-few : (side : Side) (g : ℕ)
+      → length (groupReason h w (places 1024 cs) (places 1984 bs) (groupsIn h w cs bs k .ids) side g) ≤ 4096
+  unfolding insideIn edgeIn
+  reason-few Wall g =
+      omega (
+        arith,
+        members-few g,
+        edge-le h w (marksIn (places 1984 bs)) (entry (groupsIn h w cs bs k .ids)) g (coloursIn (places 1024 cs)),
+      )
+  reason-few Open g =
+      omega (
+        arith,
+        members-few g,
+        inside-le h w (marksIn (places 1984 bs)) (entry (groupsIn h w cs bs k .ids)) g,
+      )
+
+pub path-few : {h w : ℕ} → Sized h w → (bs : List ℕ) (a b : ℕ) → length (pathIn h w bs a b) ≤ 1024
+unfolding pathIn
+path-few z bs a b = le-trans (path-le z (marksIn bs) a b) (counts z .cells)

@@ -1,0 +1,230 @@
+// For tests alone: groups and reasons exported over numbers and slices, so that they can be compared with the published
+// Rust. Each function writes its words from the start of the memory and gives how many they are. Where the size is no
+// page's, or the memory has under 16,384 places, it gives 65,535 and leaves the memory.
+// Colours and borders may have any length: past their end they are 0.
+ghost use mathlib.Core.Path.{_≡_};
+ghost use Prim.Native.Nat.{_+_, _≤_};
+ghost use lib.ListN.{length};
+ghost use lib.Seq.{sets};
+ghost use Rattle.rules.specs.Flat.{Sized};
+ghost use Rattle.rules.specs.Groups.{entry};
+ghost use Rattle.probe.specs.Probe.{places, isFit, kindOf, sideOf, groupsIn};
+ghost use Rattle.probe.specs.Probe.{Long, groupWords, reasonWords, pathWords, Written, Answered};
+use groups::Groups;
+use groups::Kind;
+use rules::Side;
+
+// The least memory that is lent to a call.
+const ROOM: usize = 16384;
+
+// What an unfit call gives.
+const UNFIT: usize = 65535;
+
+// A number of 16 bits.
+fn wide(x: u16) -> usize
+    ensures { λ r. ⌜ r ≡ x ⌝ }
+{
+    x as usize
+}
+
+// The byte of s at a place; 0 past its end.
+fn byte(s: &[u8], i: usize) -> u8
+    ensures { λ r. ⌜ r ≡ entry (now (s .entry)) i ⌝ }
+{
+    if i < s.len() {
+        return s[i];
+    }
+    0
+}
+
+// Fills the list with the bytes of s, then with 0.
+fn copy(out: &mut [u8], s: &[u8])
+    ensures { λ _. ⌜ now (out .exit) ≡ places (length (now (out .entry))) (now (s .entry)) ⌝ }
+{
+    let mut i: usize = 0;
+    while i < out.len() {
+        out[i] = byte(s, i);
+        i += 1;
+    }
+}
+
+// The colours of a page's cells.
+fn colours_in(s: &[u8]) -> [u8; 1024]
+    ensures { λ r. ⌜ r ≡ places 1024 (now (s .entry)) ⌝ }
+{
+    let mut out = [0u8; 1024];
+    copy(&mut out, s);
+    out
+}
+
+// A page's borders.
+fn borders_in(s: &[u8]) -> [u8; 1984]
+    ensures { λ r. ⌜ r ≡ places 1984 (now (s .entry)) ⌝ }
+{
+    let mut out = [0u8; 1984];
+    copy(&mut out, s);
+    out
+}
+
+// Writes the words from the place `at`.
+fn write(memory: &mut [u16], at: usize, words: &[u16])
+    requires { ⌜ at + length (now words) ≤ length (now memory) ⌝ }
+    ensures { λ _. ⌜ now (memory .exit) ≡ sets (now (memory .entry)) at (now (words .entry)) ⌝ }
+{
+    let mut i: usize = 0;
+    while i < words.len() {
+        memory[at + i] = words[i];
+        i += 1;
+    }
+}
+
+// Whether the size is a page's, and the memory is large enough.
+fn fits(h: usize, w: usize, room: usize) -> bool
+    ensures { λ r. ⌜ r ≡ isFit h w room ⌝ }
+{
+    if board::cell_count(h, w) < 1 {
+        return false;
+    }
+    room >= ROOM
+}
+
+// 0 is blocks, 1 units, any other number potential units.
+fn kind_of(kind: u32) -> Kind
+    ensures { λ r. ⌜ r ≡ kindOf kind ⌝ }
+{
+    if kind == 0 {
+        return Kind::Blocks;
+    }
+    if kind == 1 {
+        return Kind::Units;
+    }
+    Kind::Potential
+}
+
+// The groups of one kind.
+fn grouped(h: usize, w: usize, colours: &[u8], borders: &[u8], kind: u32) -> Groups
+    requires { ⌜ Sized h w ⌝ }
+    ensures { λ r. ⌜ r ≡ groupsIn h w (now (colours .entry)) (now (borders .entry)) kind ⌝ }
+{
+    let c = colours_in(colours);
+    let b = borders_in(borders);
+    groups::groups_of(h, w, &c, &b, kind_of(kind))
+}
+
+// Writes groups as one list; gives its length.
+fn put_groups(memory: &mut [u16], g: Groups) -> usize
+    requires { ⌜ Long g × (16384 ≤ length (now memory)) ⌝ }
+    ensures { λ r. ⌜ Written (now (memory .entry)) (groupWords g) (now (memory .exit)) r ⌝ }
+{
+    let ids = g.ids;
+    let count = [g.count as u16; 1];
+    let cells = g.cells;
+    let offs = g.offs;
+    write(memory, 0, &ids);
+    write(memory, 1024, &count);
+    write(memory, 1025, &cells);
+    write(memory, 2049, &offs);
+    3074
+}
+
+// Writes Inside (side 0) or Edge (any other side) of the group of g with that number.
+fn put_reason(
+    memory: &mut [u16],
+    h: usize,
+    w: usize,
+    colours: &[u8],
+    borders: &[u8],
+    kind: u32,
+    side: u32,
+    group: usize,
+) -> usize
+    requires { ⌜ Sized h w × (16384 ≤ length (now memory)) ⌝ }
+    ensures { λ r. ⌜ Written (now (memory .entry)) (reasonWords h w (now (colours .entry)) (now (borders .entry)) kind
+        (sideOf side) group) (now (memory .exit)) r ⌝ }
+{
+    let g = grouped(h, w, colours, borders, kind);
+    if g.count <= group {
+        return 0;
+    }
+    let offs = g.offs;
+    let from = wide(offs[group]);
+    let to = wide(offs[group + 1]);
+    let ids = g.ids;
+    let cells = g.cells;
+    let b = borders_in(borders);
+    if side == 0 {
+        return reasons::inside(memory, 0, h, w, &b, &ids, &cells, from, to, group);
+    }
+    let c = colours_in(colours);
+    reasons::edge(memory, 0, h, w, &c, &b, &ids, &cells, from, to, group)
+}
+
+// Writes the path from cell a to cell b.
+fn put_path(memory: &mut [u16], h: usize, w: usize, borders: &[u8], a: usize, b: usize) -> usize
+    requires { ⌜ Sized h w × (16384 ≤ length (now memory)) ⌝ }
+    ensures { λ r. ⌜ Written (now (memory .entry)) (pathWords h w (now (borders .entry)) a b) (now (memory .exit)) r ⌝ }
+{
+    let marks = borders_in(borders);
+    reasons::path(memory, 0, h, w, &marks, a, b)
+}
+
+// The groups of one kind: the cells' numbers (1,024 places), the count, the cells group by group (1,024), and where
+// each group starts (1,025).
+#[no_mangle]
+pub extern "C" fn probe_groups(
+    h: usize,
+    w: usize,
+    colours: &[u8],
+    borders: &[u8],
+    kind: u32,
+    memory: &mut [u16],
+) -> usize
+    ensures { λ r. ⌜ Answered h w (now (memory .entry))
+        (groupWords (groupsIn h w (now (colours .entry)) (now (borders .entry)) kind)) (now (memory .exit)) r ⌝ }
+{
+    if fits(h, w, memory.len()) {
+        let g = grouped(h, w, colours, borders, kind);
+        return put_groups(memory, g);
+    }
+    UNFIT
+}
+
+// Inside (side 0) or Edge (any other side) of a group of one kind; no literals if no group has the number.
+#[no_mangle]
+pub extern "C" fn probe_reason(
+    h: usize,
+    w: usize,
+    colours: &[u8],
+    borders: &[u8],
+    kind: u32,
+    side: u32,
+    group: usize,
+    memory: &mut [u16],
+) -> usize
+    ensures { λ r. ⌜ Answered h w (now (memory .entry)) (reasonWords h w (now (colours .entry)) (now (borders .entry))
+        kind (sideOf side) group) (now (memory .exit)) r ⌝ }
+{
+    if fits(h, w, memory.len()) {
+        return put_reason(memory, h, w, colours, borders, kind, side, group);
+    }
+    UNFIT
+}
+
+// Path from cell a to cell b.
+#[no_mangle]
+pub extern "C" fn probe_path(
+    h: usize,
+    w: usize,
+    borders: &[u8],
+    a: usize,
+    b: usize,
+    memory: &mut [u16],
+) -> usize
+    ensures { λ r. ⌜ Answered h w (now (memory .entry)) (pathWords h w (now (borders .entry)) a b)
+        (now (memory .exit)) r ⌝ }
+{
+    if fits(h, w, memory.len()) {
+        return put_path(memory, h, w, borders, a, b);
+    }
+    UNFIT
+}

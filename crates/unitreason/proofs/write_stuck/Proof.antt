@@ -1,0 +1,153 @@
+-- The unit's part gives its places, connections and listed rows; its first cell gives its potential unit.
+use mathlib.Core.Path.{_≡_, ap, _∙_}
+use native.Mathlib.Omega.{arith}
+use borrow.Author.Needs.{needs}
+use lib.ListN.{getD}
+use Rattle.rules.specs.FlatLaws.{counts}
+use Rattle.units.specs.Fitting.{UnitIn}
+use Rattle.units.specs.FitLaws.{unit-part, unit-placed}
+use Rattle.units.specs.ReadyLaws.{head-low}
+use Rattle.unitreason.specs.AskedLaws.{ready, low, unit-low, own-part, home, arranged, imaged, room-home}
+use Rattle.unitreason.specs.AskedLaws.{home-written}
+use Rattle.unitreason.proofs.write_stuck.Statement.{statement}
+use Rattle.unitreason.proofs.write_stuck.Tie as tie
+
+mul-wide : tie.Need-mul-wide
+mul-wide c = omega (arith, unit-low (c .before .pre .0))
+
+element-copy-out-wide : tie.Need-element-copy-out-wide
+element-copy-out-wide c = omega (arith, unit-low (c .before .pre .0))
+
+wide-requires : tie.Need-wide-requires
+wide-requires c κs = search needs
+
+add-wide : tie.Need-add-wide
+add-wide c = search needs
+
+mul-wide-2 : tie.Need-mul-wide-2
+mul-wide-2 c = omega (arith, unit-low (c .before .before .before .pre .0))
+
+element-copy-out-wide-2 : tie.Need-element-copy-out-wide-2
+element-copy-out-wide-2 c = omega (arith, unit-low (c .before .before .before .pre .0))
+
+wide-requires-2 : tie.Need-wide-requires-2
+wide-requires-2 c κs = search needs
+
+-- the unit's part
+part-is : (c : tie.After-wide2) → let s = c .before .before .before .before .before in
+    UnitIn (s .args .h) (s .args .w) (s .args .t6 .ids) (s .args .u) (s .args .t6 .cells)
+    (c .before .before .wide .result) (c .wide2 .result)
+part-is c =
+    let s = c .before .before .before .before .before in
+    rw (c .before .before .wide .ensures, c .wide2 .ensures) (own-part (s .pre .0))
+
+mul-wide-3 : tie.Need-mul-wide-3
+mul-wide-3 c = let p = part-is c in omega (arith, p .some, p .end)
+
+element-copy-out-wide-3 : tie.Need-element-copy-out-wide-3
+element-copy-out-wide-3 c = let p = part-is c in omega (arith, p .some, p .end)
+
+wide-requires-3 : tie.Need-wide-requires-3
+wide-requires-3 c κs = search needs
+
+-- its first cell, and that cell's potential unit
+cell-is : (c : tie.After-wide3) → let s = c .before .before .before .before .before .before .before in
+    c .wide3 .result ≡ getD (s .args .t6 .cells) (getD (s .args .t6 .offs) (s .args .u) 0) 0
+cell-is c =
+    let s = c .before .before .before .before .before .before .before in
+    c .wide3 .ensures ∙ ap (λ i. getD (s .args .t6 .cells) i 0) (c .before .before .before .before .wide .ensures)
+
+home-is : (c : tie.After-wide4) → let s = c .before .before .before .before .before .before .before .before .before in
+    c .wide4 .result ≡ home (s .pre .0)
+home-is c =
+    let s = c .before .before .before .before .before .before .before .before .before in
+    c .wide4 .ensures ∙ ap (λ i. getD (s .args .t7 .ids) i 0) (cell-is (c .before .before))
+
+mul-wide-4 : tie.Need-mul-wide-4
+mul-wide-4 c =
+    let a = c .before .before .before .before .before .before .before .pre .0 in
+    omega (arith, cell-is c, head-low (ready a) _ (low a), counts (a .drawn .sized) .cells)
+
+element-copy-out-wide-4 : tie.Need-element-copy-out-wide-4
+element-copy-out-wide-4 c =
+    let a = c .before .before .before .before .before .before .before .pre .0 in
+    omega (arith, cell-is c, head-low (ready a) _ (low a), counts (a .drawn .sized) .cells)
+
+wide-requires-4 : tie.Need-wide-requires-4
+wide-requires-4 c κs = search needs
+
+places-requires : tie.Need-places-requires
+places-requires c κs =
+    let v = c .before .before .before .before in
+    let s = v .before .before .before .before .before .before .before .before .before in
+    (unit-part (s .pre .0 .drawn .sized) (part-is (v .before .before .before .before)), search needs, search needs)
+
+joints-requires : tie.Need-joints-requires
+joints-requires c κs =
+    let a = c .before .before .before .before .before .before in
+    let v = a .before .before .before .before .before in
+    let s = v .before .before .before .before .before .before .before .before .before in (
+      unit-placed (s .pre .0 .drawn .sized) (part-is (v .before .before .before .before)) (a .places .ensures .0)
+          (a .places .ensures .1),
+      search needs,
+      search needs,
+    )
+
+list-rows-requires : tie.Need-list-rows-requires
+list-rows-requires c κs =
+    let a = c .before .before .before .before .before .before .before .before .before .before .before in
+    let v = a .before .before .before .before .before in
+    let s = v .before .before .before .before .before .before .before .before .before in
+    unit-placed (s .pre .0 .drawn .sized) (part-is (v .before .before .before .before)) (a .places .ensures .0)
+    (a .places .ensures .1)
+
+write-unit-requires : tie.Need-write-unit-requires
+write-unit-requires c κs =
+    let l = c .before .before .before .before .before in
+    let j = l .before .before .before .before .before in
+    let a = j .before .before .before .before .before .before .before in
+    let v = a .before .before .before .before .before in
+    let s = v .before .before .before .before .before .before .before .before .before in
+    let q = s .pre .0 in (
+      rw (home-is v) (arranged q),
+      imaged q
+          (unit-placed (q .drawn .sized) (part-is (v .before .before .before .before)) (a .places .ensures .0)
+          (a .places .ensures .1))
+          (j .joints .ensures) (l .list-rows .ensures),
+      room-home q _ (home-is v) (s .pre .1),
+    )
+
+same-length : tie.Need-same-length
+same-length c = search needs
+
+returns : tie.Need-returns
+returns c =
+    let e = c .before .before in
+    let v = e .before .before .before .before .before .before .before .before .before .before .before .before .before
+    .before .before .before .before .before .before .before .before .before .before in
+    let s = v .before .before .before .before .before .before .before .before .before in
+    λ k. home-written (s .pre .0) k (home-is v) (e .write-unit .ensures k)
+
+pub write-stuck-spec : {M : Type 1} → statement M
+write-stuck-spec =
+    tie.close
+    (tie.spec
+    mul-wide
+    element-copy-out-wide
+    wide-requires
+    add-wide
+    mul-wide-2
+    element-copy-out-wide-2
+    wide-requires-2
+    mul-wide-3
+    element-copy-out-wide-3
+    wide-requires-3
+    mul-wide-4
+    element-copy-out-wide-4
+    wide-requires-4
+    places-requires
+    joints-requires
+    list-rows-requires
+    write-unit-requires
+    same-length
+    returns)

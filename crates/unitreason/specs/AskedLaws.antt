@@ -1,0 +1,126 @@
+-- What a caller gives for a unit makes the arrays that its reason is read from; its potential unit asks no clue.
+use mathlib.Core.Path.{_≡_, refl, ap, _∙_}
+use mathlib.Core.List.{List}
+use mathlib.Core.Option.{Option}
+use Prim.Native.Nat.{ℕ, _+_, _<_, _≤_}
+use native.Mathlib.Omega.{arith}
+use lib.ListN.{length, getD}
+use Rattle.rules.specs.Page.{Puzzle, Mark}
+use Rattle.rules.specs.Flat.{flat}
+use Rattle.rules.specs.Codes.{marksIn}
+use Rattle.rules.specs.Rules.{oneColour, joinsUnit}
+use Rattle.rules.specs.Groups.{entry, joinsPotential, unitCount, potentialOf}
+use Rattle.rules.specs.Shapes.{shapeOf}
+use Rattle.rules.specs.Check.{unitReason}
+use Rattle.reasons.specs.Memory.{Wrote}
+use Rattle.groups.specs.declared.Groups.{Groups}
+use Rattle.groups.specs.declared.Kind.the-variants.{Units}
+use Rattle.groups.specs.Kinds.{joinsIn}
+use Rattle.groups.specs.Parts.{groupsOf}
+use Rattle.groups.specs.PartLaws.{ids-length}
+use Rattle.search.specs.declared.Adjacent.{Adjacent}
+use Rattle.search.specs.Placing.{puzzle}
+use Rattle.shapes.specs.declared.Listed.{Listed as RowList}
+use Rattle.shapes.specs.Listing.{listing}
+use Rattle.shapes.specs.Rows.{rowsOf}
+use Rattle.shapes.specs.Spots.{UnitAt}
+use Rattle.shapes.specs.Joints.{Joined}
+use Rattle.units.specs.Fitting.{UnitIn}
+use Rattle.units.specs.Stuck.{Ready, potentialIn}
+use Rattle.units.specs.ReadyLaws.{some, few, units-are, unit-few, potential-known, potential-grouped, unit-in}
+use Rattle.units.specs.ReadyLaws.{home-is, home-count, head-of, transforms-are}
+use Rattle.unitreason.specs.Writing.{Arranged, Imaged, Asked, clued}
+
+-- the units and the potential unit of a unit ask no clue
+module _ (h w : ℕ) (cs : List ℕ) (c : ℕ → Option ℕ) (s : ℕ → Mark) where
+  pub count-clue : unitCount (clued h w cs c) s ≡ unitCount (puzzle h w cs) s
+  unfolding joinsUnit oneColour
+  count-clue = refl
+
+  pub potential-clue : (u : ℕ) → potentialIn (clued h w cs c) s u ≡ potentialIn (puzzle h w cs) s u
+  unfolding potentialIn joinsUnit joinsPotential oneColour
+  potential-clue u = refl
+
+module _ {h w : ℕ} {cs bs : List ℕ} {units potential : Groups} {adjacent : Adjacent} {u : ℕ}
+    (q : Asked h w cs bs units potential adjacent u) where
+  abbrev Z : Puzzle
+  Z = puzzle h w cs
+
+  abbrev s : ℕ → Mark
+  s = marksIn bs
+
+  pub ready : Ready h w cs bs (units .ids) (units .cells) (units .offs) (potential .ids) (potential .cells)
+      (potential .offs) (adjacent .list) (adjacent .offs)
+  ready =
+      record {
+        drawn = q .drawn;
+        units-ids = ap (λ (g : Groups). g .ids) (q .all-units);
+        units-cells = ap (λ (g : Groups). g .cells) (q .all-units);
+        units-offs = ap (λ (g : Groups). g .offs) (q .all-units);
+        potential-ids = ap (λ (g : Groups). g .ids) (q .all-potential);
+        potential-cells = ap (λ (g : Groups). g .cells) (q .all-potential);
+        potential-offs = ap (λ (g : Groups). g .offs) (q .all-potential);
+        adjacent = rw (ap (λ (g : Groups). g .count) (q .all-potential)) at (q .mates);
+      }
+
+  pub low : u < groupsOf (flat h w) (joinsIn Units h w cs bs) .count
+  low = rw (ap (λ (g : Groups). g .count) (q .all-units)) at (q .one)
+
+  pub unit-low : u < 1024
+  unit-low = omega (arith, low, unit-few ready)
+
+  -- its part of the list of units
+  pub own-part : UnitIn h w (units .ids) u (units .cells) (getD (units .offs) u 0) (getD (units .offs) (u + 1) 0)
+  own-part = unit-in ready u low
+
+  abbrev pub home : ℕ
+  home = getD (potential .ids) (getD (units .cells) (getD (units .offs) u 0) 0) 0
+
+  ids-long : (g : Groups) (link : ℕ → _) → g ≡ groupsOf (flat h w) link → length (g .ids) ≡ 1024
+  ids-long g link e =
+      rw e (ids-length (flat h w) link (some (q .drawn .sized) link) (few (q .drawn .sized) link))
+
+  pub arranged : Arranged h w cs bs units potential adjacent u home
+  unfolding entry
+  arranged =
+      record {
+        drawn = q .drawn;
+        colours = q .colours;
+        borders = q .borders;
+        ids = (ids-long units _ (q .all-units), ids-long potential _ (q .all-potential));
+        unit =
+            record {
+              few = unit-low;
+              is =
+                  record {
+                    long = own-part .long;
+                    order = omega (arith, own-part .some);
+                    end = own-part .end;
+                    group = own-part .group;
+                  };
+            };
+        number = λ c l. ap (λ (f : ℕ → ℕ). f c) (units-are ready);
+        known = potential-known ready;
+        grouped =
+            rw (ap (λ (g : Groups). g .count) (q .all-potential)) (potential-grouped ready);
+        mates = q .mates;
+        one = rw (ap (λ (g : Groups). g .count) (q .all-potential)) (home-count ready u low);
+      }
+
+  pub imaged : {R C D A : List ℕ} {n k : ℕ} {t : RowList} → UnitAt h w (units .ids) u R C n
+      → Joined h w (entry (units .ids)) u D A k → t ≡ listing (rowsOf (shapeOf (flat h w) (entry (units .ids)) u))
+      → Imaged h w cs bs (units .ids) R C n D A k t u
+  imaged a j e = record { cells = a; connections = j; rows = e; transforms = transforms-are ready u low }
+
+  pub home-in : home ≡ potentialIn Z s u
+  unfolding potentialIn
+  home-in = home-is ready u low ∙ ap (potentialOf Z s) (head-of ready u low)
+
+  pub room-home : {p : ℕ} (m : ℕ) → p ≡ home → length (unitReason Z s u (potentialIn Z s u)) ≤ m
+      → length (unitReason Z s u p) ≤ m
+  room-home m e l = rw (e, home-in) l
+
+  pub home-written : {p : ℕ} (c : ℕ → Option ℕ) {m m′ : List ℕ} {r : ℕ} → p ≡ home
+      → Wrote m 0 (unitReason (clued h w cs c) s u p) m′ r
+      → Wrote m 0 (unitReason (clued h w cs c) s u (potentialIn (clued h w cs c) s u)) m′ r
+  home-written c e x = rw (potential-clue h w cs c s u) (rw (e ∙ home-in) at x)

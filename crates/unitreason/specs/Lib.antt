@@ -1,0 +1,7 @@
+pub mod Writing
+pub mod ListExtras
+pub mod FlagLaws
+pub mod ClueLaws
+pub mod ReasonLaws
+pub mod AskedLaws
+pub mod StepLaws

@@ -1,0 +1,239 @@
+-- What the arrays give is the reason of the unit: its blockers, its Inside, and the walls of its potential unit.
+--
+--   matesIn, cellsIn     the mates and the cells of a potential unit, from the arrays
+use mathlib.Core.Path.{_≡_, refl, sym, ap, _∙_}
+use mathlib.Core.List.{List, _++_, map}
+use mathlib.Core.Option.{Option, none}
+use Prim.Native.Nat.{ℕ, _+_, _*_, _<_, _≤_}
+use native.Mathlib.Omega.{arith}
+use lib.ListN.{length, getD, List·getD-append}
+use Rattle.lists.specs.Lists.{flatMap}
+use Rattle.rules.specs.declared.Literal.{Literal}
+use Rattle.rules.specs.Page.{Puzzle, Point, Shape, Mark}
+use Rattle.rules.specs.Flat.{flat}
+use Rattle.rules.specs.Codes.{marksIn, coloursIn}
+use Rattle.rules.specs.Shapes.{shapeOf}
+use Rattle.rules.specs.Groups.{entry, members, unitOf, potentialOf, potentialCount}
+use Rattle.rules.specs.Check.{laid, blockers, placements, transformsOf, insideUnit, edgeOf, mates, farWalls, unitReason}
+use Rattle.rules.specs.Check.{adjacent as isAdjacent}
+use Rattle.reasons.specs.Arrays.{Cells, part, insideIn, edgeIn, isMarked}
+use Rattle.reasons.specs.FarLaws.{far-walls}
+use Rattle.reasons.specs.ListExtras.{flat-same, flat-up, up-same}
+use Rattle.reasons.specs.Memory.{Wrote}
+use Rattle.reasons.specs.MemoryLaws.{wrote-more}
+use Rattle.reasons.specs.NumberLaws.{members-same, inside-same, edge-same}
+use Rattle.groups.specs.declared.Groups.{Groups}
+use Rattle.search.specs.declared.Adjacent.{Adjacent}
+use Rattle.search.specs.Placing.{puzzle, bare}
+use Rattle.search.specs.GatherLaws.{listed-part}
+use Rattle.search.specs.Searching.{Beside, blockOf, blocksAmong, blocksBeside}
+use Rattle.search.specs.SearchLaws.{placed-blocks, mates-low, beside-of}
+use Rattle.shapes.specs.declared.Listed.{Listed as RowList}
+use Rattle.shapes.specs.Listing.{listing}
+use Rattle.shapes.specs.Rows.{image, rowsOf}
+use Rattle.shapes.specs.Spots.{spots}
+use Rattle.shapes.specs.UnitLaws.{transforms-flat}
+use Rattle.units.specs.ImageLaws.{image-is}
+use Rattle.unitreason.specs.Writing.{Numbered, Mated, flagsOf, edgesIn, farIn, wallsIn, clued, Arranged}
+use Rattle.unitreason.specs.Writing.{blocksBy, blocksListed, Imaged}
+use Rattle.unitreason.specs.FlagLaws.{marked-is}
+use Rattle.unitreason.specs.ListExtras.{mem-part, flat-all, flat-map, flat-flat}
+use Rattle.unitreason.specs.ListExtras.{room-first, room-second, room-third}
+use Rattle.unitreason.specs.ClueLaws.{reason-clue}
+
+-- the part p of the mates, and the cells of p
+abbrev pub matesIn : Adjacent → ℕ → List ℕ
+matesIn a p = part (a .list) (getD (a .offs) p 0) (getD (a .offs) (p + 1) 0)
+
+abbrev pub cellsIn : Groups → ℕ → List ℕ
+cellsIn g p = part (g .cells) (getD (g .offs) p 0) (getD (g .offs) (p + 1) 0)
+
+module _ {h w : ℕ} {cs bs : List ℕ} {units potential : Groups} {adjacent : Adjacent} {u p : ℕ}
+    (a : Arranged h w cs bs units potential adjacent u p) where
+  abbrev Z : Puzzle
+  Z = puzzle h w cs
+
+  abbrev s : ℕ → Mark
+  s = marksIn bs
+
+  number-same : (x : ℕ) → x < h * w → entry (potential .ids) x ≡ potentialOf Z s x
+  unfolding entry
+  number-same x l = a .known .number x l
+
+  unit-same : (x : ℕ) → x < h * w → entry (units .ids) x ≡ unitOf Z s x
+  unfolding entry
+  unit-same x l = a .number x l
+
+  edge-is : (q : ℕ) → edgeIn h w cs bs (potential .ids) q ≡ edgeOf Z s q
+  unfolding edgeIn edgeOf
+  edge-is q = edge-same (a .drawn .sized) (entry (potential .ids)) (potentialOf Z s) number-same q (coloursIn cs) s
+
+  inside-is : insideIn h w bs (units .ids) u ≡ insideUnit Z s u
+  unfolding insideIn insideUnit
+  inside-is = inside-same (a .drawn .sized) (entry (units .ids)) (unitOf Z s) unit-same u s
+
+  mates-are : matesIn adjacent p ≡ mates Z s p
+  mates-are = listed-part (a .mates) p (a .one)
+
+  cells-are : cellsIn potential p ≡ members (flat h w) (potentialOf Z s) p
+  cells-are = a .grouped .group p (a .one)
+
+  pub count-few : potential .count ≤ 1024
+  count-few = rw (a .grouped .all) (a .known .few)
+
+  numbered : (q : ℕ) → q < potential .count → Numbered h w (potential .ids) (potential .cells) (potential .offs) q
+  numbered q l =
+      let e = a .grouped .each q l in
+      record {
+        few = omega (arith, count-few);
+        is =
+            record {
+              long = e .long;
+              order = e .order;
+              end = e .end;
+              group =
+                  a .grouped .group q l
+                  ∙ sym (members-same (a .drawn .sized) (entry (potential .ids)) (potentialOf Z s) number-same q);
+            };
+      }
+
+  pub own : Numbered h w (potential .ids) (potential .cells) (potential .offs) p
+  own = numbered p (a .one)
+
+  pub own-cells : Cells h w (potential .cells) (getD (potential .offs) p 0) (getD (potential .offs) (p + 1) 0)
+  own-cells = a .grouped .each p (a .one)
+
+  pub beside : Beside h w (potential .cells) (potential .offs) (adjacent .list) (getD (adjacent .offs) p 0)
+      (getD (adjacent .offs) (p + 1) 0)
+  beside = beside-of (a .grouped) (a .known) (a .mates) p (a .one)
+
+  low-at : (i : ℕ) → getD (adjacent .offs) p 0 ≤ i → i < getD (adjacent .offs) (p + 1) 0
+      → getD (adjacent .list) i 0 < potential .count
+  low-at i x y =
+      mates-low (a .grouped) p (getD (adjacent .list) i 0)
+      (rw mates-are at
+      (mem-part (adjacent .list) (getD (adjacent .offs) p 0) i (getD (adjacent .offs) (p + 1) 0) x y
+      (omega (arith, beside .end, beside .long))))
+
+  pub mated : Mated h w (potential .ids) (potential .cells) (potential .offs) (adjacent .list)
+      (getD (adjacent .offs) p 0) (getD (adjacent .offs) (p + 1) 0)
+  mated =
+      record {
+        low = record { long = beside .long; order = beside .order; end = beside .end; each = beside .low };
+        each = λ i x y. numbered (getD (adjacent .list) i 0) (low-at i x y);
+      }
+
+  -- the marks of the mates
+  mark : (x : ℕ) → x < h * w
+      → isMarked (flagsOf (mates Z s p)) (entry (potential .ids) x) ≡ isAdjacent Z s p (entry (potential .ids) x)
+  unfolding mates entry
+  mark x l =
+      marked-is (isAdjacent Z s p) (potentialCount Z s) (getD (potential .ids) x 0) (a .known .few)
+      (a .known .below x l)
+
+  far-is : farIn h w cs bs (potential .ids) (matesIn adjacent p) (cellsIn potential p) ≡ farWalls Z s p
+  unfolding farIn
+  far-is =
+      rw (mates-are, cells-are)
+      (sym (far-walls (a .drawn .sized) cs bs (potential .ids) (λ c. none) p (flagsOf (mates Z s p)) number-same mark))
+
+  edges-are : edgesIn h w cs bs (potential .ids) (matesIn adjacent p) ≡ flatMap (edgeOf Z s) (mates Z s p)
+  unfolding edgesIn
+  edges-are =
+      flat-same (edgeIn h w cs bs (potential .ids)) (edgeOf Z s) (matesIn adjacent p) (λ q m. edge-is q)
+      ∙ ap (flatMap (edgeOf Z s)) mates-are
+
+  walls-are : wallsIn h w cs bs (potential .ids) p (matesIn adjacent p) (cellsIn potential p)
+      ≡ edgeOf Z s p ++ (flatMap (edgeOf Z s) (mates Z s p) ++ farWalls Z s p)
+  unfolding wallsIn
+  walls-are = rw (edge-is p, edges-are, far-is)
+
+  module _ {R C D A : List ℕ} {n k : ℕ} {t : RowList} (b : Imaged h w cs bs (units .ids) R C n D A k t u) where
+    abbrev shape : Shape
+    shape = shapeOf (flat h w) (entry (units .ids)) u
+
+    -- a placement looks at the connections only
+    abbrev blocksOf : List Point → List Literal
+    blocksOf js = blocksBeside Z s (bare js) (potential .cells) (potential .offs) (matesIn adjacent p)
+
+    abbrev blocksRow : ℕ → List Literal
+    blocksRow r = blocksBy Z s (potential .cells) (potential .offs) (matesIn adjacent p) (spots R C n) (spots D A k) r
+
+    abbrev joints : Shape → List Point
+    joints x = x .connections
+
+    by-joints : (x : Shape)
+        → blocksBeside Z s x (potential .cells) (potential .offs) (matesIn adjacent p) ≡ blocksOf (joints x)
+    unfolding blocksBeside blocksAmong blockOf laid
+    by-joints x = refl
+
+    one-shape : (x : Shape)
+        → flatMap (blockers Z s)
+        (flatMap (λ Q. map (laid Z s x) (members (flat h w) (potentialOf Z s) Q)) (mates Z s p))
+        ≡ blocksOf (joints x)
+    one-shape x =
+        placed-blocks (a .grouped) x (mates Z s p) (mates-low (a .grouped) p)
+        ∙ ap (blocksBeside Z s x (potential .cells) (potential .offs)) (sym mates-are)
+        ∙ by-joints x
+
+    row-is : (r : ℕ) → blocksOf (image r shape .connections) ≡ blocksRow r
+    unfolding blocksBy
+    row-is r = ap blocksOf (image-is (b .cells) (b .connections) r)
+
+    -- the listed rows, as the code reads them
+    rows-are : flatMap blocksRow (rowsOf shape)
+        ≡ blocksListed Z s (potential .cells) (potential .offs) (matesIn adjacent p) (spots R C n) (spots D A k)
+        (listing (rowsOf shape))
+    unfolding blocksListed
+    rows-are =
+        flat-up blocksRow (rowsOf shape)
+        ∙ up-same (λ i. blocksRow (getD (rowsOf shape) i 0)) _ (length (rowsOf shape))
+        (λ i h. ap blocksRow (sym (List·getD-append (rowsOf shape) _ 0 i h)))
+
+    blocks-are : flatMap (blockers Z s) (placements Z s u p)
+        ≡ blocksListed Z s (potential .cells) (potential .offs) (matesIn adjacent p) (spots R C n) (spots D A k) t
+    unfolding placements
+    blocks-are =
+        flat-flat (blockers Z s)
+        (λ x. flatMap (λ Q. map (laid Z s x) (members (flat h w) (potentialOf Z s) Q)) (mates Z s p))
+        (transformsOf Z s u)
+        ∙ flat-all _ (λ x. blocksOf (joints x)) (transformsOf Z s u) one-shape
+        ∙ ap (flatMap (λ (x : Shape). blocksOf (joints x)))
+        (b .transforms ∙ transforms-flat h w (entry (units .ids)) u (b .cells .sized .columns))
+        ∙ flat-map (λ x. blocksOf (joints x)) (λ r. image r shape) (rowsOf shape)
+        ∙ flat-all _ blocksRow (rowsOf shape) row-is
+        ∙ rows-are
+        ∙ ap (blocksListed Z s (potential .cells) (potential .offs) (matesIn adjacent p) (spots R C n) (spots D A k))
+        (sym (b .rows))
+
+    abbrev inner : List Literal
+    inner = insideIn h w bs (units .ids) u
+
+    abbrev walls : List Literal
+    walls = wallsIn h w cs bs (potential .ids) p (matesIn adjacent p) (cellsIn potential p)
+
+    abbrev blocked : List Literal
+    blocked = blocksListed Z s (potential .cells) (potential .offs) (matesIn adjacent p) (spots R C n) (spots D A k) t
+
+    reason-is : unitReason Z s u p ≡ blocked ++ (inner ++ walls)
+    unfolding unitReason
+    reason-is = rw (blocks-are, inside-is, walls-are)
+
+    -- the memory has room for each of the three
+    room : (m : ℕ) → length (unitReason Z s u p) ≤ m → 0 + length (blocked ++ (inner ++ walls)) ≤ m
+    room m l = omega (arith, ap length reason-is)
+
+    pub room-blocks : (m : ℕ) → length (unitReason Z s u p) ≤ m → 0 + length blocked ≤ m
+    room-blocks m l = room-first blocked inner walls 0 m (room m l)
+
+    module _ {m m′ : List ℕ} {j : ℕ} (l : length (unitReason Z s u p) ≤ length m) (x : Wrote m 0 blocked m′ j) where
+      pub room-inside : j + length inner ≤ length m′
+      room-inside = room-second blocked inner walls (room (length m) l) x
+
+      pub room-walls : {m″ : List ℕ} {i : ℕ} → Wrote m′ j inner m″ i → i + length walls ≤ length m″
+      room-walls y = room-third blocked inner walls (room (length m) l) x y
+
+    pub reason-written : (c : ℕ → Option ℕ) {m m′ m″ m‴ : List ℕ} {i j r : ℕ} → Wrote m 0 blocked m′ i
+        → Wrote m′ i inner m″ j → Wrote m″ j walls m‴ r → Wrote m 0 (unitReason (clued h w cs c) s u p) m‴ r
+    reason-written c x y z =
+        rw (reason-clue h w cs c s u p, reason-is) (wrote-more x (wrote-more y z))

@@ -1,0 +1,121 @@
+-- Writing: what the code that writes the reason of a unit is measured by.
+--
+--   Numbered             a group's cells stand in the list of cells from where it starts to where the next one does
+--   Low mates from to    a part of the list of mates; each of its entries is below 1024
+--   Mated                each of its entries is the number of such a group
+--   flag, flagsOf xs     1 for yes, 0 for no; for each number below 1024 whether it is one of xs
+--   edgesIn gs           Edge of each of the groups gs, over the arrays
+--   wallsIn              Edge(P), Edge of each adjacent unit, then the walls to units that are not adjacent
+--   Arranged             the arrays of the units, the potential units and the mates
+--   blocksBy r           the blockers of the placements of the unit's image by row r of the table
+--   blocksListed l       those of its images by the listed rows
+--   Asked                what a caller gives for unit U: the groups of the page, and their mates
+--   Imaged               the places, the connections and the listed rows of unit U
+use mathlib.Core.Path.{_≡_}
+use mathlib.Core.Bool.{Bool, true, false}
+use mathlib.Core.List.{List, _++_}
+use mathlib.Core.Option.{Option}
+use Prim.Native.Nat.{ℕ, _+_, _*_, _<_, _≤_}
+use lib.Dec.{eqb}
+use lib.ListN.{length, getD}
+use Rattle.lists.specs.Lists.{any, flatMap}
+use Rattle.lists.specs.Table.{table}
+use Rattle.rules.specs.declared.Side.the-variants.{Wall}
+use Rattle.rules.specs.declared.Literal.{Literal}
+use Rattle.rules.specs.Page.{Puzzle, Point, Mark}
+use Rattle.rules.specs.Flat.{flat}
+use Rattle.rules.specs.Codes.{marksIn, coloursIn}
+use Rattle.rules.specs.Groups.{entry, unitOf}
+use Rattle.rules.specs.Shapes.{shapeOf, flatTransforms}
+use Rattle.rules.specs.Check.{mates, transformsOf}
+use Rattle.reasons.specs.Arrays.{Part, part, edgeIn, scanOf}
+use Rattle.reasons.specs.ListExtras.{upTo}
+use Rattle.groups.specs.declared.Groups.{Groups}
+use Rattle.groups.specs.declared.Kind.the-variants.{Units, Potential}
+use Rattle.groups.specs.Kinds.{joinsIn}
+use Rattle.groups.specs.Parts.{groupsOf}
+use Rattle.search.specs.declared.Adjacent.{Adjacent}
+use Rattle.search.specs.Placing.{Drawn, puzzle, bare}
+use Rattle.search.specs.Mates.{Known, Grouped, Listed}
+use Rattle.search.specs.Searching.{blocksBeside}
+use Rattle.shapes.specs.declared.Listed.{Listed as RowList}
+use Rattle.shapes.specs.Listing.{listing}
+use Rattle.shapes.specs.Rows.{rowsOf}
+use Rattle.shapes.specs.Spots.{UnitAt}
+use Rattle.shapes.specs.Joints.{Joined}
+use Rattle.units.specs.Images.{imageJoints}
+
+pub record Numbered (h w : ℕ) (ids cells offs : List ℕ) (g : ℕ) : Type 0 where
+  pub few : g < 1024
+  pub is : Part h w ids cells (getD offs g 0) (getD offs (g + 1) 0) g
+
+pub record Low (mates : List ℕ) (from to : ℕ) : Type 0 where
+  pub long : length mates ≡ 4096
+  pub order : from ≤ to
+  pub end : to ≤ 4096
+  pub each : (i : ℕ) → from ≤ i → i < to → getD mates i 0 < 1024
+
+pub record Mated (h w : ℕ) (ids cells offs mates : List ℕ) (from to : ℕ) : Type 0 where
+  pub low : Low mates from to
+  pub each : (i : ℕ) → from ≤ i → i < to → Numbered h w ids cells offs (getD mates i 0)
+
+abbrev pub flag : Bool → ℕ
+flag true = 1
+flag false = 0
+
+unfoldable pub flagsOf : List ℕ → List ℕ
+flagsOf xs = table 1024 (λ q. flag (any (eqb q) xs))
+
+module _ (h w : ℕ) (cs bs ids : List ℕ) where
+  -- "Edge of each adjacent unit"
+  unfoldable pub edgesIn : List ℕ → List Literal
+  edgesIn gs = flatMap (edgeIn h w cs bs ids) gs
+
+  -- "walls to other-coloured cells whose potential unit is not adjacent to P": xs are the cells of P, gs its mates
+  unfoldable pub farIn : List ℕ → List ℕ → List Literal
+  farIn gs xs = scanOf h w cs bs ids Wall false (flagsOf gs) xs
+
+  -- "Edge(P), Edge of each adjacent unit, then" those walls
+  unfoldable pub wallsIn : ℕ → List ℕ → List ℕ → List Literal
+  wallsIn p gs xs = edgeIn h w cs bs ids p ++ (edgesIn gs ++ farIn gs xs)
+
+-- with any clues: no reason of a unit asks them
+abbrev pub clued : ℕ → ℕ → List ℕ → (ℕ → Option ℕ) → Puzzle
+clued h w cs k = record { page = flat h w; colour = coloursIn cs; clue = k }
+
+pub record Arranged (h w : ℕ) (cs bs : List ℕ) (units potential : Groups) (adjacent : Adjacent) (u p : ℕ) : Type 0 where
+  pub drawn : Drawn h w cs
+  pub colours : length cs ≡ 1024
+  pub borders : length bs ≡ 1984
+  pub ids : (length (units .ids) ≡ 1024) × (length (potential .ids) ≡ 1024)
+  -- the unit U
+  pub unit : Numbered h w (units .ids) (units .cells) (units .offs) u
+  pub number : (c : ℕ) → c < h * w → getD (units .ids) c 0 ≡ unitOf (puzzle h w cs) (marksIn bs) c
+  -- the potential units, among them P
+  pub known : Known h w cs bs (potential .ids)
+  pub grouped : Grouped h w cs bs (potential .cells) (potential .offs) (potential .count)
+  pub mates : Listed (mates (puzzle h w cs) (marksIn bs)) (adjacent .list) (adjacent .offs) (potential .count)
+  pub one : p < potential .count
+
+module _ (Z : Puzzle) (s : ℕ → Mark) (cells offs mates : List ℕ) where
+  -- places, connections, row
+  unfoldable pub blocksBy : List Point → List Point → ℕ → List Literal
+  blocksBy ps js r = blocksBeside Z s (bare (imageJoints r ps js)) cells offs mates
+
+  unfoldable pub blocksListed : List Point → List Point → RowList → List Literal
+  blocksListed ps js l = upTo (λ j. blocksBy ps js (getD (l .rows) j 0)) (l .count)
+
+pub record Imaged (h w : ℕ) (cs bs ids R C : List ℕ) (n : ℕ) (D A : List ℕ) (k : ℕ) (l : RowList) (u : ℕ) : Type 0 where
+  pub cells : UnitAt h w ids u R C n
+  pub connections : Joined h w (entry ids) u D A k
+  pub rows : l ≡ listing (rowsOf (shapeOf (flat h w) (entry ids) u))
+  pub transforms : transformsOf (puzzle h w cs) (marksIn bs) u ≡ flatTransforms (shapeOf (flat h w) (entry ids) u)
+
+pub record Asked (h w : ℕ) (cs bs : List ℕ) (units potential : Groups) (adjacent : Adjacent) (u : ℕ) : Type 0 where
+  pub drawn : Drawn h w cs
+  pub colours : length cs ≡ 1024
+  pub borders : length bs ≡ 1984
+  pub all-units : units ≡ groupsOf (flat h w) (joinsIn Units h w cs bs)
+  pub all-potential : potential ≡ groupsOf (flat h w) (joinsIn Potential h w cs bs)
+  pub mates : Listed (mates (puzzle h w cs) (marksIn bs)) (adjacent .list) (adjacent .offs) (potential .count)
+  pub one : u < units .count

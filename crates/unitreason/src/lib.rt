@@ -1,0 +1,429 @@
+// The reason of a unit that fits nowhere beside its potential unit, written into lent reason memory.
+ghost use mathlib.Core.Path.{_≡_};
+ghost use mathlib.Core.Option.{Option};
+ghost use Prim.Native.Nat.{ℕ, _+_, _<_, _≤_};
+ghost use lib.ListN.{length, getD};
+ghost use Rattle.rules.specs.Codes.{marksIn};
+ghost use Rattle.rules.specs.Flat.{Sized};
+ghost use Rattle.rules.specs.Check.{unitReason};
+ghost use Rattle.reasons.specs.Arrays.{Arrays, Cells, part};
+ghost use Rattle.reasons.specs.Memory.{Wrote};
+ghost use Rattle.search.specs.Placing.{Drawn, puzzle};
+ghost use Rattle.search.specs.Searching.{Beside};
+ghost use Rattle.shapes.specs.Spots.{Spotted, spots};
+ghost use Rattle.units.specs.Images.{Jointed};
+ghost use Rattle.units.specs.Fitting.{Rows};
+ghost use Rattle.units.specs.Stuck.{potentialIn};
+ghost use Rattle.unitreason.specs.Writing.{Numbered, Low, Mated, flagsOf, edgesIn, farIn, wallsIn};
+ghost use Rattle.unitreason.specs.Writing.{Arranged, Imaged, Asked, blocksListed, clued};
+use groups::Groups;
+use reasons::edge;
+use reasons::inside;
+use reasons::scan;
+use rules::Side;
+use search::Adjacent;
+use search::block_mates;
+use shapes::Listed;
+use shapes::joints;
+use shapes::list_rows;
+use shapes::places;
+use units::turn_row;
+
+// A number of 16 bits.
+fn wide(x: u16) -> usize
+    ensures { λ r. ⌜ r ≡ x ⌝ }
+{
+    x as usize
+}
+
+// Writes Edge of each of the groups that the list of mates has from the place `from` to the place `to`; gives the next
+// place.
+fn edges_of<'a>(
+    memory: &mut [u16],
+    start: usize,
+    h: usize,
+    w: usize,
+    colours: &'a [u8; 1024],
+    borders: &'a [u8; 1984],
+    ids: &'a [u16; 1024],
+    cells: &'a [u16; 1024],
+    offs: &'a [u16; 1025],
+    mates: &'a [u16; 4096],
+    from: usize,
+    to: usize,
+) -> usize
+    requires { ⌜ Sized h w × Arrays (now borders) (now ids) × (length (now colours) ≡ 1024)
+        × Mated h w (now ids) (now cells) (now offs) (now mates) from to
+        × (start + length (edgesIn h w (now colours) (now borders) (now ids) (part (now mates) from to)) ≤ length
+        (now memory)) ⌝ }
+    ensures { λ r. ⌜ Wrote (now (memory .entry)) start
+        (edgesIn h w (now (colours .entry)) (now (borders .entry)) (now (ids .entry))
+        (part (now (mates .entry)) from to)) (now (memory .exit)) r ⌝ }
+{
+    let mut at = start;
+    let mut i = from;
+    while i < to {
+        let q = wide(mates[i]);
+        let first = wide(offs[q]);
+        let last = wide(offs[q + 1]);
+        at = edge(
+            memory,
+            at,
+            h,
+            w,
+            colours,
+            borders,
+            ids,
+            cells,
+            first,
+            last,
+            q,
+        );
+        i += 1;
+    }
+    at
+}
+
+// 1 at the number of each group that the list of mates has from the place `from` to the place `to`, 0 elsewhere.
+fn marks_of(mates: &[u16; 4096], from: usize, to: usize) -> [u8; 1024]
+    requires { ⌜ Low (now mates) from to ⌝ }
+    ensures { λ r. ⌜ r ≡ flagsOf (part (now (mates .entry)) from to) ⌝ }
+{
+    let mut marked = [0u8; 1024];
+    let mut i = from;
+    while i < to {
+        let q = wide(mates[i]);
+        marked[q] = 1;
+        i += 1;
+    }
+    marked
+}
+
+// Writes the walls from the cells `cells[first..last]` to cells of the other colour in groups that the list of mates
+// has not from the place `from` to the place `to`; gives the next place.
+fn far_walls<'a>(
+    memory: &mut [u16],
+    start: usize,
+    h: usize,
+    w: usize,
+    colours: &'a [u8; 1024],
+    borders: &'a [u8; 1984],
+    ids: &'a [u16; 1024],
+    cells: &'a [u16; 1024],
+    first: usize,
+    last: usize,
+    mates: &'a [u16; 4096],
+    from: usize,
+    to: usize,
+) -> usize
+    requires { ⌜ Sized h w × Arrays (now borders) (now ids) × (length (now colours) ≡ 1024)
+        × Cells h w (now cells) first last × Low (now mates) from to
+        × (start + length (farIn h w (now colours) (now borders) (now ids) (part (now mates) from to)
+        (part (now cells) first last)) ≤ length (now memory)) ⌝ }
+    ensures { λ r. ⌜ Wrote (now (memory .entry)) start
+        (farIn h w (now (colours .entry)) (now (borders .entry)) (now (ids .entry))
+        (part (now (mates .entry)) from to) (part (now (cells .entry)) first last)) (now (memory .exit)) r ⌝ }
+{
+    let marked = marks_of(mates, from, to);
+    scan(
+        memory,
+        start,
+        h,
+        w,
+        colours,
+        borders,
+        ids,
+        cells,
+        first,
+        last,
+        Side::Wall,
+        false,
+        &marked,
+    )
+}
+
+// Writes the walls of the potential unit p: its Edge, Edge of each potential unit adjacent to it, and its walls to
+// cells of the other colour in units that are not adjacent to it. Gives the next place.
+fn walls_of<'a>(
+    memory: &mut [u16],
+    start: usize,
+    h: usize,
+    w: usize,
+    colours: &'a [u8; 1024],
+    borders: &'a [u8; 1984],
+    ids: &'a [u16; 1024],
+    cells: &'a [u16; 1024],
+    offs: &'a [u16; 1025],
+    mates: &'a [u16; 4096],
+    from: usize,
+    to: usize,
+    p: usize,
+) -> usize
+    requires { ⌜ Sized h w × Arrays (now borders) (now ids) × (length (now colours) ≡ 1024)
+        × Mated h w (now ids) (now cells) (now offs) (now mates) from to
+        × Numbered h w (now ids) (now cells) (now offs) p
+        × Cells h w (now cells) (getD (now offs) p 0) (getD (now offs) (p + 1) 0)
+        × (start + length (wallsIn h w (now colours) (now borders) (now ids) p (part (now mates) from to)
+        (part (now cells) (getD (now offs) p 0) (getD (now offs) (p + 1) 0))) ≤ length (now memory)) ⌝ }
+    ensures { λ r. ⌜ Wrote (now (memory .entry)) start
+        (wallsIn h w (now (colours .entry)) (now (borders .entry)) (now (ids .entry)) p
+        (part (now (mates .entry)) from to) (part (now (cells .entry)) (getD (now (offs .entry)) p 0)
+        (getD (now (offs .entry)) (p + 1) 0))) (now (memory .exit)) r ⌝ }
+{
+    let first = wide(offs[p]);
+    let last = wide(offs[p + 1]);
+    let own = edge(
+        memory,
+        start,
+        h,
+        w,
+        colours,
+        borders,
+        ids,
+        cells,
+        first,
+        last,
+        p,
+    );
+    let all = edges_of(
+        memory,
+        own,
+        h,
+        w,
+        colours,
+        borders,
+        ids,
+        cells,
+        offs,
+        mates,
+        from,
+        to,
+    );
+    far_walls(
+        memory,
+        all,
+        h,
+        w,
+        colours,
+        borders,
+        ids,
+        cells,
+        first,
+        last,
+        mates,
+        from,
+        to,
+    )
+}
+
+// Writes the blockers of the placements of the unit's images by the listed rows, with their origins at the cells of the
+// groups that the list of mates has from the place `from` to the place `to`; gives the next place.
+fn block_rows<'a>(
+    memory: &mut [u16],
+    start: usize,
+    h: usize,
+    w: usize,
+    colours: &'a [u8; 1024],
+    borders: &'a [u8; 1984],
+    listed: Listed,
+    rows: &'a [u16; 1024],
+    columns: &'a [u16; 1024],
+    n: usize,
+    down: &'a [u16; 2048],
+    across: &'a [u16; 2048],
+    k: usize,
+    ys: &mut [u8; 2048],
+    xs: &mut [u8; 2048],
+    cells: &'a [u16; 1024],
+    offs: &'a [u16; 1025],
+    mates: &'a [u16; 4096],
+    from: usize,
+    to: usize,
+) -> usize
+    requires { ⌜ Rows listed × Drawn h w (now colours) × Spotted (now rows) (now columns) n
+        × Jointed (now down) (now across) k × Beside h w (now cells) (now offs) (now mates) from to
+        × (length (now ys) ≡ 2048) × (length (now xs) ≡ 2048)
+        × (start + length (blocksListed (puzzle h w (now colours)) (marksIn (now borders)) (now cells) (now offs)
+        (part (now mates) from to) (spots (now rows) (now columns) n) (spots (now down) (now across) k) listed) ≤ length
+        (now memory)) ⌝ }
+    ensures { λ r. ⌜ Wrote (now (memory .entry)) start
+        (blocksListed (puzzle h w (now (colours .entry))) (marksIn (now (borders .entry))) (now (cells .entry))
+        (now (offs .entry)) (part (now (mates .entry)) from to) (spots (now (rows .entry)) (now (columns .entry)) n)
+        (spots (now (down .entry)) (now (across .entry)) k) listed) (now (memory .exit)) r ⌝ }
+{
+    let count = listed.count;
+    let mut at = start;
+    let mut j = 0;
+    while j < count {
+        let row = listed.rows[j];
+        turn_row(row as usize, rows, columns, n, down, across, k, ys, xs);
+        at = block_mates(
+            memory,
+            at,
+            h,
+            w,
+            colours,
+            borders,
+            ys,
+            xs,
+            k,
+            cells,
+            offs,
+            mates,
+            from,
+            to,
+        );
+        j += 1;
+    }
+    at
+}
+
+// Writes the reason of the unit u in the potential unit p from the start of the memory: the blockers of its placements,
+// its Inside, and the walls of p. Gives the number of literals. The unit's n cells stand in `rows` and `columns`, its k
+// connections in `down` and `across`; `listed` has the rows of its transforms.
+pub fn write_unit<'a>(
+    memory: &mut [u16],
+    h: usize,
+    w: usize,
+    colours: &'a [u8; 1024],
+    borders: &'a [u8; 1984],
+    units: Groups,
+    potential: Groups,
+    adjacent: Adjacent,
+    listed: Listed,
+    rows: &'a [u16; 1024],
+    columns: &'a [u16; 1024],
+    n: usize,
+    down: &'a [u16; 2048],
+    across: &'a [u16; 2048],
+    k: usize,
+    u: usize,
+    p: usize,
+) -> usize
+    requires { ⌜ Arranged h w (now colours) (now borders) units potential adjacent u p
+        × Imaged h w (now colours) (now borders) (units .ids) (now rows) (now columns) n (now down) (now across) k
+        listed u
+        × (length (unitReason (puzzle h w (now colours)) (marksIn (now borders)) u p) ≤ length (now memory)) ⌝ }
+    ensures { λ r. ⌜ ((c : ℕ → Option ℕ) → Wrote (now (memory .entry)) 0
+        (unitReason (clued h w (now (colours .entry)) c) (marksIn (now (borders .entry))) u p)
+        (now (memory .exit)) r) ⌝ }
+{
+    let from = wide(adjacent.offs[p]);
+    let to = wide(adjacent.offs[p + 1]);
+    let mut ys = [0u8; 2048];
+    let mut xs = [0u8; 2048];
+    let blocked = block_rows(
+        memory,
+        0,
+        h,
+        w,
+        colours,
+        borders,
+        listed,
+        rows,
+        columns,
+        n,
+        down,
+        across,
+        k,
+        &mut ys,
+        &mut xs,
+        &potential.cells,
+        &potential.offs,
+        &adjacent.list,
+        from,
+        to,
+    );
+    let first = wide(units.offs[u]);
+    let last = wide(units.offs[u + 1]);
+    let inner = inside(
+        memory,
+        blocked,
+        h,
+        w,
+        borders,
+        &units.ids,
+        &units.cells,
+        first,
+        last,
+        u,
+    );
+    walls_of(
+        memory,
+        inner,
+        h,
+        w,
+        colours,
+        borders,
+        &potential.ids,
+        &potential.cells,
+        &potential.offs,
+        &adjacent.list,
+        from,
+        to,
+        p,
+    )
+}
+
+// Writes the reason of the unit u in its potential unit from the start of the memory; gives the number of literals. The
+// units, the potential units and the potential units adjacent to each are those of the page.
+pub fn write_stuck<'a>(
+    memory: &mut [u16],
+    h: usize,
+    w: usize,
+    colours: &'a [u8; 1024],
+    borders: &'a [u8; 1984],
+    units: Groups,
+    potential: Groups,
+    adjacent: Adjacent,
+    u: usize,
+) -> usize
+    requires { ⌜ Asked h w (now colours) (now borders) units potential adjacent u
+        × (length (unitReason (puzzle h w (now colours)) (marksIn (now borders)) u
+        (potentialIn (puzzle h w (now colours)) (marksIn (now borders)) u)) ≤ length (now memory)) ⌝ }
+    ensures { λ r. ⌜ ((c : ℕ → Option ℕ) → Wrote (now (memory .entry)) 0
+        (unitReason (clued h w (now (colours .entry)) c) (marksIn (now (borders .entry))) u
+        (potentialIn (clued h w (now (colours .entry)) c) (marksIn (now (borders .entry))) u))
+        (now (memory .exit)) r) ⌝ }
+{
+    let first = wide(units.offs[u]);
+    let last = wide(units.offs[u + 1]);
+    let c = wide(units.cells[first]);
+    let p = wide(potential.ids[c]);
+    let mut rows = [0u16; 1024];
+    let mut columns = [0u16; 1024];
+    let n = places(&units.cells, first, last, w, &mut rows, &mut columns);
+    let mut down = [0u16; 2048];
+    let mut across = [0u16; 2048];
+    let k = joints(
+        &units.ids,
+        h,
+        w,
+        u,
+        &rows,
+        &columns,
+        n,
+        &mut down,
+        &mut across,
+    );
+    let listed = list_rows(&units.ids, h, w, u, &rows, &columns, n);
+    write_unit(
+        memory,
+        h,
+        w,
+        colours,
+        borders,
+        units,
+        potential,
+        adjacent,
+        listed,
+        &rows,
+        &columns,
+        n,
+        &down,
+        &across,
+        k,
+        u,
+        p,
+    )
+}

@@ -1,0 +1,108 @@
+//! What the proved functions are held against: the published code, or `oracle::plain` where its
+//! source is not there.
+
+use oracle::page::{code, Board, Groups, Kind, Literal, KINDS};
+use oracle::plain::View;
+use oracle::published::Published;
+
+/// Says so where the published source is missing.
+pub fn note_source() {
+    if !oracle::SOURCE {
+        println!("skipped: no source; compared with oracle::plain");
+    }
+}
+
+pub fn published(board: &Board) -> Published {
+    let puzzle = &board.puzzle;
+    let mut made = Published::new(puzzle.h, puzzle.w, &puzzle.colours, &puzzle.clues);
+    for &(border, wall) in &board.decided {
+        made.decide(border, wall);
+    }
+    made
+}
+
+/// The groups of the three kinds.
+pub fn groups(board: &Board) -> Vec<Groups> {
+    if oracle::SOURCE {
+        let theirs = published(board);
+        KINDS.iter().map(|&kind| theirs.groups(kind)).collect()
+    } else {
+        let view = View::new(board);
+        KINDS
+            .iter()
+            .map(|&kind| view.groups(kind).clone())
+            .collect()
+    }
+}
+
+/// Inside of each block, Inside of each unit, Edge of each potential unit.
+pub fn reasons(board: &Board) -> [Vec<Vec<Literal>>; 3] {
+    if oracle::SOURCE {
+        return published(board).group_reasons();
+    }
+    let view = View::new(board);
+    let insides = |kind: Kind| {
+        let groups = view.groups(kind);
+        let all = 0..groups.lists.len();
+        all.map(|group| view.inside(groups, group)).collect()
+    };
+    let potential = 0..view.potential.lists.len();
+    let edges = potential.map(|group| view.edge(group)).collect();
+    [insides(Kind::Blocks), insides(Kind::Units), edges]
+}
+
+/// Paths on one board.
+pub struct Paths<'a> {
+    view: View<'a>,
+    theirs: Option<Published>,
+}
+
+impl<'a> Paths<'a> {
+    pub fn new(board: &'a Board) -> Paths<'a> {
+        Paths {
+            view: View::new(board),
+            theirs: oracle::SOURCE.then(|| published(board)),
+        }
+    }
+
+    /// The cells of the blocks.
+    pub fn blocks(&self) -> &Groups {
+        &self.view.blocks
+    }
+
+    /// Path from cell a to cell b, both on the page; no literals if b is not reached.
+    pub fn path(&self, a: usize, b: usize) -> Vec<Literal> {
+        match &self.theirs {
+            Some(theirs) => theirs.path(a, b).unwrap_or_default(),
+            None => self.view.path(a, b),
+        }
+    }
+}
+
+/// Literals as they stand in memory.
+pub fn codes(literals: &[Literal]) -> Vec<u16> {
+    literals
+        .iter()
+        .map(|literal| code(literal) as u16)
+        .collect()
+}
+
+/// Groups as they stand in memory: numbers, count, cells, starts, each filled up with 0.
+pub fn words(groups: &Groups) -> Vec<u16> {
+    let filled = |list: Vec<usize>, length: usize| {
+        let mut places: Vec<u16> = list.iter().map(|&n| n as u16).collect();
+        places.resize(length, 0);
+        places
+    };
+    let mut starts = vec![0];
+    for list in &groups.lists {
+        starts.push(starts[starts.len() - 1] + list.len());
+    }
+    [
+        filled(groups.ids.clone(), 1024),
+        vec![groups.lists.len() as u16],
+        filled(groups.lists.concat(), 1024),
+        filled(starts, 1025),
+    ]
+    .concat()
+}

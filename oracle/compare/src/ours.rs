@@ -1,0 +1,165 @@
+//! Safe calls of crate probe, and a memory that is looked after.
+
+use oracle::page::{Board, Kind, State};
+use oracle::random::Random;
+
+/// The least memory that a call takes.
+pub const ROOM: usize = 16_384;
+/// What an unfit call gives.
+pub const UNFIT: usize = 65_535;
+
+// A slice goes over as its address and its length.
+extern "C" {
+    fn probe_groups(
+        h: usize,
+        w: usize,
+        colours: *const u8,
+        colours_length: usize,
+        borders: *const u8,
+        borders_length: usize,
+        kind: u32,
+        memory: *mut u16,
+        memory_length: usize,
+    ) -> usize;
+    fn probe_reason(
+        h: usize,
+        w: usize,
+        colours: *const u8,
+        colours_length: usize,
+        borders: *const u8,
+        borders_length: usize,
+        kind: u32,
+        side: u32,
+        group: usize,
+        memory: *mut u16,
+        memory_length: usize,
+    ) -> usize;
+    fn probe_path(
+        h: usize,
+        w: usize,
+        borders: *const u8,
+        borders_length: usize,
+        a: usize,
+        b: usize,
+        memory: *mut u16,
+        memory_length: usize,
+    ) -> usize;
+}
+
+/// A page with colours and borders as the proved functions take them. Nothing is promised of them.
+#[derive(Clone, Debug)]
+pub struct Ours {
+    pub h: usize,
+    pub w: usize,
+    pub colours: Vec<u8>,
+    pub borders: Vec<u8>,
+}
+
+fn kind_number(kind: Kind) -> u32 {
+    match kind {
+        Kind::Blocks => 0,
+        Kind::Units => 1,
+        Kind::Potential => 2,
+    }
+}
+
+impl Ours {
+    pub fn new(board: &Board) -> Ours {
+        let puzzle = &board.puzzle;
+        let code = |state: &State| match state {
+            State::Undecided => 0,
+            State::Wall => 1,
+            State::Open => 2,
+        };
+        Ours {
+            h: puzzle.h,
+            w: puzzle.w,
+            colours: puzzle.colours.iter().map(|&colour| colour as u8).collect(),
+            borders: board.states().iter().map(code).collect(),
+        }
+    }
+
+    /// The groups of one kind: numbers (1,024 places), count, cells (1,024), starts (1,025).
+    pub fn groups(&self, kind: Kind, memory: &mut [u16]) -> usize {
+        // SAFETY: addresses and lengths are those of slices that live through the call.
+        unsafe {
+            probe_groups(
+                self.h,
+                self.w,
+                self.colours.as_ptr(),
+                self.colours.len(),
+                self.borders.as_ptr(),
+                self.borders.len(),
+                kind_number(kind),
+                memory.as_mut_ptr(),
+                memory.len(),
+            )
+        }
+    }
+
+    fn reason(&self, kind: Kind, side: u32, group: usize, memory: &mut [u16]) -> usize {
+        // SAFETY: addresses and lengths are those of slices that live through the call.
+        unsafe {
+            probe_reason(
+                self.h,
+                self.w,
+                self.colours.as_ptr(),
+                self.colours.len(),
+                self.borders.as_ptr(),
+                self.borders.len(),
+                kind_number(kind),
+                side,
+                group,
+                memory.as_mut_ptr(),
+                memory.len(),
+            )
+        }
+    }
+
+    pub fn inside(&self, kind: Kind, group: usize, memory: &mut [u16]) -> usize {
+        self.reason(kind, 0, group, memory)
+    }
+
+    /// Edge of a potential unit.
+    pub fn edge(&self, group: usize, memory: &mut [u16]) -> usize {
+        self.reason(Kind::Potential, 1, group, memory)
+    }
+
+    pub fn path(&self, a: usize, b: usize, memory: &mut [u16]) -> usize {
+        // SAFETY: addresses and lengths are those of slices that live through the call.
+        unsafe {
+            probe_path(
+                self.h,
+                self.w,
+                self.borders.as_ptr(),
+                self.borders.len(),
+                a,
+                b,
+                memory.as_mut_ptr(),
+                memory.len(),
+            )
+        }
+    }
+}
+
+/// Memory to lend, at first filled by chance.
+pub struct Memory {
+    places: Vec<u16>,
+}
+
+impl Memory {
+    pub fn new(random: &mut Random, length: usize) -> Memory {
+        let places = (0..length).map(|_| random.word() as u16).collect();
+        Memory { places }
+    }
+
+    /// What a call wrote from the start of the memory, or none if it was unfit. The rest of the
+    /// memory must be as it was.
+    pub fn lend(&mut self, call: impl FnOnce(&mut [u16]) -> usize) -> Option<Vec<u16>> {
+        let before = self.places.clone();
+        let count = call(&mut self.places);
+        let written = if count == UNFIT { 0 } else { count };
+        assert_eq!(self.places[written..], before[written..], "memory beyond");
+        (count != UNFIT).then(|| self.places[..written].to_vec())
+    }
+}
