@@ -6,8 +6,6 @@
 --   movedBy g v js        the connections js turned by g and shifted by v
 --   Lifts minus base k    the coordinate k, turned and shifted, stays a byte, raised
 --   Turnable              so do all of a unit's connections
---   turnedAt t .. j       the transform j of a unit
---   Turning t             all of a unit's transforms can be raised
 use mathlib.Core.Path.{_≡_}
 use mathlib.Core.Bool.{Bool, true, false, cond}
 use mathlib.Core.List.{List, map}
@@ -15,10 +13,8 @@ use Prim.Native.Nat.{ℕ, _+_, _-_, _%_, _≤_, _<_}
 use lib.IntN.{pos}
 use lib.ListN.{getD}
 use Rattle.lists.specs.Lists.{range}
-use Rattle.rules.specs.Page.{Point, Shape, _⊕_}
-use Rattle.rules.specs.Turns.{Turn, rowward, columnward, flatTurn, apply}
-use Rattle.search.specs.declared.Turns.{Turns}
-use Rattle.search.specs.Placing.{bare, raised}
+use Rattle.rules.specs.Page.{Point, _⊕_}
+use Rattle.rules.specs.Turns.{Turn, rowward, columnward, flatTurn}
 
 abbrev pub liftOf : Bool → ℕ → ℕ → ℕ
 liftOf true base a = base - a
@@ -50,16 +46,3 @@ pub record Turnable (swap r c : Bool) (y x : ℕ) (down across : List ℕ) (n : 
   pub rows : (i : ℕ) → i < n → Lifts r y (getD (cond swap across down) i 0)
   pub columns : (i : ℕ) → i < n → Lifts c x (getD (cond swap down across) i 0)
   pub odd : (i : ℕ) → i < n → 1 ≤ getD down i 0 % 2 + getD across i 0 % 2
-
--- the transform j of a unit, by its row and its raised shift
-unfoldable pub turnedAt : Turns → List ℕ → List ℕ → ℕ → ℕ → Shape
-turnedAt t down across n j =
-    bare
-    (movedBy (apply (turnOf (getD (t .swap) j false) (getD (t .upward) j false) (getD (t .leftward) j false)))
-    (raised (getD (t .y) j 0) (getD (t .x) j 0)) (pointsOf down across n))
-
-pub record Turning (t : Turns) (down across : List ℕ) (n : ℕ) : Type 0 where
-  pub few : t .count ≤ 8
-  pub each : (j : ℕ) → j < t .count
-      → Turnable (getD (t .swap) j false) (getD (t .upward) j false) (getD (t .leftward) j false) (getD (t .y) j 0)
-      (getD (t .x) j 0) down across n
