@@ -27,7 +27,11 @@
 --   putCodes m xs n    reason memory with the first n codes of xs written from its start, in two bytes each
 --   putBytes m ls      reason memory beside an image with the literals ls written from its start
 --   isShort m          reason memory below 16,384 literals
---   answerNumber a     the number of a check's answer
+--   places m           how many literals reason memory of bytes holds
+--   bytesAfter m f     reason memory of bytes after the answer f of Check
+--   bytesBy b m        reason memory of bytes after a check of the board b
+--   checkNumber s m    the number that a check returns on the image s with the bytes m lent
+--   checkBytes s m     the bytes m afterwards
 use mathlib.Core.Path.{_≡_}
 use mathlib.Core.Bool.{Bool, true, false, cond}
 use mathlib.Core.List.{List, [], _∷_, _++_, map}
@@ -42,10 +46,12 @@ use Rattle.rules.specs.declared.Side.{Side}
 use Rattle.rules.specs.declared.Side.the-variants.{Wall, Open}
 use Rattle.rules.specs.declared.Literal.{Literal}
 use Rattle.rules.specs.Codes.{literalCode}
-use Rattle.rules.specs.Check.{Answer, pass, conflict}
+use Rattle.rules.specs.Check.{Answer, pass, conflict, check}
 use Rattle.board.specs.declared.Board.{Board}
 use Rattle.board.specs.Alien.{isAlien}
 use Rattle.board.specs.Board.{numberOf, decideOf, undoOf, Typed}
+use Rattle.board.specs.View.{puzzleOf, marksOf}
+use Rattle.calls.specs.Answers.{answerNumber, checkAnswer}
 
 -- ---- an image as a board
 -- "Low byte first"
@@ -169,7 +175,25 @@ putBytes m ls = sets m 0 (flatMap twoBytes (map literalCode ls))
 unfoldable pub isShort : List ℕ → Bool
 isShort m = ltb (length m) 32768
 
--- "32 plus the undecided count for a pass; 65,536 plus the literal count for a conflict"
-abbrev pub answerNumber : Answer → ℕ
-answerNumber (pass n) = 32 + n
-answerNumber (conflict ls) = 65536 + length ls
+-- "In reason memory a literal is in 2 bytes"
+abbrev pub places : List ℕ → ℕ
+places m = length m / 2
+
+-- "An answered check writes its literals from the start of the memory and nothing beyond; a pass writes none"
+abbrev pub bytesAfter : List ℕ → Answer → List ℕ
+bytesAfter m (pass n) = m
+bytesAfter m (conflict ls) = putBytes m ls
+
+abbrev pub bytesBy : Board → List ℕ → List ℕ
+bytesBy b m =
+    cond (isAlien b) m
+    (cond (ltb (places m) 16384) m
+    (bytesAfter m (check (puzzleOf b) (marksOf b))))
+
+-- "the refusal number; 32 plus the undecided count for a pass; 65,536 plus the literal count for a conflict"
+unfoldable pub checkNumber : List ℕ → List ℕ → ℕ
+checkNumber s m = cond (rightLength s) (answerNumber (checkAnswer (boardOf s) (places m))) 5
+
+-- "lent memory stays"
+unfoldable pub checkBytes : List ℕ → List ℕ → List ℕ
+checkBytes s m = cond (rightLength s) (bytesBy (boardOf s) m) m

@@ -6,3 +6,4 @@ pub mod RoundLaws
 pub mod CallLaws
 pub mod RunLaws
 pub mod MemoryLaws
+pub mod CheckLaws

@@ -1,6 +1,5 @@
--- Reason memory beside an image: codes stored one after the other, and a reason's literals from the codes that stand
--- for
--- them.
+-- Reason memory beside an image: codes stored one after the other, and a reason's literals from the codes that
+-- stand for them.
 use mathlib.Core.Path.{_≡_, refl, ap, ap₂, sym, _∙_}
 use mathlib.Core.List.{List, [], _∷_, _++_, map, append-nil}
 use Prim.Native.Nat.{ℕ, _+_, _*_, _<_, _≤_}

@@ -1,7 +1,9 @@
 // The board image: 11,076 bytes that the host lends, and the calls on them.
 ghost use mathlib.Core.Path.{_≡_};
 ghost use Rattle.image.specs.Image.{imageAlien, literalOf, decide, undo, imageNumber, imageAfter};
+ghost use Rattle.image.specs.Image.{checkNumber, checkBytes};
 use board::Board;
+use calls::Answer;
 use rules::Literal;
 use rules::Side;
 
@@ -21,8 +23,10 @@ pub const STACK: usize = 7108;
 
 pub const LENGTH: usize = 11076;
 
-// The number of an alien image.
+// The numbers of an alien image and of short memory.
 const ALIEN: u32 = 5;
+
+const SHORT: u32 = 9;
 
 // Whether decides and undos cannot produce the image.
 pub fn alien(image: &[u8]) -> bool
@@ -96,4 +100,34 @@ pub extern "C" fn dbchoco_undo(image: &mut [u8]) -> u32
         writing::rewrite(image, n, 0, at, at, 0);
     }
     number
+}
+
+// Checks the image. The refusal's number, 32 plus the count of undecided borders for a pass, or 65,536 plus the count
+// of literals for a conflict; a reason's literals stand from the start of the memory, two bytes each.
+#[no_mangle]
+pub extern "C" fn dbchoco_check(image: &[u8], memory: &mut [u8]) -> u32
+    ensures number { λ r. ⌜ r ≡ checkNumber (now (image .entry)) (now (memory .entry)) ⌝ }
+    ensures bytes { λ _. ⌜ now (memory .exit) ≡ checkBytes (now (image .entry)) (now (memory .entry)) ⌝ }
+{
+    if image.len() != LENGTH {
+        return ALIEN;
+    }
+    let b = reading::board(image);
+    if writing::short(memory) {
+        if b.alien() {
+            return ALIEN;
+        }
+        return SHORT;
+    }
+    let mut codes = [0u16; 16384];
+    let answer = calls::check(b, &mut codes);
+    match answer {
+        Answer::Done => 0,
+        Answer::Pass(n) => 32 + (n as u32),
+        Answer::Conflict(n) => {
+            writing::put_codes(memory, &codes, n);
+            65536 + (n as u32)
+        }
+        Answer::Refused(o) => board::number(o),
+    }
 }
