@@ -20,10 +20,6 @@
 --   imageNumber s a    the number that the call a returns on the image s
 --   imageAfter s a     the image afterwards
 --   written s ..       the image s with one border, the count and one entry of the stack rewritten
---   numbersFrom s as   the numbers of a list of calls, each on the image that the last one left
---   imageFrom s as     the image after the list
---   boardNumbers b as  the same calls on a board, by value: their numbers
---   boardFrom b as     the board after the list
 --   putCodes m xs n    reason memory with the first n codes of xs written from its start, in two bytes each
 --   putBytes m ls      reason memory beside an image with the literals ls written from its start
 --   isShort m          reason memory below 16,384 literals
@@ -145,23 +141,6 @@ imageAfter s a = cond (rightLength s) (imageOf (boardBy (boardOf s) a)) s
 -- the image s with the border n set to v, the count to c, and the entry i of the stack to e: five bytes
 unfoldable pub written : List ℕ → ℕ → ℕ → ℕ → ℕ → ℕ → List ℕ
 written s n v c i e = sets (sets (set s (5122 + n) v) 7106 (twoBytes c)) (7108 + 2 * i) (twoBytes e)
-
--- ---- lists of calls
-unfoldable pub numbersFrom : List ℕ → List ImageCall → List ℕ
-numbersFrom s [] = []
-numbersFrom s (a ∷ calls) = imageNumber s a ∷ numbersFrom (imageAfter s a) calls
-
-unfoldable pub imageFrom : List ℕ → List ImageCall → List ℕ
-imageFrom s [] = s
-imageFrom s (a ∷ calls) = imageFrom (imageAfter s a) calls
-
-unfoldable pub boardNumbers : Board → List ImageCall → List ℕ
-boardNumbers b [] = []
-boardNumbers b (a ∷ calls) = numberBy b a ∷ boardNumbers (boardBy b a) calls
-
-unfoldable pub boardFrom : Board → List ImageCall → Board
-boardFrom b [] = b
-boardFrom b (a ∷ calls) = boardFrom (boardBy b a) calls
 
 -- ---- reason memory beside an image
 unfoldable pub putCodes : List ℕ → List ℕ → ℕ → List ℕ

@@ -4,6 +4,8 @@ pub mod ByteLaws
 pub mod LayoutLaws
 pub mod RoundLaws
 pub mod CallLaws
-pub mod RunLaws
 pub mod MemoryLaws
 pub mod CheckLaws
+pub mod Runs
+pub mod CodeLaws
+pub mod RunLaws

@@ -1,21 +1,46 @@
--- Calls on images and on boards, by value, go alike: one call, and a list of calls from the image of a fresh board.
-use mathlib.Core.Path.{_≡_, refl, ap, ap₂, _∙_}
-use mathlib.Core.List.{List, [], _∷_}
-use Prim.Native.Nat.{ℕ}
+-- Calls on images and on boards, by value, go alike: one call, and demand 3 for a list of calls from the image of a
+-- fresh board.
+--
+--   number-image, after-image   a decide or an undo on the image of a board
+--   step-number, step-codes, step-image   any call on it: its number, the memory, and the image afterwards
+--   ImageDemand         demand 3 for a list of calls on images
+--   image-demand        it holds
+use mathlib.Core.Path.{_≡_, refl, ap, ap₂, sym, _∙_}
+use mathlib.Core.Bool.{Bool, true, false, cond}
+use mathlib.Core.List.{List, [], _∷_, map}
+use Prim.Native.Nat.{ℕ, _+_, _*_, _/_, _≤_}
+use native.Mathlib.Omega.{arith}
+use borrow.Author.Tests.{ltb-false}
+use lib.Dec.{ltb}
 use lib.IntN.{ℤ}
+use lib.ListN.{length}
 use Rattle.rules.specs.declared.Side.{Side}
 use Rattle.rules.specs.declared.Side.the-variants.{Wall, Open}
 use Rattle.rules.specs.declared.Literal.{Literal}
+use Rattle.rules.specs.Page.{Puzzle}
 use Rattle.rules.specs.Codes.{sideCode}
+use Rattle.rules.specs.Check.{Answer as Found, pass, conflict, check}
 use Rattle.board.specs.declared.Board.{Board}
-use Rattle.board.specs.declared.Outcome.the-variants.{Done}
-use Rattle.board.specs.Board.{returned, freshOf, Small}
+use Rattle.board.specs.declared.Outcome.{Outcome}
+use Rattle.board.specs.declared.Outcome.the-variants.{Done, Size, Ragged, Colour, Clue}
+use Rattle.board.specs.declared.Outcome.the-variants.{Alien, Border, Taken, Bare, Short}
+use Rattle.board.specs.Alien.{isAlien}
+use Rattle.board.specs.Board.{numberOf, decideOf, undoOf}
+use Rattle.board.specs.View.{puzzleIn, puzzleOf, marksOf}
 use Rattle.board.specs.StepLaws.{Kept, decide-kept, undo-kept}
-use Rattle.board.specs.FreshLaws.{made-is, made-keeps, made-typed}
+use Rattle.calls.specs.Answers.{answerNumber, written, checkAnswer, checkMemory, ended, callOf, callMemory}
+use Rattle.calls.specs.CallLaws.{reason-short}
+use Rattle.calls.specs.Runs.{Accepted, startOf, Lent, Given, givenBy, boardAfter, runFrom}
+use Rattle.calls.specs.Demand3.{Demand3}
+use Rattle.calls.specs.Demand3Laws.{start-bare, demand3}
 use Rattle.image.specs.Image.{boardOf, imageOf, Proper, sideOf, literalOf, ImageCall, decide, undo, numberBy}
-use Rattle.image.specs.Image.{boardBy, imageNumber, imageAfter, numbersFrom, imageFrom, boardNumbers, boardFrom}
+use Rattle.image.specs.Image.{boardBy, imageNumber, imageAfter, places, bytesAfter, bytesBy}
+use Rattle.image.specs.Image.{checkNumber, checkBytes}
+use Rattle.image.specs.Runs.{Sent, altering, checking, sentNumber, sentImage, sentBytes, Got, imageRun, imageFrom}
+use Rattle.image.specs.Runs.{codesIn, lentFor, Read, read, numbered}
 use Rattle.image.specs.LayoutLaws.{image-long}
 use Rattle.image.specs.RoundLaws.{board-image, long-is}
+use Rattle.image.specs.CodeLaws.{length-codes, codes-written, literals-small}
 
 -- every literal can be decided on an image
 pub side-of-code : (d : Side) → sideOf (sideCode d) ≡ d
@@ -46,45 +71,116 @@ module _ (b : Board) (P : Proper b) (a : ImageCall) where
   unfolding imageAfter
   after-image = rw (long-is (imageOf b) (image-long b (P .typed)), board-image b P)
 
+-- ---- a check
+module _ (b : Board) (P : Proper b) where
+  pub check-number : (m : List ℕ) → checkNumber (imageOf b) m ≡ answerNumber (checkAnswer b (length (codesIn m)))
+  unfolding checkNumber
+  check-number m = rw (long-is (imageOf b) (image-long b (P .typed)), board-image b P, length-codes m)
+
+  bytes-image : (m : List ℕ) → checkBytes (imageOf b) m ≡ bytesBy b m
+  unfolding checkBytes
+  bytes-image m = rw (long-is (imageOf b) (image-long b (P .typed)), board-image b P)
+
+  bytes-known : (m : List ℕ) (f : Found) → check (puzzleOf b) (marksOf b) ≡ f → 16384 ≤ places m
+      → codesIn (bytesAfter m f) ≡ written (codesIn m) f
+  bytes-known m (pass n) e h = refl
+  bytes-known m (conflict r) e h =
+      let s = reason-short b (P .known) r e in
+      codes-written r (literals-small b (P .known) (P .typed) r e) m (omega arith)
+
+  pub check-codes : (m : List ℕ) → codesIn (checkBytes (imageOf b) m) ≡ checkMemory b (codesIn m)
+  unfolding checkMemory
+  check-codes m =
+      ap codesIn (bytes-image m) ∙ rw (P .known, length-codes m) (go (ltb (length m / 2) 16384) refl)
+    where
+      f : Found
+      f = check (puzzleOf b) (marksOf b)
+
+      go : (x : Bool) → ltb (length m / 2) 16384 ≡ x
+          → codesIn (cond x m (bytesAfter m f)) ≡ cond x (codesIn m) (written (codesIn m) f)
+      go true e = refl
+      go false e = bytes-known m f refl (omega (arith, ltb-false (length m / 2) 16384 e))
+
+-- ---- any call
+answer-ended : (o : Outcome) → answerNumber (ended o) ≡ numberOf o
+answer-ended Done = refl
+answer-ended Size = refl
+answer-ended Ragged = refl
+answer-ended Colour = refl
+answer-ended Clue = refl
+answer-ended Alien = refl
+answer-ended Border = refl
+answer-ended Taken = refl
+answer-ended Bare = refl
+answer-ended Short = refl
+
+-- what the call gives on the board
+abbrev given : Board → Sent → Given
+given b c = givenBy b (lentFor c)
+
+abbrev after : Board → Sent → Board
+after b c = callOf b (lentFor c .call) (lentFor c .memory) .board
+
+module _ (b : Board) (P : Proper b) where
+  pub step-number : (c : Sent) → sentNumber (imageOf b) c ≡ answerNumber (given b c .answer)
+  unfolding callOf
+  step-number (altering (decide n d)) =
+      number-image b P (decide n d) ∙ sym (answer-ended (decideOf b (literalOf n d) .outcome))
+  step-number (altering undo) = number-image b P undo ∙ sym (answer-ended (undoOf b .outcome))
+  step-number (checking m) = check-number b P m
+
+  pub step-codes : (c : Sent) → codesIn (sentBytes (imageOf b) c) ≡ given b c .memory
+  unfolding callMemory codesIn
+  step-codes (altering (decide n d)) = refl
+  step-codes (altering undo) = refl
+  step-codes (checking m) = check-codes b P m
+
+  pub step-image : (c : Sent) → sentImage (imageOf b) c ≡ imageOf (after b c)
+  unfolding callOf
+  step-image (altering (decide n d)) = after-image b P (decide n d)
+  step-image (altering undo) = after-image b P undo
+  step-image (checking m) = refl
+
+  step-proper : (c : Sent) → Proper (after b c)
+  unfolding callOf
+  step-proper (altering (decide n d)) = proper-after b (decide n d) P
+  step-proper (altering undo) = proper-after b undo P
+  step-proper (checking m) = P
+
 -- ---- a list of calls
-pub numbers-run : (b : Board) → Proper b → (calls : List ImageCall)
-    → numbersFrom (imageOf b) calls ≡ boardNumbers b calls
-unfolding numbersFrom boardNumbers
-numbers-run b P [] = refl
-numbers-run b P (a ∷ calls) =
-    ap₂ (λ (n : ℕ) (l : List ℕ). n ∷ l) (number-image b P a)
-    (ap (λ (s : List ℕ). numbersFrom s calls) (after-image b P a)
-    ∙ numbers-run (boardBy b a) (proper-after b a P) calls)
+pub run-read : (b : Board) → Proper b → (calls : List Sent)
+    → map read (imageRun (imageOf b) calls) ≡ map numbered (runFrom b (map lentFor calls))
+unfolding imageRun runFrom
+run-read b P [] = refl
+run-read b P (c ∷ calls) =
+    ap₂ (λ (r : Read) (l : List Read). r ∷ l)
+    (λ i. record { number = step-number b P c i; codes = step-codes b P c i })
+    (ap (λ (s : List ℕ). map read (imageRun s calls)) (step-image b P c)
+    ∙ run-read (after b c) (step-proper b P c) calls)
 
-pub image-run : (b : Board) → Proper b → (calls : List ImageCall)
-    → imageFrom (imageOf b) calls ≡ imageOf (boardFrom b calls)
-unfolding imageFrom boardFrom
-image-run b P [] = refl
-image-run b P (a ∷ calls) =
-    ap (λ (s : List ℕ). imageFrom s calls) (after-image b P a)
-    ∙ image-run (boardBy b a) (proper-after b a P) calls
+pub run-image : (b : Board) → Proper b → (calls : List Sent)
+    → imageFrom (imageOf b) calls ≡ imageOf (boardAfter b (map lentFor calls))
+unfolding imageFrom boardAfter
+run-image b P [] = refl
+run-image b P (c ∷ calls) =
+    ap (λ (s : List ℕ). imageFrom s calls) (step-image b P c) ∙ run-image (after b c) (step-proper b P c) calls
 
-pub fresh-proper : (h w : ℕ) (cs : List ℕ) (ks : List ℤ) {b : Board} → Small ks → freshOf h w cs ks ≡ returned Done b
-    → Proper b
-fresh-proper h w cs ks s e = record { known = made-keeps (made-is e); typed = made-typed (made-is e) s }
+-- start is the board that making the puzzle's board returns, and Z the puzzle
+pub record ImageDemand (start : Board) (Z : Puzzle) (calls : List Sent) : Type 0 where
+  -- the same calls on the board, with the same literals' memory, meet demand 3
+  pub demand : Demand3 start Z (map lentFor calls)
+  -- each call on the image gives the number of the board's answer, and the memory holds the same literals
+  pub answers : map read (imageRun (imageOf start) calls) ≡ map numbered (runFrom start (map lentFor calls))
+  -- the image that the calls leave is the image of the board that they leave
+  pub image : imageFrom (imageOf start) calls ≡ imageOf (boardAfter start (map lentFor calls))
 
--- from a fresh board: the calls' numbers, and the image that the last one leaves
-pub record FreshRun (b : Board) (calls : List ImageCall) : Type 0 where
-  pub numbers : numbersFrom (imageOf b) calls ≡ boardNumbers b calls
-  pub image : imageFrom (imageOf b) calls ≡ imageOf (boardFrom b calls)
-  pub board : boardOf (imageFrom (imageOf b) calls) ≡ boardFrom b calls
-
-proper-from : (b : Board) → Proper b → (calls : List ImageCall) → Proper (boardFrom b calls)
-unfolding boardFrom
-proper-from b P [] = P
-proper-from b P (a ∷ calls) = proper-from (boardBy b a) (proper-after b a P) calls
-
-pub fresh-run : (h w : ℕ) (cs : List ℕ) (ks : List ℤ) (b : Board) → Small ks → freshOf h w cs ks ≡ returned Done b
-    → (calls : List ImageCall) → FreshRun b calls
-fresh-run h w cs ks b s e calls =
-    let P = fresh-proper h w cs ks s e in
+pub image-demand : (h w : ℕ) (cs : List ℕ) (ks : List ℤ) → Accepted h w cs ks → (calls : List Sent)
+    → ImageDemand (startOf h w cs ks) (puzzleIn h w cs ks) calls
+image-demand h w cs ks A calls =
+    let S = start-bare h w cs ks A in
+    let P : Proper (startOf h w cs ks) = record { known = S .known; typed = S .typed } in
     record {
-      numbers = numbers-run b P calls;
-      image = image-run b P calls;
-      board = ap boardOf (image-run b P calls) ∙ board-image (boardFrom b calls) (proper-from b P calls);
+      demand = demand3 h w cs ks A (map lentFor calls);
+      answers = run-read (startOf h w cs ks) P calls;
+      image = run-image (startOf h w cs ks) P calls;
     }

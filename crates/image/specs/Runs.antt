@@ -1,0 +1,73 @@
+-- Runs: lists of calls on an image, each on the image that the last one left, and the same calls on a board, by value.
+--
+--   Sent              a call on an image with all that is handed to it: a decide or an undo, or a check with lent bytes
+--   sentNumber s c    the number that the call c returns on the image s
+--   sentImage s c     the image afterwards
+--   sentBytes s c     the lent bytes afterwards; none where none are lent
+--   Got               what a call gives: its number, and the lent bytes as they stand when it returns
+--   imageRun s cs     what the calls give, from the image s
+--   imageFrom s cs    the image after them
+--   codesIn m         the numbers of two bytes that reason memory of bytes holds
+--   lentFor c         the call c as a call on a board
+--   Read              a number with the numbers of two bytes in the memory
+--   read g            what a call on an image gave, read so
+--   numbered g        what a call on a board gave, with the number of its answer
+use mathlib.Core.List.{List, [], _∷_, map}
+use Prim.Native.Nat.{ℕ, _+_, _*_}
+use Rattle.rules.specs.declared.Call.the-variants.{Decide, Undo, Check}
+use Rattle.calls.specs.Answers.{answerNumber}
+use Rattle.calls.specs.Runs.{Lent, Given}
+use Rattle.image.specs.Image.{ImageCall, decide, undo, literalOf, imageNumber, imageAfter}
+use Rattle.image.specs.Image.{checkNumber, checkBytes}
+
+-- ---- calls on an image
+pub data Sent : Type 0 where
+  altering : ImageCall → Sent
+  checking : List ℕ → Sent
+
+abbrev pub sentNumber : List ℕ → Sent → ℕ
+sentNumber s (altering a) = imageNumber s a
+sentNumber s (checking m) = checkNumber s m
+
+-- "A check never alters the board"
+abbrev pub sentImage : List ℕ → Sent → List ℕ
+sentImage s (altering a) = imageAfter s a
+sentImage s (checking m) = s
+
+abbrev pub sentBytes : List ℕ → Sent → List ℕ
+sentBytes s (altering a) = []
+sentBytes s (checking m) = checkBytes s m
+
+pub record Got : Type 0 where
+  pub number : ℕ
+  pub bytes : List ℕ
+
+unfoldable pub imageRun : List ℕ → List Sent → List Got
+imageRun s [] = []
+imageRun s (c ∷ calls) = record { number = sentNumber s c; bytes = sentBytes s c } ∷ imageRun (sentImage s c) calls
+
+unfoldable pub imageFrom : List ℕ → List Sent → List ℕ
+imageFrom s [] = s
+imageFrom s (c ∷ calls) = imageFrom (sentImage s c) calls
+
+-- ---- the same calls on a board
+-- "a literal is in 2 bytes", low byte first; an odd last byte holds no literal
+unfoldable pub codesIn : List ℕ → List ℕ
+codesIn [] = []
+codesIn (low ∷ []) = []
+codesIn (low ∷ high ∷ m) = (low + 256 * high) ∷ codesIn m
+
+abbrev pub lentFor : Sent → Lent
+lentFor (altering (decide n d)) = record { call = Decide (literalOf n d); memory = [] }
+lentFor (altering undo) = record { call = Undo; memory = [] }
+lentFor (checking m) = record { call = Check; memory = codesIn m }
+
+pub record Read : Type 0 where
+  pub number : ℕ
+  pub codes : List ℕ
+
+abbrev pub read : Got → Read
+read g = record { number = g .number; codes = codesIn (g .bytes) }
+
+abbrev pub numbered : Given → Read
+numbered g = record { number = answerNumber (g .answer); codes = g .memory }
