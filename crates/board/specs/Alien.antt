@@ -16,9 +16,9 @@
 --   zerosFrom l from        the places of l from `from` on are 0
 --   clueZero k              k is 0
 --   zeroCluesFrom ks from   the clues from `from` on are 0
---   cellsRight b            the colours and the clues of the cells are right
---   decisionsRight b        the stack has exactly the decided borders, each once
---   unusedZero b            the unused places are 0
+--   cellsIn, cellsRight b   the colours and the clues of the cells are right: of arrays, and of a board
+--   decisionsIn, decisionsRight b   the stack has exactly the decided borders, each once
+--   unusedIn, unusedZero b  the unused places are 0
 --   isAlien b               decides and undos cannot produce b from a fresh board; crate reach has the proof
 use mathlib.Core.Path.{_≡_}
 use mathlib.Core.Bool.{Bool, true, false, not, cond, _&&_, Bool·beq}
@@ -87,25 +87,28 @@ unfoldable pub zeroCluesFrom : List ℤ → ℕ → Bool
 zeroCluesFrom ks from = allFrom from (length ks) (λ i. clueZero (getD ks i (pos 0)))
 
 -- "a bad height, width, colour or clue in one is 5"
-unfoldable pub cellsRight : Board → Bool
-cellsRight b =
-    let cells = b .height * b .width in
-    coloursRight (b .colours) cells && cluesRight (b .clues) cells
+unfoldable pub cellsIn : ℕ → ℕ → List ℕ → List ℤ → Bool
+cellsIn h w cs ks = coloursRight cs (h * w) && cluesRight ks (h * w)
+
+abbrev pub cellsRight : Board → Bool
+cellsRight b = cellsIn (b .height) (b .width) (b .colours) (b .clues)
 
 -- "the stack of decided borders"
-unfoldable pub decisionsRight : Board → Bool
-decisionsRight b =
-    let m = borderCount (b .height) (b .width) in
-    leb (b .count) m && stackRight (b .stack) m (b .count) && bordersRight (b .borders) (b .stack) (b .count) m
+unfoldable pub decisionsIn : ℕ → ℕ → List ℕ → List ℕ → ℕ → Bool
+decisionsIn h w bs s n =
+    let m = borderCount h w in
+    leb n m && stackRight s m n && bordersRight bs s n m
+
+abbrev pub decisionsRight : Board → Bool
+decisionsRight b = decisionsIn (b .height) (b .width) (b .borders) (b .stack) (b .count)
 
 -- "Unused places of a board are 0"
-unfoldable pub unusedZero : Board → Bool
-unusedZero b =
-    let cells = b .height * b .width in
-    zerosFrom (b .colours) cells
-    && zeroCluesFrom (b .clues) cells
-    && zerosFrom (b .borders) (borderCount (b .height) (b .width))
-    && zerosFrom (b .stack) (b .count)
+unfoldable pub unusedIn : ℕ → ℕ → List ℕ → List ℤ → List ℕ → List ℕ → ℕ → Bool
+unusedIn h w cs ks bs s n =
+    zerosFrom cs (h * w) && zeroCluesFrom ks (h * w) && zerosFrom bs (borderCount h w) && zerosFrom s n
+
+abbrev pub unusedZero : Board → Bool
+unusedZero b = unusedIn (b .height) (b .width) (b .colours) (b .clues) (b .borders) (b .stack) (b .count)
 
 -- "a board or image that decides and undos cannot produce from a fresh board"
 unfoldable pub isAlien : Board → Bool

@@ -15,56 +15,55 @@ use Rattle.board.specs.declared.Board.{Board}
 use Rattle.board.specs.declared.Outcome.the-variants.{Done, Size, Ragged, Colour, Clue}
 use Rattle.board.specs.declared.Outcome.the-variants.{Alien, Border, Taken, Bare}
 use Rattle.board.specs.Alien.{sizeRight, coloursRight, cluesRight, stackRight, borderRight, bordersRight}
-use Rattle.board.specs.Alien.{bordersBy, Marks, zerosFrom, zeroCluesFrom, cellsRight, decisionsRight}
-use Rattle.board.specs.Alien.{unusedZero, isAlien}
+use Rattle.board.specs.Alien.{bordersBy, Marks, zerosFrom, zeroCluesFrom, cellsIn, cellsRight, decisionsIn}
+use Rattle.board.specs.Alien.{decisionsRight, unusedIn, unusedZero, isAlien}
 use Rattle.board.specs.Board.{zeroBoard, freshBoard, returned, freshOf, pushed, popped, decideOf, undoOf}
 
 -- ---- the alien test
-module _ (b : Board) (n : ℕ) (q : n ≡ b .height * b .width) where
-  pub cells-colours : coloursRight (b .colours) n ≡ false → false ≡ cellsRight b
-  unfolding cellsRight
+module _ (h w : ℕ) (cs : List ℕ) (ks : List ℤ) (n : ℕ) (q : n ≡ h * w) where
+  pub cells-colours : coloursRight cs n ≡ false → false ≡ cellsIn h w cs ks
+  unfolding cellsIn
   cells-colours r = rw (← q, r)
 
-  pub cells-clues : (a : Bool) → coloursRight (b .colours) n ≡ true → a ≡ cluesRight (b .clues) n → a ≡ cellsRight b
-  unfolding cellsRight
+  pub cells-clues : (a : Bool) → coloursRight cs n ≡ true → a ≡ cluesRight ks n → a ≡ cellsIn h w cs ks
+  unfolding cellsIn
   cells-clues a r s = rw (← q, r) s
 
-  module _ (m : ℕ) (p : m ≡ borderCount (b .height) (b .width)) where
-    pub unused-colours : zerosFrom (b .colours) n ≡ false → false ≡ unusedZero b
-    unfolding unusedZero
+module _ (h w : ℕ) (bs st : List ℕ) (count m : ℕ) (p : m ≡ borderCount h w) where
+  module _ (cs : List ℕ) (ks : List ℤ) (n : ℕ) (q : n ≡ h * w) where
+    pub unused-colours : zerosFrom cs n ≡ false → false ≡ unusedIn h w cs ks bs st count
+    unfolding unusedIn
     unused-colours r = rw (← q, r)
 
-    pub unused-clues : zerosFrom (b .colours) n ≡ true → zeroCluesFrom (b .clues) n ≡ false → false ≡ unusedZero b
-    unfolding unusedZero
+    pub unused-clues : zerosFrom cs n ≡ true → zeroCluesFrom ks n ≡ false → false ≡ unusedIn h w cs ks bs st count
+    unfolding unusedIn
     unused-clues r s = rw (← q, r, s)
 
-    pub unused-borders : zerosFrom (b .colours) n ≡ true → zeroCluesFrom (b .clues) n ≡ true
-        → zerosFrom (b .borders) m ≡ false → false ≡ unusedZero b
-    unfolding unusedZero
+    pub unused-borders : zerosFrom cs n ≡ true → zeroCluesFrom ks n ≡ true → zerosFrom bs m ≡ false
+        → false ≡ unusedIn h w cs ks bs st count
+    unfolding unusedIn
     unused-borders r s t = rw (← q, r, s, ← p, t)
 
-    pub unused-stack : (a : Bool) → zerosFrom (b .colours) n ≡ true → zeroCluesFrom (b .clues) n ≡ true
-        → zerosFrom (b .borders) m ≡ true → a ≡ zerosFrom (b .stack) (b .count) → a ≡ unusedZero b
-    unfolding unusedZero
+    pub unused-stack : (a : Bool) → zerosFrom cs n ≡ true → zeroCluesFrom ks n ≡ true → zerosFrom bs m ≡ true
+        → a ≡ zerosFrom st count → a ≡ unusedIn h w cs ks bs st count
+    unfolding unusedIn
     unused-stack a r s t u = rw (← q, r, s, ← p, t) u
 
-module _ (b : Board) (m : ℕ) (p : m ≡ borderCount (b .height) (b .width)) where
-  pub decisions-many : m < b .count → false ≡ decisionsRight b
-  unfolding decisionsRight
-  decisions-many t = rw (← p, lt-leb (b .count) m t)
+  pub decisions-many : m < count → false ≡ decisionsIn h w bs st count
+  unfolding decisionsIn
+  decisions-many t = rw (← p, lt-leb count m t)
 
-  pub decisions-stack : b .count ≤ m → stackRight (b .stack) m (b .count) ≡ false → false ≡ decisionsRight b
-  unfolding decisionsRight
-  decisions-stack t u = rw (← p, le-leb (b .count) m t, u)
+  pub decisions-stack : count ≤ m → stackRight st m count ≡ false → false ≡ decisionsIn h w bs st count
+  unfolding decisionsIn
+  decisions-stack t u = rw (← p, le-leb count m t, u)
 
-  pub decisions-borders : (vs : List Bool) (a : Bool) → b .count ≤ m → m ≤ 1984 → Marks (b .stack) m (b .count) true vs
-      → a ≡ bordersBy (b .borders) vs m → a ≡ decisionsRight b
-  unfolding decisionsRight bordersBy bordersRight
+  pub decisions-borders : (vs : List Bool) (a : Bool) → count ≤ m → m ≤ 1984 → Marks st m count true vs
+      → a ≡ bordersBy bs vs m → a ≡ decisionsIn h w bs st count
+  unfolding decisionsIn bordersBy bordersRight
   decisions-borders vs a t l u e =
       e
-      ∙ all-cong m _ _
-      (λ x k. ap (λ (v : Bool). borderRight (getD (b .borders) x 0) v) (u .marked refl x (omega arith)))
-      ∙ rw (← p, le-leb (b .count) m t, ← (u .tells))
+      ∙ all-cong m _ _ (λ x k. ap (λ (v : Bool). borderRight (getD bs x 0) v) (u .marked refl x (omega arith)))
+      ∙ rw (← p, le-leb count m t, ← (u .tells))
 
 module _ (b : Board) where
   pub alien-size : sizeRight (b .height) (b .width) ≡ false → true ≡ isAlien b

@@ -1,6 +1,6 @@
 -- Laws on lists: a test of every number from one bound to another, counting one number more, tables, padded lists.
 use mathlib.Core.Path.{_≡_, refl, ap, sym, _∙_}
-use mathlib.Core.Bool.{Bool, true, false, _||_, or-true}
+use mathlib.Core.Bool.{Bool, true, false, _||_, or-true, and-true}
 use mathlib.Core.List.{List, [], _∷_, _++_, List·Memᴰ·not-nil, List·Memᴰ·append-cases, List·Memᴰ·eq-of-singleton}
 use mathlib.Core.Logic.{_⊎_, inl, inr, ⊎-elim}
 use Prim.Native.Nat.{ℕ, zero, suc, _+_, _-_, _<_, _≤_}
@@ -48,6 +48,19 @@ from-every a n f h = all-every n (λ j. ltb j a || f j) (λ i l. go i l (decLt i
 -- a loop that has tested the numbers below i, and has ended at or after n
 pub from-end : (a i n : ℕ) (f : ℕ → Bool) → n ≤ i → allFrom a i f ≡ true → allFrom a n f ≡ true
 from-end a i n f h e = from-every a n f (λ j p q. from-at a i f j e p (omega arith))
+
+-- a loop that has tested the numbers below i with the result z, and goes on
+pub from-yes : (a i : ℕ) (f : ℕ → Bool) (z : Bool) → z ≡ allFrom a i f → f i ≡ true → z ≡ allFrom a (i + 1) f
+unfolding allFrom allBelow
+from-yes a i f z p q = p ∙ rw (add-one i, q, or-true (ltb i a), and-true (allFrom a i f))
+
+-- and one that ends
+pub from-stop : (a i n : ℕ) (f : ℕ → Bool) → a ≤ i → n ≤ i → i - a ≤ n - a → allFrom a i f ≡ allFrom a n f
+from-stop a i n f h k l = go (decLt n a)
+  where
+    go : Dec (n < a) → allFrom a i f ≡ allFrom a n f
+    go (yes d) = from-none a i f (omega arith) ∙ sym (from-none a n f (omega arith))
+    go (no d) = ap (λ j. allFrom a j f) (let e : i ≡ n = omega arith in e)
 
 -- ---- counting one number more
 module _ (i : ℕ) (f : ℕ → Bool) where

@@ -17,8 +17,8 @@ use Rattle.rules.specs.FlatLaws.{borders-le}
 use Rattle.board.specs.declared.Board.{Board}
 use Rattle.board.specs.ListExtras.{from-at, from-every}
 use Rattle.board.specs.Alien.{sizeRight, coloursRight, clueRight, cluesRight, stacked, stackRight, bordersRight}
-use Rattle.board.specs.Alien.{entryRight, borderRight, zerosFrom, clueZero, zeroCluesFrom, cellsRight}
-use Rattle.board.specs.Alien.{decisionsRight, unusedZero, isAlien}
+use Rattle.board.specs.Alien.{entryRight, borderRight, zerosFrom, clueZero, zeroCluesFrom, cellsIn}
+use Rattle.board.specs.Alien.{cellsRight, decisionsIn, decisionsRight, unusedIn, unusedZero, isAlien}
 use Rattle.board.specs.ConditionLaws.{sized, size-is, stacked-none, stacked-more}
 
 pub record Native (b : Board) : Type 0 where
@@ -89,7 +89,7 @@ module _ (b : Board) where
 
   has-cells : sizeRight (b .height) (b .width) ≡ true → cellsRight b ≡ true → decisionsRight b ≡ true
       → unusedZero b ≡ true → Native b
-  unfolding cellsRight decisionsRight unusedZero coloursRight cluesRight stackRight bordersRight cells m
+  unfolding cellsIn decisionsIn unusedIn coloursRight cluesRight stackRight bordersRight cells m
   has-cells s c d u =
       let few : Bool = leb (b .count) m in
       let stack : Bool = stackRight (b .stack) m (b .count) in
@@ -149,7 +149,7 @@ module _ (b : Board) where
 
   module _ (N : Native b) where
     cells-hold : cellsRight b ≡ true
-    unfolding cellsRight coloursRight cluesRight
+    unfolding cellsIn coloursRight cluesRight
     cells-hold =
         rw (
           all-every (b .height * b .width) (λ i. leb (getD (b .colours) i 0) 1)
@@ -158,7 +158,7 @@ module _ (b : Board) where
         )
 
     decisions-hold : decisionsRight b ≡ true
-    unfolding decisionsRight stackRight bordersRight m
+    unfolding decisionsIn stackRight bordersRight m
     decisions-hold =
         rw (
           le-leb (b .count) m (N .few),
@@ -171,7 +171,7 @@ module _ (b : Board) where
         )
 
     unused-hold : unusedZero b ≡ true
-    unfolding unusedZero
+    unfolding unusedIn
     unused-hold =
         rw (
           zeros-of (b .colours) (b .height * b .width) (N .noColour),

@@ -132,32 +132,34 @@ pub fn borders_right<'a>(
     true
 }
 
-// Whether the bytes from a place on are 0.
+// Whether the bytes from a place on are 0. No exit at the first that is not: the loop then takes many at a time.
 pub fn zeros_from(places: &[u8], from: usize) -> bool
     ensures { λ r. ⌜ r ≡ zerosFrom (now (places .entry)) from ⌝ }
 {
+    let mut zero = true;
     let mut i = from;
     while i < places.len() {
         if places[i] != 0 {
-            return false;
+            zero = false;
         }
         i += 1;
     }
-    true
+    zero
 }
 
 // Whether the stack entries from a place on are 0.
 pub fn zero_entries_from(places: &[u16], from: usize) -> bool
     ensures { λ r. ⌜ r ≡ zerosFrom (now (places .entry)) from ⌝ }
 {
+    let mut zero = true;
     let mut i = from;
     while i < places.len() {
         if places[i] != 0 {
-            return false;
+            zero = false;
         }
         i += 1;
     }
-    true
+    zero
 }
 
 // Whether k is 0.
@@ -171,13 +173,13 @@ fn clue_zero(k: i32) -> bool
 pub fn zero_clues_from(places: &[i32], from: usize) -> bool
     ensures { λ r. ⌜ r ≡ zeroCluesFrom (now (places .entry)) from ⌝ }
 {
+    let mut zero = true;
     let mut i = from;
     while i < places.len() {
-        if clue_zero(places[i]) {
-            i += 1;
-        } else {
-            return false;
+        if !clue_zero(places[i]) {
+            zero = false;
         }
+        i += 1;
     }
-    true
+    zero
 }

@@ -6,7 +6,7 @@ ghost use Rattle.rules.specs.Codes.{codeOf};
 ghost use Rattle.rules.specs.Flat.{Sized};
 ghost use Rattle.board.specs.Board.{numberOf, zeroBoard, returned, freshOf};
 ghost use Rattle.board.specs.Board.{pushed, popped, decideOf, undoOf};
-ghost use Rattle.board.specs.Alien.{cellsOf, bordersOf, cellsRight, decisionsRight, unusedZero, isAlien};
+ghost use Rattle.board.specs.Alien.{cellsOf, bordersOf, cellsIn, decisionsIn, unusedIn, isAlien};
 ghost use Rattle.board.specs.View.{undecidedOf};
 use rules::Literal;
 use rules::Side;
@@ -104,6 +104,79 @@ fn refused(outcome: Outcome) -> Returned
     }
 }
 
+// Whether every cell has a right colour and a right clue.
+fn cells_right<'a>(
+    h: usize,
+    w: usize,
+    colours: &'a [u8; Board::CELL_LIMIT],
+    clues: &'a [i32; Board::CELL_LIMIT],
+) -> bool
+    requires { ⌜ Sized h w ⌝ }
+    ensures { λ r. ⌜ r ≡ cellsIn h w (now (colours .entry)) (now (clues .entry)) ⌝ }
+{
+    let cells = cell_count(h, w);
+    if conditions::colours_right(colours, cells) {
+        conditions::clues_right(clues, cells)
+    } else {
+        false
+    }
+}
+
+// Whether the stack has each decided border once, and nothing else.
+fn decisions_right<'a>(
+    h: usize,
+    w: usize,
+    borders: &'a [u8; Board::BORDER_LIMIT],
+    stack: &'a [u16; Board::BORDER_LIMIT],
+    count: usize,
+) -> bool
+    requires { ⌜ Sized h w ⌝ }
+    ensures { λ r. ⌜ r ≡ decisionsIn h w (now (borders .entry)) (now (stack .entry)) count ⌝ }
+{
+    let total = border_count(h, w);
+    if count <= total {
+        let s = conditions::mark_stack(stack, total, count);
+        if s.right {
+            conditions::borders_right(borders, &s.seen, total)
+        } else {
+            false
+        }
+    } else {
+        false
+    }
+}
+
+// Whether every unused place is 0.
+fn unused_zero<'a>(
+    h: usize,
+    w: usize,
+    colours: &'a [u8; Board::CELL_LIMIT],
+    clues: &'a [i32; Board::CELL_LIMIT],
+    borders: &'a [u8; Board::BORDER_LIMIT],
+    stack: &'a [u16; Board::BORDER_LIMIT],
+    count: usize,
+) -> bool
+    requires { ⌜ Sized h w ⌝ }
+    ensures { λ r. ⌜ r ≡ unusedIn h w (now (colours .entry)) (now (clues .entry)) (now (borders .entry))
+        (now (stack .entry)) count ⌝ }
+{
+    let cells = cell_count(h, w);
+    let total = border_count(h, w);
+    if conditions::zeros_from(colours, cells) {
+        if conditions::zero_clues_from(clues, cells) {
+            if conditions::zeros_from(borders, total) {
+                conditions::zero_entries_from(stack, count)
+            } else {
+                false
+            }
+        } else {
+            false
+        }
+    } else {
+        false
+    }
+}
+
 impl Board {
     pub const SIDE_LIMIT: usize = 32;
 
@@ -170,10 +243,21 @@ impl Board {
     pub fn alien(self) -> bool
         ensures { λ r. ⌜ r ≡ isAlien self ⌝ }
     {
-        if conditions::size_right(self.height, self.width) {
-            if self.cells_right() {
-                if self.decisions_right() {
-                    !self.unused_zero()
+        let h = self.height;
+        let w = self.width;
+        let n = self.count;
+        if conditions::size_right(h, w) {
+            if cells_right(h, w, &self.colours, &self.clues) {
+                if decisions_right(h, w, &self.borders, &self.stack, n) {
+                    !unused_zero(
+                        h,
+                        w,
+                        &self.colours,
+                        &self.clues,
+                        &self.borders,
+                        &self.stack,
+                        n,
+                    )
                 } else {
                     true
                 }
@@ -182,61 +266,6 @@ impl Board {
             }
         } else {
             true
-        }
-    }
-
-    // Whether every cell has a right colour and a right clue.
-    fn cells_right(self) -> bool
-        requires { ⌜ Sized (self .height) (self .width) ⌝ }
-        ensures { λ r. ⌜ r ≡ cellsRight self ⌝ }
-    {
-        let cells = cell_count(self.height, self.width);
-        if conditions::colours_right(&self.colours, cells) {
-            conditions::clues_right(&self.clues, cells)
-        } else {
-            false
-        }
-    }
-
-    // Whether the stack has each decided border once, and nothing else.
-    fn decisions_right(self) -> bool
-        requires { ⌜ Sized (self .height) (self .width) ⌝ }
-        ensures { λ r. ⌜ r ≡ decisionsRight self ⌝ }
-    {
-        let total = border_count(self.height, self.width);
-        let count = self.count;
-        if count <= total {
-            let s = conditions::mark_stack(&self.stack, total, count);
-            if s.right {
-                conditions::borders_right(&self.borders, &s.seen, total)
-            } else {
-                false
-            }
-        } else {
-            false
-        }
-    }
-
-    // Whether every unused place is 0.
-    fn unused_zero(self) -> bool
-        requires { ⌜ Sized (self .height) (self .width) ⌝ }
-        ensures { λ r. ⌜ r ≡ unusedZero self ⌝ }
-    {
-        let cells = cell_count(self.height, self.width);
-        let total = border_count(self.height, self.width);
-        let count = self.count;
-        if conditions::zeros_from(&self.colours, cells) {
-            if conditions::zero_clues_from(&self.clues, cells) {
-                if conditions::zeros_from(&self.borders, total) {
-                    conditions::zero_entries_from(&self.stack, count)
-                } else {
-                    false
-                }
-            } else {
-                false
-            }
-        } else {
-            false
         }
     }
 

@@ -8,35 +8,42 @@ use Rattle.board.specs.ConditionLaws.{sized}
 use Rattle.board.proofs.Board.alien.Statement.{statement}
 use Rattle.board.proofs.Board.alien.Tie as tie
 
-size : (c : tie.Then1) → sizeRight (c .before .before .args .self .height) (c .before .before .args .self .width) ≡ true
+size : (c : tie.Then1) → sizeRight (c .before .before .args .t1 .height) (c .before .before .args .t1 .width) ≡ true
 size c = sym (c .before .size-right .ensures) ∙ c .if1 .taken
 
 size-right-requires : tie.Need-size-right-requires
 size-right-requires c κs = search needs
 
 cells-right-requires : tie.Need-cells-right-requires
-cells-right-requires c κs = sized (size c)
+cells-right-requires c κs = sized (size (c .before .before .before))
 
 decisions-right-requires : tie.Need-decisions-right-requires
-decisions-right-requires c κs = sized (size (c .before .before))
+decisions-right-requires c κs = sized (size (c .before .before .before .before .before .before .before .before))
 
 unused-zero-requires : tie.Need-unused-zero-requires
-unused-zero-requires c κs = sized (size (c .before .before .before .before))
+unused-zero-requires c κs =
+    let k = c .before .before .before .before .before .before .before .before .before .before in
+    sized (size (k .before .before .before .before .before))
 
 returns : tie.Need-returns
 returns c =
-    alien-unused _ _ (size (c .before .before .before .before .before))
-    (sym (c .before .before .before .before .cells-right .ensures) ∙ c .before .before .before .if2 .taken)
-    (sym (c .before .before .decisions-right .ensures) ∙ c .before .if3 .taken) (c .unused-zero .ensures)
+    let c₃ = c .before .before .before .before .before .before in
+    let c₂ = c₃ .before .before .before .before .before in
+    let cells = sym (c₂ .before .cells-right .ensures) ∙ c₂ .if2 .taken in
+    let decisions = sym (c₃ .before .decisions-right .ensures) ∙ c₃ .if3 .taken in
+    alien-unused _ _ (size (c₂ .before .before .before .before .before)) cells decisions (c .unused-zero .ensures)
 
 returns-2 : tie.Need-returns-2
 returns-2 c =
-    alien-decisions _ (size (c .before .before .before .before))
-    (sym (c .before .before .before .cells-right .ensures) ∙ c .before .before .if2 .taken)
-    (sym (c .before .decisions-right .ensures) ∙ c .if3 .left)
+    let c₂ = c .before .before .before .before .before in
+    let cells = sym (c₂ .before .cells-right .ensures) ∙ c₂ .if2 .taken in
+    let k = c₂ .before .before .before .before .before in
+    alien-decisions _ (size k) cells (sym (c .before .decisions-right .ensures) ∙ c .if3 .left)
 
 returns-3 : tie.Need-returns-3
-returns-3 c = alien-cells _ (size (c .before .before)) (sym (c .before .cells-right .ensures) ∙ c .if2 .left)
+returns-3 c =
+    let k = c .before .before .before .before .before in
+    alien-cells _ (size k) (sym (c .before .cells-right .ensures) ∙ c .if2 .left)
 
 returns-4 : tie.Need-returns-4
 returns-4 c = alien-size _ (sym (c .before .size-right .ensures) ∙ c .if1 .left)

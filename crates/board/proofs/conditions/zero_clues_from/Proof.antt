@@ -1,7 +1,8 @@
--- `zero_clues_from` meets its contract. The loop's invariant: the clues from the first to i are 0.
-use mathlib.Core.Bool.{true}
-use mathlib.Core.Path.{_∙_, _≡_, sym}
-use Prim.Native.Nat.{_-_, _≤_}
+-- `zero_clues_from` meets its contract. The loop's invariant: `zero` says whether the clues from the first to i are 0.
+use borrow.Author.Tests.{not-true, not-false}
+use mathlib.Core.Logic.{⊎-elim}
+use mathlib.Core.Path.{_≡_, sym, _∙_}
+use Prim.Native.Nat.{_+_, _-_, _≤_}
 use native.Mathlib.Omega.{arith}
 use borrow.Author.Needs.{needs, sfits-of}
 use lib.IntN.{pos}
@@ -9,18 +10,19 @@ use lib.ListN.{getD, length}
 use mir.Facts.{toZ-ofZ}
 use mir.Syntax.{w32}
 use Rattle.board.specs.Alien.{clueZero, zeroCluesFrom}
-use Rattle.board.specs.ListExtras.{allFrom, from-end, from-fails, from-more, from-none}
+use Rattle.board.specs.ListExtras.{allFrom, from-none, from-yes, from-fails, from-stop}
 use Rattle.board.proofs.conditions.zero_clues_from.Statement.{statement}
 use Rattle.board.proofs.conditions.zero_clues_from.Tie as tie
 
 abbrev Inv-loop : tie.InvT-loop
-Inv-loop places from i₀ i = (from ≤ i) × (allFrom from i (λ x. clueZero (getD places x (pos 0))) ≡ true)
+Inv-loop places from zero₀ i₀ zero i =
+    (from ≤ i) × (i - from ≤ length places - from) × (zero ≡ allFrom from i (λ x. clueZero (getD places x (pos 0))))
 
 abbrev μ-loop : tie.MeasureT-loop
-μ-loop places from i₀ i = length places - i
+μ-loop places from zero₀ i₀ zero i = length places - i
 
 loop-holds : tie.Need-loop-holds Inv-loop μ-loop
-loop-holds c = (search needs, from-none _ _ _ (omega arith))
+loop-holds c = (search needs, omega arith, sym (from-none _ _ _ (omega arith)))
 
 mul-clue-zero : tie.Need-mul-clue-zero Inv-loop μ-loop
 mul-clue-zero c = omega arith
@@ -41,22 +43,25 @@ loop-again : tie.Need-loop-again Inv-loop μ-loop
 loop-again c =
     let c₁ = c .before .before .before .before in
     let z = getD (c₁ .before .args .places .now) (c₁ .loop .i) (pos 0) in
-    let e = toZ-ofZ {w = w32} {z = z} (sfits-of (c .before .before .clue-zero-arg .given)) in
-    (omega arith, from-more _ _ _ (c₁ .loop .inv .1) (simp e at (sym (c .before .clue-zero .ensures) ∙ c .if1 .taken)))
+    let e = toZ-ofZ {w = w32} {z = z} (sfits-of (c .before .before .clue-zero-arg .given)) in (
+      omega arith,
+      omega arith,
+      ⊎-elim
+          (λ w.
+          w .1
+          ∙ sym
+          (from-fails _ (c₁ .loop .i + 1) _ (c₁ .loop .i) (omega arith) (omega arith)
+          (simp e at (sym (c .before .clue-zero .ensures) ∙ not-true (c .before .clue-zero .result) (w .0 .taken)))))
+          (λ w.
+          w .1
+          ∙ from-yes _ (c₁ .loop .i) _ _ (c₁ .loop .inv .2)
+          (simp e at (sym (c .before .clue-zero .ensures) ∙ not-false (c .before .clue-zero .result) (w .0 .left))))
+          (c .if1 .came),
+    )
 
 returns : tie.Need-returns Inv-loop μ-loop
 unfolding zeroCluesFrom
-returns c =
-    let c₁ = c .before .before .before .before in
-    let z = getD (c₁ .before .args .places .now) (c₁ .loop .i) (pos 0) in
-    let e = toZ-ofZ {w = w32} {z = z} (sfits-of (c .before .before .clue-zero-arg .given)) in
-    sym
-    (from-fails _ _ _ (c₁ .loop .i) (omega arith) (omega arith)
-    (simp e at (sym (c .before .clue-zero .ensures) ∙ c .if1 .left)))
-
-returns-2 : tie.Need-returns-2 Inv-loop μ-loop
-unfolding zeroCluesFrom
-returns-2 c = sym (from-end _ (c .before .loop .i) _ _ (omega arith) (c .before .loop .inv .1))
+returns c = let r = c .before .loop in r .inv .2 ∙ from-stop _ (r .i) _ _ (omega arith) (omega arith) (omega arith)
 
 pub zero-clues-from-spec : {M : Type 1} → statement M
 zero-clues-from-spec =
@@ -71,5 +76,4 @@ zero-clues-from-spec =
     add-i
     loop-less
     loop-again
-    returns
-    returns-2)
+    returns)
