@@ -1,11 +1,13 @@
-// Links the static library of crate probe. Where it is missing, or older than a file of the crates,
-// `rt staticlib probe` proves and writes it first.
+// Links the static libraries of crates probe and trial. Where one is missing, or older than a file of
+// the crates, `rt staticlib` proves and writes it first.
 
 use std::env;
 use std::fs;
 use std::path::{Path, PathBuf};
 use std::process::Command;
 use std::time::SystemTime;
+
+const LIBRARIES: [&str; 2] = ["probe", "trial"];
 
 fn repository() -> PathBuf {
     let package = env::var_os("CARGO_MANIFEST_DIR").expect("cargo sets this");
@@ -33,12 +35,12 @@ fn latest(folder: &Path) -> Option<SystemTime> {
     times.max()
 }
 
-fn build(root: &Path) {
+fn build(root: &Path, name: &str) {
     let run = Command::new("rt")
-        .args(["staticlib", "probe"])
+        .args(["staticlib", name])
         .current_dir(root)
         .output();
-    let what = "`rt staticlib probe` in the repository's root";
+    let what = format!("`rt staticlib {name}` in the repository's root");
     match run {
         Err(error) => panic!("cannot run {what}: {error}"),
         Ok(output) if !output.status.success() => panic!(
@@ -54,13 +56,15 @@ fn main() {
     let root = repository();
     let crates = root.join("crates");
     let folder = root.join("target/staticlib");
-    let library = folder.join("libprobe.a");
     println!("cargo::rerun-if-changed=build.rs");
     println!("cargo::rerun-if-changed={}", crates.display());
-    println!("cargo::rerun-if-changed={}", library.display());
-    if changed(&library) < latest(&crates) {
-        build(&root);
-    }
     println!("cargo::rustc-link-search=native={}", folder.display());
-    println!("cargo::rustc-link-lib=static=probe");
+    for name in LIBRARIES {
+        let library = folder.join(format!("lib{name}.a"));
+        println!("cargo::rerun-if-changed={}", library.display());
+        if changed(&library) < latest(&crates) {
+            build(&root, name);
+        }
+        println!("cargo::rustc-link-lib=static={name}");
+    }
 }

@@ -48,7 +48,7 @@ fn sized(random: &mut Random, h: usize, w: usize, turn: usize) -> Board {
 }
 
 /// Most borders open, in one colour or two: large groups and long paths.
-fn opened(random: &mut Random, h: usize, w: usize) -> Board {
+pub fn opened(random: &mut Random, h: usize, w: usize) -> Board {
     let puzzle = Puzzle::without_clues(h, w, generate::colours(random, h, w));
     let opens = *random.pick(&[55, 70, 85, 100]);
     let walls = *random.pick(&[0, 100 - opens]);

@@ -1,8 +1,9 @@
 //! What the proved functions are held against: the published code, or `oracle::plain` where its
 //! source is not there.
 
+use oracle::book::Answer;
 use oracle::page::{code, Board, Groups, Kind, Literal, KINDS};
-use oracle::plain::View;
+use oracle::plain::{self, View};
 use oracle::published::Published;
 
 /// Says so where the published source is missing.
@@ -19,6 +20,19 @@ pub fn published(board: &Board) -> Published {
         made.decide(border, wall);
     }
     made
+}
+
+/// What a check answers.
+pub fn check(board: &Board) -> Answer {
+    let reason = if oracle::SOURCE {
+        published(board).check()
+    } else {
+        plain::check(board).map(|hit| hit.reason)
+    };
+    match reason {
+        Some(reason) => Answer::Conflict(reason),
+        None => Answer::Pass(board.undecided()),
+    }
 }
 
 /// The groups of the three kinds.

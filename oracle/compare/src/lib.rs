@@ -1,6 +1,8 @@
-//! The proved functions, called through the static library of crate probe, and what they are held
-//! against.
+//! The proved functions, called through the static libraries of crates probe and trial, and what
+//! they are held against.
 
 pub mod boards;
 pub mod expected;
+pub mod many;
 pub mod ours;
+pub mod trial;

@@ -153,13 +153,24 @@ impl Memory {
         Memory { places }
     }
 
-    /// What a call wrote from the start of the memory, or none if it was unfit. The rest of the
-    /// memory must be as it was.
-    pub fn lend(&mut self, call: impl FnOnce(&mut [u16]) -> usize) -> Option<Vec<u16>> {
+    /// What a call gives, and what it wrote from the start of the memory: `length` tells how much
+    /// by what it gives. The rest of the memory must be as it was.
+    pub fn lend_for(
+        &mut self,
+        call: impl FnOnce(&mut [u16]) -> usize,
+        length: impl Fn(usize) -> usize,
+    ) -> (usize, Vec<u16>) {
         let before = self.places.clone();
-        let count = call(&mut self.places);
-        let written = if count == UNFIT { 0 } else { count };
+        let number = call(&mut self.places);
+        let written = length(number);
         assert_eq!(self.places[written..], before[written..], "memory beyond");
-        (count != UNFIT).then(|| self.places[..written].to_vec())
+        (number, self.places[..written].to_vec())
+    }
+
+    /// What a call of crate probe wrote, or none if it was unfit.
+    pub fn lend(&mut self, call: impl FnOnce(&mut [u16]) -> usize) -> Option<Vec<u16>> {
+        let length = |count| if count == UNFIT { 0 } else { count };
+        let (count, written) = self.lend_for(call, length);
+        (count != UNFIT).then_some(written)
     }
 }

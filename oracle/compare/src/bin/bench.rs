@@ -1,26 +1,84 @@
-//! Times of the proved code and of the published, in one process: `cargo run --release --bin bench`,
-//! with words after `--` to take only the boards whose name has one of them.
+//! Times of the proved code and of the published, in one process: `cargo run --release --bin bench`.
+//! Words after `--` take only the parts with that name (groups, check, stream), and only the boards
+//! whose name has one of the other words.
 //!
 //! A part of the work is a line of PARTS: how to make its two sides ready on a board.
 
 use compare::boards;
 use compare::expected::published;
 use compare::ours::{Ours, ROOM};
+use compare::trial::Trial;
 use oracle::bench::{self, Named};
+use oracle::generate;
 use oracle::page::{Board, Puzzle, KINDS};
+use oracle::random::Random;
 use std::hint::black_box;
-use std::time::Instant;
+use std::time::{Duration, Instant};
 
-/// One side's work on a board, once.
-type Work = Box<dyn FnMut()>;
+/// A run of so many times.
+type Run = Box<dyn FnMut(usize)>;
+
+/// One side's work on a board. Where each run makes the board first, `less` makes it too and has
+/// that much less of the work, so that the difference of the two is the work alone.
+struct Side {
+    run: Run,
+    less: Option<Run>,
+}
 
 /// Our work and the published work on a board.
-type Ready = fn(&Board) -> (Work, Work);
+type Ready = fn(&Board) -> [Side; 2];
 
-const PARTS: [(&str, Ready); 1] = [("the three groupings", groupings)];
+struct Part {
+    name: &'static str,
+    title: &'static str,
+    ready: Ready,
+    boards: fn() -> Vec<Named>,
+    /// How many units of work are one time on a board.
+    units: fn(&Board) -> usize,
+}
+
+const PARTS: [Part; 3] = [
+    Part {
+        name: "groups",
+        title: "the three groupings",
+        ready: groupings,
+        boards: all_boards,
+        units: |_| 1,
+    },
+    Part {
+        name: "check",
+        title: "one check, of one board again and again",
+        ready: check,
+        boards: bench::boards,
+        units: |_| 1,
+    },
+    Part {
+        name: "stream",
+        title: "one check, of a board that has one more border decided each time",
+        ready: stream,
+        boards: streams,
+        units: |board| board.decided.len().max(1),
+    },
+];
+
+fn all_boards() -> Vec<Named> {
+    bench::boards().into_iter().chain(boards::named()).collect()
+}
+
+fn times_of(mut work: impl FnMut() + 'static) -> Run {
+    Box::new(move |times| (0..times).for_each(|_| work()))
+}
+
+/// A side that makes no board.
+fn plain(work: impl FnMut() + 'static) -> Side {
+    Side {
+        run: times_of(work),
+        less: None,
+    }
+}
 
 /// Our side has the probe's copies too: colours and borders in, the groups out.
-fn groupings(board: &Board) -> (Work, Work) {
+fn groupings(board: &Board) -> [Side; 2] {
     let ours = Ours::new(board);
     let theirs = published(board);
     let mut memory = vec![0; ROOM];
@@ -32,73 +90,196 @@ fn groupings(board: &Board) -> (Work, Work) {
     let their_work = move || {
         black_box(theirs.group_counts());
     };
-    (Box::new(our_work), Box::new(their_work))
+    [plain(our_work), plain(their_work)]
 }
 
-/// Batches of each side; the sides take turns.
-const BATCHES: usize = 15;
-/// The least length of a batch, in seconds.
-const LEAST: f64 = 0.001;
-
-/// Seconds for so many times.
-fn batch(work: &mut Work, times: usize) -> f64 {
-    let start = Instant::now();
-    for _ in 0..times {
-        work();
-    }
-    start.elapsed().as_secs_f64()
+/// Checks of one board, so many for each time.
+fn checks(board: &Board, each: usize) -> Run {
+    let trial = Trial::new(board);
+    let mut memory = vec![0; ROOM];
+    Box::new(move |times| {
+        black_box(trial.check(each * times, &mut memory));
+    })
 }
 
-/// How many times make a batch long enough.
-fn enough(work: &mut Work) -> usize {
-    let mut times = 1;
-    while batch(work, times) < LEAST {
-        times *= 2;
-    }
-    times
+fn check(board: &Board) -> [Side; 2] {
+    let ours = Side {
+        run: checks(board, 2),
+        less: Some(checks(board, 1)),
+    };
+    let mut theirs = published(board);
+    let their_work = move || {
+        black_box(theirs.check());
+    };
+    [ours, plain(their_work)]
 }
 
-/// The least time of each side, in seconds.
-fn least(mut sides: [Work; 2]) -> [f64; 2] {
-    let times = [enough(&mut sides[0]), enough(&mut sides[1])];
-    let mut found = [f64::INFINITY; 2];
-    for _ in 0..BATCHES {
-        for side in 0..2 {
-            let each = batch(&mut sides[side], times[side]) / times[side] as f64;
-            found[side] = found[side].min(each);
+/// Decides the board's literals one after another, with a check after each.
+fn stream(board: &Board) -> [Side; 2] {
+    let trial = Trial::new(board);
+    let less = trial.clone();
+    let (mut memory, mut less_memory) = (vec![0; ROOM], vec![0; ROOM]);
+    let ours = Side {
+        run: times_of(move || {
+            black_box(trial.stream(&mut memory));
+        }),
+        less: Some(times_of(move || {
+            black_box(less.check(1, &mut less_memory));
+        })),
+    };
+    let decided = board.decided.clone();
+    let mut theirs = published(&Board {
+        puzzle: board.puzzle.clone(),
+        decided: vec![],
+    });
+    let their_work = move || {
+        for &(border, wall) in &decided {
+            theirs.decide(border, wall);
+            black_box(theirs.check());
+        }
+        for _ in &decided {
+            theirs.undo();
+        }
+    };
+    [ours, plain(their_work)]
+}
+
+/// Boards for streams: the decides lead to a solution, or some way before it to a conflict.
+fn streams() -> Vec<Named> {
+    let mut list = vec![];
+    for (n, copies) in [(8, 4), (16, 2), (32, 1)] {
+        for copy in 1..=copies {
+            let mut random = Random::new((100 * n + copy) as u64);
+            let cut = generate::solved_cut(&mut random, n, n, 6);
+            let solved = generate::part_of(&mut random, &cut, 100, 10);
+            let mut turned = solved.clone();
+            let middle = turned.decided.len() / 2;
+            turned.decided[middle].1 = !turned.decided[middle].1;
+            for (end, board) in [("solution", solved), ("conflict", turned)] {
+                let name = format!("{n}x{n} to a {end}, {copy}");
+                list.push(Named { name, board });
+            }
         }
     }
-    found
+    list
 }
 
-/// The least time of each side on a page of one cell: what does not depend on the page.
-fn fixed(ready: Ready) -> [f64; 2] {
-    let board = Board {
-        puzzle: Puzzle::without_clues(1, 1, vec![0]),
-        decided: vec![],
+/// Batches of each side, fewer where one takes long; the sides take turns.
+const BATCHES: usize = 25;
+const FEWEST: usize = 7;
+/// The least length of a batch's work, in seconds; a run of this length is long enough.
+const LEAST: f64 = 0.004;
+const LONG: f64 = 0.1;
+/// The length of all batches of a board that is aimed at, in seconds.
+const WHOLE: f64 = 1.0;
+
+#[repr(C)]
+struct Time {
+    seconds: i64,
+    nanoseconds: i64,
+}
+
+extern "C" {
+    fn clock_gettime(clock: i32, time: *mut Time) -> i32;
+}
+
+/// The processor time of this thread: other programs on the machine do not count.
+fn processor_time() -> Duration {
+    const THREAD: i32 = 3;
+    let mut time = Time {
+        seconds: 0,
+        nanoseconds: 0,
     };
-    let (ours, theirs) = ready(&board);
-    least([ours, theirs])
+    // SAFETY: the address is that of a Time as Linux lays it out on 64 bits.
+    let failed = unsafe { clock_gettime(THREAD, &mut time) };
+    assert_eq!(failed, 0, "no clock of this thread");
+    Duration::new(time.seconds as u64, time.nanoseconds as u32)
 }
 
-fn measure(title: &str, ready: Ready, list: &[Named]) {
-    let [here, there] = fixed(ready).map(|seconds| 1e6 * seconds);
-    println!("{title}: µs, least of {BATCHES} batches");
-    println!("on a page of one cell: the Rust {there:.2}, here {here:.2}\n");
+/// Seconds of a run of so many times.
+fn seconds(run: &mut Run, times: usize) -> f64 {
+    let start = processor_time();
+    run(times);
+    (processor_time() - start).as_secs_f64()
+}
+
+/// Takes seconds of a side's run and of its run with less work, where they are fewer than found.
+fn take(side: &mut Side, times: usize, found: &mut [f64; 2]) {
+    let less = side.less.as_mut().map_or(0.0, |less| seconds(less, times));
+    found[0] = found[0].min(seconds(&mut side.run, times));
+    found[1] = found[1].min(less);
+}
+
+/// How many times make a batch's work long enough, and at least half as long as what is taken off.
+fn enough(side: &mut Side) -> usize {
+    let mut times = 1;
+    loop {
+        let mut found = [f64::INFINITY; 2];
+        for _ in 0..3 {
+            take(side, times, &mut found);
+        }
+        let work = found[0] - found[1];
+        if work >= LEAST && (work >= found[1] / 2.0 || found[0] >= LONG) {
+            return times;
+        }
+        times *= 2;
+    }
+}
+
+/// Each side's time for one time of its work, in seconds: the least of its whole runs, less the
+/// least of its runs with less work.
+fn least(mut sides: [Side; 2]) -> [f64; 2] {
+    let times = [enough(&mut sides[0]), enough(&mut sides[1])];
+    let mut found = [[f64::INFINITY; 2]; 2];
+    let start = Instant::now();
+    for round in 0..BATCHES {
+        if round >= FEWEST && start.elapsed().as_secs_f64() > WHOLE {
+            break;
+        }
+        for side in 0..2 {
+            take(&mut sides[side], times[side], &mut found[side]);
+        }
+    }
+    [0, 1].map(|side| (found[side][0] - found[side][1]) / times[side] as f64)
+}
+
+/// A page of one cell: what does not depend on the page.
+fn one_cell() -> Named {
+    Named {
+        name: "one cell".to_string(),
+        board: Board {
+            puzzle: Puzzle::without_clues(1, 1, vec![0]),
+            decided: vec![],
+        },
+    }
+}
+
+/// Prints one line; gives the ratio.
+fn line(part: &Part, named: &Named) -> f64 {
+    let units = 1e6 / (part.units)(&named.board) as f64;
+    let [here, there] = least((part.ready)(&named.board)).map(|time| units * time);
+    let (name, ratio) = (&named.name, here / there);
+    println!("| {name} | {there:.2} | {here:.2} | {ratio:.3} |");
+    ratio
+}
+
+fn measure(part: &Part, list: &[Named]) {
+    println!(
+        "{}: µs of processor time, least of {FEWEST} to {BATCHES} batches\n",
+        part.title
+    );
     println!("| board | the Rust | here | ratio |");
     println!("|---|---|---|---|");
-    let mut ratios = vec![];
-    for named in list {
-        let (ours, theirs) = ready(&named.board);
-        let [here, there] = least([ours, theirs]);
-        let ratio = here / there;
-        let (name, here, there) = (&named.name, 1e6 * here, 1e6 * there);
-        println!("| {name} | {there:.2} | {here:.2} | {ratio:.3} |");
-        ratios.push(ratio);
+    if part.name != "stream" {
+        line(part, &one_cell());
     }
+    let ratios: Vec<f64> = list.iter().map(|named| line(part, named)).collect();
     let mean = (ratios.iter().map(|ratio| ratio.ln()).sum::<f64>() / ratios.len() as f64).exp();
     let largest = ratios.iter().copied().fold(0.0, f64::max);
-    println!("\ngeometric mean {mean:.3}, largest {largest:.3}\n");
+    let slower = ratios.iter().filter(|&&ratio| ratio > 1.0).count();
+    println!("\ngeometric mean {mean:.3}, largest {largest:.3}");
+    println!("slower than the Rust on {slower} of {}", ratios.len());
+    println!("(a page of one cell does not count)\n");
 }
 
 fn main() {
@@ -106,18 +287,16 @@ fn main() {
         println!("skipped: no source");
         return;
     }
-    let words: Vec<String> = std::env::args().skip(1).collect();
+    let is_part = |word: &String| PARTS.iter().any(|part| part.name == word);
+    let (names, words): (Vec<String>, Vec<String>) = std::env::args().skip(1).partition(is_part);
     let wanted = |named: &Named| {
         let has = |word: &String| named.name.contains(word.as_str());
         words.is_empty() || words.iter().any(has)
     };
-    let all = bench::boards().into_iter().chain(boards::named());
-    let list: Vec<Named> = all.filter(wanted).collect();
-    if list.is_empty() {
-        println!("no board has such a name");
-        return;
-    }
-    for (title, ready) in PARTS {
-        measure(title, ready, &list);
+    for part in &PARTS {
+        if names.is_empty() || names.iter().any(|name| name == part.name) {
+            let list: Vec<Named> = (part.boards)().into_iter().filter(wanted).collect();
+            measure(part, &list);
+        }
     }
 }

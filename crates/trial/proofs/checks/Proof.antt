@@ -1,0 +1,73 @@
+-- The loop's invariant: the number and the memory after i checks.
+use Rattle.calls.specs.Answers.{answerNumber, checkAnswer, checkMemory}
+use mathlib.Core.Path.{_≡_, refl, ap, _∙_}
+use Prim.Native.Nat.{_-_, _≤_}
+use native.Mathlib.Omega.{arith}
+use borrow.Author.Needs.{needs}
+use lib.ListN.{length}
+use Rattle.trial.specs.Trial.{checksNumber, checksMemory}
+use Rattle.trial.specs.TrialLaws.{checks-length, memory-more, number-more}
+use Rattle.trial.proofs.checks.Statement.{statement}
+use Rattle.trial.proofs.checks.Tie as tie
+
+abbrev Inv-loop : tie.InvT-loop
+Inv-loop board memory₀ times last₀ i₀ memory last i =
+    (i ≤ times)
+    × (last ≡ checksNumber board (length memory₀) i)
+    × (memory ≡ checksMemory board i memory₀)
+
+abbrev μ-loop : tie.MeasureT-loop
+μ-loop board memory₀ times last₀ i₀ memory last i = times - i
+
+loop-holds : tie.Need-loop-holds Inv-loop μ-loop
+unfolding checksNumber checksMemory
+loop-holds c = (search needs, refl, refl)
+
+check-once-requires : tie.Need-check-once-requires Inv-loop μ-loop
+check-once-requires c κs = search needs
+
+add-i : tie.Need-add-i Inv-loop μ-loop
+add-i c = omega arith
+
+loop-less : tie.Need-loop-less Inv-loop μ-loop
+loop-less c = omega arith
+
+loop-again : tie.Need-loop-again Inv-loop μ-loop
+loop-again c =
+    let l = c .before .before .before .before .before .loop in
+    let a = c .before .before .before .before .before .before .before .args in
+    let m = a .memory .now in
+    let e = c .before .before .check-once .ensures in (
+      omega arith,
+      e .0 ∙ ap (λ n. answerNumber (checkAnswer (a .board) n)) (ap length (l .inv .2) ∙ checks-length _ (l .i) m)
+          ∙ number-more (a .board) (length m) (l .i),
+      e .1 ∙ ap (checkMemory (a .board)) (l .inv .2) ∙ memory-more (a .board) (l .i) m,
+    )
+
+same-length : tie.Need-same-length Inv-loop μ-loop
+same-length c =
+    let l = c .before .loop in
+    ap length (l .inv .2) ∙ checks-length _ (l .i) (c .before .before .before .args .memory .now)
+
+returns : tie.Need-returns Inv-loop μ-loop
+returns c =
+    let l = c .before .loop in
+    let a = c .before .before .before .args in
+    let e : l .i ≡ a .times = omega (arith, l .inv .0) in (
+      l .inv .1 ∙ ap (checksNumber (a .board) (length (a .memory .now))) e,
+      l .inv .2 ∙ ap (λ k. checksMemory (a .board) k (a .memory .now)) e,
+    )
+
+pub checks-spec : {M : Type 1} → statement M
+checks-spec =
+    tie.close
+    (tie.spec
+    Inv-loop
+    μ-loop
+    loop-holds
+    check-once-requires
+    add-i
+    loop-less
+    loop-again
+    same-length
+    returns)

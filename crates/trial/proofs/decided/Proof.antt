@@ -1,0 +1,67 @@
+-- The loop's invariant: deciding what is left gives the whole.
+use mathlib.Core.Path.{_≡_, refl, sym, _∙_}
+use mathlib.Core.List.{map}
+use Prim.Native.Nat.{_-_, _≤_}
+use native.Mathlib.Omega.{arith}
+use borrow.Author.Needs.{needs}
+use lib.ListN.{length, drop}
+use Rattle.calls.specs.Answers.{literalOf}
+use Rattle.calls.specs.Runs.{decidesOf}
+use Rattle.trial.specs.TrialLaws.{decides-more, decides-none}
+use Rattle.trial.proofs.decided.Statement.{statement}
+use Rattle.trial.proofs.decided.Tie as tie
+
+abbrev Inv-loop : tie.InvT-loop
+Inv-loop codes b₀ i₀ b i =
+    (i ≤ length codes)
+    × (decidesOf b (map literalOf (drop i codes)) ≡ decidesOf b₀ (map literalOf codes))
+
+abbrev μ-loop : tie.MeasureT-loop
+μ-loop codes b₀ i₀ b i = length codes - i
+
+loop-holds : tie.Need-loop-holds Inv-loop μ-loop
+loop-holds c = (search needs, refl)
+
+mul-decide-next : tie.Need-mul-decide-next Inv-loop μ-loop
+mul-decide-next c = omega arith
+
+shared-slice-read-decide-next : tie.Need-shared-slice-read-decide-next Inv-loop μ-loop
+shared-slice-read-decide-next c = search needs
+
+decide-next-requires : tie.Need-decide-next-requires Inv-loop μ-loop
+decide-next-requires c κs = search needs
+
+add-i : tie.Need-add-i Inv-loop μ-loop
+add-i c = omega arith
+
+loop-less : tie.Need-loop-less Inv-loop μ-loop
+loop-less c = omega arith
+
+loop-again : tie.Need-loop-again Inv-loop μ-loop
+loop-again c =
+    let l = c .before .before .before .loop in
+    let codes = c .before .before .before .before .before .args .codes .now in (
+      omega arith,
+      rw (c .decide-next .ensures) (sym (decides-more (l .b) codes (l .i) (omega arith)) ∙ l .inv .1),
+    )
+
+returns : tie.Need-returns Inv-loop μ-loop
+returns c =
+    let l = c .before .loop in
+    let codes = c .before .before .before .args .codes .now in
+    sym (decides-none (l .b) codes (l .i) (omega arith)) ∙ l .inv .1
+
+pub decided-spec : {M : Type 1} → statement M
+decided-spec =
+    tie.close
+    (tie.spec
+    Inv-loop
+    μ-loop
+    loop-holds
+    mul-decide-next
+    shared-slice-read-decide-next
+    decide-next-requires
+    add-i
+    loop-less
+    loop-again
+    returns)

@@ -1,0 +1,103 @@
+-- Laws of the trial: one decide and one check more, and the two cases of its answer.
+use mathlib.Core.Path.{_≡_, refl, ap, sym, _∙_}
+use mathlib.Core.Bool.{true, false}
+use mathlib.Core.List.{List, [], _∷_, map}
+use Prim.Native.Nat.{ℕ, zero, suc, _+_, _<_, _≤_}
+use native.Mathlib.Numerals.{add-one}
+use lib.Dec.{eqb}
+use lib.IntN.{ℤ}
+use lib.ListN.{length, getD, drop, drop-of-length-le}
+use lib.Seq.{drop-cons}
+use Rattle.rules.specs.declared.Literal.{Literal}
+use Rattle.rules.specs.declared.Call.the-variants.{Check}
+use Rattle.board.specs.declared.Board.{Board}
+use Rattle.board.specs.Board.{decideOf}
+use Rattle.calls.specs.Answers.{literalOf, answerNumber, checkAnswer, checkMemory, callOf, callMemory}
+use Rattle.calls.specs.AnswerLaws.{length-call}
+use Rattle.calls.specs.NumberLaws.{InRange, call-range}
+use Rattle.calls.specs.Runs.{startOf, decidesOf}
+use Rattle.trial.specs.Trial.{checksNumber, checksMemory, streamMemory, made, boardIn}
+use Rattle.trial.specs.Trial.{trialNumber, trialMemory, trialStreamMemory}
+
+-- ---- one check
+pub check-in-range : (b : Board) (m : List ℕ) → InRange (checkAnswer b (length m))
+unfolding callOf
+check-in-range b m = call-range b Check m
+
+pub check-length : (b : Board) (m : List ℕ) → length (checkMemory b m) ≡ length m
+unfolding callMemory
+check-length b m = length-call b Check m
+
+-- ---- the literals from the place i on: the one there comes first; none are left at the end
+pub decides-more : (b : Board) (codes : List ℕ) (i : ℕ) → i < length codes
+    → decidesOf b (map literalOf (drop i codes))
+    ≡ decidesOf (decideOf b (literalOf (getD codes i 0)) .board) (map literalOf (drop (i + 1) codes))
+unfolding decidesOf
+decides-more b codes i h = rw (drop-cons codes i 0 h, add-one i)
+
+pub decides-none : (b : Board) (codes : List ℕ) (i : ℕ) → length codes ≤ i
+    → decidesOf b (map literalOf (drop i codes)) ≡ b
+unfolding decidesOf
+decides-none b codes i h = rw (drop-of-length-le codes h)
+
+pub stream-more : (b : Board) (codes m : List ℕ) (i : ℕ) → i < length codes
+    → streamMemory b (map literalOf (drop i codes)) m
+    ≡ streamMemory (decideOf b (literalOf (getD codes i 0)) .board) (map literalOf (drop (i + 1) codes))
+    (checkMemory (decideOf b (literalOf (getD codes i 0)) .board) m)
+unfolding streamMemory
+stream-more b codes m i h = rw (drop-cons codes i 0 h, add-one i)
+
+pub stream-none : (b : Board) (codes m : List ℕ) (i : ℕ) → length codes ≤ i
+    → streamMemory b (map literalOf (drop i codes)) m ≡ m
+unfolding streamMemory
+stream-none b codes m i h = rw (drop-of-length-le codes h)
+
+pub stream-length : (b : Board) (ls : List Literal) (m : List ℕ) → length (streamMemory b ls m) ≡ length m
+unfolding streamMemory
+stream-length b [] m = refl
+stream-length b (l ∷ ls) m =
+    stream-length (decideOf b l .board) ls (checkMemory (decideOf b l .board) m) ∙ check-length (decideOf b l .board) m
+
+-- ---- several checks
+pub checks-length : (b : Board) (times : ℕ) (m : List ℕ) → length (checksMemory b times m) ≡ length m
+unfolding checksMemory
+checks-length b zero m = refl
+checks-length b (suc times) m = check-length b (checksMemory b times m) ∙ checks-length b times m
+
+pub memory-more : (b : Board) (i : ℕ) (m : List ℕ) → checkMemory b (checksMemory b i m) ≡ checksMemory b (i + 1) m
+unfolding checksMemory
+memory-more b i m = rw (add-one i)
+
+pub number-more : (b : Board) (n i : ℕ) → answerNumber (checkAnswer b n) ≡ checksNumber b n (i + 1)
+unfolding checksNumber
+number-more b n i = rw (add-one i)
+
+-- ---- the board is refused, or made
+module _ (h w : ℕ) (cs : List ℕ) (ks : List ℤ) (codes : List ℕ) (times : ℕ) (m : List ℕ) where
+  module _ (e : eqb (made h w cs ks) 0 ≡ false) where
+    pub number-refused : made h w cs ks ≡ trialNumber h w cs ks codes times (length m)
+    unfolding trialNumber
+    number-refused = rw e
+
+    pub memory-refused : m ≡ trialMemory h w cs ks codes times m
+    unfolding trialMemory
+    memory-refused = rw e
+
+    pub stream-refused : m ≡ trialStreamMemory h w cs ks codes m
+    unfolding trialStreamMemory
+    stream-refused = rw e
+
+  module _ (e : eqb (made h w cs ks) 0 ≡ true) where
+    pub number-made : checksNumber (boardIn h w cs ks codes) (length m) times
+        ≡ trialNumber h w cs ks codes times (length m)
+    unfolding trialNumber
+    number-made = rw e
+
+    pub memory-made : checksMemory (boardIn h w cs ks codes) times m ≡ trialMemory h w cs ks codes times m
+    unfolding trialMemory
+    memory-made = rw e
+
+    pub stream-made : checkMemory (boardIn h w cs ks codes) (streamMemory (startOf h w cs ks) (map literalOf codes) m)
+        ≡ trialStreamMemory h w cs ks codes m
+    unfolding trialStreamMemory
+    stream-made = rw e

@@ -1,0 +1,120 @@
+//! Many boards for the check: all of small pages, and generated ones of every size.
+
+use crate::boards;
+use crate::expected;
+use crate::ours::{Memory, ROOM};
+use crate::trial::Trial;
+use oracle::book::Answer;
+use oracle::generate;
+use oracle::page::{Board, Puzzle};
+use oracle::random::Random;
+
+/// What the compared checks answered.
+#[derive(Debug, Default)]
+pub struct Tally {
+    pub boards: usize,
+    pub passes: usize,
+    pub conflicts: usize,
+    pub empty_reasons: usize,
+    pub literals: usize,
+    pub longest: usize,
+}
+
+impl Tally {
+    fn add(&mut self, answer: &Answer) {
+        self.boards += 1;
+        match answer {
+            Answer::Conflict(reason) => {
+                self.conflicts += 1;
+                self.empty_reasons += usize::from(reason.is_empty());
+                self.literals += reason.len();
+                self.longest = self.longest.max(reason.len());
+            }
+            _ => self.passes += 1,
+        }
+    }
+}
+
+/// Compares the proved check with the published one: pass with its count, or the reason literal by
+/// literal, and the memory beyond it.
+pub struct Judge {
+    memory: Memory,
+    pub tally: Tally,
+}
+
+impl Judge {
+    pub fn new(seed: u64) -> Judge {
+        Judge {
+            memory: Memory::new(&mut Random::new(seed), ROOM + 5),
+            tally: Tally::default(),
+        }
+    }
+
+    pub fn judge(&mut self, board: &Board) {
+        let answer = Trial::new(board).answer(&mut self.memory);
+        assert!(answer == expected::check(board), "{answer:?} {board:?}");
+        self.tally.add(&answer);
+    }
+
+    /// Every colouring of a page, with each list of clues from these numbers, and each border
+    /// undecided, wall or open.
+    pub fn page(&mut self, h: usize, w: usize, clues: &[i32]) {
+        for colours in lists(&[0, 1], h * w) {
+            for clues in lists(clues, h * w) {
+                let puzzle = Puzzle {
+                    h,
+                    w,
+                    colours: colours.clone(),
+                    clues,
+                };
+                let mut board = Board {
+                    puzzle,
+                    decided: vec![],
+                };
+                self.settings(&mut board, 0);
+            }
+        }
+    }
+
+    /// Tries undecided, wall and open on each border from this one on.
+    fn settings(&mut self, board: &mut Board, border: usize) {
+        if border == board.puzzle.borders() {
+            return self.judge(board);
+        }
+        self.settings(board, border + 1);
+        for wall in [true, false] {
+            board.decided.push((border, wall));
+            self.settings(board, border + 1);
+            board.decided.pop();
+        }
+    }
+
+    /// So many generated boards: half of them up to 8x8, the others up to 16x16 and 32x32.
+    pub fn generated(&mut self, seed: u64, count: usize) {
+        let mut random = Random::new(seed);
+        for turn in 0..count {
+            let side = [8, 16, 8, 32][turn % 4];
+            let board = match turn % 16 {
+                // Three of 16 have 32x32 cells.
+                3 => generate::noise(&mut random, side, side),
+                7 => generate::cut_board(&mut random, side, side),
+                11 => boards::opened(&mut random, side, side),
+                _ => generate::board(&mut random, side, side),
+            };
+            self.judge(&board);
+        }
+    }
+}
+
+/// All lists of this length with entries from `from`.
+fn lists(from: &[i32], length: usize) -> Vec<Vec<i32>> {
+    let mut all = vec![vec![]];
+    for _ in 0..length {
+        let longer = |list: &Vec<i32>| -> Vec<Vec<i32>> {
+            let with = |&entry: &i32| [list.as_slice(), &[entry]].concat();
+            from.iter().map(with).collect()
+        };
+        all = all.iter().flat_map(longer).collect();
+    }
+    all
+}

@@ -1,0 +1,121 @@
+//! Safe calls of crate trial: the proved check.
+
+use crate::ours::Memory;
+use oracle::book::Answer;
+use oracle::page::{code, Board, Literal};
+
+// A slice goes over as its address and its length.
+extern "C" {
+    fn trial_check(
+        h: usize,
+        w: usize,
+        colours: *const u8,
+        colours_length: usize,
+        clues: *const i32,
+        clues_length: usize,
+        codes: *const u16,
+        codes_length: usize,
+        times: usize,
+        memory: *mut u16,
+        memory_length: usize,
+    ) -> usize;
+    fn trial_stream(
+        h: usize,
+        w: usize,
+        colours: *const u8,
+        colours_length: usize,
+        clues: *const i32,
+        clues_length: usize,
+        codes: *const u16,
+        codes_length: usize,
+        memory: *mut u16,
+        memory_length: usize,
+    ) -> usize;
+}
+
+/// A puzzle and literals to decide, as the proved functions take them. Nothing is promised of them.
+#[derive(Clone, Debug)]
+pub struct Trial {
+    pub h: usize,
+    pub w: usize,
+    pub colours: Vec<u8>,
+    pub clues: Vec<i32>,
+    pub codes: Vec<u16>,
+}
+
+impl Trial {
+    pub fn new(board: &Board) -> Trial {
+        let puzzle = &board.puzzle;
+        Trial {
+            h: puzzle.h,
+            w: puzzle.w,
+            colours: puzzle.colours.iter().map(|&colour| colour as u8).collect(),
+            clues: puzzle.clues.clone(),
+            codes: board.decided.iter().map(|l| code(l) as u16).collect(),
+        }
+    }
+
+    /// The number of the last of so many checks, after all literals are decided; 0 for no check.
+    pub fn check(&self, times: usize, memory: &mut [u16]) -> usize {
+        // SAFETY: addresses and lengths are those of slices that live through the call.
+        unsafe {
+            trial_check(
+                self.h,
+                self.w,
+                self.colours.as_ptr(),
+                self.colours.len(),
+                self.clues.as_ptr(),
+                self.clues.len(),
+                self.codes.as_ptr(),
+                self.codes.len(),
+                times,
+                memory.as_mut_ptr(),
+                memory.len(),
+            )
+        }
+    }
+
+    /// A check after each decide, and one more at the end, whose number is given.
+    pub fn stream(&self, memory: &mut [u16]) -> usize {
+        // SAFETY: addresses and lengths are those of slices that live through the call.
+        unsafe {
+            trial_stream(
+                self.h,
+                self.w,
+                self.colours.as_ptr(),
+                self.colours.len(),
+                self.clues.as_ptr(),
+                self.clues.len(),
+                self.codes.as_ptr(),
+                self.codes.len(),
+                memory.as_mut_ptr(),
+                memory.len(),
+            )
+        }
+    }
+
+    /// What one check answers. The memory beyond the reason must be as it was.
+    pub fn answer(&self, memory: &mut Memory) -> Answer {
+        let (number, written) = memory.lend_for(|places| self.check(1, places), reason_length);
+        answer(number, &written)
+    }
+}
+
+/// How many literals an answer's number tells of.
+fn reason_length(number: usize) -> usize {
+    number.saturating_sub(65_536)
+}
+
+fn literal(code: &u16) -> Literal {
+    (usize::from(code / 2), code % 2 == 1)
+}
+
+/// The answer with this number.
+fn answer(number: usize, written: &[u16]) -> Answer {
+    match number {
+        0 => Answer::Done,
+        1..=31 => Answer::Refused(number as u32),
+        32..=65_535 => Answer::Pass(number - 32),
+        _ => Answer::Conflict(written.iter().map(literal).collect()),
+    }
+}
