@@ -55,6 +55,7 @@ pub mod plain;
 pub mod random;
 pub mod rules;
 pub mod shapes;
+pub mod sheet;
 pub mod vectors;
 
 /// Whether the published source was there when this was built.

@@ -9,11 +9,11 @@ use Rattle.rules.specs.declared.Call.the-variants.{Decide, Undo, Check}
 use Rattle.page.specs.Readers.{strip, also, onto, done, lead, trail, either, both, mapR, andOn, times, many, rep}
 use Rattle.page.specs.Readers.{digit, mayFollow, numberOn, number, put, digitsOn, digits}
 use Rattle.page.specs.Grammar.{size, row, clue, side, decide, call, close, sheet, onPage, sameCell, cluesFit}
-use Rattle.page.specs.Grammar.{whole, pageOf}
+use Rattle.page.specs.Grammar.{Sheet, whole, pageOf}
 use Rattle.page.specs.Judge.{accepted, sizeFits, rowsFit, low, twoColours, cluesLow, judgeSheet, verdict, judge}
 
 -- `(page` `(size 1 2)` `(row 01)` `(check)` `(decide 0 1)` `(check)` `(undo)` `(decide 0 0)` `(check)` `)`
-abbrev sample : List ℕ
+abbrev pub sample : List ℕ
 sample =
     40 ∷ 112 ∷ 97 ∷ 103 ∷ 101 ∷ 10 ∷ 40 ∷ 115 ∷ 105 ∷ 122 ∷ 101 ∷ 32 ∷ 49 ∷ 32 ∷ 50 ∷ 41 ∷ 10 ∷ 40 ∷ 114 ∷ 111 ∷
     119 ∷ 32 ∷ 48 ∷ 49 ∷ 41 ∷ 10 ∷ 40 ∷ 99 ∷ 104 ∷ 101 ∷ 99 ∷ 107 ∷ 41 ∷ 10 ∷ 40 ∷ 100 ∷ 101 ∷ 99 ∷ 105 ∷ 100 ∷ 101 ∷
@@ -21,15 +21,19 @@ sample =
     40 ∷ 100 ∷ 101 ∷ 99 ∷ 105 ∷ 100 ∷ 101 ∷ 32 ∷ 48 ∷ 32 ∷ 48 ∷ 41 ∷ 10 ∷ 40 ∷ 99 ∷ 104 ∷ 101 ∷ 99 ∷ 107 ∷ 41 ∷ 10 ∷
     41 ∷ 10 ∷ []
 
-pub sample-accepted : judge sample ≡ accepted (record {
-  height = 1;
-  width = 2;
-  rows = (0 ∷ 1 ∷ []) ∷ [];
-  clues = [];
-  calls =
-      Check ∷ Decide (record { border = 0; side = Wall }) ∷ Check ∷ Undo ∷
-      Decide (record { border = 0; side = Open }) ∷ Check ∷ [];
-})
+abbrev pub samplePage : Sheet
+samplePage =
+    record {
+      height = 1;
+      width = 2;
+      rows = (0 ∷ 1 ∷ []) ∷ [];
+      clues = [];
+      calls =
+          Check ∷ Decide (record { border = 0; side = Wall }) ∷ Check ∷ Undo ∷
+          Decide (record { border = 0; side = Open }) ∷ Check ∷ [];
+    }
+
+pub sample-accepted : judge sample ≡ accepted samplePage
 unfolding strip also onto done lead trail either orElse both mapR andOn times many rep digit mayFollow numberOn
     number put digitsOn digits size row clue side decide call close sheet onPage sameCell cluesFit whole pageOf all
     any sizeFits rowsFit low twoColours cluesLow judgeSheet verdict judge

@@ -22,6 +22,8 @@ pub record Put (ks : List ℕ) (a e : ℕ) (m : List ℕ) (r : Piece) : Type 0 w
   pub from : a ≤ r .next
   pub fits : r .count ≤ length m
   pub text : take (r .count) m ≡ showAll codeText (codesIn ks a (r .next))
+  -- none past the last one asked for, none past the memory
+  pub within : a < r .next → (r .next ≤ e) × (r .next ≤ length ks)
   -- a buffer of 32 bytes or more takes one literal at least
   pub moves : a < e → a < length ks → 32 ≤ length m → a < r .next
 
@@ -76,24 +78,33 @@ show-one ks a p h =
     )
 
 -- so many literals are written
-pub record Putting (ks : List ℕ) (a : ℕ) (m₀ m : List ℕ) (next count : ℕ) : Type 0 where
+pub record Putting (ks : List ℕ) (a e : ℕ) (m₀ m : List ℕ) (next count : ℕ) : Type 0 where
   pub from : a ≤ next
   pub fits : count ≤ length m
+  pub within : a < next → (next ≤ e) × (next ≤ length ks)
   pub length : length m ≡ length m₀
   pub text : take count m ≡ showAll codeText (codesIn ks a next)
   pub fresh : next ≡ a → count ≡ 0
 
-pub putting-none : (ks : List ℕ) (a : ℕ) (m : List ℕ) → Putting ks a m m a 0
+pub putting-none : (ks : List ℕ) (a e : ℕ) (m : List ℕ) → Putting ks a e m m a 0
 unfolding showAll
-putting-none ks a m =
-    record { from = omega arith; fits = omega arith; length = refl; text = rw (codes-none ks a); fresh = λ e. refl }
+putting-none ks a e m =
+    record {
+      from = omega arith;
+      fits = omega arith;
+      length = refl;
+      text = rw (codes-none ks a);
+      within = λ h. absurd (omega arith);
+      fresh = λ z. refl;
+    }
 
-pub putting-more : {ks m₀ m ds e : List ℕ} {a next count r : ℕ} → Putting ks a m₀ m next count
-    → Written m count ds e r → ds ≡ codeText (getD ks next 0) → count + 32 ≤ length m
-    → Putting ks a m₀ e (next + 1) r
-putting-more {ks} {ds = ds} {a = a} {next = next} p w q h =
+pub putting-more : {ks m₀ m ds m₁ : List ℕ} {a e next count r : ℕ} → Putting ks a e m₀ m next count
+    → next < e → next < length ks → Written m count ds m₁ r → ds ≡ codeText (getD ks next 0) → count + 32 ≤ length m
+    → Putting ks a e m₀ m₁ (next + 1) r
+putting-more {ks} {ds = ds} {a = a} {next = next} p l k w q h =
     record {
       from = omega (arith, p .from);
+      within = λ z. (omega arith, omega arith);
       fits = omega (arith, w .next, w .length);
       length = w .length ∙ p .length;
       text =
@@ -101,11 +112,11 @@ putting-more {ks} {ds = ds} {a = a} {next = next} p w q h =
       fresh = λ z. absurd (omega (arith, p .from));
     }
 
-pub putting-stop : {ks m₀ m : List ℕ} {a next count : ℕ} (e : ℕ) → Putting ks a m₀ m next count
+pub putting-stop : {ks m₀ m : List ℕ} {a e next count : ℕ} → Putting ks a e m₀ m next count
     → (next ≡ a → count ≡ 0 → a < e → a < length ks → 32 ≤ length m → ⊥)
     → Put ks a e m (record { next = next; count = count })
-putting-stop {ks} {m₀} {m} {a} {next} {count} e p stop =
-    record { from = p .from; fits = p .fits; text = p .text; moves = go (ℕ-discrete next a) }
+putting-stop {ks} {m₀} {m} {a} {e} {next} {count} p stop =
+    record { from = p .from; fits = p .fits; text = p .text; within = p .within; moves = go (ℕ-discrete next a) }
   where
     go : Dec (next ≡ a) → a < e → a < length ks → 32 ≤ length m → a < next
     go (yes q) x y z = absurd (stop q (p .fresh q) x y z)

@@ -135,7 +135,7 @@ pub fn literal_text(code: u16) -> Line
 }
 
 // The line's bytes, written into `out` from `at` on: the place after them.
-fn put_line(out: &mut [u8], at: usize, line: Line) -> usize
+pub fn put_line(out: &mut [u8], at: usize, line: Line) -> usize
     requires { ⌜ (line .count ≤ 32) × (at + 32 ≤ length (now out)) ⌝ }
     ensures { λ r. ⌜ Written (now (out .entry)) at (textOf line) (now (out .exit)) r ⌝ }
 {

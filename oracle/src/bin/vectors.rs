@@ -1,17 +1,39 @@
-//! Writes the fixed vectors. Needs the published source.
+//! Writes the fixed vectors: the file of calls, and the lists of calls that a page can spell as
+//! pages with their answers. Needs the published source.
 
-use oracle::{published, vectors};
-use std::{fs, path::Path, process::ExitCode};
+use oracle::{published, sheet, vectors};
+use std::{fs, io, path::Path, process::ExitCode};
+
+fn write(folder: &Path) -> io::Result<()> {
+    fs::create_dir_all(folder)?;
+    for entry in fs::read_dir(folder)? {
+        let path = entry?.path();
+        if path
+            .extension()
+            .is_some_and(|end| end == "page" || end == "answers")
+        {
+            fs::remove_file(path)?;
+        }
+    }
+    for sample in sheet::samples(&mut published::check) {
+        fs::write(folder.join(format!("{}.page", sample.name)), sample.page)?;
+        fs::write(
+            folder.join(format!("{}.answers", sample.name)),
+            sample.answers,
+        )?;
+    }
+    fs::write(
+        folder.join(vectors::FILE),
+        vectors::text(&mut published::check),
+    )
+}
 
 fn main() -> ExitCode {
     if !oracle::SOURCE {
         eprintln!("no source: nothing written");
         return ExitCode::FAILURE;
     }
-    let text = vectors::text(&mut published::check);
-    let written = fs::create_dir_all(vectors::FOLDER)
-        .and_then(|()| fs::write(Path::new(vectors::FOLDER).join(vectors::FILE), text));
-    match written {
+    match write(Path::new(vectors::FOLDER)) {
         Ok(()) => ExitCode::SUCCESS,
         Err(error) => {
             eprintln!("{error}");

@@ -7,19 +7,19 @@ use Rattle.print.proofs.put_literals.Statement.{statement}
 use Rattle.print.proofs.put_literals.Tie as tie
 
 abbrev Inv-loop : tie.InvT-loop
-Inv-loop out₀ codes from to next₀ count₀ out next count = Putting codes from out₀ out next count
+Inv-loop out₀ codes from to next₀ count₀ out next count = Putting codes from to out₀ out next count
 
 abbrev μ-loop : tie.MeasureT-loop
 μ-loop out₀ codes from to next₀ count₀ out next count = to - next
 
 loop-holds : tie.Need-loop-holds Inv-loop μ-loop
-loop-holds c = putting-none _ _ _
+loop-holds c = putting-none _ _ _ _
 
 same-length : tie.Need-same-length Inv-loop μ-loop
 same-length c = c .before .before .loop .inv .length
 
 returns : tie.Need-returns Inv-loop μ-loop
-returns c = putting-stop _ (c .before .before .loop .inv) (λ a b x y z. omega arith)
+returns c = putting-stop (c .before .before .loop .inv) (λ a b x y z. omega arith)
 
 sub-if2 : tie.Need-sub-if2 Inv-loop μ-loop
 sub-if2 c = c .before .before .loop .inv .fits
@@ -28,7 +28,7 @@ same-length-2 : tie.Need-same-length-2 Inv-loop μ-loop
 same-length-2 c = c .before .before .before .loop .inv .length
 
 returns-2 : tie.Need-returns-2 Inv-loop μ-loop
-returns-2 c = putting-stop _ (c .before .before .before .loop .inv) (λ a b x y z. omega arith)
+returns-2 c = putting-stop (c .before .before .before .loop .inv) (λ a b x y z. omega arith)
 
 mul-literal-text : tie.Need-mul-literal-text Inv-loop μ-loop
 mul-literal-text c = search needs
@@ -52,15 +52,16 @@ loop-less : tie.Need-loop-less Inv-loop μ-loop
 loop-less c = search needs
 
 loop-again : tie.Need-loop-again Inv-loop μ-loop
-loop-again c = putting-more (c .before .before .before .before .before .before .before .before .before .loop .inv)
-    (c .before .before .put-line .ensures) (c .before .before .before .before .literal-text .ensures .text)
-    (omega (arith, c .before .before .before .before .before .before .before .before .before .loop .inv .fits))
+loop-again c =
+    let d = c .before .before .before .before .before .before .before .before .before in
+    putting-more (d .loop .inv) (omega arith) (omega arith) (c .before .before .put-line .ensures)
+    (c .before .before .before .before .literal-text .ensures .text) (omega (arith, d .loop .inv .fits))
 
 same-length-3 : tie.Need-same-length-3 Inv-loop μ-loop
 same-length-3 c = c .before .loop .inv .length
 
 returns-3 : tie.Need-returns-3 Inv-loop μ-loop
-returns-3 c = putting-stop _ (c .before .loop .inv) (λ a b x y z. omega arith)
+returns-3 c = putting-stop (c .before .loop .inv) (λ a b x y z. omega arith)
 
 pub put-literals-spec : {M : Type 1} → statement M
 put-literals-spec =

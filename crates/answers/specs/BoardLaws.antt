@@ -1,0 +1,108 @@
+-- The board of an accepted page: making it is not refused.
+--
+--   cells-few           the cells are at most 1,024
+--   page-board          the board that the code makes is the page's
+--   page-accepted       its puzzle is accepted
+use mathlib.Core.Path.{_≡_, refl, sym, ap}
+use mathlib.Core.Bool.{Bool, true, false, _&&_, cond}
+use mathlib.Core.List.{List, [], _∷_}
+use Prim.Native.Nat.{ℕ, zero, suc, _*_, _/_, _%_, _<_, _≤_}
+use native.Mathlib.Decide.{decLt}
+use native.Mathlib.Omega.{arith}
+use borrow.Author.Tests.{le-leb, leb-true}
+use lib.Dec.{eqb, leb}
+use lib.IntN.{ℤ, pos, negsuc}
+use lib.ListN.{length, getD, List·getD-eq-default}
+use lib.Signed.{leZ}
+use Rattle.lists.specs.Lists.{all}
+use Rattle.lists.specs.Table.{getD-table}
+use Rattle.lists.specs.Tests.{and-left, and-right, all-every}
+use Rattle.rules.specs.FlatLaws.{counts}
+use Rattle.board.specs.declared.Returned.{Returned}
+use Rattle.board.specs.Alien.{sizeRight, cellsOf, coloursRight, cluesRight}
+use Rattle.board.specs.Cases.{fresh-done}
+use Rattle.board.specs.ConditionLaws.{sized, size-is, cells-of}
+use Rattle.calls.specs.Runs.{Accepted}
+use Rattle.page.specs.declared.Clue.{Clue}
+use Rattle.page.specs.Grammar.{Sheet}
+use Rattle.page.specs.Judge.{accepted, judge, low, cluesLow, coloursOf, clueOn, cluesOf}
+use Rattle.page.specs.PageTheorem as pages
+use Rattle.page.specs.PuzzleLaws.{colours-low}
+use Rattle.answers.specs.Left.{startBoard, boardAt}
+
+pub cells-few : (h w : ℕ) → cellsOf h w ≤ 1024
+unfolding cellsOf
+cells-few h w = go (sizeRight h w) refl
+  where
+    go : (x : Bool) → sizeRight h w ≡ x → cond x (h * w) 0 ≤ 1024
+    go true e = counts (sized e) .cells
+    go false e = omega arith
+
+all-get : (f : ℕ → Bool) (xs : List ℕ) (i : ℕ) → all f xs ≡ true → i < length xs → f (getD xs i 0) ≡ true
+unfolding all
+all-get f [] i e h = absurd (omega arith)
+all-get f (x ∷ xs) zero e h = and-left (f x) (all f xs) e
+all-get f (x ∷ xs) (suc i) e h = all-get f xs i (and-right (f x) (all f xs) e) (omega arith)
+
+-- a clue of a page is −1, or at most so much
+pub record Clued (most : ℕ) (k : ℤ) : Type 0 where
+  pub least : leZ (negsuc 0) k ≡ true
+  pub upto : most ≤ 2147483647 → leZ k (pos 2147483647) ≡ true
+
+clued-on : (most : ℕ) (cs : List Clue) (y x : ℕ) → cluesLow most cs ≡ true → Clued most (clueOn (negsuc 0) cs y x)
+unfolding cluesLow all clueOn
+clued-on most [] y x e = record { least = refl; upto = λ h. refl }
+clued-on most (c ∷ cs) y x e =
+    go (eqb y (c .y) && eqb x (c .x)) (leb-true (c .n) most (and-left (leb (c .n) most) _ e))
+    (clued-on most cs y x (and-right (leb (c .n) most) _ e))
+  where
+    go : (b : Bool) → c .n ≤ most → Clued most (clueOn (negsuc 0) cs y x)
+        → Clued most (cond b (pos (c .n)) (clueOn (negsuc 0) cs y x))
+    go true h k = record { least = refl; upto = λ l. le-leb (c .n) 2147483647 (omega arith) }
+    go false h k = k
+
+module _ (s : List ℕ) (p : Sheet) (e : judge s ≡ accepted p) where
+  page : pages.Puzzle s p
+  page = pages.puzzle s p e
+
+  pub page-board : boardAt p ≡ startBoard p
+  unfolding boardAt startBoard page
+  page-board =
+      let P = page in
+      rw (cells-of (P .makes .size), P .colours, P .clues)
+
+  clue-at : (i : ℕ) → i < p .height * p .width → Clued (p .height * p .width / 2) (getD (cluesOf p) i (pos 0))
+  unfolding cluesOf page
+  clue-at i h =
+      let f : ℕ → ℤ = λ j. clueOn (negsuc 0) (p .clues) (j / p .width) (j % p .width) in
+      rw (getD-table (p .height * p .width) f i (pos 0) h)
+      (clued-on (p .height * p .width / 2) (p .clues) (i / p .width) (i % p .width) (page .makes .clues))
+
+  colours-right : coloursRight (coloursOf p) (p .height * p .width) ≡ true
+  unfolding coloursRight coloursOf low page
+  colours-right =
+      let l = page .coloursLength in
+      all-every (p .height * p .width) _
+      (λ i h. all-get low (coloursOf p) i (colours-low (p .rows) (page .makes .colours)) (omega arith))
+
+  clues-right : cluesRight (cluesOf p) (p .height * p .width) ≡ true
+  unfolding cluesRight
+  clues-right = all-every (p .height * p .width) _ (λ i h. clue-at i h .least)
+
+  pub page-accepted : Accepted (p .height) (p .width) (coloursOf p) (cluesOf p)
+  unfolding page
+  page-accepted =
+      let P = page in
+      record {
+        small = λ i. go i (decLt i (p .height * p .width));
+        made =
+            ap (λ (r : Returned). r .outcome)
+            (sym (fresh-done (p .height) (p .width) (coloursOf p) (cluesOf p) (size-is (P .makes .size))
+            (p .height * p .width) refl (P .coloursLength) (P .cluesLength) colours-right clues-right));
+      }
+    where
+      go : (i : ℕ) → Dec (i < p .height * p .width) → leZ (getD (cluesOf p) i (pos 0)) (pos 2147483647) ≡ true
+      go i (yes h) = let n = page .cells in clue-at i h .upto (omega arith)
+      go i (no h) =
+          let n = page .cluesLength in
+          ap (λ (k : ℤ). leZ k (pos 2147483647)) (List·getD-eq-default (cluesOf p) (pos 0) (omega arith))

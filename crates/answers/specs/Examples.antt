@@ -1,0 +1,48 @@
+-- 01's sample page: what the page program prints for it.
+use mathlib.Core.Path.{_≡_, sym, ap, _∙_}
+use mathlib.Core.List.{List, [], _∷_, map}
+use Prim.Native.Nat.{ℕ}
+use lib.ListN.{length, replicate, length-replicate}
+use Rattle.lists.specs.Lists.{flatMap}
+use Rattle.lists.specs.Table.{table}
+use Rattle.rules.specs.Page.{wallAt}
+use Rattle.rules.specs.Check.{pass, conflict}
+use Rattle.rules.specs.Book.{Asked, Reply, done, answered, replies}
+use Rattle.calls.specs.Runs.{Lent}
+use Rattle.calls.specs.Demand3Laws.{demand3}
+use Rattle.calls.specs.SmallRuns.{small-runs}
+use Rattle.page.specs.Decimal.{decimalIn, decimal}
+use Rattle.page.specs.Examples.{sample, samplePage, sample-accepted}
+use Rattle.page.specs.Judge.{Verdict, coloursOf, clueOn, cluesOf}
+use Rattle.page.specs.Many.{showAll}
+use Rattle.print.specs.Answers.{showLiteral, showReply, showAnswers}
+use Rattle.print.specs.Examples.{sampleText}
+use Rattle.answers.specs.PageAnswers.{ask, puzzleOn, pageReplies, pageText}
+use Rattle.answers.specs.BoardLaws.{page-accepted}
+
+-- the book's answers, those of the decides and of the undo among them
+abbrev sampleReplies : List Reply
+sampleReplies =
+    answered (pass 1) ∷ done ∷ answered (conflict (wallAt 0 ∷ [])) ∷ done ∷ done ∷ answered (pass 0) ∷ []
+
+module _ (m : List ℕ) (l : length m ≡ 16384) where
+  abbrev asked : ℕ → List Asked
+  asked n = map (λ c. record { call = c; places = n }) (samplePage .calls)
+
+  abbrev lent : List Lent
+  lent = map (λ c. record { call = c; memory = m }) (samplePage .calls)
+
+  -- the answers of a run on the page's board (crate calls, SmallRuns) are the book's, by demand 3
+  sample-book : replies (puzzleOn samplePage) (map ask (samplePage .calls)) ≡ sampleReplies
+  unfolding coloursOf cluesOf flatMap table clueOn
+  sample-book =
+      ap (λ n. replies (puzzleOn samplePage) (asked n)) (sym l)
+      ∙ sym (demand3 1 2 _ _ (page-accepted sample samplePage sample-accepted) lent .answers)
+      ∙ small-runs .page .answers m l
+
+-- the page of document 01 prints what document 01 says
+pub sample-text : pageText sample ≡ sampleText
+unfolding pageText pageReplies decimalIn decimal showAll showLiteral showReply showAnswers
+sample-text =
+    ap (λ (v : Verdict). showAnswers (pageReplies v)) sample-accepted
+    ∙ ap showAnswers (sample-book (replicate 16384 0) (length-replicate {A = ℕ} 16384 0))

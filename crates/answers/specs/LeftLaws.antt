@@ -1,0 +1,278 @@
+-- Laws of what is left to print, one for each return of the code.
+--
+--   put-goes            a line was put
+--   literals-more, literals-none   some literals of a reason, or none, are left
+--   lines-none, lines-more         no call is left, or one is read
+--   line-left           the line of an answer and what is left after it
+--   turn-less           a call takes a step
+--   refused-left, accepted-left    what is left after the first line
+--   reason-more, reason-end, turn-end, turn-goes   a piece of a reason, its end, no call, a call
+--   next-goes, next-over           a piece, and no piece, at a stage of the run
+use mathlib.Core.Path.{_≡_, refl, sym, ap, ap₂, _∙_}
+use mathlib.Core.Bool.{Bool, true, false, cond}
+use mathlib.Core.List.{List, [], _∷_, _++_, map, append-assoc}
+use mathlib.Core.Option.{none, some}
+use Prim.Native.Nat.{ℕ, zero, suc, _+_, _-_, _*_, _/_, _%_, _<_, _≤_}
+use native.Mathlib.Decide.{decLt}
+use native.Mathlib.Omega.{arith}
+use lib.Dec.{eqb, ltb}
+use lib.ListN.{length, take, drop, getD, length-take}
+use lib.Seq.{drop-cons, getD-take}
+use Rattle.rules.specs.declared.Side.the-variants.{Wall, Open}
+use Rattle.rules.specs.declared.Call.{Call}
+use Rattle.rules.specs.declared.Call.the-variants.{Decide, Undo, Check}
+use Rattle.rules.specs.Check.{Answer as Found, pass, conflict, check}
+use Rattle.rules.specs.Book.{refused}
+use Rattle.board.specs.declared.Board.{Board}
+use Rattle.board.specs.declared.Outcome.{Outcome}
+use Rattle.board.specs.declared.Outcome.the-variants.{Alien, Short}
+use Rattle.board.specs.Alien.{isAlien}
+use Rattle.board.specs.Board.{numberOf, decideOf, undoOf}
+use Rattle.board.specs.View.{puzzleOf, marksOf}
+use Rattle.calls.specs.declared.Answer.{Answer}
+use Rattle.calls.specs.declared.Stepped.{Stepped}
+use Rattle.calls.specs.declared.Answer.the-variants as answer
+use Rattle.calls.specs.Answers.{literalOf, reasonIn, told, asAnswer, checkAnswer, ended, callOf, callMemory}
+use Rattle.calls.specs.CallLaws.{reason-short}
+use Rattle.page.specs.declared.Parts.{Parts}
+use Rattle.page.specs.FormLaws.{from-none, from-more}
+use Rattle.page.specs.Grammar.{endWord, call}
+use Rattle.page.specs.Judge as judgement
+use Rattle.page.specs.Judge.{judge}
+use Rattle.page.specs.Many.{showAll, passes}
+use Rattle.page.specs.PageText.{counted, call-takes}
+use Rattle.page.specs.Places.{sheetAt}
+use Rattle.page.specs.Readers.{rest}
+use Rattle.page.specs.ReaderLaws.{rest-past}
+use Rattle.print.specs.declared.Line.{Line}
+use Rattle.print.specs.declared.Piece.{Piece}
+use Rattle.print.specs.Answers.{letter, showLiteral, showReply, codeText, textOf, conflictWord}
+use Rattle.print.specs.Lines.{Holds, Written}
+use Rattle.print.specs.Pieces.{codesIn, Put, codes-none, codes-more, show-append}
+use Rattle.answers.specs.declared.Stage.{Stage}
+use Rattle.answers.specs.declared.Stage.the-variants.{Refused, Calls, Reason, Last, Over}
+use Rattle.answers.specs.declared.Run.{Run}
+use Rattle.answers.specs.Left.{boardAt, callsText, verdictText, literalsText, lineOf, stageOf, goesOn}
+use Rattle.answers.specs.Left.{linesFrom, leftAt, left, stepsAt, steps, Goes, Next}
+use Rattle.answers.specs.BoardLaws.{page-board}
+
+pub put-goes : (s : List ℕ) (r : Run) {line : Line} {ds text m before out : List ℕ} {most : ℕ} → Holds line ds
+    → Written before 0 (textOf line) out (r .count) → 32 ≤ length before → ds ++ left s r m ≡ text
+    → steps s r < most → Goes s text most r m out
+put-goes s r {ds = ds} {m = m} h w l e k =
+    record {
+      fits = omega (arith, w .next, w .length);
+      prints = ap (λ (t : List ℕ). t ++ left s r m) (w .text ∙ h .text) ∙ e;
+      less = k;
+    }
+
+-- ---- the literals of a reason
+literals-split : (m : List ℕ) (a e n : ℕ) → a + n ≤ e → a + n ≤ length m
+    → codesIn m a (a + n) ++ drop (a + n) (take e m) ≡ drop a (take e m)
+literals-split m a e zero h l =
+    let z : a + 0 ≡ a = omega arith in
+    rw (z, codes-none m a)
+literals-split m a e (suc n) h l =
+    let z : a + suc n ≡ a + n + 1 = omega arith in
+    let y : a + suc n ≡ suc (a + n) = omega arith in
+    let c : codesIn m a (a + suc n) ≡ codesIn m a (a + n) ++ (getD m (a + n) 0 ∷ []) =
+    ap (codesIn m a) z ∙ codes-more m a (a + n) (omega arith) in
+    let d : drop (a + n) (take e m) ≡ getD m (a + n) 0 ∷ drop (a + suc n) (take e m) =
+    drop-cons (take e m) (a + n) 0 (simp length-take (omega arith))
+    ∙ rw (getD-take e m (a + n) 0 (omega arith), y) in
+    rw c
+    (append-assoc (codesIn m a (a + n)) (getD m (a + n) 0 ∷ []) (drop (a + suc n) (take e m))
+    ∙ rw (← d) (literals-split m a e n (omega arith) (omega arith)))
+
+pub literals-more : (m : List ℕ) (a p e : ℕ) → a ≤ p → p ≤ e → p ≤ length m
+    → showAll codeText (codesIn m a p) ++ literalsText m p e ≡ literalsText m a e
+unfolding literalsText
+literals-more m a p e h k l =
+    let z : a + (p - a) ≡ p = omega arith in
+    let q : codesIn m a p ++ drop p (take e m) ≡ drop a (take e m) =
+    rw z at (literals-split m a e (p - a) (omega arith) (omega arith)) in
+    sym (show-append codeText (codesIn m a p) (drop p (take e m))) ∙ ap (showAll codeText) q
+
+pub literals-none : (m : List ℕ) (a e : ℕ) → (a < e → a < length m → ⊥) → literalsText m a e ≡ []
+unfolding literalsText showAll rest
+literals-none m a e h =
+    ap (showAll codeText) (rest-past (take e m) a (go (decLt a e) (decLt a (length m))))
+  where
+    go : Dec (a < e) → Dec (a < length m) → length (take e m) ≤ a
+    go (yes x) (yes y) = absurd (h x y)
+    go (no x) d = simp length-take (omega arith)
+    go (yes x) (no y) = simp length-take (omega arith)
+
+-- the numbers of the memory print the literals that they stand for
+code-literal : (k : ℕ) → showLiteral (literalOf k) ≡ codeText k
+unfolding showLiteral literalOf codeText
+code-literal k = go (eqb (k % 2) 1)
+  where
+    go : (x : Bool) → 32 ∷ counted (k / 2) (letter (cond x Wall Open)) ≡ 32 ∷ counted (k / 2) (cond x 119 111)
+    go true = refl
+    go false = refl
+
+codes-literals : (ks : List ℕ) → showAll showLiteral (map literalOf ks) ≡ showAll codeText ks
+unfolding showAll
+codes-literals [] = refl
+codes-literals (k ∷ ks) = rw (code-literal k, codes-literals ks)
+
+-- ---- a call
+module _ (s : List ℕ) (b : Board) (at : ℕ) (m : List ℕ) where
+  pub lines-none : call (rest s at) ≡ none → linesFrom s b at m ≡ endWord
+  unfolding linesFrom callsText
+  lines-none e = rw (from-none call-takes s at e)
+
+  pub lines-more : (c : Call) (next : ℕ) → call (rest s at) ≡ some (c, rest s next)
+      → linesFrom s b at m ≡ showReply (told (callOf b c m .answer) (callMemory b c m))
+      ++ linesFrom s (callOf b c m .board) next (callMemory b c m)
+  unfolding linesFrom callsText
+  lines-more c next e = rw (from-more call-takes s at c next e)
+
+  pub line-left : (a : Answer)
+      → lineOf a ++ leftAt s (stageOf a) b at m ≡ showReply (told a m) ++ linesFrom s b at m
+  unfolding lineOf stageOf leftAt showReply literalsText reasonIn
+  line-left answer.Done = refl
+  line-left (answer.Pass n) = refl
+  line-left (answer.Refused o) = refl
+  line-left (answer.Conflict n) =
+      rw (codes-literals (take n m))
+      (ap (λ (t : List ℕ). conflictWord ++ t)
+      (sym (append-assoc (showAll codeText (take n m)) endWord (linesFrom s b at m))))
+
+-- a reason is short
+Few : Answer → Type 0
+Few answer.Done = Unit {0}
+Few (answer.Pass n) = Unit {0}
+Few (answer.Conflict n) = n ≤ 16120
+Few (answer.Refused o) = Unit {0}
+
+ended-few : (o : Outcome) → Few (ended o)
+unfolding Few
+ended-few o = go (eqb (numberOf o) 0)
+  where
+    go : (x : Bool) → Few (cond x answer.Done (answer.Refused o))
+    go true = tt
+    go false = tt
+
+check-few : (b : Board) (n : ℕ) → Few (checkAnswer b n)
+unfolding checkAnswer Few
+check-few b n = go (isAlien b) refl (ltb n 16384) (check (puzzleOf b) (marksOf b)) refl
+  where
+    go : (x : Bool) → isAlien b ≡ x → (y : Bool) (f : Found) → check (puzzleOf b) (marksOf b) ≡ f
+        → Few (cond x (answer.Refused Alien) (cond y (answer.Refused Short) (asAnswer f)))
+    go true t y f e = tt
+    go false t true f e = tt
+    go false t false (pass k) e = tt
+    go false t false (conflict r) e = reason-short b t r e
+
+call-few : (b : Board) (c : Call) (m : List ℕ) → Few (callOf b c m .answer)
+unfolding callOf
+call-few b (Decide l) m = ended-few (decideOf b l .outcome)
+call-few b Undo m = ended-few (undoOf b .outcome)
+call-few b Check m = check-few b (length m)
+
+few-less : (s : List ℕ) (a : Answer) (at next : ℕ) → Few a → length s - next < length s - at
+    → stepsAt s (stageOf a) next < (length s - at) * 20000 + 2
+unfolding Few stageOf stepsAt
+few-less s answer.Done at next f h = omega arith
+few-less s (answer.Pass n) at next f h = omega arith
+few-less s (answer.Conflict n) at next f h = omega arith
+few-less s (answer.Refused o) at next f h = omega arith
+
+pub turn-less : (s : List ℕ) (b : Board) (c : Call) (m : List ℕ) (at next : ℕ) → length s - next < length s - at
+    → stepsAt s (stageOf (callOf b c m .answer)) next < (length s - at) * 20000 + 2
+turn-less s b c m at next h = few-less s (callOf b c m .answer) at next (call-few b c m) h
+
+-- ---- the page
+module _ (s m : List ℕ) where
+  pub refused-left : (n : ℕ) → judge s ≡ judgement.refused n
+      → showReply (refused n) ++ endWord ≡ verdictText m (judge s)
+  unfolding verdictText
+  refused-left n e = rw e
+
+  pub accepted-left : (p : Parts) (b : Board) → judge s ≡ judgement.accepted (sheetAt s p) → b ≡ boardAt (sheetAt s p)
+      → linesFrom s b (p .calls) m ≡ verdictText m (judge s)
+  unfolding verdictText linesFrom sheetAt
+  accepted-left p b e q =
+      ap (λ (d : Board). callsText d m (sheetAt s p .calls)) (q ∙ page-board s (sheetAt s p) e)
+      ∙ ap (verdictText m) (sym e)
+
+-- ---- pieces of a reason
+module _ (s : List ℕ) (b : Board) (at : ℕ) (m : List ℕ) (from to : ℕ) where
+  module _ (p : Piece) (out : List ℕ) (P : Put m from to out p) where
+    pub reason-more : from < p .next
+        → Goes s (literalsText m from to ++ (endWord ++ linesFrom s b at m)) ((length s - at) * 20000 + 3 + (to - from))
+        (record { board = b; at = at; stage = Reason (p .next) to; count = p .count }) m out
+    unfolding leftAt stepsAt
+    reason-more h =
+        let w = P .within h in
+        let rest = endWord ++ linesFrom s b at m in
+        record {
+          fits = P .fits;
+          prints =
+              sym (append-assoc (take (p .count) out) (literalsText m (p .next) to) rest)
+              ∙ ap (λ (t : List ℕ). t ++ rest)
+              (ap (λ (t : List ℕ). t ++ literalsText m (p .next) to) (P .text)
+              ∙ literals-more m from (p .next) to (P .from) (w .0) (w .1));
+          less = omega arith;
+        }
+
+    pub reason-end : {line : Line} {after : List ℕ} {n : ℕ} → p .next ≤ from → Holds line endWord
+        → Written out 0 (textOf line) after n → 32 ≤ length out
+        → Goes s (literalsText m from to ++ (endWord ++ linesFrom s b at m)) ((length s - at) * 20000 + 3 + (to - from))
+        (record { board = b; at = at; stage = Calls; count = n }) m after
+    unfolding leftAt stepsAt
+    reason-end {n = n} h k w l =
+        put-goes s (record { board = b; at = at; stage = Calls; count = n }) k w l
+        (rw (literals-none m from to (λ x y. let z = P .moves x y l in omega arith))) (omega arith)
+
+-- ---- calls
+module _ (s : List ℕ) (b : Board) (at : ℕ) (m : List ℕ) where
+  pub turn-end : (out : List ℕ) → call (rest s at) ≡ none
+      → Goes s (linesFrom s b at m) ((length s - at) * 20000 + 2)
+      (record { board = b; at = at; stage = Last; count = 0 }) m out
+  unfolding leftAt stepsAt
+  turn-end out e =
+      record { fits = omega arith; prints = sym (lines-none s b at m e); less = omega arith }
+
+  pub turn-goes : (c : Call) (next : ℕ) {t : Stepped} {after : List ℕ} {g : Stage} {line : Line} {before out : List ℕ}
+      {n : ℕ} → call (rest s at) ≡ some (c, rest s next) → (t ≡ callOf b c m) × (after ≡ callMemory b c m)
+      → g ≡ stageOf (t .answer) → Holds line (lineOf (t .answer)) → Written before 0 (textOf line) out n
+      → 32 ≤ length before
+      → Goes s (linesFrom s b at m) ((length s - at) * 20000 + 2)
+      (record { board = t .board; at = next; stage = g; count = n }) after out
+  turn-goes c next {t} {after} {g} {n = n} e p q h w l =
+      let z : stepsAt s g next ≡ stepsAt s (stageOf (callOf b c m .answer)) next =
+      ap (λ (k : Stage). stepsAt s k next) (q ∙ ap (λ (u : Stepped). stageOf (u .answer)) (p .0)) in
+      put-goes s (record { board = t .board; at = next; stage = g; count = n }) h w l
+      (ap (λ (k : Stage). lineOf (t .answer) ++ leftAt s k (t .board) next after) q
+      ∙ line-left s (t .board) next after (t .answer)
+      ∙ ap₂ (λ (u : Stepped) (k : List ℕ). showReply (told (u .answer) k) ++ linesFrom s (u .board) next k)
+      (p .0) (p .1)
+      ∙ sym (lines-more s b at m c next e))
+      (omega (arith, turn-less s b c m at next (passes call-takes s at next c e)))
+
+-- ---- a run at a stage
+module _ (s : List ℕ) (q : Run) (m : List ℕ) where
+  pub next-goes : (g : Stage) {r : Run} {after out : List ℕ} → q .stage ≡ g
+      → Goes s (leftAt s g (q .board) (q .at) m) (stepsAt s g (q .at)) r after out → Next s q m r after out
+  next-goes g e G =
+      record {
+        fits = G .fits;
+        prints = G .prints ∙ ap (λ (k : Stage). leftAt s k (q .board) (q .at) m) (sym e);
+        less = λ h o. let z = ap (λ (k : Stage). stepsAt s k (q .at)) e in omega (arith, G .less);
+      }
+
+  pub next-over : (out : List ℕ) → q .stage ≡ Over
+      → Next s q m (record { board = q .board; at = q .at; stage = Over; count = 0 }) m out
+  next-over out e =
+      record {
+        fits = omega arith;
+        prints = ap (λ (k : Stage). leftAt s k (q .board) (q .at) m) (sym e);
+        less =
+            λ h o.
+            let y : goesOn (q .stage) ≡ false = ap goesOn e in
+            let z : _≡_ {A = ℕ} 0 1 = cc in
+            absurd (omega arith);
+      }

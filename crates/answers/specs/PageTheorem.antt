@@ -1,0 +1,86 @@
+-- The page program's output: what `next` puts, piece after piece, is the book's text.
+--
+--   lentFrom b m cs     the calls cs from the board b on, each with the memory that the last one left
+--   Pieces s q m t      the pieces that `next` puts from the run q on, until all is printed, are the text t
+--   first-left          before the first piece, what is left to print is the page's text
+--   printed             the pieces from the first run on are the page's text
+use mathlib.Core.Path.{_≡_, refl, sym, ap, ap₂, _∙_}
+use mathlib.Core.List.{List, [], _∷_, _++_, map, append-assoc, append-nil}
+use Prim.Native.Nat.{ℕ}
+use lib.ListN.{length, take}
+use Rattle.rules.specs.declared.Call.{Call}
+use Rattle.rules.specs.Book.{Asked, Reply, refused, replies}
+use Rattle.board.specs.declared.Board.{Board}
+use Rattle.calls.specs.Answers.{told, callOf, callMemory}
+use Rattle.calls.specs.AnswerLaws.{length-call}
+use Rattle.calls.specs.Runs.{Lent, askedOf, toldBy, runFrom}
+use Rattle.calls.specs.Demand3Laws.{demand3}
+use Rattle.page.specs.Grammar.{Sheet, endWord}
+use Rattle.page.specs.Judge as judgement
+use Rattle.page.specs.Judge.{Verdict, judge, coloursOf, cluesOf}
+use Rattle.page.specs.Many.{showAll}
+use Rattle.print.specs.Answers.{answersWord, showReply, showAnswers}
+use Rattle.answers.specs.declared.Stage.{Stage}
+use Rattle.answers.specs.declared.Stage.the-variants.{Over}
+use Rattle.answers.specs.declared.Run.{Run}
+use Rattle.answers.specs.Left.{startBoard, callsText, verdictText, firstRun, leftAt, left, Next}
+use Rattle.answers.specs.PageAnswers.{ask, puzzleOn, pageReplies, pageText}
+use Rattle.answers.specs.BoardLaws.{page-accepted}
+
+unfoldable pub lentFrom : Board → List ℕ → List Call → List Lent
+lentFrom b m [] = []
+lentFrom b m (c ∷ cs) = record { call = c; memory = m } ∷ lentFrom (callOf b c m .board) (callMemory b c m) cs
+
+asked-from : (b : Board) (m : List ℕ) (cs : List Call) → length m ≡ 16384 → map askedOf (lentFrom b m cs) ≡ map ask cs
+unfolding lentFrom
+asked-from b m [] l = refl
+asked-from b m (c ∷ cs) l =
+    ap₂ (λ (n : ℕ) (asked : List Asked). record { call = c; places = n } ∷ asked) l
+    (asked-from (callOf b c m .board) (callMemory b c m) cs (length-call b c m ∙ l))
+
+-- the lines are those of the run's answers
+calls-run : (b : Board) (m : List ℕ) (cs : List Call)
+    → callsText b m cs ≡ showAll showReply (map toldBy (runFrom b (lentFrom b m cs))) ++ endWord
+unfolding callsText lentFrom runFrom showAll
+calls-run b m [] = refl
+calls-run b m (c ∷ cs) =
+    rw (calls-run (callOf b c m .board) (callMemory b c m) cs)
+    (sym (append-assoc (showReply (told (callOf b c m .answer) (callMemory b c m))) _ endWord))
+
+module _ (s m : List ℕ) (l : length m ≡ 16384) where
+  -- demand 3, for the page's puzzle and its calls
+  calls-book : (p : Sheet) → judge s ≡ judgement.accepted p
+      → callsText (startBoard p) m (p .calls) ≡ showAll showReply (replies (puzzleOn p) (map ask (p .calls))) ++ endWord
+  unfolding startBoard
+  calls-book p e =
+      calls-run (startBoard p) m (p .calls)
+      ∙ ap (λ (rs : List Reply). showAll showReply rs ++ endWord)
+      (demand3 (p .height) (p .width) (coloursOf p) (cluesOf p) (page-accepted s p e)
+      (lentFrom (startBoard p) m (p .calls)) .answers
+      ∙ ap (replies (puzzleOn p)) (asked-from (startBoard p) m (p .calls) l))
+
+  verdict-book : (v : Verdict) → judge s ≡ v → verdictText m v ≡ showAll showReply (pageReplies v) ++ endWord
+  unfolding verdictText pageReplies showAll
+  verdict-book (judgement.refused n) e = rw (append-nil (showReply (refused n)))
+  verdict-book (judgement.accepted p) e = calls-book p e
+
+  pub first-left : left s firstRun m ≡ pageText s
+  unfolding leftAt pageText showAnswers
+  first-left = ap (λ (t : List ℕ). answersWord ++ t) (verdict-book (judge s) refl)
+
+-- the run goes from piece to piece as `next` says, with the memory that it left, and each piece has a buffer
+pub data Pieces (s : List ℕ) : Run → List ℕ → List ℕ → Type 0 where
+  over : {q : Run} {m : List ℕ} → q .stage ≡ Over → Pieces s q m []
+  piece : {q r : Run} {m after out text : List ℕ} → Next s q m r after out → Pieces s r after text
+      → Pieces s q m (take (r .count) out ++ text)
+
+pieces-left : {s : List ℕ} {q : Run} {m text : List ℕ} → Pieces s q m text → text ≡ left s q m
+unfolding leftAt
+pieces-left {s} {q} {m} (over e) = ap (λ (g : Stage). leftAt s g (q .board) (q .at) m) (sym e)
+pieces-left (piece {r = r} {out = out} n p) =
+    ap (λ (t : List ℕ). take (r .count) out ++ t) (pieces-left p) ∙ n .prints
+
+-- "It prints (answers, one line a check or refused call, )": what is written for the bytes s, with reason memory for
+-- 16,384 literals, is the text of the book's answers to the page's calls; or its refusal alone
+pub printed : (s m text : List ℕ) → length m ≡ 16384 → Pieces s firstRun m text → text ≡ pageText s
+printed s m text l p = pieces-left p ∙ first-left s m l

@@ -1,0 +1,72 @@
+// The page program: a page on standard input, its answers on standard output. It reads the whole page, and then writes
+// piece after piece as crate answers puts them.
+//
+// What the pieces are together is proved in crate answers (specs/PageTheorem, `printed`). Here it is proved that the
+// program is safe, keeps to fixed memory, and ends. Assumed, since nothing proves C: that `read` and `write` do what
+// POSIX says of them, each returns, and their counts lie within the buffer (kit's library libc); that `io::write_all`
+// writes each byte once and in order is tested by the kit, and is not part of its contract.
+ghost use Prim.Native.Nat.{_≤_};
+ghost use lib.ListN.{length};
+ghost use Rattle.io.specs.Counts.{Counts};
+use libc::STDIN_FILENO;
+use libc::STDOUT_FILENO;
+
+// How many bytes were read, and whether reading failed.
+struct Input {
+    count: usize,
+    failed: bool,
+}
+
+// Reads until the input ends or `page` is full.
+fn read_page(page: &mut [u8]) -> Input
+    ensures { λ r. ⌜ Counts (r .count) (now (page .exit)) ⌝ }
+{
+    let mut n = 0;
+    while n < page.len() {
+        let rest = &mut page[n..];
+        let got = libc::read(STDIN_FILENO, rest);
+        let more = io::count(got, rest);
+        if more == 0 {
+            return Input {
+                count: n,
+                failed: got < 0,
+            };
+        }
+        n += more;
+    }
+    Input {
+        count: n,
+        failed: false,
+    }
+}
+
+// Writes the answers of the page s; false where a write failed.
+fn answer(s: &[u8], memory: &mut [u16], out: &mut [u8]) -> bool
+    requires { ⌜ 32 ≤ length (now out) ⌝ }
+{
+    let mut run = answers::first();
+    while answers::goes_on(run) {
+        run = answers::next(s, run, memory, out);
+        let n = run.count;
+        if !io::write_all(STDOUT_FILENO, &out[..n]) {
+            return false;
+        }
+    }
+    true
+}
+
+// A page has at most 65,536 bytes: one more is read, to know a longer input.
+fn main() {
+    let mut page = [0u8; 65537];
+    let input = read_page(&mut page);
+    if input.failed {
+        os::fail(b"standard input");
+        return;
+    }
+    let n = input.count;
+    let mut memory = [0u16; 16384];
+    let mut out = [0u8; 4096];
+    if !answer(&page[..n], &mut memory, &mut out) {
+        os::fail(b"standard output");
+    }
+}
