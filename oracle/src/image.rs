@@ -2,6 +2,7 @@
 
 use crate::book::{self, Check, ALIEN, BARE, BORDER, PLACES, SHORT, TAKEN};
 use crate::page::{code, Board, Literal, Puzzle};
+use std::mem;
 
 pub const LENGTH: usize = 11_076;
 const CELLS: usize = 1_024;
@@ -64,9 +65,9 @@ pub fn read(image: &[u8]) -> Option<Board> {
     let stack: Vec<usize> = (0..get(image, COUNT_AT))
         .map(|i| get(image, STACK_AT + 2 * i))
         .collect();
-    let once = |(i, border): (usize, &usize)| !stack[..i].contains(border);
-    if stack.iter().any(|&border| border >= puzzle.borders()) || !stack.iter().enumerate().all(once)
-    {
+    let mut seen = vec![false; puzzle.borders()];
+    let mut once = |&border: &usize| border < seen.len() && !mem::replace(&mut seen[border], true);
+    if !stack.iter().all(&mut once) {
         return None;
     }
     let side = |&border: &usize| (border, image[BORDERS_AT + border] == 1);

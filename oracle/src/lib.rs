@@ -40,6 +40,7 @@ mod dbchoco;
 #[cfg(source)]
 pub mod published {
     pub use crate::dbchoco::driver::{check, Published};
+    pub use crate::dbchoco::driver::{PropagatorGenerator, ReasonVerifier, SimpleCustomConstraint};
 }
 #[cfg(not(source))]
 #[path = "absent.rs"]

@@ -22,14 +22,18 @@ pub fn published(board: &Board) -> Published {
     made
 }
 
-/// What a check answers.
-pub fn check(board: &Board) -> Answer {
-    let reason = if oracle::SOURCE {
+/// The reason of a check, or none for a pass.
+pub fn reason(board: &Board) -> Option<Vec<Literal>> {
+    if oracle::SOURCE {
         published(board).check()
     } else {
         plain::check(board).map(|hit| hit.reason)
-    };
-    match reason {
+    }
+}
+
+/// What a check answers.
+pub fn check(board: &Board) -> Answer {
+    match reason(board) {
         Some(reason) => Answer::Conflict(reason),
         None => Answer::Pass(board.undecided()),
     }

@@ -1,8 +1,9 @@
-//! The proved functions, called through the static libraries of crates probe and trial, and what
-//! they are held against.
+//! The proved functions, called through the static libraries of crates probe, trial and image, and
+//! what they are held against.
 
 pub mod boards;
 pub mod expected;
+pub mod images;
 pub mod many;
 pub mod ours;
 pub mod trial;

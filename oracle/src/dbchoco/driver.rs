@@ -1,5 +1,7 @@
+pub use crate::custom_constraints::{PropagatorGenerator, SimpleCustomConstraint};
+pub use crate::util::ReasonVerifier;
+
 use super::{enumerate_transforms, BoardManager, Border, DoublechocoConstraint, GroupInfo, Shape};
-use crate::custom_constraints::SimpleCustomConstraint;
 use crate::page::{Groups, Kind, Literal, Puzzle, Transform};
 use crate::util::Grid;
 
@@ -28,6 +30,11 @@ impl Published {
                 cell_num: Grid::from_vecs(&rows(w, &clues)),
             },
         }
+    }
+
+    /// The published constraint itself.
+    pub fn constraint(self) -> impl SimpleCustomConstraint + Clone {
+        self.constraint
     }
 
     pub fn decide(&mut self, border: usize, wall: bool) {

@@ -1,15 +1,17 @@
 //! Times of the proved code and of the published, in one process: `cargo run --release --bin bench`.
-//! Words after `--` take only the parts with that name (groups, check, stream), and only the boards
-//! whose name has one of the other words.
+//! Words after `--` take only the parts with that name (groups, check, stream, image-decide,
+//! image-undo, image-check), and only the boards whose name has one of the other words.
 //!
 //! A part of the work is a line of PARTS: how to make its two sides ready on a board.
 
 use compare::boards;
 use compare::expected::published;
+use compare::images::{self, ImageCall, MEMORY};
 use compare::ours::{Ours, ROOM};
 use compare::trial::Trial;
 use oracle::bench::{self, Named};
 use oracle::generate;
+use oracle::image;
 use oracle::page::{Board, Puzzle, KINDS};
 use oracle::random::Random;
 use std::hint::black_box;
@@ -37,7 +39,7 @@ struct Part {
     units: fn(&Board) -> usize,
 }
 
-const PARTS: [Part; 3] = [
+const PARTS: [Part; 6] = [
     Part {
         name: "groups",
         title: "the three groupings",
@@ -58,6 +60,27 @@ const PARTS: [Part; 3] = [
         ready: stream,
         boards: streams,
         units: |board| board.decided.len().max(1),
+    },
+    Part {
+        name: "image-decide",
+        title: "decide on an image; the Rust decides and undoes",
+        ready: image_decide,
+        boards: bench::boards,
+        units: |_| 1,
+    },
+    Part {
+        name: "image-undo",
+        title: "undo on an image; the Rust undoes and decides",
+        ready: image_undo,
+        boards: bench::boards,
+        units: |_| 1,
+    },
+    Part {
+        name: "image-check",
+        title: "check on an image",
+        ready: image_check,
+        boards: bench::boards,
+        units: |_| 1,
     },
 ];
 
@@ -112,6 +135,77 @@ fn check(board: &Board) -> [Side; 2] {
         black_box(theirs.check());
     };
     [ours, plain(their_work)]
+}
+
+/// Our call on a board's image, which is put back after it: at most three places of two bytes.
+fn on_image(board: &Board, call: ImageCall) -> Side {
+    let mut memory = vec![0; MEMORY];
+    let before = image::write(board);
+    let mut image = before.clone();
+    images::ours(&mut image, &mut memory, call);
+    let differs = |&at: &usize| before[at] != image[at];
+    let changed: Vec<usize> = (0..before.len()).filter(differs).collect();
+    image.copy_from_slice(&before);
+    plain(move || {
+        black_box(images::ours(&mut image, &mut memory, call));
+        for &at in &changed {
+            image[at] = before[at];
+        }
+    })
+}
+
+/// The board without its last literal if it is full, so that there is a border to decide.
+fn with_room(board: &Board) -> Board {
+    let mut board = board.clone();
+    if board.undecided() == 0 {
+        board.decided.pop();
+    }
+    board
+}
+
+/// A border of the board that is undecided, if it has one.
+fn undecided(board: &Board) -> Option<usize> {
+    let taken = |border: &usize| board.decided.iter().any(|literal| literal.0 == *border);
+    (0..board.puzzle.borders()).find(|border| !taken(border))
+}
+
+fn image_decide(board: &Board) -> [Side; 2] {
+    let board = with_room(board);
+    let border = undecided(&board);
+    let mut theirs = published(&board);
+    let their_work = move || {
+        if let Some(border) = black_box(border) {
+            theirs.decide(border, true);
+            theirs.undo();
+        }
+    };
+    let call = ImageCall::Decide(border.unwrap_or(0) as u32, 1);
+    [on_image(&board, call), plain(their_work)]
+}
+
+fn image_undo(board: &Board) -> [Side; 2] {
+    let mut board = board.clone();
+    if board.decided.is_empty() {
+        let added = undecided(&board).map(|border| (border, true));
+        board.decided.extend(added);
+    }
+    let last = board.decided.last().copied();
+    let mut theirs = published(&board);
+    let their_work = move || {
+        if let Some((border, wall)) = black_box(last) {
+            theirs.undo();
+            theirs.decide(border, wall);
+        }
+    };
+    [on_image(&board, ImageCall::Undo), plain(their_work)]
+}
+
+fn image_check(board: &Board) -> [Side; 2] {
+    let mut theirs = published(board);
+    let their_work = move || {
+        black_box(theirs.check());
+    };
+    [on_image(board, ImageCall::Check), plain(their_work)]
 }
 
 /// Decides the board's literals one after another, with a check after each.

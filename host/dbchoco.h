@@ -1,0 +1,105 @@
+/*
+ * The Double Choco border checker: three calls on a board image.
+ *
+ * Link with libimage.a, which `rt staticlib image` writes to target/staticlib. The library keeps no state, allocates
+ * nothing and calls nothing but memcpy and memset: calls on different images may run at the same time. A check takes
+ * up to 192 KiB of stack, a decide or undo up to 64 KiB.
+ *
+ * THE IMAGE is 11,076 bytes that the host owns. Numbers of more than one byte have their low byte first.
+ *
+ *     at      places    bytes each    what
+ *     0       1         1             height h, 1 to 32
+ *     1       1         1             width w, 1 to 32
+ *     2       1,024     1             colours of the cells, 0 or 1
+ *     1,026   1,024     4             clues of the cells, two's complement; -1 is none
+ *     5,122   1,984     1             borders: 0 undecided, 1 wall, 2 open
+ *     7,106   1         2             stack count: how many borders are decided
+ *     7,108   1,984     2             stack entries: the decided borders, the last decided last
+ *
+ * Cell (y, x), row and column from 0, has number y*w + x. The border right of it has number y*(w-1) + x, the border
+ * below it h*(w-1) + y*w + x; there are h*(w-1) + (h-1)*w borders. Places beyond the last cell, border or stack entry
+ * are unused, and unused places are 0.
+ *
+ * The host writes a fresh image itself: height, width, colours and clues, and 0 everywhere else. From then on the calls
+ * below keep it. An image that no fresh image becomes by decides and undos is alien, and every call refuses it.
+ *
+ * REASON MEMORY is at least 32,768 bytes, which is enough for every reason. A literal takes 2 bytes, low byte first:
+ * twice the border's number, plus 1 for wall.
+ *
+ * EVERY CALL returns one number. If it is from 5 to 9 the call was refused, and image and memory are as they were.
+ * Where several refusals apply the lowest number is given: 5, then 6, 7, 8, 9.
+ *
+ * An image or memory passes as its address and its length. The address must be valid for that many bytes, image and
+ * memory must not overlap, and nothing else may write them during the call; a length of 0 takes any address that is not
+ * null. Nothing beyond the length is read or written.
+ */
+#ifndef DBCHOCO_H
+#define DBCHOCO_H
+
+#include <stddef.h>
+#include <stdint.h>
+
+#ifdef __cplusplus
+extern "C" {
+#endif
+
+/* Lengths in bytes: of an image; the least of reason memory. */
+#define DBCHOCO_IMAGE_LENGTH 11076
+#define DBCHOCO_MEMORY_LENGTH 32768
+
+/* Where the parts of an image start. */
+#define DBCHOCO_HEIGHT_AT 0
+#define DBCHOCO_WIDTH_AT 1
+#define DBCHOCO_COLOURS_AT 2
+#define DBCHOCO_CLUES_AT 1026
+#define DBCHOCO_BORDERS_AT 5122
+#define DBCHOCO_COUNT_AT 7106
+#define DBCHOCO_STACK_AT 7108
+
+/* What a call returns: a decide or undo done. */
+#define DBCHOCO_DONE 0u
+
+/* A refusal. */
+#define DBCHOCO_ALIEN 5u  /* the image has another length, or decides and undos cannot make it of a fresh image */
+#define DBCHOCO_BORDER 6u /* the border's number is not below the count of borders */
+#define DBCHOCO_TAKEN 7u  /* the border is decided already */
+#define DBCHOCO_BARE 8u   /* undo with nothing decided */
+#define DBCHOCO_SHORT 9u  /* reason memory below 32,768 bytes */
+
+/* A check that passes: this plus the count of undecided borders. */
+#define DBCHOCO_PASS 32u
+
+/* A check in conflict: this plus the count of literals, from 65,536 up. */
+#define DBCHOCO_CONFLICT 65536u
+
+/* Sides of a decide. */
+#define DBCHOCO_OPEN 0u
+#define DBCHOCO_WALL 1u
+
+/*
+ * Decides a border: side 0 makes it open, any other number wall. Numbers are not cut: border 65,536 is refused with 6,
+ * and side 256 is wall. The border gets its side, and its number goes on the stack.
+ * Returns 0, or 5, 6, 7.
+ */
+uint32_t dbchoco_decide(uint8_t *image, size_t image_len, uint32_t border, uint32_t side);
+
+/*
+ * Takes the last decision back: its border is undecided again, and its place on the stack is 0.
+ * Returns 0, or 5, 8.
+ */
+uint32_t dbchoco_undo(uint8_t *image, size_t image_len);
+
+/*
+ * Checks the image, which is only read.
+ * Returns 5 or 9; or 32 plus the count of undecided borders for a pass, which writes nothing; or 65,536 plus the count
+ * of literals for a conflict, which writes the literals from the start of the memory and nothing beyond them.
+ * The literals of a conflict all hold on the board, and no solution has them all; an image without undecided borders
+ * passes exactly if it is a solution. A literal may be written more than once.
+ */
+uint32_t dbchoco_check(const uint8_t *image, size_t image_len, uint8_t *memory, size_t memory_len);
+
+#ifdef __cplusplus
+}
+#endif
+
+#endif

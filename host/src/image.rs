@@ -1,0 +1,103 @@
+//! The layout of a board image, and the image of a fresh board.
+
+use crate::literal::{Literal, Side};
+use crate::refusal::Refusal;
+
+/// The largest height and width of a page.
+pub const SIDE_LIMIT: usize = 32;
+
+const CELL_LIMIT: usize = SIDE_LIMIT * SIDE_LIMIT;
+const BORDER_LIMIT: usize = 2 * SIDE_LIMIT * (SIDE_LIMIT - 1);
+
+// Where the parts of an image start: height and width, colours, clues of 4 bytes, borders, the count of the stack in 2
+// bytes, its entries of 2 bytes. Low byte first; unused places are 0.
+const COLOURS_AT: usize = 2;
+const CLUES_AT: usize = COLOURS_AT + CELL_LIMIT;
+const BORDERS_AT: usize = CLUES_AT + 4 * CELL_LIMIT;
+const COUNT_AT: usize = BORDERS_AT + BORDER_LIMIT;
+const STACK_AT: usize = COUNT_AT + 2;
+
+/// The length of a board image in bytes: 11,076.
+pub const IMAGE_LENGTH: usize = STACK_AT + 2 * BORDER_LIMIT;
+
+/// The least length of reason memory in bytes.
+const MEMORY_LENGTH: usize = 32_768;
+
+pub type Image = [u8; IMAGE_LENGTH];
+pub type Memory = [u8; MEMORY_LENGTH];
+
+/// Memory for the longest reason.
+pub fn memory() -> Box<Memory> {
+    Box::new([0; MEMORY_LENGTH])
+}
+
+/// The image of a fresh board, or the refusal with the lowest number.
+pub fn fresh(
+    height: usize,
+    width: usize,
+    colours: &[u8],
+    clues: &[i32],
+) -> Result<Box<Image>, Refusal> {
+    let side = 1..=SIDE_LIMIT;
+    if !side.contains(&height) || !side.contains(&width) {
+        return Err(Refusal::Size);
+    }
+    if colours.len() != height * width || clues.len() != height * width {
+        return Err(Refusal::Ragged);
+    }
+    if colours.iter().any(|&colour| colour > 1) {
+        return Err(Refusal::Colour);
+    }
+    if clues.iter().any(|&clue| clue < -1) {
+        return Err(Refusal::Clue);
+    }
+    let mut image = Box::new([0; IMAGE_LENGTH]);
+    image[0] = height as u8;
+    image[1] = width as u8;
+    image[COLOURS_AT..][..colours.len()].copy_from_slice(colours);
+    for (place, clue) in image[CLUES_AT..].chunks_exact_mut(4).zip(clues) {
+        place.copy_from_slice(&clue.to_le_bytes());
+    }
+    Ok(image)
+}
+
+fn two(image: &Image, at: usize) -> usize {
+    usize::from(u16::from_le_bytes([image[at], image[at + 1]]))
+}
+
+pub fn height(image: &Image) -> usize {
+    usize::from(image[0])
+}
+
+pub fn width(image: &Image) -> usize {
+    usize::from(image[1])
+}
+
+pub fn colour(image: &Image, cell: usize) -> u8 {
+    image[COLOURS_AT + cell]
+}
+
+pub fn clue(image: &Image, cell: usize) -> i32 {
+    let at = CLUES_AT + 4 * cell;
+    i32::from_le_bytes([image[at], image[at + 1], image[at + 2], image[at + 3]])
+}
+
+/// The side of a border that is on the page, or none if it is undecided.
+pub fn side(image: &Image, border: usize) -> Option<Side> {
+    match image[BORDERS_AT + border] {
+        0 => None,
+        byte => Some(Side::from(byte == 1)),
+    }
+}
+
+/// How many borders are decided.
+pub fn count(image: &Image) -> usize {
+    two(image, COUNT_AT)
+}
+
+/// The literal that was decided at this turn.
+pub fn entry(image: &Image, turn: usize) -> Literal {
+    let border = two(image, STACK_AT + 2 * turn);
+    let side = Side::from(image[BORDERS_AT + border] == 1);
+    Literal { border, side }
+}

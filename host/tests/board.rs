@@ -1,0 +1,181 @@
+//! Boards: document 01's small boards, the image of a fresh board, refusals, and saved images.
+
+use dbchoco::{Answer, Board, Refusal, Side, IMAGE_LENGTH};
+
+/// A board of rows such as "01", without clues, with literals such as "0w 1o" decided.
+fn board(rows: &[&str], decided: &str) -> Board {
+    let colours: Vec<u8> = rows.concat().bytes().map(|digit| digit - b'0').collect();
+    let clues = vec![-1; colours.len()];
+    let mut board = Board::fresh(rows.len(), rows[0].len(), &colours, &clues).unwrap();
+    for literal in decided.split_whitespace() {
+        let (border, side) = literal.split_at(literal.len() - 1);
+        let side = Side::from(side == "w");
+        board.decide(border.parse().unwrap(), side).unwrap();
+    }
+    board
+}
+
+/// A check's answer as the page program prints it.
+fn answer(board: &mut Board) -> String {
+    match board.check() {
+        Answer::Pass { undecided } => format!("pass {undecided}"),
+        Answer::Conflict(reason) => format!("conflict {reason}").trim_end().to_string(),
+    }
+}
+
+#[test]
+fn the_small_boards_of_document_01() {
+    let cases: [(&[&str], &str, &str); 9] = [
+        (&["0"], "", "conflict"),
+        (&["00"], "", "conflict"),
+        (&["01"], "", "pass 1"),
+        (&["01"], "0o", "pass 0"),
+        (&["01"], "0w", "conflict 0w"),
+        (&["010"], "0o 1o", "conflict 0o 1o"),
+        (&["0011"], "0o 1o 2o", "pass 0"),
+        (&["0011"], "0w 1o 2o", "conflict 1o 2o 0w"),
+        (&["01", "01"], "0o 1w 2o 3o", "conflict 3o 0o 2o 1w"),
+    ];
+    for (rows, decided, wanted) in cases {
+        let mut board = board(rows, decided);
+        let before = *board.image();
+        assert_eq!(answer(&mut board), wanted, "{rows:?} {decided}");
+        assert_eq!(*board.image(), before, "a check alters nothing");
+    }
+}
+
+#[test]
+fn clues_of_a_pair() {
+    for (clue, wanted) in [(1, "pass 1"), (0, "conflict"), (2, "conflict")] {
+        let mut board = Board::fresh(1, 2, &[0, 1], &[clue, -1]).unwrap();
+        assert_eq!(answer(&mut board), wanted, "clue {clue}");
+        assert_eq!((board.clue(0, 0), board.clue(0, 1)), (Some(clue), None));
+    }
+}
+
+#[test]
+fn the_bytes_of_an_image() {
+    let mut board = Board::fresh(2, 2, &[0, 1, 1, 0], &[-1, 258, 0, 2147483647]).unwrap();
+    let mut wanted = [0; IMAGE_LENGTH];
+    wanted[..6].copy_from_slice(&[2, 2, 0, 1, 1, 0]);
+    let clues = [
+        255, 255, 255, 255, 2, 1, 0, 0, 0, 0, 0, 0, 255, 255, 255, 127,
+    ];
+    wanted[1026..1042].copy_from_slice(&clues);
+    assert_eq!(*board.image(), wanted);
+    board.decide(3, Side::Open).unwrap();
+    board.decide(1, Side::Wall).unwrap();
+    (wanted[5122 + 3], wanted[5122 + 1]) = (2, 1);
+    wanted[7106..7112].copy_from_slice(&[2, 0, 3, 0, 1, 0]);
+    assert_eq!(*board.image(), wanted);
+    board.undo().unwrap();
+    wanted[5122 + 1] = 0;
+    wanted[7106..7112].copy_from_slice(&[1, 0, 3, 0, 0, 0]);
+    assert_eq!(*board.image(), wanted);
+}
+
+#[test]
+fn the_lowest_number_of_making_a_board() {
+    let made = |h, w, colours: &[u8], clues: &[i32]| Board::fresh(h, w, colours, clues).err();
+    assert_eq!(made(0, 1, &[], &[]), Some(Refusal::Size));
+    assert_eq!(made(1, 0, &[], &[]), Some(Refusal::Size));
+    assert_eq!(made(33, 1, &[2; 3], &[-2; 4]), Some(Refusal::Size));
+    assert_eq!(made(1, usize::MAX, &[], &[]), Some(Refusal::Size));
+    assert_eq!(made(1, 2, &[2; 3], &[-2; 2]), Some(Refusal::Ragged));
+    assert_eq!(made(1, 2, &[2; 2], &[-2; 3]), Some(Refusal::Ragged));
+    assert_eq!(made(1, 2, &[0, 2], &[-2; 2]), Some(Refusal::Colour));
+    assert_eq!(made(1, 2, &[0, 1], &[0, -2]), Some(Refusal::Clue));
+    assert_eq!(made(32, 32, &[0; 1024], &[-1; 1024]), None);
+}
+
+#[test]
+fn refused_calls_leave_the_board() {
+    let mut board = board(&["01"], "0o");
+    let before = board.clone();
+    for border in [1, 256, 65_536, u32::MAX as usize, 1 << 32, usize::MAX] {
+        assert_eq!(board.decide(border, Side::Wall), Err(Refusal::Border));
+    }
+    assert_eq!(board.decide(0, Side::Wall), Err(Refusal::Taken));
+    assert_eq!(board, before);
+    board.undo().unwrap();
+    assert_eq!(board.undo(), Err(Refusal::Bare));
+    assert_eq!(board.decided().len(), 0);
+}
+
+#[test]
+fn saved_images() {
+    let saved = board(&["011", "010"], "6w 0o 2o");
+    assert_eq!(Board::from_image(saved.image()), Ok(saved.clone()));
+    for at in 0..IMAGE_LENGTH {
+        let mut damaged = *saved.image();
+        damaged[at] ^= 0x40;
+        assert_eq!(
+            Board::from_image(&damaged),
+            Err(Refusal::Alien),
+            "byte {at}"
+        );
+    }
+    let longer = [&saved.image()[..], &[0]].concat();
+    for bytes in [&longer, &longer[..IMAGE_LENGTH - 1], &[]] {
+        assert_eq!(Board::from_image(bytes), Err(Refusal::Alien));
+    }
+    assert_eq!(
+        Board::from_image(&[0; IMAGE_LENGTH]),
+        Err(Refusal::Alien),
+        "the all-zero board"
+    );
+}
+
+#[test]
+fn borders_and_sides() {
+    let board = board(&["011", "010"], "6w 0o");
+    let mut numbers: Vec<usize> = vec![];
+    for (y, x) in [(0, 0), (0, 1), (0, 2), (1, 0), (1, 1), (1, 2), (2, 0)] {
+        numbers.extend(board.right_of(y, x));
+    }
+    for (y, x) in [(0, 0), (0, 1), (0, 2), (0, 3), (1, 0)] {
+        numbers.extend(board.below(y, x));
+    }
+    assert_eq!(numbers, (0..board.borders()).collect::<Vec<usize>>());
+    let sides = [0, 1, 6, 7, usize::MAX].map(|border| board.side(border));
+    assert_eq!(
+        sides,
+        [Some(Side::Open), None, Some(Side::Wall), None, None]
+    );
+    assert_eq!((board.colour(1, 2), board.colour(2, 0)), (Some(0), None));
+}
+
+#[test]
+fn numbers_and_words_of_refusals() {
+    let words = "size ragged colour clue alien border taken bare short";
+    for (i, word) in words.split(' ').enumerate() {
+        let refusal = Refusal::from_number(i as u32 + 1).unwrap();
+        assert_eq!((refusal.number(), refusal.word()), (i as u32 + 1, word));
+    }
+    assert_eq!(Refusal::from_number(0), None);
+    assert_eq!(Refusal::from_number(10), None);
+}
+
+#[test]
+fn a_reason_from_both_ends() {
+    let mut board = board(&["0011"], "0w 1o 2o");
+    let reason = board.check().reason().unwrap();
+    let words: Vec<String> = reason.iter().rev().map(|l| l.to_string()).collect();
+    assert_eq!((words, reason.iter().len()), (reason_words("0w 2o 1o"), 3));
+    assert_eq!(reason.to_vec(), reason.into_iter().collect::<Vec<_>>());
+}
+
+fn reason_words(words: &str) -> Vec<String> {
+    words.split(' ').map(str::to_string).collect()
+}
+
+/// What the header says of the stack, with some room for the thread itself.
+#[test]
+fn a_check_fits_a_small_stack() {
+    let pair = ["01".repeat(16), "10".repeat(16)];
+    let rows: Vec<&str> = (0..32).map(|y| pair[y % 2].as_str()).collect();
+    let mut board = board(&rows, "");
+    let small = std::thread::Builder::new().stack_size(208 << 10);
+    let run = small.spawn(move || answer(&mut board));
+    assert_eq!(run.unwrap().join().unwrap(), "pass 1984");
+}

@@ -1,0 +1,149 @@
+//! The exported calls on an image, over bytes of any length between guard bytes, and the judge that
+//! holds each call against the plain image calls of `oracle::image`.
+
+// The host's crate links the static library of crate image.
+use dbchoco as _;
+
+use crate::expected;
+use oracle::image;
+use oracle::page::{Board, Literal, Puzzle};
+use oracle::random::Random;
+
+// A slice goes over as its address and its length.
+extern "C" {
+    fn dbchoco_decide(image: *mut u8, image_length: usize, border: u32, side: u32) -> u32;
+    fn dbchoco_undo(image: *mut u8, image_length: usize) -> u32;
+    fn dbchoco_check(
+        image: *const u8,
+        image_length: usize,
+        memory: *mut u8,
+        memory_length: usize,
+    ) -> u32;
+}
+
+/// The least length of reason memory, in bytes.
+pub const MEMORY: usize = 32_768;
+
+/// Guard bytes before and behind what is lent.
+const GUARD: usize = 64;
+
+/// Bytes to lend, with guard bytes on both sides. Their address is seldom a multiple of 2.
+#[derive(Clone)]
+pub struct Lent {
+    bytes: Vec<u8>,
+    guards: [[u8; GUARD]; 2],
+    from: usize,
+}
+
+impl Lent {
+    pub fn new(random: &mut Random, content: &[u8]) -> Lent {
+        let guards = [(); 2].map(|()| [(); GUARD].map(|()| random.word() as u8));
+        let from = GUARD + random.below(16);
+        let mut bytes = vec![0; from];
+        bytes[from - GUARD..].copy_from_slice(&guards[0]);
+        bytes.extend(content);
+        bytes.extend(guards[1]);
+        Lent {
+            bytes,
+            guards,
+            from,
+        }
+    }
+
+    /// Memory of this length, filled by chance.
+    pub fn memory(random: &mut Random, length: usize) -> Lent {
+        let words = (0..length.div_ceil(8)).map(|_| random.word().to_le_bytes());
+        let bytes: Vec<u8> = words.flatten().collect();
+        Lent::new(random, &bytes[..length])
+    }
+
+    pub fn content(&self) -> &[u8] {
+        &self.bytes[self.from..self.bytes.len() - GUARD]
+    }
+
+    pub fn content_mut(&mut self) -> &mut [u8] {
+        let end = self.bytes.len() - GUARD;
+        &mut self.bytes[self.from..end]
+    }
+
+    /// The bytes on both sides must be as they were.
+    pub fn look_at_guards(&self) {
+        let behind = self.bytes.len() - GUARD;
+        assert_eq!(self.bytes[self.from - GUARD..self.from], self.guards[0]);
+        assert_eq!(self.bytes[behind..], self.guards[1]);
+    }
+}
+
+/// A call on an image.
+#[derive(Clone, Copy, Debug, PartialEq, Eq)]
+pub enum ImageCall {
+    Decide(u32, u32),
+    Undo,
+    Check,
+}
+
+/// The compiled call.
+pub fn ours(image: &mut [u8], memory: &mut [u8], call: ImageCall) -> u32 {
+    let (address, length) = (image.as_mut_ptr(), image.len());
+    // SAFETY: addresses and lengths are those of two slices that live through the call.
+    unsafe {
+        match call {
+            ImageCall::Decide(border, side) => dbchoco_decide(address, length, border, side),
+            ImageCall::Undo => dbchoco_undo(address, length),
+            ImageCall::Check => dbchoco_check(address, length, memory.as_mut_ptr(), memory.len()),
+        }
+    }
+}
+
+/// The published check, with its last answer, which the book and the plain image calls both ask for.
+#[derive(Default)]
+pub struct Judge {
+    last: Option<(Board, Option<Vec<Literal>>)>,
+}
+
+impl Judge {
+    pub fn reason(&mut self, puzzle: &Puzzle, decided: &[Literal]) -> Option<Vec<Literal>> {
+        if let Some((board, reason)) = &self.last {
+            if board.puzzle == *puzzle && board.decided == decided {
+                return reason.clone();
+            }
+        }
+        let board = Board {
+            puzzle: puzzle.clone(),
+            decided: decided.to_vec(),
+        };
+        let reason = expected::reason(&board);
+        self.last = Some((board, reason.clone()));
+        reason
+    }
+
+    fn plain(&mut self, image: &mut [u8], memory: &mut [u8], call: ImageCall) -> u32 {
+        match call {
+            ImageCall::Decide(border, side) => image::decide(image, border, side),
+            ImageCall::Undo => image::undo(image),
+            ImageCall::Check => {
+                let mut check = |puzzle: &Puzzle, decided: &[Literal]| self.reason(puzzle, decided);
+                image::check(image, memory, &mut check)
+            }
+        }
+    }
+
+    /// The number of a call, after comparing it, every byte of image and memory, and the guards.
+    pub fn call(&mut self, image: &mut Lent, memory: &mut Lent, call: ImageCall) -> u32 {
+        let mut image_wanted = image.content().to_vec();
+        let mut memory_wanted = memory.content().to_vec();
+        let wanted = self.plain(&mut image_wanted, &mut memory_wanted, call);
+        let number = ours(image.content_mut(), memory.content_mut(), call);
+        assert_eq!(
+            number,
+            wanted,
+            "{call:?} {:?}",
+            image::read(image.content())
+        );
+        assert!(image.content() == image_wanted, "image after {call:?}");
+        assert!(memory.content() == memory_wanted, "memory after {call:?}");
+        image.look_at_guards();
+        memory.look_at_guards();
+        number
+    }
+}

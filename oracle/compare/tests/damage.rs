@@ -1,0 +1,209 @@
+//! The exported calls on damaged images, images of every length, and memory of every length. What is
+//! alien is judged by `oracle::image`, which reads an image and writes it back.
+
+use compare::boards;
+use compare::expected::note_source;
+use compare::images::{ImageCall, Judge, Lent, MEMORY};
+use oracle::page::{Board, Puzzle};
+use oracle::random::Random;
+use oracle::{bench, generate, image};
+
+const ALIEN: u32 = 5;
+
+/// Counts of damaged images.
+#[derive(Default)]
+struct Seen {
+    alien: usize,
+    good: usize,
+}
+
+/// The three calls on a copy of an image each, with memory that is enough or none at all.
+fn three_calls(random: &mut Random, seen: &mut Seen, bytes: &[u8], memory: &mut Lent) {
+    let mut judge = Judge::default();
+    let border = random.below(12) as u32;
+    let side = random.below(2) as u32;
+    let mut numbers = vec![];
+    for call in [
+        ImageCall::Decide(border, side),
+        ImageCall::Undo,
+        ImageCall::Check,
+    ] {
+        let mut image = Lent::new(random, bytes);
+        numbers.push(judge.call(&mut image, memory, call));
+    }
+    let alien = numbers[0] == ALIEN;
+    assert!(numbers.iter().all(|&number| (number == ALIEN) == alien));
+    if alien {
+        seen.alien += 1;
+    } else {
+        seen.good += 1;
+    }
+}
+
+/// Boards of several sizes and fillings; the large ones are quick to check.
+fn images() -> Vec<Vec<u8>> {
+    let mut random = Random::new(80);
+    let one = Board {
+        puzzle: Puzzle::without_clues(1, 1, vec![1]),
+        decided: vec![],
+    };
+    let mut boards = vec![one, bench::snake(8), bench::stairs(8)];
+    boards.push(generate::cut_board(&mut random, 2, 3));
+    boards.push(generate::noise(&mut random, 5, 7));
+    boards.push(bench::all_open(
+        &generate::noise(&mut random, 32, 32).puzzle,
+    ));
+    boards.iter().map(image::write).collect()
+}
+
+#[test]
+fn every_byte_changed() {
+    note_source();
+    let mut random = Random::new(81);
+    let mut memory = Lent::memory(&mut random, MEMORY);
+    let mut seen = Seen::default();
+    for bytes in images() {
+        for at in 0..bytes.len() {
+            for round in 0..boards::rounds().div_ceil(3) {
+                let mut damaged = bytes.clone();
+                // The least change first, then any other.
+                damaged[at] ^= if round == 0 {
+                    1
+                } else {
+                    random.between(1, 255) as u8
+                };
+                three_calls(&mut random, &mut seen, &damaged, &mut memory);
+            }
+        }
+    }
+    let (alien, good) = (seen.alien, seen.good);
+    println!("every byte changed: {alien} alien images, {good} good ones");
+    assert!(alien > 50_000 && good > 1000);
+}
+
+#[test]
+fn every_length_of_an_image() {
+    let mut random = Random::new(82);
+    let mut seen = Seen::default();
+    let mut short = Lent::memory(&mut random, 0);
+    let mut enough = Lent::memory(&mut random, MEMORY);
+    for bytes in images() {
+        for length in 0..=11_100 {
+            let mut other = bytes.clone();
+            other.resize(length, 0);
+            let memory = if length % 2 == 0 {
+                &mut short
+            } else {
+                &mut enough
+            };
+            three_calls(&mut random, &mut seen, &other, memory);
+        }
+    }
+    assert_eq!((seen.good, seen.alien), (6, 6 * 11_100));
+}
+
+// ---- damage by chance ----
+
+/// Where the parts of an image start, and its end.
+const PARTS: [usize; 7] = [0, 2, 1_026, 5_122, 7_106, 7_108, 11_076];
+
+/// One damage. Many keep the image good, or nearly so.
+fn damage(random: &mut Random, bytes: &mut [u8]) {
+    let count = usize::from(u16::from_le_bytes([bytes[7_106], bytes[7_107]]));
+    let entry = |random: &mut Random| 7_108 + 2 * random.below(count.clamp(1, 1_984));
+    let low = |random: &mut Random| random.below(4) as u8;
+    match random.below(10) {
+        0 => bytes[random.below(2)] = random.below(40) as u8,
+        1 => bytes[2 + random.below(64)] = low(random),
+        2 => bytes[1_026 + random.below(256)] = *random.pick(&[0, 1, 127, 128, 254, 255]),
+        3 => bytes[5_122 + random.below(128)] = low(random),
+        4 => bytes[7_106] = bytes[7_106].wrapping_add(*random.pick(&[1, 255])),
+        5 => {
+            let (a, b) = (entry(random), entry(random));
+            bytes.swap(a, b);
+            bytes.swap(a + 1, b + 1);
+        }
+        6 => bytes[entry(random)] = random.below(128) as u8,
+        7 => {
+            let (a, b) = (random.below(128), random.below(128));
+            bytes.swap(5_122 + a, 5_122 + b);
+        }
+        8 => bytes[entry(random) + 1] = low(random),
+        _ => bytes[random.below(11_076)] = random.word() as u8,
+    }
+}
+
+#[test]
+fn damaged_by_chance() {
+    note_source();
+    let mut random = Random::new(83);
+    let mut memory = Lent::memory(&mut random, MEMORY);
+    let mut seen = Seen::default();
+    for _ in 0..4_000 * boards::rounds() {
+        let board = generate::board(&mut random, 8, 8);
+        let mut bytes = image::write(&board);
+        for _ in 0..random.between(1, 3) {
+            damage(&mut random, &mut bytes);
+        }
+        three_calls(&mut random, &mut seen, &bytes, &mut memory);
+    }
+    let (alien, good) = (seen.alien, seen.good);
+    println!("damaged by chance: {alien} alien images, {good} good ones");
+    assert!(alien > 1000 && good > 1000);
+}
+
+#[test]
+fn random_bytes() {
+    let mut random = Random::new(84);
+    let mut memory = Lent::memory(&mut random, MEMORY);
+    let mut seen = Seen::default();
+    for round in 0..1_000 * boards::rounds() {
+        // All bytes, or those of one part of a good image.
+        let mut bytes = image::write(&generate::board(&mut random, 8, 8));
+        let part = round % PARTS.len();
+        let (from, to) = if part == 0 {
+            (0, 11_076)
+        } else {
+            (PARTS[part - 1], PARTS[part])
+        };
+        for byte in &mut bytes[from..to] {
+            *byte = random.word() as u8;
+        }
+        three_calls(&mut random, &mut seen, &bytes, &mut memory);
+    }
+    println!(
+        "random bytes: {} alien images, {} good ones",
+        seen.alien, seen.good
+    );
+    assert!(seen.alien > 1000);
+}
+
+// ---- memory ----
+
+/// A board of 1,984 literals in its reason, and one that passes.
+#[test]
+fn every_length_of_memory() {
+    let mut random = Random::new(85);
+    let puzzle = generate::noise(&mut random, 32, 32).puzzle;
+    let pair = Board {
+        puzzle: Puzzle::without_clues(1, 2, vec![0, 1]),
+        decided: vec![(0, true)],
+    };
+    let boards = [
+        bench::all_open(&puzzle),
+        bench::all_open(&pair.puzzle),
+        pair,
+    ];
+    let ends = boards.map(|board| {
+        let mut judge = Judge::default();
+        let mut image = Lent::new(&mut random, &image::write(&board));
+        let mut last = 0;
+        for length in (0..32_700).step_by(13).chain(32_700..=32_900) {
+            let mut memory = Lent::memory(&mut random, length);
+            last = judge.call(&mut image, &mut memory, ImageCall::Check);
+            assert_eq!(last == 9, length < MEMORY, "{length}");
+        }
+        last
+    });
+    assert_eq!(ends, [65_536 + 1_984, 32, 65_536 + 1]);
+}
