@@ -7,7 +7,7 @@ use calls::Answer;
 use rules::Literal;
 use rules::Side;
 
-mod reading; // reading.rt: the board that an image spells
+pub mod reading; // reading.rt: the board that an image spells
 mod writing; // writing.rt: the bytes that a call changes, and a reason's literals in lent bytes
 
 // Where the parts of an image start, and its length.

@@ -1,6 +1,6 @@
-// For tests alone: groups and reasons exported over numbers and slices, so that they can be compared with the published
-// Rust. Each function writes its words from the start of the memory and gives how many they are. Where the size is no
-// page's, or the memory has under 16,384 places, it gives 65,535 and leaves the memory.
+// For tests alone: groups, reasons and transforms exported over numbers and slices, so that they can be compared with
+// the published Rust. Each function of this file writes its words from the start of the memory and gives how many they
+// are. Where the size is no page's, or the memory has under 16,384 places, it gives 65,535 and leaves the memory.
 // Colours and borders may have any length: past their end they are 0.
 ghost use mathlib.Core.Path.{_≡_};
 ghost use Prim.Native.Nat.{_+_, _≤_};
@@ -13,6 +13,8 @@ ghost use Rattle.probe.specs.Probe.{Long, groupWords, reasonWords, pathW
 use groups::Groups;
 use groups::Kind;
 use rules::Side;
+
+mod transform; // transform.rt: the transforms of a board's units
 
 // The least memory that is lent to a call.
 const ROOM: usize = 16384;

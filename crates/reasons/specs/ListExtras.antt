@@ -23,7 +23,8 @@ if-same i j {C} p q = go (ℕ-discrete i j)
     go (yes e) = p e
     go (no e) = q e
 
-pub sets-append : (m : List ℕ) (i : ℕ) (vs us : List ℕ) → sets m i (vs ++ us) ≡ sets (sets m i vs) (i + length vs) us
+pub sets-append : {A : Type 0} (m : List A) (i : ℕ) (vs us : List A)
+    → sets m i (vs ++ us) ≡ sets (sets m i vs) (i + length vs) us
 sets-append m i [] us = let e : i + 0 ≡ i = omega arith in rw e
 sets-append m i (v ∷ vs) us =
     let e : i + suc (length vs) ≡ suc i + length vs = omega arith in

@@ -52,7 +52,7 @@ pub shift-find : (v : Point) (ps : List Point) {q : Point} → q ∈ shiftBy v p
 unfolding shiftBy
 shift-find v ps m = map-find (λ q. q ⊕ v) ps m
 
-shift-sorted : (v : Point) (ps : List Point) → Sorted ps → Sorted (shiftBy v ps)
+pub shift-sorted : (v : Point) (ps : List Point) → Sorted ps → Sorted (shiftBy v ps)
 unfolding shiftBy
 shift-sorted v [] s = tt
 shift-sorted v (p ∷ ps) s = (later, shift-sorted v ps (s .1))
@@ -62,7 +62,7 @@ shift-sorted v (p ∷ ps) s = (later, shift-sorted v ps (s .1))
         let r = shift-find v ps m in
         subst (λ (z : Point). T (before (p ⊕ v) z)) (sym (r .2)) (rw (before-shift p (r .0) v) (s .0 (r .0) (r .1)))
 
-length-shift : (v : Point) (ps : List Point) → length (shiftBy v ps) ≡ length ps
+pub length-shift : (v : Point) (ps : List Point) → length (shiftBy v ps) ≡ length ps
 unfolding shiftBy
 length-shift v ps = length-map (λ q. q ⊕ v) ps
 

@@ -128,7 +128,7 @@ fn cell_in(ids: &[u16; 1024], h: usize, w: usize, g: usize, y: usize, x: usize) 
 }
 
 // The same of signed coordinates.
-fn has_cell(ids: &[u16; 1024], h: usize, w: usize, g: usize, y: i32, x: i32) -> bool
+pub fn has_cell(ids: &[u16; 1024], h: usize, w: usize, g: usize, y: i32, x: i32) -> bool
     requires { ⌜ Sized h w × (length (now ids) ≡ 1024) ⌝ }
     ensures { λ r. ⌜ r ≡ hasCell h w (entry (now (ids .entry))) g (pointAt y x) ⌝ }
 {

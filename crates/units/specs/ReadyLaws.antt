@@ -85,6 +85,18 @@ module _ {h w : ℕ} (z : Sized h w) (link : ℕ → Bool) where
         each = λ i b. cells-lt (flat h w) link some few (getD (L .offs) g 0 + i) (omega (arith, rises g l, ends g l));
       }
 
+  -- a group's part of the list of cells
+  pub own-part : (g : ℕ) → g < L .count
+      → UnitIn h w (L .ids) g (L .cells) (getD (L .offs) g 0) (getD (L .offs) (g + 1) 0)
+  own-part g l =
+      record {
+        numbers = ids-length (flat h w) link some few;
+        long = cells-long (flat h w) link some few;
+        some = rises g l;
+        end = omega (arith, ends g l, counts z .cells);
+        group = group g ∙ ap (λ f. members (flat h w) f g) (sym (ids-entry (flat h w) link some few));
+      }
+
   head-at : (g : ℕ) → g < L .count → getD (L .cells) (getD (L .offs) g 0) 0 ≡ headOf (members (flat h w) number g)
   unfolding groupsOf
   head-at g l =
@@ -118,6 +130,31 @@ module _ {h w : ℕ} (z : Sized h w) (cs bs : List ℕ) where
         group = λ p l. group z joins p;
       }
 
+-- the units are those of the definitions, and so are their transforms
+module _ {h w : ℕ} (z : Sized h w) (cs bs : List ℕ) where
+  abbrev mine : ℕ → Bool
+  mine = joinsIn Units h w cs bs
+
+  pub own-numbers : entry (groupsOf (flat h w) mine .ids) ≡ unitOf (puzzle h w cs) (marksIn bs)
+  unfolding joinsIn linkOf coloured
+  own-numbers = ids-entry (flat h w) mine (some z mine) (few z mine)
+
+  pub own-count : groupsOf (flat h w) mine .count ≡ unitCount (puzzle h w cs) (marksIn bs)
+  unfolding groupsOf joinsIn linkOf coloured
+  own-count = refl
+
+  pub own-few : groupsOf (flat h w) mine .count ≤ 1024
+  unfolding flat
+  own-few = omega (arith, count-le (flat h w) mine (some z mine) (few z mine), counts z .cells)
+
+  pub own-transforms : (u : ℕ) → u < groupsOf (flat h w) mine .count
+      → transformsOf (puzzle h w cs) (marksIn bs) u
+      ≡ flatTransforms (shapeOf (flat h w) (entry (groupsOf (flat h w) mine .ids)) u)
+  unfolding transformsOf flat
+  own-transforms u l =
+      rw (lt-ltb u (unitCount (puzzle h w cs) (marksIn bs)) (rw own-count at l))
+      (ap (λ f. flatTransforms (shapeOf (flat h w) f u)) (sym own-numbers))
+
 -- the arrays together
 module _ {h w : ℕ} {cs bs ids cells offs pids pcells poffs list starts : List ℕ}
     (r : Ready h w cs bs ids cells offs pids pcells poffs list starts) where
@@ -137,16 +174,13 @@ module _ {h w : ℕ} {cs bs ids cells offs pids pcells poffs list starts : List 
   wide = joinsIn Potential h w cs bs
 
   pub units-are : entry ids ≡ unitOf Z s
-  unfolding joinsIn linkOf coloured
-  units-are = ap entry (r .units-ids) ∙ ids-entry (flat h w) own (some size own) (few size own)
+  units-are = ap entry (r .units-ids) ∙ own-numbers size cs bs
 
   pub unit-count : groupsOf (flat h w) own .count ≡ unitCount Z s
-  unfolding groupsOf joinsIn linkOf coloured
-  unit-count = refl
+  unit-count = own-count size cs bs
 
   pub unit-few : groupsOf (flat h w) own .count ≤ 1024
-  unfolding flat
-  unit-few = omega (arith, count-le (flat h w) own (some size own) (few size own), counts size .cells)
+  unit-few = own-few size cs bs
 
   pub potential-known : Known h w cs bs pids
   potential-known = rw (r .potential-ids) (known-of size cs bs)
@@ -156,17 +190,7 @@ module _ {h w : ℕ} {cs bs ids cells offs pids pcells poffs list starts : List 
 
   module _ (u : ℕ) (l : u < groupsOf (flat h w) own .count) where
     pub unit-in : UnitIn h w ids u cells (getD offs u 0) (getD offs (u + 1) 0)
-    unit-in =
-        rw (r .units-ids, r .units-cells, r .units-offs)
-        (record {
-          numbers = ids-length (flat h w) own (some size own) (few size own);
-          long = cells-long (flat h w) own (some size own) (few size own);
-          some = rises size own u l;
-          end = omega (arith, ends size own u l, counts size .cells);
-          group =
-              group size own u
-              ∙ ap (λ f. members (flat h w) f u) (sym (ids-entry (flat h w) own (some size own) (few size own)));
-        })
+    unit-in = rw (r .units-ids, r .units-cells, r .units-offs) (own-part size own u l)
 
     pub head-low : getD cells (getD offs u 0) 0 < h * w
     unfolding flat
@@ -192,10 +216,9 @@ module _ {h w : ℕ} {cs bs ids cells offs pids pcells poffs list starts : List 
     unit-beside = beside-of potential-grouped potential-known (r .adjacent) home home-count
 
     pub transforms-are : transformsOf Z s u ≡ flatTransforms (shapeOf (flat h w) (entry ids) u)
-    unfolding transformsOf flat
     transforms-are =
-        rw (lt-ltb u (unitCount Z s) (rw unit-count at l))
-        (ap (λ f. flatTransforms (shapeOf (flat h w) f u)) (sym units-are))
+        own-transforms size cs bs u l
+        ∙ ap (λ l. flatTransforms (shapeOf (flat h w) (entry l) u)) (sym (r .units-ids))
 
     placed : (p : ℕ) → any (isFit Z s) (placements Z s u p)
         ≡ fitsTurned Z s pcells poffs (mates Z s p) (shapeOf (flat h w) (entry ids) u)

@@ -11,16 +11,21 @@ pub fn rounds() -> usize {
     word.parse().unwrap_or(3)
 }
 
-/// Calls the test on a board of every size from 1x1 to 32x32 as often as `rounds` says, on as many
-/// small boards, and on the bench boards. Gives their number.
-pub fn each(seed: u64, mut test: impl FnMut(&mut Random, &Board)) -> usize {
+/// The boards of `each_of`, as often as `rounds` says.
+pub fn each(seed: u64, test: impl FnMut(&mut Random, &Board)) -> usize {
+    each_of(seed, rounds(), test)
+}
+
+/// Calls the test on a board of every size from 1x1 to 32x32 so many times, on as many small boards,
+/// and on the bench boards. Gives their number.
+pub fn each_of(seed: u64, rounds: usize, mut test: impl FnMut(&mut Random, &Board)) -> usize {
     let mut random = Random::new(seed);
     let mut count = 0;
     let mut judge = |random: &mut Random, board: &Board| {
         count += 1;
         test(random, board);
     };
-    for round in 0..rounds() {
+    for round in 0..rounds {
         for h in 1..=32 {
             for w in 1..=32 {
                 let board = sized(&mut random, h, w, round + h + w);

@@ -2,9 +2,10 @@
 //! source is not there.
 
 use oracle::book::Answer;
-use oracle::page::{code, Board, Groups, Kind, Literal, KINDS};
+use oracle::page::{code, Board, Groups, Kind, Literal, Transform, KINDS};
 use oracle::plain::{self, View};
 use oracle::published::Published;
+use oracle::shapes;
 
 /// Says so where the published source is missing.
 pub fn note_source() {
@@ -67,6 +68,25 @@ pub fn reasons(board: &Board) -> [Vec<Vec<Literal>>; 3] {
     let potential = 0..view.potential.lists.len();
     let edges = potential.map(|group| view.edge(group)).collect();
     [insides(Kind::Blocks), insides(Kind::Units), edges]
+}
+
+/// The listed transforms of each unit.
+pub fn transforms(board: &Board) -> Vec<Vec<Transform>> {
+    if oracle::SOURCE {
+        let theirs = published(board);
+        let units = 0..theirs.groups(Kind::Units).lists.len();
+        return units.map(|unit| theirs.transforms(unit)).collect();
+    }
+    let view = View::new(board);
+    let shape = |cells: &Vec<usize>| shapes::shape(&board.puzzle, cells);
+    let listed = |cells: &Vec<usize>| shapes::transforms(&shape(cells));
+    view.units.lists.iter().map(listed).collect()
+}
+
+/// A transform as it stands in memory: down and across for each cell, then for each connection.
+pub fn numbers((cells, connections): &Transform) -> Vec<i32> {
+    let places = cells.iter().chain(connections);
+    places.flat_map(|&(y, x)| [y, x]).collect()
 }
 
 /// Paths on one board.

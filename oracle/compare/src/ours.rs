@@ -5,6 +5,8 @@ use oracle::random::Random;
 
 /// The least memory that a call takes.
 pub const ROOM: usize = 16_384;
+/// The least memory that a transform takes.
+pub const TRANSFORM_ROOM: usize = 6_144;
 /// What an unfit call gives.
 pub const UNFIT: usize = 65_535;
 
@@ -44,6 +46,16 @@ extern "C" {
         memory: *mut u16,
         memory_length: usize,
     ) -> usize;
+    fn probe_transform(
+        image: *const u8,
+        image_length: usize,
+        unit: usize,
+        k: usize,
+        counts: *mut usize,
+        counts_length: usize,
+        memory: *mut i32,
+        memory_length: usize,
+    );
 }
 
 /// A page with colours and borders as the proved functions take them. Nothing is promised of them.
@@ -53,6 +65,28 @@ pub struct Ours {
     pub w: usize,
     pub colours: Vec<u8>,
     pub borders: Vec<u8>,
+}
+
+/// What asking for a transform returns: the outcome's number, how many transforms the unit has, and
+/// how many cells and connections the one asked for has.
+#[derive(Clone, Copy, Debug, PartialEq)]
+pub struct Counts {
+    pub outcome: usize,
+    pub listed: usize,
+    pub cells: usize,
+    pub connections: usize,
+}
+
+impl Counts {
+    /// No transform.
+    pub fn none(outcome: usize, listed: usize) -> Counts {
+        Counts {
+            outcome,
+            listed,
+            cells: 0,
+            connections: 0,
+        }
+    }
 }
 
 fn kind_number(kind: Kind) -> u32 {
@@ -142,24 +176,61 @@ impl Ours {
     }
 }
 
-/// Memory to lend, at first filled by chance.
-pub struct Memory {
-    places: Vec<u16>,
+/// Transform k of a unit of the board that an image spells, as two numbers for each cell and then
+/// for each connection.
+pub fn transform(image: &[u8], unit: usize, k: usize, memory: &mut [i32]) -> Counts {
+    let mut counts = [usize::MAX; 5];
+    // SAFETY: addresses and lengths are those of slices that live through the call.
+    unsafe {
+        probe_transform(
+            image.as_ptr(),
+            image.len(),
+            unit,
+            k,
+            counts.as_mut_ptr(),
+            counts.len(),
+            memory.as_mut_ptr(),
+            memory.len(),
+        );
+    }
+    let [outcome, listed, cells, connections, beyond] = counts;
+    assert_eq!(beyond, usize::MAX, "counts beyond");
+    Counts {
+        outcome,
+        listed,
+        cells,
+        connections,
+    }
 }
 
-impl Memory {
-    pub fn new(random: &mut Random, length: usize) -> Memory {
+/// Memory to lend, at first filled by chance.
+pub struct Memory<T = u16> {
+    places: Vec<T>,
+}
+
+impl Memory<u16> {
+    pub fn new(random: &mut Random, length: usize) -> Memory<u16> {
         let places = (0..length).map(|_| random.word() as u16).collect();
         Memory { places }
     }
+}
 
+impl Memory<i32> {
+    /// Memory for transforms.
+    pub fn signed(random: &mut Random, length: usize) -> Memory<i32> {
+        let places = (0..length).map(|_| random.word() as i32).collect();
+        Memory { places }
+    }
+}
+
+impl<T: Copy + PartialEq + std::fmt::Debug> Memory<T> {
     /// What a call gives, and what it wrote from the start of the memory: `length` tells how much
     /// by what it gives. The rest of the memory must be as it was.
     pub fn lend_for(
         &mut self,
-        call: impl FnOnce(&mut [u16]) -> usize,
+        call: impl FnOnce(&mut [T]) -> usize,
         length: impl Fn(usize) -> usize,
-    ) -> (usize, Vec<u16>) {
+    ) -> (usize, Vec<T>) {
         let before = self.places.clone();
         let number = call(&mut self.places);
         let written = length(number);
@@ -168,7 +239,7 @@ impl Memory {
     }
 
     /// What a call of crate probe wrote, or none if it was unfit.
-    pub fn lend(&mut self, call: impl FnOnce(&mut [u16]) -> usize) -> Option<Vec<u16>> {
+    pub fn lend(&mut self, call: impl FnOnce(&mut [T]) -> usize) -> Option<Vec<T>> {
         let length = |count| if count == UNFIT { 0 } else { count };
         let (count, written) = self.lend_for(call, length);
         (count != UNFIT).then_some(written)

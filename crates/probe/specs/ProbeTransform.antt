@@ -1,0 +1,60 @@
+-- What the probe of a unit's transforms writes.
+--
+--   countsOf a          an answer as four numbers: the outcome's number, transforms, cells, connections
+--   answerIn s u k n    the answer of the board that the image s spells; an image of another length is alien
+--   memoryIn s u k m    the memory afterwards
+use mathlib.Core.Path.{_≡_, refl, ap, _∙_}
+use mathlib.Core.Bool.{cond}
+use mathlib.Core.List.{List, [], _∷_}
+use Prim.Native.Nat.{ℕ, zero, suc, _≤_}
+use native.Mathlib.Nat.{not-suc-le-zero, le-of-suc-le-suc}
+use borrow.Author.Tests.{ne-eqb}
+use lib.IntN.{ℤ}
+use lib.ListN.{length, set}
+use lib.Seq.{sets}
+use Rattle.board.specs.Board.{numberOf}
+use Rattle.board.specs.declared.Outcome.the-variants.{Alien}
+use Rattle.image.specs.Image.{rightLength, boardOf}
+use Rattle.image.specs.RoundLaws.{long-is}
+use Rattle.transforms.specs.declared.Answer.{Answer}
+use Rattle.transforms.specs.Transforms.{nothing, answered, transformOf, memoryAfter}
+
+unfoldable pub countsOf : Answer → List ℕ
+countsOf a = numberOf (a .outcome) ∷ a .listed ∷ a .cells ∷ a .connections ∷ []
+
+unfoldable pub answerIn : List ℕ → ℕ → ℕ → ℕ → Answer
+answerIn s u k n = cond (rightLength s) (transformOf (boardOf s) u k n) (answered Alien 0 nothing)
+
+unfoldable pub memoryIn : List ℕ → ℕ → ℕ → List ℤ → List ℤ
+memoryIn s u k m = cond (rightLength s) (memoryAfter (boardOf s) u k m) m
+
+-- a store past the end
+pub set-past : (l : List ℕ) (i v : ℕ) → length l ≤ i → l ≡ set l i v
+set-past [] i v h = refl
+set-past (x ∷ l) zero v h = absurd (not-suc-le-zero h)
+set-past (x ∷ l) (suc i) v h = ap (λ t. x ∷ t) (set-past l i v (le-of-suc-le-suc h))
+
+-- four stores
+pub four-stores : (l : List ℕ) {l₁ l₂ l₃ l₄ : List ℕ} {n : ℕ} (a : Answer) → n ≡ numberOf (a .outcome) → l₁ ≡ set l 0 n
+    → l₂ ≡ set l₁ 1 (a .listed) → l₃ ≡ set l₂ 2 (a .cells) → l₄ ≡ set l₃ 3 (a .connections)
+    → l₄ ≡ sets l 0 (countsOf a)
+unfolding countsOf
+four-stores l a z d e f g = g ∙ rw (f, e, d, z)
+
+-- the two cases
+module _ (s : List ℕ) (u k : ℕ) (m : List ℤ) where
+  pub other-answer : (length s ≡ 11076 → ⊥) → answered Alien 0 nothing ≡ answerIn s u k (length m)
+  unfolding answerIn rightLength
+  other-answer e = rw (ne-eqb (length s) 11076 e)
+
+  pub other-memory : (length s ≡ 11076 → ⊥) → m ≡ memoryIn s u k m
+  unfolding memoryIn rightLength
+  other-memory e = rw (ne-eqb (length s) 11076 e)
+
+  pub right-answer : length s ≡ 11076 → transformOf (boardOf s) u k (length m) ≡ answerIn s u k (length m)
+  unfolding answerIn
+  right-answer e = rw (long-is s e)
+
+  pub right-memory : length s ≡ 11076 → memoryAfter (boardOf s) u k m ≡ memoryIn s u k m
+  unfolding memoryIn
+  right-memory e = rw (long-is s e)

@@ -1,0 +1,148 @@
+-- What is handed back, case by case.
+use mathlib.Core.Path.{_≡_, refl, sym, ap, ap₂, _∙_}
+use mathlib.Core.Bool.{true, false}
+use mathlib.Core.List.{List, [], map}
+use Prim.Native.Nat.{ℕ, _+_, _-_, _<_, _≤_}
+use native.Mathlib.Omega.{arith}
+use borrow.Author.Tests.{lt-ltb, le-ltb}
+use lib.IntN.{ℤ}
+use lib.ListN.{length, getD, replicate, List·getD-append, List·getD-eq-default}
+use lib.Seq.{sets}
+use Rattle.lists.specs.Lists.{flatMap}
+use Rattle.rules.specs.Page.{Shape}
+use Rattle.rules.specs.Rules.{oneColour, joinsUnit}
+use Rattle.rules.specs.Flat.{Sized, flat}
+use Rattle.rules.specs.Codes.{marksIn}
+use Rattle.rules.specs.Groups.{entry, unitCount}
+use Rattle.rules.specs.Shapes.{shapeOf, flatTransforms}
+use Rattle.rules.specs.Check.{transformsOf}
+use Rattle.board.specs.declared.Board.{Board}
+use Rattle.board.specs.declared.Outcome.the-variants.{Done, Alien, Short}
+use Rattle.board.specs.Alien.{isAlien}
+use Rattle.board.specs.View.{puzzleIn, puzzleOf, marksOf}
+use Rattle.groups.specs.declared.Groups.{Groups}
+use Rattle.groups.specs.declared.Kind.the-variants.{Units}
+use Rattle.groups.specs.Kinds.{joinsIn}
+use Rattle.groups.specs.Parts.{groupsOf}
+use Rattle.search.specs.Placing.{puzzle}
+use Rattle.shapes.specs.declared.Listed.{Listed}
+use Rattle.shapes.specs.ListExtras.{length-map, getD-map}
+use Rattle.shapes.specs.Listing.{listing}
+use Rattle.shapes.specs.Rows.{image, rowsOf}
+use Rattle.shapes.specs.UnitLaws.{transforms-flat}
+use Rattle.units.specs.Fitting.{UnitIn}
+use Rattle.units.specs.ReadyLaws.{own-part, own-count, own-few, own-transforms}
+use Rattle.transforms.specs.Transforms.{nothing, kth, numbersOf, words, room}
+use Rattle.transforms.specs.Transforms.{answered, kthAnswer, kthMemory, transformOf, memoryAfter}
+
+-- no transform
+module _ (ts : List Shape) (k : ℕ) (l : length ts ≤ k) where
+  past : kth ts k ≡ nothing
+  unfolding kth
+  past = List·getD-eq-default ts nothing l
+
+  pub past-answer : {n : ℕ} → n ≡ length ts → answered Done n nothing ≡ kthAnswer ts k
+  unfolding kthAnswer
+  past-answer e = ap₂ (answered Done) e (sym past)
+
+  pub past-memory : (m : List ℤ) → m ≡ kthMemory ts k m
+  unfolding kthMemory words numbersOf flatMap
+  past-memory m = rw past
+
+-- a unit's listed rows
+module _ (h w : ℕ) (ids : List ℕ) (g : ℕ) (wide : 1 ≤ w) {t : Listed}
+    (rows : t ≡ listing (rowsOf (shapeOf (flat h w) (entry ids) g))) where
+  abbrev shape : Shape
+  shape = shapeOf (flat h w) (entry ids) g
+
+  abbrev ts : List Shape
+  ts = flatTransforms shape
+
+  transforms-are : ts ≡ map (λ r. image r shape) (rowsOf shape)
+  transforms-are = transforms-flat h w (entry ids) g wide
+
+  pub listed-count : t .count ≡ length (flatTransforms (shapeOf (flat h w) (entry ids) g))
+  listed-count =
+      ap (λ (r : Listed). r .count) rows
+      ∙ sym (ap length transforms-are ∙ length-map (λ r. image r shape) (rowsOf shape))
+
+  module _ (k : ℕ) (l : k < t .count) where
+    kth-image : kth ts k ≡ image (getD (t .rows) k 0) shape
+    unfolding kth
+    kth-image =
+        let few : k < length (rowsOf shape) = omega (arith, ap (λ (r : Listed). r .count) rows) in
+        ap (λ xs. getD xs k nothing) transforms-are
+        ∙ (getD-map (λ r. image r shape) (rowsOf shape) k 0 nothing few
+        ∙ ap (λ r. image r shape)
+        (sym (ap (λ (r : Listed). getD (r .rows) k 0) rows
+        ∙ List·getD-append (rowsOf shape) (replicate (8 - length (rowsOf shape)) 0) 0 k few)))
+
+    pub listed-answer : {n j : ℕ} → length (image (getD (t .rows) k 0) (shapeOf (flat h w) (entry ids) g) .cells) ≡ n
+        → length (image (getD (t .rows) k 0) (shapeOf (flat h w) (entry ids) g) .connections) ≡ j
+        → record { outcome = Done; listed = t .count; cells = n; connections = j }
+        ≡ kthAnswer (flatTransforms (shapeOf (flat h w) (entry ids) g)) k
+    unfolding kthAnswer
+    listed-answer {n} {j} a c =
+        (λ i. record { outcome = Done; listed = listed-count i; cells = sym a i; connections = sym c i })
+        ∙ ap (answered Done (length ts)) (sym kth-image)
+
+    pub listed-memory : (m : List ℤ) {m′ : List ℤ}
+        → m′ ≡ sets m 0 (words (image (getD (t .rows) k 0) (shapeOf (flat h w) (entry ids) g)))
+        → m′ ≡ kthMemory (flatTransforms (shapeOf (flat h w) (entry ids) g)) k m
+    unfolding kthMemory
+    listed-memory m e = e ∙ ap (λ s. sets m 0 (words s)) (sym kth-image)
+
+-- the units of a page
+module _ {h w : ℕ} (z : Sized h w) (cs bs : List ℕ) {units : Groups}
+    (all : units ≡ groupsOf (flat h w) (joinsIn Units h w cs bs)) (u : ℕ) where
+  -- "A unit number that no unit has gives no transforms"
+  pub no-unit : units .count ≤ u → transformsOf (puzzle h w cs) (marksIn bs) u ≡ []
+  unfolding transformsOf
+  no-unit l =
+      rw (le-ltb u (unitCount (puzzle h w cs) (marksIn bs))
+      (rw (ap (λ (g : Groups). g .count) all ∙ own-count z cs bs) at l))
+
+  pub unit-transforms : u < units .count
+      → transformsOf (puzzle h w cs) (marksIn bs) u ≡ flatTransforms (shapeOf (flat h w) (entry (units .ids)) u)
+  unit-transforms l = rw all (own-transforms z cs bs u (rw all at l))
+
+  pub unit-part-in : u < units .count
+      → UnitIn h w (units .ids) u (units .cells) (getD (units .offs) u 0) (getD (units .offs) (u + 1) 0)
+  unit-part-in l = rw all (own-part z (joinsIn Units h w cs bs) u (rw all at l))
+
+  pub units-few : units .count ≤ 1024
+  units-few = rw all (own-few z cs bs)
+
+-- a board's answer
+module _ (b : Board) (u k : ℕ) (m : List ℤ) where
+  -- the transforms ask no clue
+  pub board-transforms : transformsOf (puzzle (b .height) (b .width) (b .colours)) (marksIn (b .borders)) u
+      ≡ transformsOf (puzzleOf b) (marksOf b) u
+  unfolding transformsOf puzzleOf puzzleIn marksOf joinsUnit oneColour
+  board-transforms = refl
+
+  pub alien-answer : isAlien b ≡ true → answered Alien 0 nothing ≡ transformOf b u k (length m)
+  unfolding transformOf
+  alien-answer e = rw e
+
+  pub alien-memory : isAlien b ≡ true → m ≡ memoryAfter b u k m
+  unfolding memoryAfter
+  alien-memory e = rw e
+
+  pub short-answer : isAlien b ≡ false → length m < room → answered Short 0 nothing ≡ transformOf b u k (length m)
+  unfolding transformOf
+  short-answer e l = rw (e, lt-ltb (length m) room l)
+
+  pub short-memory : isAlien b ≡ false → length m < room → m ≡ memoryAfter b u k m
+  unfolding memoryAfter
+  short-memory e l = rw (e, lt-ltb (length m) room l)
+
+  pub done-answer : isAlien b ≡ false → room ≤ length m
+      → kthAnswer (transformsOf (puzzleOf b) (marksOf b) u) k ≡ transformOf b u k (length m)
+  unfolding transformOf
+  done-answer e l = rw (e, le-ltb (length m) room l)
+
+  pub done-memory : isAlien b ≡ false → room ≤ length m
+      → kthMemory (transformsOf (puzzleOf b) (marksOf b) u) k m ≡ memoryAfter b u k m
+  unfolding memoryAfter
+  done-memory e l = rw (e, le-ltb (length m) room l)

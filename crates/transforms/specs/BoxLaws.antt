@@ -1,0 +1,153 @@
+-- The places of the box that are cells of an image are the image's cells, sorted.
+use mathlib.Core.Path.{_≡_, refl, sym, ap, _∙_, subst}
+use mathlib.Core.Bool.{Bool, xor}
+use mathlib.Core.List.{List, map, Memᴰ·cast}
+use Prim.Native.Nat.{ℕ, zero, suc, _+_, _-_, _*_, _<_}
+use native.Mathlib.Omega.{arith}
+use borrow.Author.Tests.{le-ltb}
+use lib.Arith.{digits-lt, digits-div, digits-mod}
+use lib.Dec.{T}
+use lib.IntN.{ℤ, pos, negsuc, _+ℤ_, +ℤ-negℤ-cancel}
+use lib.Signed.{mag}
+use lib.ListN.{getD}
+use Rattle.lists.specs.Lists.{_∈_, filter, any, range}
+use Rattle.lists.specs.ListLaws.{mem-map, map-find, any-mem, any-find, mem-filter, filter-test, mem-range}
+use Rattle.rules.specs.Page.{Point, _⊕_, opposite}
+use Rattle.rules.specs.Flat.{flatPlace}
+use Rattle.rules.specs.Groups.{entry}
+use Rattle.rules.specs.Turns.{apply, compose, keep, plus, layerward}
+use Rattle.rules.specs.Shapes.{sort, shiftBy, samePoint}
+use Rattle.argument.specs.Points.{point-eq}
+use Rattle.argument.specs.TurnLaws.{apply-compose, apply-keep}
+use Rattle.shapes.specs.OrderLaws.{point-same, same-point}
+use Rattle.shapes.specs.Order.{Sorted}
+use Rattle.shapes.specs.SortLaws.{mem-sort, sort-mem, sort-sorted, sorted-distinct, sorted-unique}
+use Rattle.shapes.specs.FixLaws.{row-inj, shift-sorted}
+use Rattle.shapes.specs.ListExtras.{map-map, map-distinct, table-find}
+use Rattle.shapes.specs.Rows.{turnAt}
+use Rattle.shapes.specs.Spots.{hasCell, places, spotAt, spots, Near, UnitAt}
+use Rattle.shapes.specs.SpotLaws.{near-image}
+use Rattle.shapes.specs.UnitLaws.{from-sorted, places-sorted, among-places}
+use Rattle.transforms.specs.Box.{undone, corner, boxAt, boxSize, ofImage, cellAt, sweep}
+use Rattle.transforms.specs.ListExtras.{up-filter}
+
+-- a row and the one that undoes it, either first; the layer stays; the one is a row of the table
+abbrev pub Undoes : ℕ → Type 0
+Undoes r =
+    (compose (turnAt (undone r)) (turnAt r) ≡ keep)
+    × (compose (turnAt r) (turnAt (undone r)) ≡ keep)
+    × (turnAt r .layers ≡ plus layerward)
+    × (undone r < 8)
+
+pub undoes : (r : ℕ) → Undoes r
+unfolding xor
+undoes zero = (refl, refl, refl, omega arith)
+undoes (suc zero) = (refl, refl, refl, omega arith)
+undoes (suc (suc zero)) = (refl, refl, refl, omega arith)
+undoes (suc (suc (suc zero))) = (refl, refl, refl, omega arith)
+undoes (suc (suc (suc (suc zero)))) = (refl, refl, refl, omega arith)
+undoes (suc (suc (suc (suc (suc zero))))) = (refl, refl, refl, omega arith)
+undoes (suc (suc (suc (suc (suc (suc zero)))))) = (refl, refl, refl, omega arith)
+undoes (suc (suc (suc (suc (suc (suc (suc zero))))))) = (refl, refl, refl, omega arith)
+undoes (suc (suc (suc (suc (suc (suc (suc (suc r)))))))) = (refl, refl, refl, omega arith)
+
+undo-turn : (r : ℕ) (p : Point) → apply (turnAt (undone r)) (apply (turnAt r) p) ≡ p
+undo-turn r p =
+    sym (apply-compose (turnAt (undone r)) (turnAt r) p) ∙ (ap (λ t. apply t p) (undoes r .0) ∙ apply-keep p)
+
+turn-undo : (r : ℕ) (p : Point) → apply (turnAt r) (apply (turnAt (undone r)) p) ≡ p
+turn-undo r p =
+    sym (apply-compose (turnAt r) (turnAt (undone r)) p) ∙ (ap (λ t. apply t p) (undoes r .1) ∙ apply-keep p)
+
+same-layer : (r : ℕ) (p : Point) → apply (turnAt r) p .layer ≡ p .layer
+unfolding apply
+same-layer r p = rw (undoes r .2)
+
+-- a coordinate from -33 to 32 is one of 66
+raise : (z : ℤ) → mag z < 33 → (a : ℕ) × (a < 66) × (pos a +ℤ negsuc 32 ≡ z)
+raise (pos n) h = (n + 33, omega arith, +ℤ-negℤ-cancel (pos n) (pos 33))
+raise (negsuc n) h =
+    let e : pos (33 - suc n) ≡ negsuc n +ℤ pos 33 = rw (le-ltb 33 (suc n) (omega arith)) in (
+      33 - suc n,
+      omega arith,
+      ap (λ k. k +ℤ negsuc 32) e ∙ +ℤ-negℤ-cancel (negsuc n) (pos 33),
+    )
+
+-- a place near the page is in the box
+in-box : (p : Point) → p .layer ≡ pos 0 → Near p → (i : ℕ) × (i < boxSize) × (boxAt i ≡ p)
+unfolding boxAt flatPlace _⊕_
+in-box p e n =
+    let a = raise (p .row) (n .row) in
+    let b = raise (p .column) (n .column) in (
+      a .0 * 66 + b .0,
+      digits-lt (a .1) (b .1),
+      point-eq (sym e) (rw (digits-div (a .0) (b .1)) (a .2)) (rw (digits-mod (a .0) (b .1)) (b .2)),
+    )
+
+module _ {h w : ℕ} {ids : List ℕ} {g : ℕ} {R C : List ℕ} {n : ℕ} (u : UnitAt h w ids g R C n) (r : ℕ) where
+  abbrev there : ℕ → Bool
+  there i = ofImage h w (entry ids) g r (boxAt i)
+
+  abbrev found : List Point
+  found = map boxAt (filter there (range boxSize))
+
+  abbrev P : List Point
+  P = spots R C n
+
+  abbrev turn : Point → Point
+  turn = apply (turnAt r)
+
+  found-sorted : Sorted found
+  unfolding boxAt shiftBy
+  found-sorted =
+      subst Sorted (map-map (λ p. p ⊕ corner) (flatPlace 66 66) (filter there (range boxSize)))
+      (shift-sorted corner (map (flatPlace 66 66) (filter there (range boxSize)))
+      (from-sorted 66 66 (omega arith) there 0 boxSize))
+
+  images-sorted : Sorted (sort (map turn P))
+  images-sorted =
+      sort-sorted (map turn P)
+      (map-distinct turn (row-inj r) P
+      (sorted-distinct P (subst Sorted (sym (u .here)) (places-sorted h w (entry ids) g (u .sized .columns)))))
+
+  -- a cell of the unit, on the page and among its places
+  own : (z : Point) → any (samePoint z) P ≡ hasCell h w (entry ids) g z
+  own z = ap (any (samePoint z)) (u .here) ∙ among-places h w (entry ids) g (u .sized .columns) z
+
+  found-image : (z : Point) → z ∈ found → z ∈ sort (map turn P)
+  unfolding ofImage
+  found-image z m =
+      let i = map-find boxAt (filter there (range boxSize)) m in
+      let t = filter-test there (range boxSize) (i .1) in
+      let q = apply (turnAt (undone r)) (boxAt (i .0)) in
+      let k = any-find (samePoint q) P (subst T (sym (own q)) t) in
+      let e : z ≡ turn (k .0) = i .2 ∙ (sym (turn-undo r (boxAt (i .0))) ∙ ap turn (point-same q (k .0) (k .2))) in
+      mem-sort (map turn P) (Memᴰ·cast e (mem-map turn (k .1)))
+
+  image-found : (z : Point) → z ∈ sort (map turn P) → z ∈ found
+  unfolding ofImage spots
+  image-found z m =
+      let q = map-find turn P (sort-mem (map turn P) m) in
+      let j = table-find n (spotAt R C) (q .1) in
+      let s = u .spotted in
+      let e : z ≡ turn (spotAt R C (j .0)) = q .2 ∙ ap turn (j .2) in
+      let b = in-box (turn (spotAt R C (j .0))) (same-layer r (spotAt R C (j .0)))
+      (near-image r (getD R (j .0) 0) (getD C (j .0) 0) (s .down (j .0) (j .1)) (s .across (j .0) (j .1))) in
+      let back : apply (turnAt (undone r)) (boxAt (b .0)) ≡ q .0 =
+      ap (apply (turnAt (undone r))) (b .2 ∙ ap turn (sym (j .2))) ∙ undo-turn r (q .0) in
+      let has : T (hasCell h w (entry ids) g (q .0)) =
+      subst T (own (q .0)) (any-mem (samePoint (q .0)) P (q .1) (same-point (q .0))) in
+      Memᴰ·cast (e ∙ sym (b .2))
+      (mem-map boxAt (mem-filter there (range boxSize) (mem-range boxSize (b .1))
+      (subst (λ (p : Point). T (hasCell h w (entry ids) g p)) (sym back) has)))
+
+  found-is : found ≡ sort (map turn P)
+  found-is = sorted-unique found (sort (map turn P)) found-sorted images-sorted found-image image-found
+
+  -- what the loop gathers
+  pub sweep-is : (m : Point) → sweep h w (entry ids) g r m boxSize ≡ shiftBy (opposite m) (sort (map turn P))
+  unfolding sweep cellAt shiftBy
+  sweep-is m =
+      up-filter (λ j. boxAt j ⊕ opposite m) there boxSize
+      ∙ (sym (map-map (λ p. p ⊕ opposite m) boxAt (filter there (range boxSize)))
+      ∙ ap (shiftBy (opposite m)) found-is)

@@ -1,0 +1,71 @@
+-- A unit's listed transforms as they are handed back.
+--
+--   nothing             the shape without cells
+--   kth ts k            transform k of a list, counted from 0; nothing past its end
+--   numbersOf ps        places as numbers: down and across, one place after the other
+--   words t             a shape as numbers: its cells, then its connections
+--   room                the least memory that is lent: 1,024 cells and 2,048 connections, two numbers each
+--   answered o n t      an outcome, how many transforms the unit has, and the counts of one of them
+--   kthAnswer ts k      what is returned of transform k of a list
+--   kthMemory ts k m    the lent memory m after it is written
+--   transformOf b u k n what asking a board for transform k of unit u returns, where n numbers of memory are lent
+--   memoryAfter b u k m the lent memory m afterwards
+--   Wrote m from ps after next   the places ps were written into m from the number `from`: `after` is the memory
+--                       afterwards, and `next` the place after the last number
+use mathlib.Core.Path.{_≡_}
+use mathlib.Core.Bool.{cond}
+use mathlib.Core.List.{List, [], _∷_, _++_}
+use Prim.Native.Nat.{ℕ, _+_, _*_}
+use lib.Dec.{ltb}
+use lib.IntN.{ℤ}
+use lib.ListN.{length, getD}
+use lib.Seq.{sets}
+use Rattle.lists.specs.Lists.{flatMap}
+use Rattle.rules.specs.Page.{Point, Shape}
+use Rattle.rules.specs.Check.{transformsOf}
+use Rattle.board.specs.declared.Board.{Board}
+use Rattle.board.specs.declared.Outcome.{Outcome}
+use Rattle.board.specs.declared.Outcome.the-variants.{Done, Alien, Short}
+use Rattle.board.specs.Alien.{isAlien}
+use Rattle.board.specs.View.{puzzleOf, marksOf}
+use Rattle.transforms.specs.declared.Answer.{Answer}
+
+abbrev pub nothing : Shape
+nothing = record { cells = []; connections = [] }
+
+unfoldable pub kth : List Shape → ℕ → Shape
+kth ts k = getD ts k nothing
+
+unfoldable pub numbersOf : List Point → List ℤ
+numbersOf ps = flatMap (λ p. p .row ∷ p .column ∷ []) ps
+
+unfoldable pub words : Shape → List ℤ
+words t = numbersOf (t .cells ++ t .connections)
+
+abbrev pub room : ℕ
+room = 6144
+
+abbrev pub answered : Outcome → ℕ → Shape → Answer
+answered o n t =
+    record { outcome = o; listed = n; cells = length (t .cells); connections = length (t .connections) }
+
+unfoldable pub kthAnswer : List Shape → ℕ → Answer
+kthAnswer ts k = answered Done (length ts) (kth ts k)
+
+unfoldable pub kthMemory : List Shape → ℕ → List ℤ → List ℤ
+kthMemory ts k m = sets m 0 (words (kth ts k))
+
+-- "Groups or transforms asked of an alien board give 5 and none"; a refused call gives none either
+unfoldable pub transformOf : Board → ℕ → ℕ → ℕ → Answer
+transformOf b u k n =
+    cond (isAlien b) (answered Alien 0 nothing)
+    (cond (ltb n room) (answered Short 0 nothing) (kthAnswer (transformsOf (puzzleOf b) (marksOf b) u) k))
+
+-- a refused call leaves the memory; nothing is written beyond the transform
+unfoldable pub memoryAfter : Board → ℕ → ℕ → List ℤ → List ℤ
+memoryAfter b u k m =
+    cond (isAlien b) m (cond (ltb (length m) room) m (kthMemory (transformsOf (puzzleOf b) (marksOf b) u) k m))
+
+pub record Wrote (m : List ℤ) (from : ℕ) (ps : List Point) (after : List ℤ) (next : ℕ) : Type 0 where
+  pub memory : after ≡ sets m from (numbersOf ps)
+  pub place : next ≡ from + 2 * length ps

@@ -1,0 +1,310 @@
+// Transforms handed back: the cells and the connections of a unit's listed transform.
+ghost use mathlib.Core.Path.{_≡_};
+ghost use mathlib.Core.List.{[], _∷_};
+ghost use Prim.Native.Nat.{_+_, _*_, _≤_, _<_};
+ghost use lib.ListN.{length};
+ghost use lib.Seq.{sets};
+ghost use Rattle.rules.specs.Page.{_⊕_, opposite};
+ghost use Rattle.rules.specs.Flat.{Sized, flat};
+ghost use Rattle.rules.specs.Codes.{marksIn};
+ghost use Rattle.rules.specs.Groups.{entry};
+ghost use Rattle.rules.specs.Check.{transformsOf};
+ghost use Rattle.rules.specs.Shapes.{shapeOf, flatTransforms};
+ghost use Rattle.search.specs.Placing.{puzzle};
+ghost use Rattle.shapes.specs.Joints.{Joined};
+ghost use Rattle.shapes.specs.Pairs.{pointOf, SmallPair};
+ghost use Rattle.shapes.specs.Listing.{listing};
+ghost use Rattle.shapes.specs.Rows.{image, rowsOf};
+ghost use Rattle.shapes.specs.Spots.{spots, UnitAt};
+ghost use Rattle.units.specs.Images.{Jointed};
+ghost use Rattle.transforms.specs.Transforms.{nothing, words, answered, kthAnswer, kthMemory, Wrote};
+ghost use Rattle.transforms.specs.Transforms.{transformOf, memoryAfter};
+ghost use Rattle.transforms.specs.Box.{boxAt, ofImage, cellAt, sweep, movedBack};
+use board::Board;
+use board::Outcome;
+use groups::Kind;
+use groups::groups_of;
+use shapes::Listed;
+use shapes::Pair;
+use shapes::has_cell;
+use shapes::joint;
+use shapes::joints;
+use shapes::least;
+use shapes::list_rows;
+use shapes::places;
+
+// What asking for a transform returns: how many transforms the unit has, and how many cells and connections the one
+// asked for has. Each place takes two numbers of the lent memory, down and across: first the cells, sorted, with the
+// first at (0,0), then the connections, in doubled coordinates.
+pub struct Answer {
+    pub outcome: Outcome,
+    pub listed: usize,
+    pub cells: usize,
+    pub connections: usize,
+}
+
+// The least memory that is lent: two numbers for each of 1,024 cells and 2,048 connections.
+const ROOM: usize = 6144;
+
+// The places of the box that every image of a page lies in: 66 rows of 66.
+const BOX: usize = 4356;
+
+// The row of the table that undoes each row.
+const UNDONE: [usize; 8] = [0, 1, 3, 2, 4, 5, 6, 7];
+
+// Writes a place from the number `at` on; gives the next number's place.
+fn put(memory: &mut [i32], at: usize, p: Pair) -> usize
+    requires { ⌜ at + 2 ≤ length (now memory) ⌝ }
+    ensures { λ r. ⌜ Wrote (now (memory .entry)) at (pointOf p ∷ []) (now (memory .exit)) r ⌝ }
+{
+    let y = p.y;
+    let x = p.x;
+    memory[at] = y;
+    memory[at + 1] = x;
+    at + 2
+}
+
+// Place `i` of the box: rows and columns from -33 to 32.
+fn box_place(i: usize) -> Pair
+    requires { ⌜ i < 4356 ⌝ }
+    ensures { λ r. ⌜ (pointOf r ≡ boxAt i) × SmallPair r ⌝ }
+{
+    Pair {
+        y: (i / 66) as i32 - 33,
+        x: (i % 66) as i32 - 33,
+    }
+}
+
+// The place `p` shifted back by `m`.
+fn back(p: Pair, m: Pair) -> Pair
+    requires { ⌜ SmallPair p × SmallPair m ⌝ }
+    ensures { λ r. ⌜ pointOf r ≡ pointOf p ⊕ opposite (pointOf m) ⌝ }
+{
+    Pair {
+        y: p.y - m.y,
+        x: p.x - m.x,
+    }
+}
+
+// Whether the place `p` is a cell of the image of unit `g` by a row: whether the way back leads to a cell of the unit.
+fn of_image(ids: &[u16; 1024], h: usize, w: usize, g: usize, row: usize, p: Pair) -> bool
+    requires { ⌜ (row < 8) × Sized h w × (length (now ids) ≡ 1024) × SmallPair p ⌝ }
+    ensures { λ r. ⌜ r ≡ ofImage h w (entry (now (ids .entry))) g row (pointOf p) ⌝ }
+{
+    let q = shapes::apply(UNDONE[row], p.y, p.x);
+    has_cell(ids, h, w, g, q.y, q.x)
+}
+
+// Writes place `i` of the box, shifted back by `m`, if it is a cell of the unit's image. Gives the next number's place.
+fn put_cell(
+    memory: &mut [i32],
+    at: usize,
+    ids: &[u16; 1024],
+    h: usize,
+    w: usize,
+    g: usize,
+    row: usize,
+    m: Pair,
+    i: usize,
+) -> usize
+    requires { ⌜ (row < 8) × Sized h w × (length (now ids) ≡ 1024) × SmallPair m × (i < 4356)
+        × (at + 2 * length (cellAt h w (entry (now ids)) g row (pointOf m) i) ≤ length (now memory)) ⌝ }
+    ensures { λ r. ⌜ Wrote (now (memory .entry)) at (cellAt h w (entry (now (ids .entry))) g row (pointOf m) i)
+        (now (memory .exit)) r ⌝ }
+{
+    let p = box_place(i);
+    if of_image(ids, h, w, g, row, p) {
+        return put(memory, at, back(p, m));
+    }
+    at
+}
+
+// Writes the cells of the unit's image by a row, in order, shifted back by `m`, from the start of the memory.
+// Gives the next number's place.
+fn put_cells(
+    memory: &mut [i32],
+    ids: &[u16; 1024],
+    h: usize,
+    w: usize,
+    g: usize,
+    row: usize,
+    m: Pair,
+) -> usize
+    requires { ⌜ (row < 8) × Sized h w × (length (now ids) ≡ 1024) × SmallPair m
+        × (2 * length (sweep h w (entry (now ids)) g row (pointOf m) 4356) ≤ length (now memory)) ⌝ }
+    ensures { λ r. ⌜ Wrote (now (memory .entry)) 0 (sweep h w (entry (now (ids .entry))) g row (pointOf m) 4356)
+        (now (memory .exit)) r ⌝ }
+{
+    let mut at: usize = 0;
+    let mut i: usize = 0;
+    while i < BOX {
+        at = put_cell(&mut *memory, at, ids, h, w, g, row, m, i);
+        i += 1;
+    }
+    at
+}
+
+// Writes the unit's `k` connections, turned by a row and shifted back by twice `m`, from the number `start` on.
+// Gives the next number's place.
+fn put_joints<'a>(
+    memory: &mut [i32],
+    start: usize,
+    row: usize,
+    down: &'a [u16; 2048],
+    across: &'a [u16; 2048],
+    k: usize,
+    m: Pair,
+) -> usize
+    requires { ⌜ (row < 8) × Jointed (now down) (now across) k × SmallPair m
+        × (start + 2 * k ≤ length (now memory)) ⌝ }
+    ensures { λ r. ⌜ Wrote (now (memory .entry)) start
+        (movedBack row (pointOf m) (spots (now (down .entry)) (now (across .entry)) k)) (now (memory .exit)) r ⌝ }
+{
+    let mut at = start;
+    let mut j: usize = 0;
+    while j < k {
+        let p = joint(row, down, across, j, m);
+        at = put(&mut *memory, at, p);
+        j += 1;
+    }
+    at
+}
+
+// Writes the image of unit `g` by a row: its `n` cells, then its `k` connections.
+fn put_image<'a>(
+    memory: &mut [i32],
+    ids: &'a [u16; 1024],
+    h: usize,
+    w: usize,
+    g: usize,
+    rows: &'a [u16; 1024],
+    columns: &'a [u16; 1024],
+    n: usize,
+    down: &'a [u16; 2048],
+    across: &'a [u16; 2048],
+    k: usize,
+    row: usize,
+)
+    requires { ⌜ (row < 8) × UnitAt h w (now ids) g (now rows) (now columns) n
+        × Joined h w (entry (now ids)) g (now down) (now across) k × (6144 ≤ length (now memory)) ⌝ }
+    ensures { λ r. ⌜ now (memory .exit) ≡ sets (now (memory .entry)) 0
+        (words (image row (shapeOf (flat h w) (entry (now (ids .entry))) g))) ⌝ }
+{
+    let m = least(row, rows, columns, n);
+    let at = put_cells(&mut *memory, ids, h, w, g, row, m);
+    put_joints(&mut *memory, at, row, down, across, k, m);
+}
+
+// No transform.
+fn none(outcome: Outcome, listed: usize) -> Answer
+    ensures { λ r. ⌜ r ≡ answered outcome listed nothing ⌝ }
+{
+    Answer {
+        outcome,
+        listed,
+        cells: 0,
+        connections: 0,
+    }
+}
+
+// The number as an index.
+fn wide(x: u16) -> usize
+    ensures { λ r. ⌜ r ≡ x ⌝ }
+{
+    x as usize
+}
+
+// Writes transform `k` of unit `g`, whose `n` cells stand in rows and columns, and whose listed rows are given.
+fn put_listed<'a>(
+    memory: &mut [i32],
+    ids: &'a [u16; 1024],
+    h: usize,
+    w: usize,
+    g: usize,
+    rows: &'a [u16; 1024],
+    columns: &'a [u16; 1024],
+    n: usize,
+    listed: Listed,
+    k: usize,
+) -> Answer
+    requires { ⌜ UnitAt h w (now ids) g (now rows) (now columns) n
+        × (listed ≡ listing (rowsOf (shapeOf (flat h w) (entry (now ids)) g))) × (6144 ≤ length (now memory)) ⌝ }
+    ensures { λ r. ⌜ (r ≡ kthAnswer (flatTransforms (shapeOf (flat h w) (entry (now (ids .entry))) g)) k)
+        × (now (memory .exit) ≡ kthMemory (flatTransforms (shapeOf (flat h w) (entry (now (ids .entry))) g)) k
+        (now (memory .entry))) ⌝ }
+{
+    if listed.count <= k {
+        return none(Outcome::Done, listed.count);
+    }
+    let mut down = [0u16; 2048];
+    let mut across = [0u16; 2048];
+    let j = joints(ids, h, w, g, rows, columns, n, &mut down, &mut across);
+    let row = listed.rows[k];
+    put_image(
+        memory,
+        ids,
+        h,
+        w,
+        g,
+        rows,
+        columns,
+        n,
+        &down,
+        &across,
+        j,
+        row as usize,
+    );
+    Answer {
+        outcome: Outcome::Done,
+        listed: listed.count,
+        cells: n,
+        connections: j,
+    }
+}
+
+// Writes transform `k` of unit `u` on a page of h rows and w columns.
+fn put_transform<'a>(
+    memory: &mut [i32],
+    h: usize,
+    w: usize,
+    colours: &'a [u8; 1024],
+    borders: &'a [u8; 1984],
+    u: usize,
+    k: usize,
+) -> Answer
+    requires { ⌜ Sized h w × (6144 ≤ length (now memory)) ⌝ }
+    ensures { λ r. ⌜ (r ≡ kthAnswer (transformsOf (puzzle h w (now (colours .entry)))
+        (marksIn (now (borders .entry))) u) k)
+        × (now (memory .exit) ≡ kthMemory (transformsOf (puzzle h w (now (colours .entry)))
+        (marksIn (now (borders .entry))) u) k (now (memory .entry))) ⌝ }
+{
+    let units = groups_of(h, w, colours, borders, Kind::Units);
+    if units.count <= u {
+        return none(Outcome::Done, 0);
+    }
+    let first = wide(units.offs[u]);
+    let last = wide(units.offs[u + 1]);
+    let mut rows = [0u16; 1024];
+    let mut columns = [0u16; 1024];
+    let n = places(&units.cells, first, last, w, &mut rows, &mut columns);
+    let ids = units.ids;
+    let listed = list_rows(&ids, h, w, u, &rows, &columns, n);
+    put_listed(memory, &ids, h, w, u, &rows, &columns, n, listed, k)
+}
+
+// Transform `k` of unit `u` of a board, counted from 0, written from the start of the memory. Refused, and none, where
+// the board is alien or the memory has under 6,144 numbers. None where no unit has the number, or no transform.
+pub fn transform(b: Board, u: usize, k: usize, memory: &mut [i32]) -> Answer
+    ensures { λ r. ⌜ (r ≡ transformOf b u k (length (now (memory .entry))))
+        × (now (memory .exit) ≡ memoryAfter b u k (now (memory .entry))) ⌝ }
+{
+    if b.alien() {
+        return none(Outcome::Alien, 0);
+    }
+    if memory.len() < ROOM {
+        return none(Outcome::Short, 0);
+    }
+    let colours = b.colours;
+    let borders = b.borders;
+    put_transform(memory, b.height, b.width, &colours, &borders, u, k)
+}
