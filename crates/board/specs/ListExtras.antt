@@ -50,6 +50,13 @@ pub from-end : (a i n : ℕ) (f : ℕ → Bool) → n ≤ i → allFrom a i f �
 from-end a i n f h e = from-every a n f (λ j p q. from-at a i f j e p (omega arith))
 
 -- a loop that has tested the numbers below i with the result z, and goes on
+pub all-yes : (i : ℕ) (f : ℕ → Bool) (z : Bool) → z ≡ allBelow i f → f i ≡ true → z ≡ allBelow (i + 1) f
+unfolding allBelow
+all-yes i f z p q = p ∙ rw (add-one i, q, and-true (allBelow i f))
+
+pub all-stop : (i n : ℕ) (f : ℕ → Bool) (z : Bool) → z ≡ allBelow i f → i ≤ n → n ≤ i → z ≡ allBelow n f
+all-stop i n f z p h k = let e : i ≡ n = omega arith in rw e at p
+
 pub from-yes : (a i : ℕ) (f : ℕ → Bool) (z : Bool) → z ≡ allFrom a i f → f i ≡ true → z ≡ allFrom a (i + 1) f
 unfolding allFrom allBelow
 from-yes a i f z p q = p ∙ rw (add-one i, q, or-true (ltb i a), and-true (allFrom a i f))

@@ -28,19 +28,21 @@ pub fn size_right(h: usize, w: usize) -> bool
     w <= Board::SIDE_LIMIT
 }
 
-// Whether the first n colours are 0 or 1.
+// Whether the first n colours are 0 or 1. Here and below there is no exit at the first wrong place: the loop then takes
+// many at a time.
 pub fn colours_right(colours: &[u8], n: usize) -> bool
     requires { ⌜ n ≤ length (now colours) ⌝ }
     ensures { λ r. ⌜ r ≡ coloursRight (now (colours .entry)) n ⌝ }
 {
+    let mut right = true;
     let mut i: usize = 0;
     while i < n {
         if colours[i] > 1 {
-            return false;
+            right = false;
         }
         i += 1;
     }
-    true
+    right
 }
 
 // Whether k is a clue, or -1 for none.
@@ -55,15 +57,15 @@ pub fn clues_right(clues: &[i32], n: usize) -> bool
     requires { ⌜ n ≤ length (now clues) ⌝ }
     ensures { λ r. ⌜ r ≡ cluesRight (now (clues .entry)) n ⌝ }
 {
+    let mut right = true;
     let mut i: usize = 0;
     while i < n {
-        if clue_right(clues[i]) {
-            i += 1;
-        } else {
-            return false;
+        if !clue_right(clues[i]) {
+            right = false;
         }
+        i += 1;
     }
-    true
+    right
 }
 
 // A stack entry as an index.
@@ -121,18 +123,18 @@ pub fn borders_right<'a>(
     requires { ⌜ n ≤ 1984 ⌝ }
     ensures { λ r. ⌜ r ≡ bordersBy (now (borders .entry)) (now (seen .entry)) n ⌝ }
 {
+    let mut right = true;
     let mut i: usize = 0;
     while i < n {
-        if border_right(borders[i], seen[i]) {
-            i += 1;
-        } else {
-            return false;
+        if !border_right(borders[i], seen[i]) {
+            right = false;
         }
+        i += 1;
     }
-    true
+    right
 }
 
-// Whether the bytes from a place on are 0. No exit at the first that is not: the loop then takes many at a time.
+// Whether the bytes from a place on are 0.
 pub fn zeros_from(places: &[u8], from: usize) -> bool
     ensures { λ r. ⌜ r ≡ zerosFrom (now (places .entry)) from ⌝ }
 {

@@ -1,23 +1,27 @@
--- `borders_right` meets its contract. The loop's invariant: the borders before i are right.
-use mathlib.Core.Bool.{false, true}
-use mathlib.Core.Path.{_∙_, _≡_, sym}
-use Prim.Native.Nat.{_-_, _≤_}
+-- `borders_right` meets its contract. The loop's invariant: `right` says whether the borders before i are right.
+use mathlib.Core.Bool.{false}
+use mathlib.Core.Logic.{⊎-elim}
+use mathlib.Core.Path.{_≡_, sym, _∙_}
+use Prim.Native.Nat.{_+_, _-_, _≤_}
 use native.Mathlib.Omega.{arith}
 use borrow.Author.Needs.{needs}
+use borrow.Author.Tests.{not-true, not-false}
 use lib.ListN.{getD}
-use Rattle.lists.specs.Tests.{all-end, all-fails, all-more, all-none, allBelow}
+use Rattle.lists.specs.Tests.{all-fails, all-none, allBelow}
 use Rattle.board.specs.Alien.{borderRight, bordersBy}
+use Rattle.board.specs.ListExtras.{all-yes, all-stop}
 use Rattle.board.proofs.conditions.borders_right.Statement.{statement}
 use Rattle.board.proofs.conditions.borders_right.Tie as tie
 
 abbrev Inv-loop : tie.InvT-loop
-Inv-loop borders seen n i₀ i = (i ≤ n) × (allBelow i (λ x. borderRight (getD borders x 0) (getD seen x false)) ≡ true)
+Inv-loop borders seen n right₀ i₀ right i =
+    (i ≤ n) × (right ≡ allBelow i (λ x. borderRight (getD borders x 0) (getD seen x false)))
 
 abbrev μ-loop : tie.MeasureT-loop
-μ-loop borders seen n i₀ i = n - i
+μ-loop borders seen n right₀ i₀ right i = n - i
 
 loop-holds : tie.Need-loop-holds Inv-loop μ-loop
-loop-holds c = (search needs, all-none _)
+loop-holds c = (search needs, sym (all-none _))
 
 element-copy-out-border-right : tie.Need-element-copy-out-border-right Inv-loop μ-loop
 element-copy-out-border-right c = search needs
@@ -35,21 +39,22 @@ loop-less : tie.Need-loop-less Inv-loop μ-loop
 loop-less c = omega arith
 
 loop-again : tie.Need-loop-again Inv-loop μ-loop
-loop-again c = (
-  omega arith,
-  all-more _ _ (c .before .before .before .before .before .loop .inv .1)
-      (sym (c .before .border-right .ensures) ∙ c .if1 .taken),
-)
+loop-again c =
+    let r = c .before .before .before .before .before .loop in
+    let b = c .before .border-right in (
+      omega arith,
+      ⊎-elim
+          (λ w.
+          w .1
+          ∙ sym
+          (all-fails (r .i + 1) _ (r .i) (omega arith) (sym (b .ensures) ∙ not-true (b .result) (w .0 .taken))))
+          (λ w. w .1 ∙ all-yes (r .i) _ _ (r .inv .1) (sym (b .ensures) ∙ not-false (b .result) (w .0 .left)))
+          (c .if1 .came),
+    )
 
 returns : tie.Need-returns Inv-loop μ-loop
 unfolding bordersBy
-returns c =
-    let r = c .before .before .before .before .before .loop in
-    sym (all-fails _ _ (r .i) (omega arith) (sym (c .before .border-right .ensures) ∙ c .if1 .left))
-
-returns-2 : tie.Need-returns-2 Inv-loop μ-loop
-unfolding bordersBy
-returns-2 c = sym (all-end (c .before .loop .i) _ _ (omega arith) (omega arith) (c .before .loop .inv .1))
+returns c = let r = c .before .loop in all-stop (r .i) _ _ _ (r .inv .1) (omega arith) (omega arith)
 
 pub borders-right-spec : {M : Type 1} → statement M
 borders-right-spec =
@@ -64,5 +69,4 @@ borders-right-spec =
     add-i
     loop-less
     loop-again
-    returns
-    returns-2)
+    returns)

@@ -1,26 +1,28 @@
--- `clues_right` meets its contract. The loop's invariant: the clues before i are right.
-use mathlib.Core.Bool.{true}
-use mathlib.Core.Path.{_∙_, _≡_, sym}
-use Prim.Native.Nat.{_-_, _≤_}
+-- `clues_right` meets its contract. The loop's invariant: `right` says whether the clues before i are right.
+use mathlib.Core.Logic.{⊎-elim}
+use mathlib.Core.Path.{_≡_, sym, _∙_}
+use Prim.Native.Nat.{_+_, _-_, _≤_}
 use native.Mathlib.Omega.{arith}
 use borrow.Author.Needs.{needs, sfits-of}
+use borrow.Author.Tests.{not-true, not-false}
 use lib.IntN.{pos}
 use lib.ListN.{getD}
 use mir.Facts.{toZ-ofZ}
 use mir.Syntax.{w32}
-use Rattle.lists.specs.Tests.{all-end, all-fails, all-more, all-none, allBelow}
+use Rattle.lists.specs.Tests.{all-fails, all-none, allBelow}
 use Rattle.board.specs.Alien.{clueRight, cluesRight}
+use Rattle.board.specs.ListExtras.{all-yes, all-stop}
 use Rattle.board.proofs.conditions.clues_right.Statement.{statement}
 use Rattle.board.proofs.conditions.clues_right.Tie as tie
 
 abbrev Inv-loop : tie.InvT-loop
-Inv-loop clues n i₀ i = (i ≤ n) × (allBelow i (λ x. clueRight (getD clues x (pos 0))) ≡ true)
+Inv-loop clues n right₀ i₀ right i = (i ≤ n) × (right ≡ allBelow i (λ x. clueRight (getD clues x (pos 0))))
 
 abbrev μ-loop : tie.MeasureT-loop
-μ-loop clues n i₀ i = n - i
+μ-loop clues n right₀ i₀ right i = n - i
 
 loop-holds : tie.Need-loop-holds Inv-loop μ-loop
-loop-holds c = (search needs, all-none _)
+loop-holds c = (search needs, sym (all-none _))
 
 mul-clue-right : tie.Need-mul-clue-right Inv-loop μ-loop
 mul-clue-right c = omega arith
@@ -40,21 +42,26 @@ loop-less c = omega arith
 loop-again : tie.Need-loop-again Inv-loop μ-loop
 loop-again c =
     let c₁ = c .before .before .before .before in
-    let z = getD (c₁ .before .args .clues .now) (c₁ .loop .i) (pos 0) in
-    let e = toZ-ofZ {w = w32} {z = z} (sfits-of (c .before .before .clue-right-arg .given)) in
-    (omega arith, all-more _ _ (c₁ .loop .inv .1) (simp e at (sym (c .before .clue-right .ensures) ∙ c .if1 .taken)))
+    let r = c₁ .loop in
+    let k = c .before .clue-right in
+    let z = getD (c₁ .before .args .clues .now) (r .i) (pos 0) in
+    let e = toZ-ofZ {w = w32} {z = z} (sfits-of (c .before .before .clue-right-arg .given)) in (
+      omega arith,
+      ⊎-elim
+          (λ w.
+          w .1
+          ∙ sym
+          (all-fails (r .i + 1) _ (r .i) (omega arith)
+          (simp e at (sym (k .ensures) ∙ not-true (k .result) (w .0 .taken)))))
+          (λ w.
+          w .1
+          ∙ all-yes (r .i) _ _ (r .inv .1) (simp e at (sym (k .ensures) ∙ not-false (k .result) (w .0 .left))))
+          (c .if1 .came),
+    )
 
 returns : tie.Need-returns Inv-loop μ-loop
 unfolding cluesRight
-returns c =
-    let c₁ = c .before .before .before .before in
-    let z = getD (c₁ .before .args .clues .now) (c₁ .loop .i) (pos 0) in
-    let e = toZ-ofZ {w = w32} {z = z} (sfits-of (c .before .before .clue-right-arg .given)) in
-    sym (all-fails _ _ (c₁ .loop .i) (omega arith) (simp e at (sym (c .before .clue-right .ensures) ∙ c .if1 .left)))
-
-returns-2 : tie.Need-returns-2 Inv-loop μ-loop
-unfolding cluesRight
-returns-2 c = sym (all-end (c .before .loop .i) _ _ (omega arith) (omega arith) (c .before .loop .inv .1))
+returns c = let r = c .before .loop in all-stop (r .i) _ _ _ (r .inv .1) (omega arith) (omega arith)
 
 pub clues-right-spec : {M : Type 1} → statement M
 clues-right-spec =
@@ -69,5 +76,4 @@ clues-right-spec =
     add-i
     loop-less
     loop-again
-    returns
-    returns-2)
+    returns)
