@@ -3,7 +3,7 @@ use mathlib.Core.Path.{_≡_, refl, sym, ap, _∙_}
 use mathlib.Core.Bool.{Bool, true, false}
 use mathlib.Core.List.{List}
 use mathlib.Core.Option.{Option, some, none}
-use Prim.Native.Nat.{ℕ, _*_, _<_, _≤_}
+use Prim.Native.Nat.{ℕ, _-_, _*_, _<_, _≤_}
 use native.Mathlib.Decide.{decLt}
 use native.Mathlib.Omega.{arith}
 use lib.ListN.{length, getD}
@@ -11,17 +11,17 @@ use Rattle.rules.specs.Page.{Puzzle, Mark}
 use Rattle.rules.specs.Codes.{marksIn, put}
 use Rattle.rules.specs.Check.{Reason, hit, check, answerOf, undecidedCount}
 use Rattle.board.specs.declared.Board.{Board}
-use Rattle.board.specs.Alien.{isAlien}
+use Rattle.board.specs.Alien.{isAlien, bordersOf}
 use Rattle.board.specs.View.{puzzleOf, marksOf, undecidedOf}
 use Rattle.board.specs.View as view
-use Rattle.board.specs.NativeLaws.{Native, native-has}
-use Rattle.board.specs.ViewLaws.{undecided-rules}
+use Rattle.board.specs.ConditionLaws.{borders-of}
+use Rattle.board.specs.NativeLaws.{native-has}
+use Rattle.board.specs.ViewLaws.{undecided-rules, undecided-is}
 use Rattle.checker.specs.Bridges.{puzzleIn}
 use Rattle.search.specs.Placing.{Drawn}
 use Rattle.hits.specs.declared.Found.{Found}
 use Rattle.hits.specs.declared.Found.the-variants.{Nothing, Reason as Given}
-use Rattle.hits.specs.Found.{foundOf, writtenBy}
-use Rattle.hits.specs.HitLaws.{Answers}
+use Rattle.hits.specs.Found.{foundOf, writtenBy, Answers}
 use Rattle.calls.specs.declared.Answer.{Answer}
 use Rattle.calls.specs.declared.Answer.the-variants.{Pass, Conflict}
 use Rattle.calls.specs.Answers.{asAnswer, written, checkAnswer, checkMemory}
@@ -40,6 +40,15 @@ module _ (b : Board) (t : isAlien b ≡ false) where
               | no l ↦ omega (arith, n .noColour c (omega arith))
             ];
       }
+
+  -- the borders that are not on the stack are undecided
+  pub stack-few : {n : ℕ} → n ≡ bordersOf (b .height) (b .width) → b .count ≤ n
+  stack-few e = let N = native-has b t in omega (arith, e ∙ borders-of (N .size), N .few)
+
+  pub left-free : {n : ℕ} → n ≡ bordersOf (b .height) (b .width) → n - b .count ≡ undecidedOf b
+  left-free e =
+      let N = native-has b t in
+      ap (λ (k : ℕ). k - b .count) (e ∙ borders-of (N .size)) ∙ sym (undecided-is b N)
 
   abbrev hitOf : Option Reason
   hitOf = hit (puzzleIn (b .height) (b .width) (b .colours) (b .clues)) (marksIn (b .borders))

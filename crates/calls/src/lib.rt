@@ -46,7 +46,8 @@ fn step(r: Returned) -> Stepped
     }
 }
 
-// What a check answers; a reason's literals stand from the start of the memory.
+// What a check answers; a reason's literals stand from the start of the memory. On a board that is not alien the stack
+// has every decided border once, so the others are undecided.
 pub fn check(board: Board, memory: &mut [u16]) -> Answer
     ensures { λ r.
         ⌜ (r ≡ checkAnswer board (length (now (memory .entry))))
@@ -58,12 +59,18 @@ pub fn check(board: Board, memory: &mut [u16]) -> Answer
     if memory.len() < 16384 {
         return Answer::Refused(Outcome::Short);
     }
-    let colours = board.colours;
-    let clues = board.clues;
-    let borders = board.borders;
-    let found = hits::find(board.height, board.width, colours, clues, borders, memory);
+    let found = hits::find(
+        board.height,
+        board.width,
+        &board.colours,
+        &board.clues,
+        &board.borders,
+        memory,
+    );
     match found {
-        Found::Nothing => Answer::Pass(board.undecided()),
+        Found::Nothing => Answer::Pass(
+            board::border_count(board.height, board.width) - board.count,
+        ),
         Found::Reason(n) => Answer::Conflict(n),
     }
 }

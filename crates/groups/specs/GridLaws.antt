@@ -7,7 +7,7 @@ use native.Mathlib.Nat.{add-mul, zero-mul, add-zero}
 use native.Mathlib.Omega.{arith}
 use borrow.Author.Tests.{lt-ltb, le-ltb}
 use lib.Arith.{digits-lt, digits-div, digits-mod}
-use lib.ListN.{getD, set, replicate}
+use lib.ListN.{getD, set}
 use Rattle.rules.specs.Flat.{Sized, flat, flatFirst, flatSecond, cellAt, borderCount}
 use Rattle.rules.specs.FlatLaws.{counts}
 use Rattle.rules.specs.Groups.{entry, mergeIf}
@@ -16,7 +16,7 @@ use Rattle.groups.specs.Kinds.{joinsIn, joinsBy}
 use Rattle.groups.specs.KindLaws.{joins-at}
 use Rattle.groups.specs.Forests.{after, Forest, Rep, Begun, Linked}
 use Rattle.groups.specs.LabelLaws.{after-none, after-more}
-use Rattle.groups.specs.ForestLaws.{forest-zeros, forest-set, runs-none, runs-new, runs-joined, runs-all}
+use Rattle.groups.specs.ForestLaws.{forest-set, runs-none, runs-new, runs-joined, runs-all}
 
 -- the border right of cell (y, x)
 module _ (h w y x : ℕ) (hy : y < h) (hx : x + 1 < w) where
@@ -65,11 +65,11 @@ module _ (h w : ℕ) (link : ℕ → Bool) (sized : Sized h w) where
   few : h * w ≤ 1024
   few = counts sized .cells
 
-  pub begun-none : Begun h w link (0 * w) (0 * (w - 1)) (replicate 1024 0)
+  pub begun-none : (p : List ℕ) → Forest p → Begun h w link (0 * w) (0 * (w - 1)) p
   unfolding flat
-  begun-none =
+  begun-none p f =
       rw (zero-mul w, zero-mul (w - 1))
-      (record { forest = forest-zeros; runs = rw (after-none (flat h w) link) (runs-none (h * w) (replicate 1024 0)) })
+      (record { forest = f; runs = rw (after-none (flat h w) link) (runs-none (h * w) p) })
 
   module _ (y : ℕ) (hy : y < h) where
     pub begun-row : (p : List ℕ) → Begun h w link (y * w) (y * (w - 1)) p

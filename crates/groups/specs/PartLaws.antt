@@ -6,19 +6,20 @@ use Prim.Native.Nat.{ℕ, suc, _+_, _-_, _<_, _≤_}
 use native.Mathlib.Numerals.{add-one}
 use native.Mathlib.Omega.{arith}
 use native.Mathlib.Decide.{decLt}
-use borrow.Author.Tests.{lt-ltb}
-use lib.Dec.{eqb, eqb→eq, eqb-refl, ltb}
+use lib.Dec.{eqb, eqb→eq, eqb-refl}
 use lib.ListN.{length, getD, take, drop, length-drop}
 use lib.Seq.{drop-append-le, take-append-le, getD-take, getD-drop}
 use Rattle.lists.specs.Lists.{_∈_, flatMap, range}
 use Rattle.lists.specs.ListLaws.{filter-mem, filter-test, mem-filter, mem-range, range-lt, flat-find}
+use Rattle.lists.specs.Table.{length-table}
 use Rattle.lists.specs.Padded.{padded}
 use Rattle.rules.specs.Page.{Page}
 use Rattle.rules.specs.Groups.{entry, numbers, groupCount, members}
-use Rattle.groups.specs.Parts.{startOf, cellsOf, listed, partOf, groupsOf}
-use Rattle.groups.specs.ListExtras.{padded-at, padded-length, count-all, getD-mem}
+use Rattle.groups.specs.Parts.{startOf, startsOf, cellsOf, listed, partOf, groupsOf}
+use Rattle.groups.specs.Arrays.{Blank}
+use Rattle.groups.specs.ListExtras.{padded-at, padded-length, getD-mem}
 use Rattle.groups.specs.LabelLaws.{numbers-length, number-lt, groupCount-le}
-use Rattle.groups.specs.NumberLaws.{starts-at, starts-past, starts-length}
+use Rattle.groups.specs.NumberLaws.{starts-at, starts-past, starts-length, starts-end, blank-padded}
 use Rattle.groups.specs.SortLaws.{cells-length, cells-none, start-suc, start-up, start-le, listed-length}
 use Rattle.groups.specs.SortLaws.{listed-part}
 
@@ -108,9 +109,7 @@ module _ (G : Page) (link : ℕ → Bool) (some : 1 ≤ G .cells) (few : G .cell
 
   -- the last group ends with the last cell
   start-end : startOf (G .cells) number count ≡ G .cells
-  unfolding startOf
-  start-end = count-all (λ x. ltb (number x) count) (G .cells)
-      (λ x h. lt-ltb (number x) count (number-lt G link some x h))
+  start-end = starts-end (G .cells) number count (number-lt G link some)
 
   pub offs-end : getD (groupsOf G link .offs) count 0 ≡ G .cells
   offs-end = offs-at count (omega arith) ∙ start-end
@@ -179,3 +178,20 @@ module _ (G : Page) (link : ℕ → Bool) (some : 1 ≤ G .cells) (few : G .cell
       let k : i < e - a = omega (arith, offs-next g h) in
       sym (getD-drop a (groupsOf G link .cells) i 0) ∙ sym (getD-take (e - a) (drop a (groupsOf G link .cells)) i 0 k)
       ∙ ap (λ (m : List ℕ). getD m i 0) (part-members g)
+
+  -- arrays that hold the groups hold 0 past the page
+  pub filled-ids : Blank 1024 (G .cells) (groupsOf G link .ids)
+  unfolding groupsOf
+  filled-ids =
+      blank-padded 1024 (G .cells) (numbers G link) few (omega (arith, numbers-length G link some))
+
+  pub filled-cells : Blank 1024 (G .cells) (groupsOf G link .cells)
+  filled-cells =
+      rw cells-are
+      (blank-padded 1024 (G .cells) (listed (G .cells) number count) few (omega (arith, listed-all)))
+
+  pub filled-offs : Blank 1025 (G .cells + 1) (groupsOf G link .offs)
+  unfolding groupsOf startsOf
+  filled-offs =
+      blank-padded 1025 (G .cells + 1) (startsOf (G .cells) number count) (omega (arith, few))
+      (omega (arith, length-table (count + 1) (startOf (G .cells) number), groupCount-le G link))

@@ -3,16 +3,21 @@ use mathlib.Core.Path.{_≡_, sym, ap, _∙_}
 use mathlib.Core.Bool.{Bool, true, false}
 use mathlib.Core.List.{List}
 use mathlib.Core.Option.{Option, some, none}
-use Prim.Native.Nat.{ℕ}
+use Prim.Native.Nat.{ℕ, _+_, _*_, _≤_}
 use native.Mathlib.Omega.{arith}
 use lib.IntN.{ℤ}
 use lib.ListN.{length}
 use Rattle.lists.specs.Lists.{orElse}
 use Rattle.rules.specs.Flat.{Sized, flat}
+use Rattle.rules.specs.FlatLaws.{counts}
 use Rattle.rules.specs.Codes.{marksIn}
 use Rattle.rules.specs.Check.{Reason}
+use Rattle.reasons.specs.Arrays.{Arrays}
 use Rattle.reasons.specs.Memory.{Wrote}
 use Rattle.groups.specs.declared.Kind.the-variants.{Blocks, Potential}
+use Rattle.groups.specs.Parts.{groupsOf}
+use Rattle.groups.specs.Arrays.{Blank, Filled}
+use Rattle.groups.specs.PartLaws.{ids-length, filled-ids, filled-cells, filled-offs}
 use Rattle.checker.specs.declared.Faulty.{Faulty}
 use Rattle.checker.specs.declared.Breach.{Breach}
 use Rattle.checker.specs.Arrays.{Numbered}
@@ -22,16 +27,7 @@ use Rattle.checker.specs.Bridges.{puzzleIn, groupsIn}
 use Rattle.checker.specs.Steps.{faultyIn, breachIn, block-numbered, unit-numbered, one-hit, one-none, two-hit, two-none}
 use Rattle.hits.specs.declared.Found.{Found}
 use Rattle.hits.specs.declared.Found.the-variants.{Nothing, Reason as Given}
-use Rattle.hits.specs.Found.{foundOf, writtenBy, blocksHit, wallsHit}
-
--- what was found and written, as the code answers it
-pub record Answers (o : Option Reason) (m after : List ℕ) (r : Found) : Type 0 where
-  pub found : r ≡ foundOf o
-  pub memory : after ≡ writtenBy o m
-
-pub answers-of : {o : Option Reason} {m after : List ℕ} {r : Found} → r ≡ foundOf o → after ≡ writtenBy o m
-    → Answers o m after r
-answers-of e f = record { found = e; memory = f }
+use Rattle.hits.specs.Found.{foundOf, writtenBy, blocksHit, wallsHit, Answers}
 
 pub answers-none : {o : Option Reason} (m : List ℕ) → o ≡ none → Answers o m m Nothing
 unfolding foundOf writtenBy
@@ -54,6 +50,37 @@ pub answers-next : (a b : Option Reason) {m mid after : List ℕ} {r : Found} �
 unfolding foundOf writtenBy orElse
 answers-next none b t u = record { found = u .found; memory = u .memory ∙ ap (writtenBy b) (t .memory) }
 answers-next (some q) b t u = let z : _≡_ {A = ℕ} 0 1 = (let v = t .found in cc) in absurd (omega arith)
+
+-- nothing was found, as a match tells it
+pub answers-told : {o : Option Reason} {m after : List ℕ} {r : Found} → r ≡ Nothing → Answers o m after r
+    → Answers o m after Nothing
+answers-told e t = rw e at t
+
+-- arrays that hold the groups of a page: their lengths, and the zeros past the page
+module _ {h w : ℕ} (z : Sized h w) (link : ℕ → Bool) {ids cells offs : List ℕ}
+    (f : Filled (groupsOf (flat h w) link) ids cells offs) where
+  one : 1 ≤ flat h w .cells
+  unfolding flat
+  one = counts z .some
+
+  few : flat h w .cells ≤ 1024
+  unfolding flat
+  few = counts z .cells
+
+  pub arrays-of : {bs : List ℕ} → length bs ≡ 1984 → Arrays bs ids
+  arrays-of l = record { borders = l; numbers = rw (f .ids-are) (ids-length (flat h w) link one few) }
+
+  pub blank-ids : Blank 1024 (h * w) ids
+  unfolding flat
+  blank-ids = rw (f .ids-are) (filled-ids (flat h w) link one few)
+
+  pub blank-cells : Blank 1024 (h * w) cells
+  unfolding flat
+  blank-cells = rw (f .cells-are) (filled-cells (flat h w) link one few)
+
+  pub blank-offs : Blank 1025 (h * w + 1) offs
+  unfolding flat
+  blank-offs = rw (f .offs-are) (filled-offs (flat h w) link one few)
 
 -- step 1: r is what first_faulty found
 module _ {h w : ℕ} (z : Sized h w) (cs : List ℕ) (ks : List ℤ) (bs : List ℕ) (r : Faulty)

@@ -23,8 +23,7 @@ use Rattle.search.specs.Placing.{puzzle}
 use Rattle.units.specs.Stuck.{fitsUnit, firstFail, stuckHit, potentialIn}
 use Rattle.units.specs.ClueLaws.{stuck-clue}
 use Rattle.hits.specs.declared.Found.{Found}
-use Rattle.hits.specs.HitLaws.{Answers}
-use Rattle.hits.specs.Found.{blocksHit, wallsHit, earlyHit, unitsHit}
+use Rattle.hits.specs.Found.{blocksHit, wallsHit, earlyHit, unitsHit, Answers}
 
 images-eight : (h w : ℕ) (t : Shape) → length (flat h w .transforms t) ≤ 8
 unfolding flat

@@ -13,12 +13,9 @@ use Rattle.rules.specs.Groups.{entry, joinsPotential, unitCount, potentialOf}
 use Rattle.rules.specs.Shapes.{shapeOf}
 use Rattle.rules.specs.Check.{unitReason}
 use Rattle.reasons.specs.Memory.{Wrote}
-use Rattle.groups.specs.declared.Groups.{Groups}
-use Rattle.groups.specs.declared.Kind.the-variants.{Units}
+use Rattle.groups.specs.declared.Kind.the-variants.{Potential}
 use Rattle.groups.specs.Kinds.{joinsIn}
-use Rattle.groups.specs.Parts.{groupsOf}
 use Rattle.groups.specs.PartLaws.{ids-length}
-use Rattle.search.specs.declared.Adjacent.{Adjacent}
 use Rattle.search.specs.Placing.{puzzle}
 use Rattle.shapes.specs.declared.Listed.{Listed as RowList}
 use Rattle.shapes.specs.Listing.{listing}
@@ -26,7 +23,7 @@ use Rattle.shapes.specs.Rows.{rowsOf}
 use Rattle.shapes.specs.Spots.{UnitAt}
 use Rattle.shapes.specs.Joints.{Joined}
 use Rattle.units.specs.Fitting.{UnitIn}
-use Rattle.units.specs.Stuck.{Ready, potentialIn}
+use Rattle.units.specs.Stuck.{potentialIn}
 use Rattle.units.specs.ReadyLaws.{some, few, units-are, unit-few, potential-known, potential-grouped, unit-in}
 use Rattle.units.specs.ReadyLaws.{home-is, home-count, head-of, transforms-are}
 use Rattle.unitreason.specs.Writing.{Arranged, Imaged, Asked, clued}
@@ -41,53 +38,39 @@ module _ (h w : ℕ) (cs : List ℕ) (c : ℕ → Option ℕ) (s : ℕ → Mark)
   unfolding potentialIn joinsUnit joinsPotential oneColour
   potential-clue u = refl
 
-module _ {h w : ℕ} {cs bs : List ℕ} {units potential : Groups} {adjacent : Adjacent} {u : ℕ}
-    (q : Asked h w cs bs units potential adjacent u) where
+module _ {h w : ℕ} {cs bs ids cells offs pids pcells poffs list starts : List ℕ} {u : ℕ}
+    (q : Asked h w cs bs ids cells offs pids pcells poffs list starts u) where
   abbrev Z : Puzzle
   Z = puzzle h w cs
 
   abbrev s : ℕ → Mark
   s = marksIn bs
 
-  pub ready : Ready h w cs bs (units .ids) (units .cells) (units .offs) (potential .ids) (potential .cells)
-      (potential .offs) (adjacent .list) (adjacent .offs)
-  ready =
-      record {
-        drawn = q .drawn;
-        units-ids = ap (λ (g : Groups). g .ids) (q .all-units);
-        units-cells = ap (λ (g : Groups). g .cells) (q .all-units);
-        units-offs = ap (λ (g : Groups). g .offs) (q .all-units);
-        potential-ids = ap (λ (g : Groups). g .ids) (q .all-potential);
-        potential-cells = ap (λ (g : Groups). g .cells) (q .all-potential);
-        potential-offs = ap (λ (g : Groups). g .offs) (q .all-potential);
-        adjacent = rw (ap (λ (g : Groups). g .count) (q .all-potential)) at (q .mates);
-      }
-
-  pub low : u < groupsOf (flat h w) (joinsIn Units h w cs bs) .count
-  low = rw (ap (λ (g : Groups). g .count) (q .all-units)) at (q .one)
-
   pub unit-low : u < 1024
-  unit-low = omega (arith, low, unit-few ready)
+  unit-low = omega (arith, q .low, unit-few (q .ready))
 
   -- its part of the list of units
-  pub own-part : UnitIn h w (units .ids) u (units .cells) (getD (units .offs) u 0) (getD (units .offs) (u + 1) 0)
-  own-part = unit-in ready u low
+  pub own-part : UnitIn h w ids u cells (getD offs u 0) (getD offs (u + 1) 0)
+  own-part = unit-in (q .ready) u (q .low)
 
   abbrev pub home : ℕ
-  home = getD (potential .ids) (getD (units .cells) (getD (units .offs) u 0) 0) 0
+  home = getD pids (getD cells (getD offs u 0) 0) 0
 
-  ids-long : (g : Groups) (link : ℕ → _) → g ≡ groupsOf (flat h w) link → length (g .ids) ≡ 1024
-  ids-long g link e =
-      rw e (ids-length (flat h w) link (some (q .drawn .sized) link) (few (q .drawn .sized) link))
+  potential-long : length pids ≡ 1024
+  potential-long =
+      let z = q .ready .drawn .sized in
+      let link = joinsIn Potential h w cs bs in
+      rw (q .ready .potential-ids) (ids-length (flat h w) link (some z link) (few z link))
 
-  pub arranged : Arranged h w cs bs units potential adjacent u home
+  pub arranged : Arranged h w cs bs ids cells offs pids pcells poffs list starts u home
   unfolding entry
   arranged =
+      let g = potential-grouped (q .ready) in
       record {
-        drawn = q .drawn;
+        drawn = q .ready .drawn;
         colours = q .colours;
         borders = q .borders;
-        ids = (ids-long units _ (q .all-units), ids-long potential _ (q .all-potential));
+        lengths = (own-part .numbers, potential-long);
         unit =
             record {
               few = unit-low;
@@ -99,22 +82,21 @@ module _ {h w : ℕ} {cs bs : List ℕ} {units potential : Groups} {adjacent : A
                     group = own-part .group;
                   };
             };
-        number = λ c l. ap (λ (f : ℕ → ℕ). f c) (units-are ready);
-        known = potential-known ready;
-        grouped =
-            rw (ap (λ (g : Groups). g .count) (q .all-potential)) (potential-grouped ready);
-        mates = q .mates;
-        one = rw (ap (λ (g : Groups). g .count) (q .all-potential)) (home-count ready u low);
+        number = λ c l. ap (λ (f : ℕ → ℕ). f c) (units-are (q .ready));
+        known = potential-known (q .ready);
+        grouped = rw (g .all) at g;
+        mates = rw (g .all) at (q .ready .adjacent);
+        one = rw (g .all) at (home-count (q .ready) u (q .low));
       }
 
-  pub imaged : {R C D A : List ℕ} {n k : ℕ} {t : RowList} → UnitAt h w (units .ids) u R C n
-      → Joined h w (entry (units .ids)) u D A k → t ≡ listing (rowsOf (shapeOf (flat h w) (entry (units .ids)) u))
-      → Imaged h w cs bs (units .ids) R C n D A k t u
-  imaged a j e = record { cells = a; connections = j; rows = e; transforms = transforms-are ready u low }
+  pub imaged : {R C D A : List ℕ} {n k : ℕ} {t : RowList} → UnitAt h w ids u R C n
+      → Joined h w (entry ids) u D A k → t ≡ listing (rowsOf (shapeOf (flat h w) (entry ids) u))
+      → Imaged h w cs bs ids R C n D A k t u
+  imaged a j e = record { cells = a; connections = j; rows = e; transforms = transforms-are (q .ready) u (q .low) }
 
   pub home-in : home ≡ potentialIn Z s u
   unfolding potentialIn
-  home-in = home-is ready u low ∙ ap (potentialOf Z s) (head-of ready u low)
+  home-in = home-is (q .ready) u (q .low) ∙ ap (potentialOf Z s) (head-of (q .ready) u (q .low))
 
   pub room-home : {p : ℕ} (m : ℕ) → p ≡ home → length (unitReason Z s u (potentialIn Z s u)) ≤ m
       → length (unitReason Z s u p) ≤ m

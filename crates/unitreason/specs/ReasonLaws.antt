@@ -1,6 +1,6 @@
 -- What the arrays give is the reason of the unit: its blockers, its Inside, and the walls of its potential unit.
 --
---   matesIn, cellsIn     the mates and the cells of a potential unit, from the arrays
+--   partAt list starts p   the mates or the cells of the potential unit p, from the arrays
 use mathlib.Core.Path.{_≡_, refl, sym, ap, _∙_}
 use mathlib.Core.List.{List, _++_, map}
 use mathlib.Core.Option.{Option, none}
@@ -22,8 +22,6 @@ use Rattle.reasons.specs.ListExtras.{flat-same, flat-up, up-same}
 use Rattle.reasons.specs.Memory.{Wrote}
 use Rattle.reasons.specs.MemoryLaws.{wrote-more}
 use Rattle.reasons.specs.NumberLaws.{members-same, inside-same, edge-same}
-use Rattle.groups.specs.declared.Groups.{Groups}
-use Rattle.search.specs.declared.Adjacent.{Adjacent}
 use Rattle.search.specs.Placing.{puzzle, bare}
 use Rattle.search.specs.GatherLaws.{listed-part}
 use Rattle.search.specs.Searching.{Beside, blockOf, blocksAmong, blocksBeside}
@@ -41,47 +39,43 @@ use Rattle.unitreason.specs.ListExtras.{mem-part, flat-all, flat-map, fl
 use Rattle.unitreason.specs.ListExtras.{room-first, room-second, room-third}
 use Rattle.unitreason.specs.ClueLaws.{reason-clue}
 
--- the part p of the mates, and the cells of p
-abbrev pub matesIn : Adjacent → ℕ → List ℕ
-matesIn a p = part (a .list) (getD (a .offs) p 0) (getD (a .offs) (p + 1) 0)
+abbrev pub partAt : List ℕ → List ℕ → ℕ → List ℕ
+partAt list starts p = part list (getD starts p 0) (getD starts (p + 1) 0)
 
-abbrev pub cellsIn : Groups → ℕ → List ℕ
-cellsIn g p = part (g .cells) (getD (g .offs) p 0) (getD (g .offs) (p + 1) 0)
-
-module _ {h w : ℕ} {cs bs : List ℕ} {units potential : Groups} {adjacent : Adjacent} {u p : ℕ}
-    (a : Arranged h w cs bs units potential adjacent u p) where
+module _ {h w : ℕ} {cs bs ids cells offs pids pcells poffs list starts : List ℕ} {u p : ℕ}
+    (a : Arranged h w cs bs ids cells offs pids pcells poffs list starts u p) where
   abbrev Z : Puzzle
   Z = puzzle h w cs
 
   abbrev s : ℕ → Mark
   s = marksIn bs
 
-  number-same : (x : ℕ) → x < h * w → entry (potential .ids) x ≡ potentialOf Z s x
+  number-same : (x : ℕ) → x < h * w → entry pids x ≡ potentialOf Z s x
   unfolding entry
   number-same x l = a .known .number x l
 
-  unit-same : (x : ℕ) → x < h * w → entry (units .ids) x ≡ unitOf Z s x
+  unit-same : (x : ℕ) → x < h * w → entry ids x ≡ unitOf Z s x
   unfolding entry
   unit-same x l = a .number x l
 
-  edge-is : (q : ℕ) → edgeIn h w cs bs (potential .ids) q ≡ edgeOf Z s q
+  edge-is : (q : ℕ) → edgeIn h w cs bs pids q ≡ edgeOf Z s q
   unfolding edgeIn edgeOf
-  edge-is q = edge-same (a .drawn .sized) (entry (potential .ids)) (potentialOf Z s) number-same q (coloursIn cs) s
+  edge-is q = edge-same (a .drawn .sized) (entry pids) (potentialOf Z s) number-same q (coloursIn cs) s
 
-  inside-is : insideIn h w bs (units .ids) u ≡ insideUnit Z s u
+  inside-is : insideIn h w bs ids u ≡ insideUnit Z s u
   unfolding insideIn insideUnit
-  inside-is = inside-same (a .drawn .sized) (entry (units .ids)) (unitOf Z s) unit-same u s
+  inside-is = inside-same (a .drawn .sized) (entry ids) (unitOf Z s) unit-same u s
 
-  mates-are : matesIn adjacent p ≡ mates Z s p
+  mates-are : partAt list starts p ≡ mates Z s p
   mates-are = listed-part (a .mates) p (a .one)
 
-  cells-are : cellsIn potential p ≡ members (flat h w) (potentialOf Z s) p
+  cells-are : partAt pcells poffs p ≡ members (flat h w) (potentialOf Z s) p
   cells-are = a .grouped .group p (a .one)
 
-  pub count-few : potential .count ≤ 1024
-  count-few = rw (a .grouped .all) (a .known .few)
+  pub count-few : potentialCount Z s ≤ 1024
+  count-few = a .known .few
 
-  numbered : (q : ℕ) → q < potential .count → Numbered h w (potential .ids) (potential .cells) (potential .offs) q
+  numbered : (q : ℕ) → q < potentialCount Z s → Numbered h w pids pcells poffs q
   numbered q l =
       let e = a .grouped .each q l in
       record {
@@ -93,77 +87,77 @@ module _ {h w : ℕ} {cs bs : List ℕ} {units potential : Groups} {adjacent : A
               end = e .end;
               group =
                   a .grouped .group q l
-                  ∙ sym (members-same (a .drawn .sized) (entry (potential .ids)) (potentialOf Z s) number-same q);
+                  ∙ sym (members-same (a .drawn .sized) (entry pids) (potentialOf Z s) number-same q);
             };
       }
 
-  pub own : Numbered h w (potential .ids) (potential .cells) (potential .offs) p
+  pub own : Numbered h w pids pcells poffs p
   own = numbered p (a .one)
 
-  pub own-cells : Cells h w (potential .cells) (getD (potential .offs) p 0) (getD (potential .offs) (p + 1) 0)
+  pub own-cells : Cells h w pcells (getD poffs p 0) (getD poffs (p + 1) 0)
   own-cells = a .grouped .each p (a .one)
 
-  pub beside : Beside h w (potential .cells) (potential .offs) (adjacent .list) (getD (adjacent .offs) p 0)
-      (getD (adjacent .offs) (p + 1) 0)
+  pub beside : Beside h w pcells poffs list (getD starts p 0)
+      (getD starts (p + 1) 0)
   beside = beside-of (a .grouped) (a .known) (a .mates) p (a .one)
 
-  low-at : (i : ℕ) → getD (adjacent .offs) p 0 ≤ i → i < getD (adjacent .offs) (p + 1) 0
-      → getD (adjacent .list) i 0 < potential .count
+  low-at : (i : ℕ) → getD starts p 0 ≤ i → i < getD starts (p + 1) 0
+      → getD list i 0 < potentialCount Z s
   low-at i x y =
-      mates-low (a .grouped) p (getD (adjacent .list) i 0)
+      mates-low (a .grouped) p (getD list i 0)
       (rw mates-are at
-      (mem-part (adjacent .list) (getD (adjacent .offs) p 0) i (getD (adjacent .offs) (p + 1) 0) x y
+      (mem-part list (getD starts p 0) i (getD starts (p + 1) 0) x y
       (omega (arith, beside .end, beside .long))))
 
-  pub mated : Mated h w (potential .ids) (potential .cells) (potential .offs) (adjacent .list)
-      (getD (adjacent .offs) p 0) (getD (adjacent .offs) (p + 1) 0)
+  pub mated : Mated h w pids pcells poffs list
+      (getD starts p 0) (getD starts (p + 1) 0)
   mated =
       record {
         low = record { long = beside .long; order = beside .order; end = beside .end; each = beside .low };
-        each = λ i x y. numbered (getD (adjacent .list) i 0) (low-at i x y);
+        each = λ i x y. numbered (getD list i 0) (low-at i x y);
       }
 
   -- the marks of the mates
   mark : (x : ℕ) → x < h * w
-      → isMarked (flagsOf (mates Z s p)) (entry (potential .ids) x) ≡ isAdjacent Z s p (entry (potential .ids) x)
+      → isMarked (flagsOf (mates Z s p)) (entry pids x) ≡ isAdjacent Z s p (entry pids x)
   unfolding mates entry
   mark x l =
-      marked-is (isAdjacent Z s p) (potentialCount Z s) (getD (potential .ids) x 0) (a .known .few)
+      marked-is (isAdjacent Z s p) (potentialCount Z s) (getD pids x 0) (a .known .few)
       (a .known .below x l)
 
-  far-is : farIn h w cs bs (potential .ids) (matesIn adjacent p) (cellsIn potential p) ≡ farWalls Z s p
+  far-is : farIn h w cs bs pids (partAt list starts p) (partAt pcells poffs p) ≡ farWalls Z s p
   unfolding farIn
   far-is =
       rw (mates-are, cells-are)
-      (sym (far-walls (a .drawn .sized) cs bs (potential .ids) (λ c. none) p (flagsOf (mates Z s p)) number-same mark))
+      (sym (far-walls (a .drawn .sized) cs bs pids (λ c. none) p (flagsOf (mates Z s p)) number-same mark))
 
-  edges-are : edgesIn h w cs bs (potential .ids) (matesIn adjacent p) ≡ flatMap (edgeOf Z s) (mates Z s p)
+  edges-are : edgesIn h w cs bs pids (partAt list starts p) ≡ flatMap (edgeOf Z s) (mates Z s p)
   unfolding edgesIn
   edges-are =
-      flat-same (edgeIn h w cs bs (potential .ids)) (edgeOf Z s) (matesIn adjacent p) (λ q m. edge-is q)
+      flat-same (edgeIn h w cs bs pids) (edgeOf Z s) (partAt list starts p) (λ q m. edge-is q)
       ∙ ap (flatMap (edgeOf Z s)) mates-are
 
-  walls-are : wallsIn h w cs bs (potential .ids) p (matesIn adjacent p) (cellsIn potential p)
+  walls-are : wallsIn h w cs bs pids p (partAt list starts p) (partAt pcells poffs p)
       ≡ edgeOf Z s p ++ (flatMap (edgeOf Z s) (mates Z s p) ++ farWalls Z s p)
   unfolding wallsIn
   walls-are = rw (edge-is p, edges-are, far-is)
 
-  module _ {R C D A : List ℕ} {n k : ℕ} {t : RowList} (b : Imaged h w cs bs (units .ids) R C n D A k t u) where
+  module _ {R C D A : List ℕ} {n k : ℕ} {t : RowList} (b : Imaged h w cs bs ids R C n D A k t u) where
     abbrev shape : Shape
-    shape = shapeOf (flat h w) (entry (units .ids)) u
+    shape = shapeOf (flat h w) (entry ids) u
 
     -- a placement looks at the connections only
     abbrev blocksOf : List Point → List Literal
-    blocksOf js = blocksBeside Z s (bare js) (potential .cells) (potential .offs) (matesIn adjacent p)
+    blocksOf js = blocksBeside Z s (bare js) pcells poffs (partAt list starts p)
 
     abbrev blocksRow : ℕ → List Literal
-    blocksRow r = blocksBy Z s (potential .cells) (potential .offs) (matesIn adjacent p) (spots R C n) (spots D A k) r
+    blocksRow r = blocksBy Z s pcells poffs (partAt list starts p) (spots R C n) (spots D A k) r
 
     abbrev joints : Shape → List Point
     joints x = x .connections
 
     by-joints : (x : Shape)
-        → blocksBeside Z s x (potential .cells) (potential .offs) (matesIn adjacent p) ≡ blocksOf (joints x)
+        → blocksBeside Z s x pcells poffs (partAt list starts p) ≡ blocksOf (joints x)
     unfolding blocksBeside blocksAmong blockOf laid
     by-joints x = refl
 
@@ -173,7 +167,7 @@ module _ {h w : ℕ} {cs bs : List ℕ} {units potential : Groups} {adjacent : A
         ≡ blocksOf (joints x)
     one-shape x =
         placed-blocks (a .grouped) x (mates Z s p) (mates-low (a .grouped) p)
-        ∙ ap (blocksBeside Z s x (potential .cells) (potential .offs)) (sym mates-are)
+        ∙ ap (blocksBeside Z s x pcells poffs) (sym mates-are)
         ∙ by-joints x
 
     row-is : (r : ℕ) → blocksOf (image r shape .connections) ≡ blocksRow r
@@ -182,7 +176,7 @@ module _ {h w : ℕ} {cs bs : List ℕ} {units potential : Groups} {adjacent : A
 
     -- the listed rows, as the code reads them
     rows-are : flatMap blocksRow (rowsOf shape)
-        ≡ blocksListed Z s (potential .cells) (potential .offs) (matesIn adjacent p) (spots R C n) (spots D A k)
+        ≡ blocksListed Z s pcells poffs (partAt list starts p) (spots R C n) (spots D A k)
         (listing (rowsOf shape))
     unfolding blocksListed
     rows-are =
@@ -191,7 +185,7 @@ module _ {h w : ℕ} {cs bs : List ℕ} {units potential : Groups} {adjacent : A
         (λ i h. ap blocksRow (sym (List·getD-append (rowsOf shape) _ 0 i h)))
 
     blocks-are : flatMap (blockers Z s) (placements Z s u p)
-        ≡ blocksListed Z s (potential .cells) (potential .offs) (matesIn adjacent p) (spots R C n) (spots D A k) t
+        ≡ blocksListed Z s pcells poffs (partAt list starts p) (spots R C n) (spots D A k) t
     unfolding placements
     blocks-are =
         flat-flat (blockers Z s)
@@ -199,21 +193,21 @@ module _ {h w : ℕ} {cs bs : List ℕ} {units potential : Groups} {adjacent : A
         (transformsOf Z s u)
         ∙ flat-all _ (λ x. blocksOf (joints x)) (transformsOf Z s u) one-shape
         ∙ ap (flatMap (λ (x : Shape). blocksOf (joints x)))
-        (b .transforms ∙ transforms-flat h w (entry (units .ids)) u (b .cells .sized .columns))
+        (b .transforms ∙ transforms-flat h w (entry ids) u (b .cells .sized .columns))
         ∙ flat-map (λ x. blocksOf (joints x)) (λ r. image r shape) (rowsOf shape)
         ∙ flat-all _ blocksRow (rowsOf shape) row-is
         ∙ rows-are
-        ∙ ap (blocksListed Z s (potential .cells) (potential .offs) (matesIn adjacent p) (spots R C n) (spots D A k))
+        ∙ ap (blocksListed Z s pcells poffs (partAt list starts p) (spots R C n) (spots D A k))
         (sym (b .rows))
 
     abbrev inner : List Literal
-    inner = insideIn h w bs (units .ids) u
+    inner = insideIn h w bs ids u
 
     abbrev walls : List Literal
-    walls = wallsIn h w cs bs (potential .ids) p (matesIn adjacent p) (cellsIn potential p)
+    walls = wallsIn h w cs bs pids p (partAt list starts p) (partAt pcells poffs p)
 
     abbrev blocked : List Literal
-    blocked = blocksListed Z s (potential .cells) (potential .offs) (matesIn adjacent p) (spots R C n) (spots D A k) t
+    blocked = blocksListed Z s pcells poffs (partAt list starts p) (spots R C n) (spots D A k) t
 
     reason-is : unitReason Z s u p ≡ blocked ++ (inner ++ walls)
     unfolding unitReason

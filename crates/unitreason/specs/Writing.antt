@@ -25,16 +25,14 @@ use Rattle.rules.specs.declared.Literal.{Literal}
 use Rattle.rules.specs.Page.{Puzzle, Point, Mark}
 use Rattle.rules.specs.Flat.{flat}
 use Rattle.rules.specs.Codes.{marksIn, coloursIn}
-use Rattle.rules.specs.Groups.{entry, unitOf}
+use Rattle.rules.specs.Groups.{entry, unitOf, potentialCount}
 use Rattle.rules.specs.Shapes.{shapeOf, flatTransforms}
 use Rattle.rules.specs.Check.{mates, transformsOf}
 use Rattle.reasons.specs.Arrays.{Part, part, edgeIn, scanOf}
 use Rattle.reasons.specs.ListExtras.{upTo}
-use Rattle.groups.specs.declared.Groups.{Groups}
-use Rattle.groups.specs.declared.Kind.the-variants.{Units, Potential}
+use Rattle.groups.specs.declared.Kind.the-variants.{Units}
 use Rattle.groups.specs.Kinds.{joinsIn}
 use Rattle.groups.specs.Parts.{groupsOf}
-use Rattle.search.specs.declared.Adjacent.{Adjacent}
 use Rattle.search.specs.Placing.{Drawn, puzzle, bare}
 use Rattle.search.specs.Mates.{Known, Grouped, Listed}
 use Rattle.search.specs.Searching.{blocksBeside}
@@ -44,6 +42,7 @@ use Rattle.shapes.specs.Rows.{rowsOf}
 use Rattle.shapes.specs.Spots.{UnitAt}
 use Rattle.shapes.specs.Joints.{Joined}
 use Rattle.units.specs.Images.{imageJoints}
+use Rattle.units.specs.Stuck.{Ready}
 
 pub record Numbered (h w : ℕ) (ids cells offs : List ℕ) (g : ℕ) : Type 0 where
   pub few : g < 1024
@@ -83,19 +82,19 @@ module _ (h w : ℕ) (cs bs ids : List ℕ) where
 abbrev pub clued : ℕ → ℕ → List ℕ → (ℕ → Option ℕ) → Puzzle
 clued h w cs k = record { page = flat h w; colour = coloursIn cs; clue = k }
 
-pub record Arranged (h w : ℕ) (cs bs : List ℕ) (units potential : Groups) (adjacent : Adjacent) (u p : ℕ) : Type 0 where
+pub record Arranged (h w : ℕ) (cs bs ids cells offs pids pcells poffs list starts : List ℕ) (u p : ℕ) : Type 0 where
   pub drawn : Drawn h w cs
   pub colours : length cs ≡ 1024
   pub borders : length bs ≡ 1984
-  pub ids : (length (units .ids) ≡ 1024) × (length (potential .ids) ≡ 1024)
+  pub lengths : (length ids ≡ 1024) × (length pids ≡ 1024)
   -- the unit U
-  pub unit : Numbered h w (units .ids) (units .cells) (units .offs) u
-  pub number : (c : ℕ) → c < h * w → getD (units .ids) c 0 ≡ unitOf (puzzle h w cs) (marksIn bs) c
+  pub unit : Numbered h w ids cells offs u
+  pub number : (c : ℕ) → c < h * w → getD ids c 0 ≡ unitOf (puzzle h w cs) (marksIn bs) c
   -- the potential units, among them P
-  pub known : Known h w cs bs (potential .ids)
-  pub grouped : Grouped h w cs bs (potential .cells) (potential .offs) (potential .count)
-  pub mates : Listed (mates (puzzle h w cs) (marksIn bs)) (adjacent .list) (adjacent .offs) (potential .count)
-  pub one : p < potential .count
+  pub known : Known h w cs bs pids
+  pub grouped : Grouped h w cs bs pcells poffs (potentialCount (puzzle h w cs) (marksIn bs))
+  pub mates : Listed (mates (puzzle h w cs) (marksIn bs)) list starts (potentialCount (puzzle h w cs) (marksIn bs))
+  pub one : p < potentialCount (puzzle h w cs) (marksIn bs)
 
 module _ (Z : Puzzle) (s : ℕ → Mark) (cells offs mates : List ℕ) where
   -- places, connections, row
@@ -111,11 +110,8 @@ pub record Imaged (h w : ℕ) (cs bs ids R C : List ℕ) (n : ℕ) (D A : List �
   pub rows : l ≡ listing (rowsOf (shapeOf (flat h w) (entry ids) u))
   pub transforms : transformsOf (puzzle h w cs) (marksIn bs) u ≡ flatTransforms (shapeOf (flat h w) (entry ids) u)
 
-pub record Asked (h w : ℕ) (cs bs : List ℕ) (units potential : Groups) (adjacent : Adjacent) (u : ℕ) : Type 0 where
-  pub drawn : Drawn h w cs
+pub record Asked (h w : ℕ) (cs bs ids cells offs pids pcells poffs list starts : List ℕ) (u : ℕ) : Type 0 where
+  pub ready : Ready h w cs bs ids cells offs pids pcells poffs list starts
   pub colours : length cs ≡ 1024
   pub borders : length bs ≡ 1984
-  pub all-units : units ≡ groupsOf (flat h w) (joinsIn Units h w cs bs)
-  pub all-potential : potential ≡ groupsOf (flat h w) (joinsIn Potential h w cs bs)
-  pub mates : Listed (mates (puzzle h w cs) (marksIn bs)) (adjacent .list) (adjacent .offs) (potential .count)
-  pub one : u < units .count
+  pub low : u < groupsOf (flat h w) (joinsIn Units h w cs bs) .count

@@ -12,16 +12,14 @@ ghost use Rattle.search.specs.Placing.{Drawn, puzzle};
 ghost use Rattle.search.specs.Searching.{Beside};
 ghost use Rattle.shapes.specs.Spots.{Spotted, spots};
 ghost use Rattle.units.specs.Images.{Jointed};
-ghost use Rattle.units.specs.Fitting.{Rows};
+ghost use Rattle.units.specs.Fitting.{Lent, Rows};
 ghost use Rattle.units.specs.Stuck.{potentialIn};
 ghost use Rattle.unitreason.specs.Writing.{Numbered, Low, Mated, flagsOf, edgesIn, farIn, wallsIn};
 ghost use Rattle.unitreason.specs.Writing.{Arranged, Imaged, Asked, blocksListed, clued};
-use groups::Groups;
 use reasons::edge;
 use reasons::inside;
 use reasons::scan;
 use rules::Side;
-use search::Adjacent;
 use search::block_mates;
 use shapes::Listed;
 use shapes::joints;
@@ -279,7 +277,8 @@ fn block_rows<'a>(
 }
 
 // Writes the reason of the unit u in the potential unit p from the start of the memory: the blockers of its placements,
-// its Inside, and the walls of p. Gives the number of literals. The unit's n cells stand in `rows` and `columns`, its k
+// its Inside, and the walls of p. Gives the number of literals. The arrays are those of the units, of the potential
+// units, and of the potential units adjacent to each. The unit's n cells stand in `rows` and `columns`, its k
 // connections in `down` and `across`; `listed` has the rows of its transforms.
 pub fn write_unit<'a>(
     memory: &mut [u16],
@@ -287,9 +286,14 @@ pub fn write_unit<'a>(
     w: usize,
     colours: &'a [u8; 1024],
     borders: &'a [u8; 1984],
-    units: Groups,
-    potential: Groups,
-    adjacent: Adjacent,
+    ids: &'a [u16; 1024],
+    units: &'a [u16; 1024],
+    unit_offs: &'a [u16; 1025],
+    potential: &'a [u16; 1024],
+    cells: &'a [u16; 1024],
+    offs: &'a [u16; 1025],
+    mates: &'a [u16; 4096],
+    starts: &'a [u16; 1025],
     listed: Listed,
     rows: &'a [u16; 1024],
     columns: &'a [u16; 1024],
@@ -297,21 +301,23 @@ pub fn write_unit<'a>(
     down: &'a [u16; 2048],
     across: &'a [u16; 2048],
     k: usize,
+    ys: &mut [u8; 2048],
+    xs: &mut [u8; 2048],
     u: usize,
     p: usize,
 ) -> usize
-    requires { ⌜ Arranged h w (now colours) (now borders) units potential adjacent u p
-        × Imaged h w (now colours) (now borders) (units .ids) (now rows) (now columns) n (now down) (now across) k
+    requires { ⌜ Arranged h w (now colours) (now borders) (now ids) (now units) (now «unit_offs») (now potential)
+        (now cells) (now offs) (now mates) (now starts) u p
+        × Imaged h w (now colours) (now borders) (now ids) (now rows) (now columns) n (now down) (now across) k
         listed u
+        × (length (now ys) ≡ 2048) × (length (now xs) ≡ 2048)
         × (length (unitReason (puzzle h w (now colours)) (marksIn (now borders)) u p) ≤ length (now memory)) ⌝ }
     ensures { λ r. ⌜ ((c : ℕ → Option ℕ) → Wrote (now (memory .entry)) 0
         (unitReason (clued h w (now (colours .entry)) c) (marksIn (now (borders .entry))) u p)
         (now (memory .exit)) r) ⌝ }
 {
-    let from = wide(adjacent.offs[p]);
-    let to = wide(adjacent.offs[p + 1]);
-    let mut ys = [0u8; 2048];
-    let mut xs = [0u8; 2048];
+    let from = wide(starts[p]);
+    let to = wide(starts[p + 1]);
     let blocked = block_rows(
         memory,
         0,
@@ -326,28 +332,17 @@ pub fn write_unit<'a>(
         down,
         across,
         k,
-        &mut ys,
-        &mut xs,
-        &potential.cells,
-        &potential.offs,
-        &adjacent.list,
+        ys,
+        xs,
+        cells,
+        offs,
+        mates,
         from,
         to,
     );
-    let first = wide(units.offs[u]);
-    let last = wide(units.offs[u + 1]);
-    let inner = inside(
-        memory,
-        blocked,
-        h,
-        w,
-        borders,
-        &units.ids,
-        &units.cells,
-        first,
-        last,
-        u,
-    );
+    let first = wide(unit_offs[u]);
+    let last = wide(unit_offs[u + 1]);
+    let inner = inside(memory, blocked, h, w, borders, ids, units, first, last, u);
     walls_of(
         memory,
         inner,
@@ -355,10 +350,10 @@ pub fn write_unit<'a>(
         w,
         colours,
         borders,
-        &potential.ids,
-        &potential.cells,
-        &potential.offs,
-        &adjacent.list,
+        potential,
+        cells,
+        offs,
+        mates,
         from,
         to,
         p,
@@ -366,19 +361,33 @@ pub fn write_unit<'a>(
 }
 
 // Writes the reason of the unit u in its potential unit from the start of the memory; gives the number of literals. The
-// units, the potential units and the potential units adjacent to each are those of the page.
+// arrays are those of the units, of the potential units, and of the potential units adjacent to each; the rest is lent
+// memory.
 pub fn write_stuck<'a>(
     memory: &mut [u16],
     h: usize,
     w: usize,
     colours: &'a [u8; 1024],
     borders: &'a [u8; 1984],
-    units: Groups,
-    potential: Groups,
-    adjacent: Adjacent,
+    ids: &'a [u16; 1024],
+    units: &'a [u16; 1024],
+    unit_offs: &'a [u16; 1025],
+    potential: &'a [u16; 1024],
+    cells: &'a [u16; 1024],
+    offs: &'a [u16; 1025],
+    mates: &'a [u16; 4096],
+    starts: &'a [u16; 1025],
     u: usize,
+    rows: &mut [u16; 1024],
+    columns: &mut [u16; 1024],
+    down: &mut [u16; 2048],
+    across: &mut [u16; 2048],
+    ys: &mut [u8; 2048],
+    xs: &mut [u8; 2048],
 ) -> usize
-    requires { ⌜ Asked h w (now colours) (now borders) units potential adjacent u
+    requires { ⌜ Asked h w (now colours) (now borders) (now ids) (now units) (now «unit_offs») (now potential)
+        (now cells) (now offs) (now mates) (now starts) u
+        × Lent (now rows) (now columns) (now down) (now across) (now ys) (now xs)
         × (length (unitReason (puzzle h w (now colours)) (marksIn (now borders)) u
         (potentialIn (puzzle h w (now colours)) (marksIn (now borders)) u)) ≤ length (now memory)) ⌝ }
     ensures { λ r. ⌜ ((c : ℕ → Option ℕ) → Wrote (now (memory .entry)) 0
@@ -386,43 +395,36 @@ pub fn write_stuck<'a>(
         (potentialIn (clued h w (now (colours .entry)) c) (marksIn (now (borders .entry))) u))
         (now (memory .exit)) r) ⌝ }
 {
-    let first = wide(units.offs[u]);
-    let last = wide(units.offs[u + 1]);
-    let c = wide(units.cells[first]);
-    let p = wide(potential.ids[c]);
-    let mut rows = [0u16; 1024];
-    let mut columns = [0u16; 1024];
-    let n = places(&units.cells, first, last, w, &mut rows, &mut columns);
-    let mut down = [0u16; 2048];
-    let mut across = [0u16; 2048];
-    let k = joints(
-        &units.ids,
-        h,
-        w,
-        u,
-        &rows,
-        &columns,
-        n,
-        &mut down,
-        &mut across,
-    );
-    let listed = list_rows(&units.ids, h, w, u, &rows, &columns, n);
+    let first = wide(unit_offs[u]);
+    let last = wide(unit_offs[u + 1]);
+    let c = wide(units[first]);
+    let p = wide(potential[c]);
+    let n = places(units, first, last, w, rows, columns);
+    let k = joints(ids, h, w, u, rows, columns, n, down, across);
+    let listed = list_rows(ids, h, w, u, rows, columns, n);
     write_unit(
         memory,
         h,
         w,
         colours,
         borders,
+        ids,
         units,
+        unit_offs,
         potential,
-        adjacent,
+        cells,
+        offs,
+        mates,
+        starts,
         listed,
-        &rows,
-        &columns,
+        rows,
+        columns,
         n,
-        &down,
-        &across,
+        down,
+        across,
         k,
+        ys,
+        xs,
         u,
         p,
     )

@@ -1,11 +1,16 @@
 -- `check` meets its contract: the two refusals, and what the search for a hit finds.
-use mathlib.Core.Path.{sym, ap, _∙_}
+use mathlib.Core.Path.{_≡_, sym, ap, _∙_}
+use mathlib.Core.Bool.{false}
+use Rattle.board.specs.Alien.{isAlien}
 use Rattle.calls.specs.declared.Answer.the-variants.{Pass}
 use Rattle.calls.specs.AnswerLaws.{check-alien, check-short, memory-alien, memory-short}
-use Rattle.calls.specs.CheckLaws.{drawn-of, nothing-found, reason-found}
+use Rattle.calls.specs.CheckLaws.{drawn-of, stack-few, left-free, nothing-found, reason-found}
 use borrow.Author.Needs.{needs}
 use Rattle.calls.proofs.check.Statement.{statement}
 use Rattle.calls.proofs.check.Tie as tie
+
+native : (c : tie.Else1) → isAlien (c .before .before .before .args .t1) ≡ false
+native c = sym (c .before .alien .ensures) ∙ c .if1 .left
 
 alien-requires : tie.Need-alien-requires
 alien-requires c κs = search needs
@@ -17,22 +22,27 @@ returns c =
 
 returns-2 : tie.Need-returns-2
 returns-2 c =
-    let t = sym (c .before .before .alien .ensures) ∙ c .before .if1 .left in (
-      check-short _ (c .before .before .before .before .args .memory .now) t (c .if2 .taken),
-      memory-short _ _ t (c .if2 .taken),
-    )
+    let t = native (c .before) in
+    (check-short _ (c .before .before .before .before .args .memory .now) t (c .if2 .taken), memory-short _ _ t (c .if2 .taken))
 
 find-requires : tie.Need-find-requires
-find-requires c κs =
-    let t = sym (c .before .before .before .before .before .before .alien .ensures)
-    ∙ c .before .before .before .before .before .if1 .left in
-    (drawn-of _ t, c .before .before .before .before .if2 .left)
+find-requires c κs = (
+  drawn-of _ (native (c .before .before .before .before .before .before)),
+  record {
+    colours = search (needs, c .before .before .before .before .before .before .before .before .before .good);
+    borders = search (needs, c .before .before .before .before .before .before .before .before .before .good);
+    memory = c .before .before .before .before .before .if2 .left;
+  },
+)
 
 enum-told : tie.Need-enum-told
 enum-told c = search needs
 
-undecided-requires : tie.Need-undecided-requires
-undecided-requires c κs = search needs
+border-count-requires : tie.Need-border-count-requires
+border-count-requires c κs = search needs
+
+sub-t23 : tie.Need-sub-t23
+sub-t23 c = stack-few _ (native (c .before .before .before .before .before .before .before .before .before .before .before .before)) (c .border-count .ensures)
 
 enum-known-found : tie.Need-enum-known-found
 enum-known-found c = search needs
@@ -42,24 +52,18 @@ same-length c = search needs
 
 returns-3 : tie.Need-returns-3
 returns-3 c =
-    let t = sym (c .before .before .before .before .before .before .before .before .before .before .before .before
-    .alien .ensures) ∙ c .before .before .before .before .before .before .before .before .before .before .before
-    .if1 .left in
-    let r = nothing-found _ t _ _ (c .before .before .before .before .before .before .before .before .before .before
-    .if2 .left) (rw (c .before .enum-told .given .1) at (c .before .before .before .before .before .find .ensures))
+    let t = native (c .before .before .before .before .before .before .before .before .before .before .before .before) in
+    let r = nothing-found _ t _ _ (c .before .before .before .before .before .before .before .before .before .before .before .if2 .left) (rw (c .before .enum-told .given .1) at (c .before .before .before .before .before .find .ensures))
     in
-    (ap Pass (c .undecided .ensures) ∙ r .0, r .1)
+    (ap Pass (left-free _ t (c .border-count .ensures)) ∙ r .0, r .1)
 
 same-length-2 : tie.Need-same-length-2
 same-length-2 c = search needs
 
 returns-4 : tie.Need-returns-4
 returns-4 c =
-    let t = sym (c .before .before .before .before .before .before .before .before .before .before .before .before
-    .alien .ensures) ∙ c .before .before .before .before .before .before .before .before .before .before .before
-    .if1 .left in
-    reason-found _ t _ _ (c .before .before .before .before .before .before .before .before .before .before .if2 .left)
-    _ (rw (c .before .found .given .1) at (c .before .before .before .before .before .find .ensures))
+    let t = native (c .before .before .before .before .before .before .before .before .before .before .before .before) in
+    reason-found _ t _ _ (c .before .before .before .before .before .before .before .before .before .before .before .if2 .left) _ (rw (c .before .found .given .1) at (c .before .before .before .before .before .find .ensures))
 
 pub check-spec : {M : Type 1} → statement M
 check-spec =
@@ -70,7 +74,8 @@ check-spec =
     returns-2
     find-requires
     enum-told
-    undecided-requires
+    border-count-requires
+    sub-t23
     enum-known-found
     same-length
     returns-3

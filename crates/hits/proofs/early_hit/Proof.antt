@@ -1,25 +1,20 @@
 -- `early_hit` meets its contract: step 1's hit, and where there is none step 2's.
-use Prim.Native.Nat.{_≤_}
 use mathlib.Core.Path.{_≡_, sym, _∙_}
 use native.Mathlib.Omega.{arith}
 use Rattle.rules.specs.Codes.{marksIn}
 use Rattle.checker.specs.Steps.{breachIn}
 use Rattle.checker.specs.Bounds.{breach-small, breach-short}
 use Rattle.hits.specs.Found.{earlyHit}
-use Rattle.hits.specs.HitLaws.{answers-of, answers-first, answers-next, answers-none, answers-some, walls-clear}
-use Rattle.hits.specs.HitLaws.{walls-breach}
+use Rattle.hits.specs.HitLaws.{answers-first, answers-next, answers-told, answers-none, answers-some}
+use Rattle.hits.specs.HitLaws.{walls-clear, walls-breach, arrays-of}
 use borrow.Author.Needs.{needs}
 use Rattle.hits.proofs.early_hit.Statement.{statement}
 use Rattle.hits.proofs.early_hit.Tie as tie
 
-found : (c : tie.After-first-breach)
-    → c .first-breach .result
-    ≡ breachIn (c .before .before .before .before .before .before .before .before .before .before .before .pre .0)
-    (c .before .before .before .before .before .before .before .before .before .before .before .args .colours)
-    (c .before .before .before .before .before .before .before .before .before .before .before .args .clues)
-    (c .before .before .before .before .before .before .before .before .before .before .before .args .t5)
-found c = rw (c .before .before .before .before .before .before .before .before .before .before .before .pre .2) at
-    (c .first-breach .ensures)
+found : (c : tie.After-first-breach) → let s = c .before .before .before .before .before .before .before .before in
+    c .first-breach .result
+    ≡ breachIn (s .pre .0) (s .args .colours .now) (s .args .clues .now) (s .args .borders .now)
+found c = rw (c .before .before .before .before .before .before .before .before .pre .2 .ids-are) at (c .first-breach .ensures)
 
 block-hit-requires : tie.Need-block-hit-requires
 block-hit-requires c κs = search needs
@@ -35,24 +30,22 @@ same-length c = search needs
 
 returns : tie.Need-returns
 unfolding earlyHit
-returns c =
-    let e = c .before .before .before .before .block-hit .ensures in
-    let a = answers-first _ _ _ (c .enum-told2 .given .1) (answers-of (e .0) (e .1)) in
-    (a .found, a .memory)
+returns c = answers-first _ _ _ (c .enum-told2 .given .1) (c .before .before .before .before .block-hit .ensures)
 
 first-breach-requires : tie.Need-first-breach-requires
-first-breach-requires c κs = search needs
+first-breach-requires c κs =
+    let p = c .before .before .before .before .before .before .before .pre in
+    (p .0, arrays-of (p .0) _ (p .2) (p .1 .borders))
 
 write-breach-requires : tie.Need-write-breach-requires
 write-breach-requires c κs =
-    let p = c .before .before .before .before .before .before .before .before .before .before .before .before .before
-    .before .pre in
-    let a = c .before .before .before .before .before .before .before .before .before .before .before .before .before
-    .before .args in (
+    let s = c .before .before .before .before .before .before .before .before .before .before in
+    let p = s .pre in
+    let b = c .before .before .first-breach in (
       p .0,
-      search needs,
-      rw (c .before .before .before .first-breach .ensures) (breach-small (p .0) (a .t5) (a .t6 .ids)),
-      omega (arith, breach-short (p .0) (marksIn (a .t5)) (c .before .before .before .first-breach .result), p .1),
+      p .1 .borders,
+      rw (b .ensures) (breach-small (p .0) (s .args .borders .now) (s .args .blocks .now)),
+      omega (arith, breach-short (p .0) (marksIn (s .args .borders .now)) (b .result), p .1 .memory),
     )
 
 same-length-2 : tie.Need-same-length-2
@@ -61,17 +54,10 @@ same-length-2 c = search needs
 returns-2 : tie.Need-returns-2
 unfolding earlyHit
 returns-2 c =
-    let p = c .before .before .before .before .before .before .before .before .before .before .before .before .before
-    .before .before .before .before .pre in
-    let e = c .before .before .before .before .before .before .before .before .before .before .before .before .before
-    .before .block-hit .ensures in
-    let t = answers-of
-    (sym (c .before .before .before .before .before .before .before .before .before .before .enum-told .given .1)
-    ∙ e .0) (e .1) in
-    let a = answers-next _ _ t
-    (answers-some (walls-breach (p .0) _ _ _ _ (found (c .before .before .before .before .before .before))
-    (c .before .before .before .before .before .if1 .taken)) (c .before .before .write-breach .ensures)) in
-    (a .found, a .memory)
+    let p = c .before .before .before .before .before .before .before .before .before .before .before .before .before .pre in
+    answers-next _ _ (answers-told (c .before .before .before .before .before .before .enum-told .given .1) (c .before .before .before .before .before .before .before .before .before .before .block-hit .ensures))
+    (answers-some (walls-breach (p .0) _ _ _ _ (found (c .before .before .before .before .before)) (c .before .before .before .before .if1 .taken))
+    (c .before .before .write-breach .ensures))
 
 same-length-3 : tie.Need-same-length-3
 same-length-3 c = search needs
@@ -79,11 +65,9 @@ same-length-3 c = search needs
 returns-3 : tie.Need-returns-3
 unfolding earlyHit
 returns-3 c =
-    let p = c .before .before .before .before .before .before .before .before .before .before .before .before .pre in
-    let e = c .before .before .before .before .before .before .before .before .before .block-hit .ensures in
-    let t = answers-of (sym (c .before .before .before .before .before .enum-told .given .1) ∙ e .0) (e .1) in
-    let a = answers-next _ _ t (answers-none _ (walls-clear (p .0) _ _ _ _ (found (c .before)) (c .if1 .left))) in
-    (a .found, a .memory)
+    let p = c .before .before .before .before .before .before .before .before .before .pre in
+    answers-next _ _ (answers-told (c .before .before .enum-told .given .1) (c .before .before .before .before .before .before .block-hit .ensures))
+    (answers-none _ (walls-clear (p .0) _ _ _ _ (found (c .before)) (c .if1 .left)))
 
 pub early-hit-spec : {M : Type 1} → statement M
 early-hit-spec =

@@ -4,11 +4,11 @@ use native.Mathlib.Omega.{arith}
 use borrow.Author.Needs.{needs}
 use lib.ListN.{getD}
 use Rattle.rules.specs.FlatLaws.{counts}
+use Rattle.shapes.specs.Spots.{UnitAt}
 use Rattle.units.specs.Fitting.{UnitIn}
 use Rattle.units.specs.FitLaws.{unit-part, unit-placed}
 use Rattle.units.specs.ReadyLaws.{head-low}
-use Rattle.unitreason.specs.AskedLaws.{ready, low, unit-low, own-part, home, arranged, imaged, room-home}
-use Rattle.unitreason.specs.AskedLaws.{home-written}
+use Rattle.unitreason.specs.AskedLaws.{unit-low, own-part, home, arranged, imaged, room-home, home-written}
 use Rattle.unitreason.proofs.write_stuck.Statement.{statement}
 use Rattle.unitreason.proofs.write_stuck.Tie as tie
 
@@ -22,7 +22,7 @@ wide-requires : tie.Need-wide-requires
 wide-requires c κs = search needs
 
 add-wide : tie.Need-add-wide
-add-wide c = search needs
+add-wide c = omega (arith, unit-low (c .before .before .before .pre .0))
 
 mul-wide-2 : tie.Need-mul-wide-2
 mul-wide-2 c = omega (arith, unit-low (c .before .before .before .pre .0))
@@ -35,7 +35,7 @@ wide-requires-2 c κs = search needs
 
 -- the unit's part
 part-is : (c : tie.After-wide2) → let s = c .before .before .before .before .before in
-    UnitIn (s .args .h) (s .args .w) (s .args .t6 .ids) (s .args .u) (s .args .t6 .cells)
+    UnitIn (s .args .h) (s .args .w) (s .args .ids .now) (s .args .u) (s .args .units .now)
     (c .before .before .wide .result) (c .wide2 .result)
 part-is c =
     let s = c .before .before .before .before .before in
@@ -52,69 +52,67 @@ wide-requires-3 c κs = search needs
 
 -- its first cell, and that cell's potential unit
 cell-is : (c : tie.After-wide3) → let s = c .before .before .before .before .before .before .before in
-    c .wide3 .result ≡ getD (s .args .t6 .cells) (getD (s .args .t6 .offs) (s .args .u) 0) 0
+    c .wide3 .result ≡ getD (s .args .units .now) (getD (s .args .unit-offs .now) (s .args .u) 0) 0
 cell-is c =
     let s = c .before .before .before .before .before .before .before in
-    c .wide3 .ensures ∙ ap (λ i. getD (s .args .t6 .cells) i 0) (c .before .before .before .before .wide .ensures)
+    c .wide3 .ensures ∙ ap (λ i. getD (s .args .units .now) i 0) (c .before .before .before .before .wide .ensures)
 
 home-is : (c : tie.After-wide4) → let s = c .before .before .before .before .before .before .before .before .before in
     c .wide4 .result ≡ home (s .pre .0)
 home-is c =
     let s = c .before .before .before .before .before .before .before .before .before in
-    c .wide4 .ensures ∙ ap (λ i. getD (s .args .t7 .ids) i 0) (cell-is (c .before .before))
+    c .wide4 .ensures ∙ ap (λ i. getD (s .args .potential .now) i 0) (cell-is (c .before .before))
 
 mul-wide-4 : tie.Need-mul-wide-4
 mul-wide-4 c =
     let a = c .before .before .before .before .before .before .before .pre .0 in
-    omega (arith, cell-is c, head-low (ready a) _ (low a), counts (a .drawn .sized) .cells)
+    omega (arith, cell-is c, head-low (a .ready) _ (a .low), counts (a .ready .drawn .sized) .cells)
 
 element-copy-out-wide-4 : tie.Need-element-copy-out-wide-4
 element-copy-out-wide-4 c =
     let a = c .before .before .before .before .before .before .before .pre .0 in
-    omega (arith, cell-is c, head-low (ready a) _ (low a), counts (a .drawn .sized) .cells)
+    omega (arith, cell-is c, head-low (a .ready) _ (a .low), counts (a .ready .drawn .sized) .cells)
 
 wide-requires-4 : tie.Need-wide-requires-4
 wide-requires-4 c κs = search needs
 
 places-requires : tie.Need-places-requires
 places-requires c κs =
-    let v = c .before .before .before .before in
+    let v = c .before .before in
     let s = v .before .before .before .before .before .before .before .before .before in
-    (unit-part (s .pre .0 .drawn .sized) (part-is (v .before .before .before .before)), search needs, search needs)
+    let q = s .pre .0 in
+    (unit-part (q .ready .drawn .sized) (part-is (v .before .before .before .before)), s .pre .1 .rows, s .pre .1 .columns)
+
+-- the unit's cells
+unit-is : (c : tie.After-places) → let s = c .before .before .before .before .before .before .before .before .before .before .before .before in
+    UnitAt (s .args .h) (s .args .w) (s .args .ids .now) (s .args .u) (c .places .last .1 .1 .1 .1 .0)
+    (c .places .last .1 .1 .1 .1 .1 .0) (c .places .result)
+unit-is c =
+    let s = c .before .before .before .before .before .before .before .before .before .before .before .before in
+    unit-placed (s .pre .0 .ready .drawn .sized) (part-is (c .before .before .before .before .before .before .before)) (c .places .ensures .0) (c .places .ensures .1)
 
 joints-requires : tie.Need-joints-requires
 joints-requires c κs =
-    let a = c .before .before .before .before .before .before in
-    let v = a .before .before .before .before .before in
-    let s = v .before .before .before .before .before .before .before .before .before in (
-      unit-placed (s .pre .0 .drawn .sized) (part-is (v .before .before .before .before)) (a .places .ensures .0)
-          (a .places .ensures .1),
-      search needs,
-      search needs,
-    )
+    let a = c .before .before .before .before in
+    let s = a .before .before .before .before .before .before .before .before .before .before .before .before in
+    (unit-is a, s .pre .1 .downs, s .pre .1 .acrosses)
 
 list-rows-requires : tie.Need-list-rows-requires
-list-rows-requires c κs =
-    let a = c .before .before .before .before .before .before .before .before .before .before .before in
-    let v = a .before .before .before .before .before in
-    let s = v .before .before .before .before .before .before .before .before .before in
-    unit-placed (s .pre .0 .drawn .sized) (part-is (v .before .before .before .before)) (a .places .ensures .0)
-    (a .places .ensures .1)
+list-rows-requires c κs = unit-is (c .before .before .before .before .before .before .before)
 
 write-unit-requires : tie.Need-write-unit-requires
 write-unit-requires c κs =
-    let l = c .before .before .before .before .before in
-    let j = l .before .before .before .before .before in
-    let a = j .before .before .before .before .before .before .before in
-    let v = a .before .before .before .before .before in
+    let l = c .before .before .before .before .before .before .before in
+    let j = l .before .before .before in
+    let a = j .before .before .before .before .before in
+    let v = a .before .before .before in
     let s = v .before .before .before .before .before .before .before .before .before in
     let q = s .pre .0 in (
       rw (home-is v) (arranged q),
-      imaged q
-          (unit-placed (q .drawn .sized) (part-is (v .before .before .before .before)) (a .places .ensures .0)
-          (a .places .ensures .1))
-          (j .joints .ensures) (l .list-rows .ensures),
-      room-home q _ (home-is v) (s .pre .1),
+      imaged q (unit-is a) (j .joints .ensures) (l .list-rows .ensures),
+      s .pre .1 .ys,
+      s .pre .1 .xs,
+      room-home q _ (home-is v) (s .pre .2),
     )
 
 same-length : tie.Need-same-length
@@ -123,8 +121,7 @@ same-length c = search needs
 returns : tie.Need-returns
 returns c =
     let e = c .before .before in
-    let v = e .before .before .before .before .before .before .before .before .before .before .before .before .before
-    .before .before .before .before .before .before .before .before .before .before in
+    let v = e .before .before .before .before .before .before .before .before .before .before .before .before .before .before .before .before .before .before .before in
     let s = v .before .before .before .before .before .before .before .before .before in
     λ k. home-written (s .pre .0) k (home-is v) (e .write-unit .ensures k)
 
