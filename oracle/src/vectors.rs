@@ -116,6 +116,7 @@ pub fn scenarios() -> Vec<Scenario> {
     all.extend(of_classes());
     all.extend(of_mistakes(&pool));
     all.extend(long_lists());
+    all.extend(of_orders());
     all
 }
 
@@ -390,4 +391,24 @@ fn long_lists() -> Vec<Scenario> {
         all.push(scenario("calls by chance", puzzle, calls));
     }
     all
+}
+
+/// Boards with two hits in one place, of which document 01 names the first.
+fn of_orders() -> Vec<Scenario> {
+    let opens = [0, 4, 2, 3, 6].map(|border| (border, false));
+    let walls = [(5, true), (1, true)];
+    let around: Vec<Literal> = opens.into_iter().chain(walls).collect();
+    let above = vec![(0, false), (1, true)];
+    vec![
+        scenario(
+            "a cell with two walls in its block",
+            page(2, 3, "000000", &[]),
+            decided(&around),
+        ),
+        scenario(
+            "a clue above both potential units",
+            page(1, 4, "0110", &[(0, 2)]),
+            decided(&above),
+        ),
+    ]
 }
