@@ -124,5 +124,5 @@ pub fn write_breach(
     ensures { λ r. ⌜ Wrote (now (memory .entry)) 0 (breachLiterals (flat h w) (marksIn (now (borders .entry))) breach)
         (now (memory .exit)) r ⌝ }
 {
-    reasons::wall_reason(memory, h, w, borders, breach.cell, breach.to, breach.border)
+    reasons::paths::wall_reason(memory, h, w, borders, breach.cell, breach.to, breach.border)
 }

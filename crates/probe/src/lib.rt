@@ -167,7 +167,7 @@ fn put_path(memory: &mut [u16], h: usize, w: usize, borders: &[u8], a: usize, b:
     ensures { λ r. ⌜ Written (now (memory .entry)) (pathWords h w (now (borders .entry)) a b) (now (memory .exit)) r ⌝ }
 {
     let marks = borders_in(borders);
-    reasons::path(memory, 0, h, w, &marks, a, b)
+    reasons::paths::path(memory, 0, h, w, &marks, a, b)
 }
 
 // The groups of one kind: the cells' numbers (1,024 places), the count, the cells group by group (1,024), and where

@@ -8,8 +8,8 @@ use Rattle.reasons.specs.Arrays.{Near}
 use Rattle.reasons.specs.StepLaws.{Row, row-of}
 use Rattle.reasons.specs.SearchLaws.{looked-off, looked-shut, looked-old, looked-new, push-room}
 use native.Mathlib.Omega.{arith}
-use Rattle.reasons.proofs.visit.Statement.{statement}
-use Rattle.reasons.proofs.visit.Tie as tie
+use Rattle.reasons.proofs.paths.visit.Statement.{statement}
+use Rattle.reasons.proofs.paths.visit.Tie as tie
 
 row : (s : tie.Start) → Row (s .args .h) (s .args .w) (s .args .c)
 row s = row-of _ _ _ (s .pre .2)

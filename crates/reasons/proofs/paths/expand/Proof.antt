@@ -7,8 +7,8 @@ use Rattle.reasons.specs.StepLaws.{around-is}
 use Rattle.reasons.specs.Search.{Looked}
 use Rattle.reasons.specs.SearchLaws.{looked-none, looked-more}
 use native.Mathlib.Omega.{arith}
-use Rattle.reasons.proofs.expand.Statement.{statement}
-use Rattle.reasons.proofs.expand.Tie as tie
+use Rattle.reasons.proofs.paths.expand.Statement.{statement}
+use Rattle.reasons.proofs.paths.expand.Tie as tie
 
 abbrev Inv-loop : tie.InvT-loop
 Inv-loop queue₀ parent₀ over₀ found₀ tail borders h w c end₀ d₀ queue parent over found end d =

@@ -5,8 +5,8 @@ use Rattle.reasons.specs.MemoryLaws.{wrote-none}
 use Rattle.reasons.specs.PathLaws.{path-off-a, path-off-b}
 use native.Mathlib.Omega.{arith}
 use borrow.Author.Needs.{needs}
-use Rattle.reasons.proofs.path.Statement.{statement}
-use Rattle.reasons.proofs.path.Tie as tie
+use Rattle.reasons.proofs.paths.path.Statement.{statement}
+use Rattle.reasons.proofs.paths.path.Tie as tie
 
 few : (s : tie.Start) → Counts (s .args .h) (s .args .w)
 few s = counts (s .pre .0)

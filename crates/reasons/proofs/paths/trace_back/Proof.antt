@@ -8,8 +8,8 @@ use Rattle.reasons.specs.PathLaws.{Tracing, tracing-start, tracing-none,
 use Rattle.reasons.specs.PathLaws.{tracing-narrow, tracing-more}
 use native.Mathlib.Omega.{arith}
 use borrow.Author.Needs.{needs}
-use Rattle.reasons.proofs.trace_back.Statement.{statement}
-use Rattle.reasons.proofs.trace_back.Tie as tie
+use Rattle.reasons.proofs.paths.trace_back.Statement.{statement}
+use Rattle.reasons.proofs.paths.trace_back.Tie as tie
 
 abbrev Inv-loop : tie.InvT-loop
 Inv-loop memory₀ from parent over found borders h w a b c₀ at₀ memory c at =
