@@ -22,8 +22,11 @@ returns c =
 
 returns-2 : tie.Need-returns-2
 returns-2 c =
-    let t = native (c .before) in
-    (check-short _ (c .before .before .before .before .args .memory .now) t (c .if2 .taken), memory-short _ _ t (c .if2 .taken))
+    let t = native (c .before) in (
+      check-short _ (c .before .before .before .before .args .memory .now) t (c .if2 .taken),
+      memory-short _ _ t (c
+          .if2 .taken),
+    )
 
 find-requires : tie.Need-find-requires
 find-requires c κs = (
@@ -42,7 +45,8 @@ border-count-requires : tie.Need-border-count-requires
 border-count-requires c κs = search needs
 
 sub-t23 : tie.Need-sub-t23
-sub-t23 c = stack-few _ (native (c .before .before .before .before .before .before .before .before .before .before .before .before)) (c .border-count .ensures)
+sub-t23 c = stack-few _ (native (c .before .before .before .before .before .before .before .before .before .before
+    .before .before)) (c .border-count .ensures)
 
 enum-known-found : tie.Need-enum-known-found
 enum-known-found c = search needs
@@ -52,8 +56,11 @@ same-length c = search needs
 
 returns-3 : tie.Need-returns-3
 returns-3 c =
-    let t = native (c .before .before .before .before .before .before .before .before .before .before .before .before) in
-    let r = nothing-found _ t _ _ (c .before .before .before .before .before .before .before .before .before .before .before .if2 .left) (rw (c .before .enum-told .given .1) at (c .before .before .before .before .before .find .ensures))
+    let t = native (c .before .before .before .before .before .before .before .before .before .before .before
+    .before) in
+    let r = nothing-found _ t _ _ (c .before .before .before .before .before .before .before .before .before .before
+    .before .if2 .left) (rw (c .before .enum-told .given .1) at (c .before .before .before .before .before .find
+    .ensures))
     in
     (ap Pass (left-free _ t (c .border-count .ensures)) ∙ r .0, r .1)
 
@@ -62,8 +69,10 @@ same-length-2 c = search needs
 
 returns-4 : tie.Need-returns-4
 returns-4 c =
-    let t = native (c .before .before .before .before .before .before .before .before .before .before .before .before) in
-    reason-found _ t _ _ (c .before .before .before .before .before .before .before .before .before .before .before .if2 .left) _ (rw (c .before .found .given .1) at (c .before .before .before .before .before .find .ensures))
+    let t = native (c .before .before .before .before .before .before .before .before .before .before .before
+    .before) in
+    reason-found _ t _ _ (c .before .before .before .before .before .before .before .before .before .before .before
+    .if2 .left) _ (rw (c .before .found .given .1) at (c .before .before .before .before .before .find .ensures))
 
 pub check-spec : {M : Type 1} → statement M
 check-spec =

@@ -59,7 +59,8 @@ same-length c = search needs
 returns-2 : tie.Need-returns-2
 returns-2 c =
     let p = c .before .before .before .before .before .before .before .before .pre in
-    let e = sym (c .before .before .before .before .before .is-clear .ensures) ∙ c .before .before .before .before .if1 .left in
+    let e = sym (c .before .before .before .before .before .is-clear .ensures) ∙ c .before .before .before .before
+    .if1 .left in
     answers-some (blocks-fault (p .0) _ _ _ _ (found (c .before .before .before .before .before .before)) e)
     (rw (p .2 .ids-are, p .4 .ids-are) at (c .before .before .write-fault .ensures))
 

@@ -14,7 +14,8 @@ use Rattle.hits.proofs.early_hit.Tie as tie
 found : (c : tie.After-first-breach) → let s = c .before .before .before .before .before .before .before .before in
     c .first-breach .result
     ≡ breachIn (s .pre .0) (s .args .colours .now) (s .args .clues .now) (s .args .borders .now)
-found c = rw (c .before .before .before .before .before .before .before .before .pre .2 .ids-are) at (c .first-breach .ensures)
+found c = rw (c .before .before .before .before .before .before .before .before .pre .2 .ids-are) at (c .first-breach
+    .ensures)
 
 block-hit-requires : tie.Need-block-hit-requires
 block-hit-requires c κs = search needs
@@ -54,9 +55,12 @@ same-length-2 c = search needs
 returns-2 : tie.Need-returns-2
 unfolding earlyHit
 returns-2 c =
-    let p = c .before .before .before .before .before .before .before .before .before .before .before .before .before .pre in
-    answers-next _ _ (answers-told (c .before .before .before .before .before .before .enum-told .given .1) (c .before .before .before .before .before .before .before .before .before .before .block-hit .ensures))
-    (answers-some (walls-breach (p .0) _ _ _ _ (found (c .before .before .before .before .before)) (c .before .before .before .before .if1 .taken))
+    let p = c .before .before .before .before .before .before .before .before .before .before .before .before .before
+    .pre in
+    answers-next _ _ (answers-told (c .before .before .before .before .before .before .enum-told .given .1) (c
+    .before .before .before .before .before .before .before .before .before .before .block-hit .ensures))
+    (answers-some (walls-breach (p .0) _ _ _ _ (found (c .before .before .before .before .before)) (c .before .before
+    .before .before .if1 .taken))
     (c .before .before .write-breach .ensures))
 
 same-length-3 : tie.Need-same-length-3
@@ -66,7 +70,8 @@ returns-3 : tie.Need-returns-3
 unfolding earlyHit
 returns-3 c =
     let p = c .before .before .before .before .before .before .before .before .before .pre in
-    answers-next _ _ (answers-told (c .before .before .enum-told .given .1) (c .before .before .before .before .before .before .block-hit .ensures))
+    answers-next _ _ (answers-told (c .before .before .enum-told .given .1) (c .before .before .before .before
+    .before .before .block-hit .ensures))
     (answers-none _ (walls-clear (p .0) _ _ _ _ (found (c .before)) (c .if1 .left)))
 
 pub early-hit-spec : {M : Type 1} → statement M

@@ -8,8 +8,13 @@ use Rattle.hits.proofs.find.Statement.{statement}
 use Rattle.hits.proofs.find.Tie as tie
 
 fill-requires : tie.Need-fill-requires
-fill-requires c κs =
-    (c .before .before .before .before .before .pre .0 .sized, blank-zeros 1024 _, blank-zeros 1024 _, blank-zeros 1025 _, forest-zeros)
+fill-requires c κs = (
+  c .before .before .before .before .before .pre .0 .sized,
+  blank-zeros 1024 _,
+  blank-zeros 1024 _,
+  blank-zeros 1025 _,
+  forest-zeros,
+)
 
 fill-requires-2 : tie.Need-fill-requires-2
 fill-requires-2 c κs = (
@@ -33,13 +38,18 @@ same-length : tie.Need-same-length
 same-length c = search needs
 
 returns : tie.Need-returns
-returns c = answers-hit _ _ (answers-first _ _ _ (c .enum-told2 .given .1) (c .before .before .before .before .early-hit .ensures))
+returns c = answers-hit _ _ (answers-first _ _ _ (c .enum-told2 .given .1) (c .before .before .before .before
+    .early-hit .ensures))
 
 late-hit-requires : tie.Need-late-hit-requires
 late-hit-requires c κs =
-    let p = c .before .before .before .before .before .before .before .before .before .before .before .before .before .before .before .before .before .before .before .before .before .before .before .before .before .before .before .before .before .before .before .pre in
-    let b = c .before .before .before .before .before .before .before .before .before .before .before .before .before .before .before .before .before .before .before .before .before .before .before .before .before .fill .ensures in
-    let f = c .before .before .before .before .before .before .before .before .before .before .before .before .before .before .before .before .before .before .before .before .fill2 .ensures in
+    let p = c .before .before .before .before .before .before .before .before .before .before .before .before .before
+    .before .before .before .before .before .before .before .before .before .before .before .before .before .before
+    .before .before .before .before .pre in
+    let b = c .before .before .before .before .before .before .before .before .before .before .before .before .before
+    .before .before .before .before .before .before .before .before .before .before .before .before .fill .ensures in
+    let f = c .before .before .before .before .before .before .before .before .before .before .before .before .before
+    .before .before .before .before .before .before .before .fill2 .ensures in
     let z = p .0 .sized in (
       p .0,
       search needs,
@@ -57,7 +67,9 @@ same-length-2 c = search needs
 returns-2 : tie.Need-returns-2
 returns-2 c =
     answers-hit _ _
-    (answers-next _ _ (answers-told (c .before .before .before .before .before .before .before .before .before .before .before .enum-told .given .1) (c .before .before .before .before .before .before .before .before .before .before .before .before .before .before .before .early-hit .ensures))
+    (answers-next _ _ (answers-told (c .before .before .before .before .before .before .before .before .before
+    .before .before .enum-told .given .1) (c .before .before .before .before .before .before .before .before .before
+    .before .before .before .before .before .before .early-hit .ensures))
     (c .before .before .late-hit .ensures _))
 
 pub find-spec : {M : Type 1} → statement M

@@ -20,7 +20,8 @@ adjacent-units-requires c κs =
 
 stuck-hit-requires : tie.Need-stuck-hit-requires
 stuck-hit-requires c κs =
-    let p = c .before .before .before .before .before .before .before .before .before .before .before .before .before .before .before .pre in
+    let p = c .before .before .before .before .before .before .before .before .before .before .before .before .before
+    .before .before .pre in
     let f = c .before .before .before .before .before .before .before .before .before .fill .ensures in (
       record {
         drawn = p .0;

@@ -31,7 +31,8 @@ returns c =
 
 write-stuck-requires : tie.Need-write-stuck-requires
 write-stuck-requires c κs =
-    let s = c .before .before .before .before .before .before .before .before .before .before .before .before .before .before .before .before in
+    let s = c .before .before .before .before .before .before .before .before .before .before .before .before .before
+    .before .before .before in
     let p = s .pre in
     let k = p .1 in (
       record {
@@ -42,7 +43,10 @@ write-stuck-requires c κs =
       },
       c .before .before .before .before .before .before .before .before .first-stuck .ensures .1,
       le-trans (unit-short (p .0 .drawn .sized) (s .args .colours .now) (marksIn (s .args .borders .now))
-          (c .before .before .before .before .before .before .before .before .first-stuck .result) _) (omega (arith, p .2 .memory)),
+          (c .before .before .before .before .before .before .before .before .first-stuck .result) _) (omega (
+            arith,
+            p .2 .memory,
+          )),
     )
 
 same-length : tie.Need-same-length
@@ -50,10 +54,16 @@ same-length c = search needs
 
 returns-2 : tie.Need-returns-2
 returns-2 c =
-    let p = c .before .before .before .before .before .before .before .before .before .before .before .before .before .before .before .before .before .before .before .pre in
+    let p = c .before .before .before .before .before .before .before .before .before .before .before .before .before
+    .before .before .before .before .before .before .pre in
     let k = p .1 in
     λ ks.
-    answers-some (units-stuck (p .0 .drawn .sized) _ _ _ (found (c .before .before .before .before .before .before .before .before .before .before .before)) ks (omega (arith, c .before .before .before .before .before .before .before .before .before .before .if1 .left)))
+    answers-some (units-stuck (p .0 .drawn .sized) _ _ _ (found (c .before .before .before .before .before .before
+    .before .before .before .before .before)) ks (omega (
+      arith,
+      c .before .before .before .before .before .before
+          .before .before .before .before .if1 .left,
+    )))
     (c .before .before .write-stuck .ensures (cluesIn ks))
 
 pub stuck-hit-spec : {M : Type 1} → statement M

@@ -80,16 +80,22 @@ places-requires : tie.Need-places-requires
 places-requires c κs =
     let v = c .before .before in
     let s = v .before .before .before .before .before .before .before .before .before in
-    let q = s .pre .0 in
-    (unit-part (q .ready .drawn .sized) (part-is (v .before .before .before .before)), s .pre .1 .rows, s .pre .1 .columns)
+    let q = s .pre .0 in (
+      unit-part (q .ready .drawn .sized) (part-is (v .before .before .before .before)),
+      s .pre .1 .rows,
+      s .pre .1
+          .columns,
+    )
 
 -- the unit's cells
-unit-is : (c : tie.After-places) → let s = c .before .before .before .before .before .before .before .before .before .before .before .before in
+unit-is : (c : tie.After-places) → let s = c .before .before .before .before .before .before .before .before .before
+    .before .before .before in
     UnitAt (s .args .h) (s .args .w) (s .args .ids .now) (s .args .u) (c .places .last .1 .1 .1 .1 .0)
     (c .places .last .1 .1 .1 .1 .1 .0) (c .places .result)
 unit-is c =
     let s = c .before .before .before .before .before .before .before .before .before .before .before .before in
-    unit-placed (s .pre .0 .ready .drawn .sized) (part-is (c .before .before .before .before .before .before .before)) (c .places .ensures .0) (c .places .ensures .1)
+    unit-placed (s .pre .0 .ready .drawn .sized) (part-is (c .before .before .before .before .before .before
+    .before)) (c .places .ensures .0) (c .places .ensures .1)
 
 joints-requires : tie.Need-joints-requires
 joints-requires c κs =
@@ -121,7 +127,8 @@ same-length c = search needs
 returns : tie.Need-returns
 returns c =
     let e = c .before .before in
-    let v = e .before .before .before .before .before .before .before .before .before .before .before .before .before .before .before .before .before .before .before in
+    let v = e .before .before .before .before .before .before .before .before .before .before .before .before .before
+    .before .before .before .before .before .before in
     let s = v .before .before .before .before .before .before .before .before .before in
     λ k. home-written (s .pre .0) k (home-is v) (e .write-unit .ensures k)
 
