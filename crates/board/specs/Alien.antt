@@ -19,6 +19,7 @@
 --   cellsIn, cellsRight b   the colours and the clues of the cells are right: of arrays, and of a board
 --   decisionsIn, decisionsRight b   the stack has exactly the decided borders, each once
 --   unusedIn, unusedZero b  the unused places are 0
+--   boardOf h w cs ks bs st n   the board with these arrays
 --   isAlien b               decides and undos cannot produce b from a fresh board; crate reach has the proof
 use mathlib.Core.Path.{_≡_}
 use mathlib.Core.Bool.{Bool, true, false, not, cond, _&&_, Bool·beq}
@@ -109,6 +110,10 @@ unusedIn h w cs ks bs s n =
 
 abbrev pub unusedZero : Board → Bool
 unusedZero b = unusedIn (b .height) (b .width) (b .colours) (b .clues) (b .borders) (b .stack) (b .count)
+
+abbrev pub boardOf : ℕ → ℕ → List ℕ → List ℤ → List ℕ → List ℕ → ℕ → Board
+boardOf h w cs ks bs st n =
+    record { height = h; width = w; colours = cs; clues = ks; borders = bs; stack = st; count = n }
 
 -- "a board or image that decides and undos cannot produce from a fresh board"
 unfoldable pub isAlien : Board → Bool

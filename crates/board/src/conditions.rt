@@ -1,16 +1,11 @@
 // The conditions that a board's places are tested by.
 ghost use mathlib.Core.Path.{_≡_};
+ghost use mathlib.Core.Bool.{false};
 ghost use Prim.Native.Nat.{_≤_};
-ghost use lib.ListN.{length};
+ghost use lib.ListN.{length, replicate};
 ghost use Rattle.board.specs.Alien.{sizeRight, coloursRight, clueRight, cluesRight, entryRight, Marks};
 ghost use Rattle.board.specs.Alien.{borderRight, bordersBy, zerosFrom, clueZero, zeroCluesFrom};
 use crate::Board;
-
-// Which borders a stack has, and whether its entries are right.
-pub struct Stacked {
-    pub right: bool,
-    pub seen: [bool; Board::BORDER_LIMIT],
-}
 
 // Whether height and width are 1 to 32.
 pub fn size_right(h: usize, w: usize) -> bool
@@ -82,26 +77,30 @@ fn entry_right(e: usize, borders: usize, seen: bool) -> bool
     if e < borders { !seen } else { false }
 }
 
-// Whether the first count entries are right, and which borders they are.
-pub fn mark_stack(stack: &[u16; Board::BORDER_LIMIT], borders: usize, count: usize) -> Stacked
-    requires { ⌜ (borders ≤ 1984) × (count ≤ borders) ⌝ }
-    ensures { λ r. ⌜ Marks (now (stack .entry)) borders count (r .right) (r .seen) ⌝ }
+// Whether the first count entries are right; marks which borders they are.
+pub fn mark_stack(
+    stack: &[u16; Board::BORDER_LIMIT],
+    borders: usize,
+    count: usize,
+    seen: &mut [bool; Board::BORDER_LIMIT],
+) -> bool
+    requires { ⌜ (borders ≤ 1984) × (count ≤ borders) × (now seen ≡ replicate 1984 false) ⌝ }
+    ensures { λ r. ⌜ Marks (now (stack .entry)) borders count r (now (seen .exit)) ⌝ }
 {
-    let mut seen = [false; Board::BORDER_LIMIT];
     let mut i: usize = 0;
     while i < count {
         let e = wide(stack[i]);
         if e >= Board::BORDER_LIMIT {
-            return Stacked { right: false, seen };
+            return false;
         }
         if entry_right(e, borders, seen[e]) {
             seen[e] = true;
             i += 1;
         } else {
-            return Stacked { right: false, seen };
+            return false;
         }
     }
-    Stacked { right: true, seen }
+    true
 }
 
 // Whether v is undecided, wall or open, and decided exactly if on the stack.

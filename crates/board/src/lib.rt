@@ -6,7 +6,7 @@ ghost use Rattle.rules.specs.Codes.{codeOf};
 ghost use Rattle.rules.specs.Flat.{Sized};
 ghost use Rattle.board.specs.Board.{numberOf, zeroBoard, returned, freshOf};
 ghost use Rattle.board.specs.Board.{pushed, popped, decideOf, undoOf};
-ghost use Rattle.board.specs.Alien.{cellsOf, bordersOf, cellsIn, decisionsIn, unusedIn, isAlien};
+ghost use Rattle.board.specs.Alien.{cellsOf, bordersOf, cellsIn, decisionsIn, unusedIn, boardOf, isAlien};
 ghost use Rattle.board.specs.View.{undecidedOf};
 use rules::Literal;
 use rules::Side;
@@ -135,9 +135,9 @@ fn decisions_right<'a>(
 {
     let total = border_count(h, w);
     if count <= total {
-        let s = conditions::mark_stack(stack, total, count);
-        if s.right {
-            conditions::borders_right(borders, &s.seen, total)
+        let mut seen = [false; Board::BORDER_LIMIT];
+        if conditions::mark_stack(stack, total, count, &mut seen) {
+            conditions::borders_right(borders, &seen, total)
         } else {
             false
         }
@@ -174,6 +174,34 @@ fn unused_zero<'a>(
         }
     } else {
         false
+    }
+}
+
+// Whether decides and undos cannot produce a board with these arrays from a fresh one. No board is copied.
+pub fn is_alien<'a>(
+    h: usize,
+    w: usize,
+    colours: &'a [u8; Board::CELL_LIMIT],
+    clues: &'a [i32; Board::CELL_LIMIT],
+    borders: &'a [u8; Board::BORDER_LIMIT],
+    stack: &'a [u16; Board::BORDER_LIMIT],
+    count: usize,
+) -> bool
+    ensures { λ r. ⌜ r ≡ isAlien (boardOf h w (now (colours .entry)) (now (clues .entry)) (now (borders .entry))
+        (now (stack .entry)) count) ⌝ }
+{
+    if conditions::size_right(h, w) {
+        if cells_right(h, w, colours, clues) {
+            if decisions_right(h, w, borders, stack, count) {
+                !unused_zero(h, w, colours, clues, borders, stack, count)
+            } else {
+                true
+            }
+        } else {
+            true
+        }
+    } else {
+        true
     }
 }
 
@@ -243,30 +271,15 @@ impl Board {
     pub fn alien(self) -> bool
         ensures { λ r. ⌜ r ≡ isAlien self ⌝ }
     {
-        let h = self.height;
-        let w = self.width;
-        let n = self.count;
-        if conditions::size_right(h, w) {
-            if cells_right(h, w, &self.colours, &self.clues) {
-                if decisions_right(h, w, &self.borders, &self.stack, n) {
-                    !unused_zero(
-                        h,
-                        w,
-                        &self.colours,
-                        &self.clues,
-                        &self.borders,
-                        &self.stack,
-                        n,
-                    )
-                } else {
-                    true
-                }
-            } else {
-                true
-            }
-        } else {
-            true
-        }
+        is_alien(
+            self.height,
+            self.width,
+            &self.colours,
+            &self.clues,
+            &self.borders,
+            &self.stack,
+            self.count,
+        )
     }
 
     // The border n set to the code v, and put on the stack.

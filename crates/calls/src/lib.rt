@@ -53,7 +53,15 @@ pub fn check(board: Board, memory: &mut [u16]) -> Answer
         ⌜ (r ≡ checkAnswer board (length (now (memory .entry))))
         × (now (memory .exit) ≡ checkMemory board (now (memory .entry))) ⌝ }
 {
-    if board.alien() {
+    if board::is_alien(
+        board.height,
+        board.width,
+        &board.colours,
+        &board.clues,
+        &board.borders,
+        &board.stack,
+        board.count,
+    ) {
         return Answer::Refused(Outcome::Alien);
     }
     if memory.len() < 16384 {

@@ -1,5 +1,5 @@
 -- `decisions_right` meets its contract: each return cites the law of its case.
-use mathlib.Core.Path.{_∙_, _≡_, sym}
+use mathlib.Core.Path.{_∙_, _≡_, refl, sym}
 use Prim.Native.Nat.{_≤_}
 use native.Mathlib.Omega.{arith}
 use borrow.Author.Needs.{needs}
@@ -21,21 +21,21 @@ border-count-requires : tie.Need-border-count-requires
 border-count-requires c κs = search needs
 
 mark-stack-requires : tie.Need-mark-stack-requires
-mark-stack-requires c κs = (few (c .before), c .if1 .taken)
+mark-stack-requires c κs = (few (c .before .before), c .before .if1 .taken, refl)
 
 borders-right-requires : tie.Need-borders-right-requires
 borders-right-requires c κs = few (c .before .before .before .before .before)
 
 returns : tie.Need-returns
 returns c =
-    let c₂ = c .before .before .before in
-    let c₁ = c .before .before .before .before .before in
-    decisions-borders _ _ _ _ _ _ (total (c₁ .before)) (c₂ .before .mark-stack .result .seen) _ (c₁ .if1 .taken)
-    (few (c₁ .before)) (rw (c₂ .if2 .taken) at (c₂ .before .mark-stack .ensures)) (c .borders-right .ensures)
+    let m = c .before .before .before in
+    let c₁ = m .before .before in
+    decisions-borders _ _ _ _ _ _ (total (c₁ .before)) _ _ (c₁ .if1 .taken) (few (c₁ .before))
+    (rw (c .before .before .if2 .taken) at (m .mark-stack .ensures)) (c .borders-right .ensures)
 
 returns-2 : tie.Need-returns-2
 returns-2 c =
-    let c₁ = c .before .before in
+    let c₁ = c .before .before .before in
     decisions-stack _ _ _ _ _ _ (total (c₁ .before)) (c₁ .if1 .taken)
     (sym (c .before .mark-stack .ensures .tells) ∙ c .if2 .left)
 

@@ -9,31 +9,41 @@ use borrow.Author.Needs.{needs}
 use Rattle.calls.proofs.check.Statement.{statement}
 use Rattle.calls.proofs.check.Tie as tie
 
-native : (c : tie.Else1) → isAlien (c .before .before .before .args .t1) ≡ false
-native c = sym (c .before .alien .ensures) ∙ c .if1 .left
+native : (c : tie.Else1) → isAlien (c .before .before .before .before .before .before .before .before .args .t1) ≡ false
+native c = sym (c .before .is-alien .ensures) ∙ c .if1 .left
 
-alien-requires : tie.Need-alien-requires
-alien-requires c κs = search needs
+is-alien-requires : tie.Need-is-alien-requires
+is-alien-requires c κs = search needs
 
 returns : tie.Need-returns
 returns c =
-    let t = sym (c .before .alien .ensures) ∙ c .if1 .taken in
-    (check-alien _ (c .before .before .before .args .memory .now) t, memory-alien _ _ t)
+    let t = sym (c .before .is-alien .ensures) ∙ c .if1 .taken in (
+      check-alien _ (c .before .before .before .before .before .before .before .before .args .memory .now) t,
+      memory-alien _ _ t,
+    )
 
 returns-2 : tie.Need-returns-2
 returns-2 c =
     let t = native (c .before) in (
-      check-short _ (c .before .before .before .before .args .memory .now) t (c .if2 .taken),
-      memory-short _ _ t (c
-          .if2 .taken),
+      check-short _ (c .before .before .before .before .before .before .before .before .before .args .memory .now) t
+          (c .if2 .taken),
+      memory-short _ _ t (c .if2 .taken),
     )
 
 find-requires : tie.Need-find-requires
 find-requires c κs = (
   drawn-of _ (native (c .before .before .before .before .before .before)),
   record {
-    colours = search (needs, c .before .before .before .before .before .before .before .before .before .good);
-    borders = search (needs, c .before .before .before .before .before .before .before .before .before .good);
+    colours = search (
+      needs,
+      c .before .before .before .before .before .before .before .before .before .before
+          .before .before .before .before .good,
+    );
+    borders = search (
+      needs,
+      c .before .before .before .before .before .before .before .before .before .before
+          .before .before .before .before .good,
+    );
     memory = c .before .before .before .before .before .if2 .left;
   },
 )
@@ -44,8 +54,8 @@ enum-told c = search needs
 border-count-requires : tie.Need-border-count-requires
 border-count-requires c κs = search needs
 
-sub-t23 : tie.Need-sub-t23
-sub-t23 c = stack-few _ (native (c .before .before .before .before .before .before .before .before .before .before
+sub-t27 : tie.Need-sub-t27
+sub-t27 c = stack-few _ (native (c .before .before .before .before .before .before .before .before .before .before
     .before .before)) (c .border-count .ensures)
 
 enum-known-found : tie.Need-enum-known-found
@@ -78,13 +88,13 @@ pub check-spec : {M : Type 1} → statement M
 check-spec =
     tie.close
     (tie.spec
-    alien-requires
+    is-alien-requires
     returns
     returns-2
     find-requires
     enum-told
     border-count-requires
-    sub-t23
+    sub-t27
     enum-known-found
     same-length
     returns-3

@@ -1,10 +1,10 @@
 -- `mark_stack` meets its contract. The loop's invariant: the entries before i are right, and exactly they are marked.
-use mathlib.Core.Bool.{false, true}
-use mathlib.Core.Path.{_∙_, _≡_, refl, sym}
+use mathlib.Core.Bool.{Bool, false, true}
+use mathlib.Core.Path.{_∙_, _≡_, sym}
 use Prim.Native.Nat.{_-_, _<_, _≤_, ℕ}
 use native.Mathlib.Omega.{arith}
 use borrow.Author.Needs.{needs}
-use lib.ListN.{getD, getD-replicate, length, length-set}
+use lib.ListN.{getD, getD-replicate, length, length-replicate, length-set}
 use Rattle.lists.specs.Tests.{all-more, all-none, allBelow}
 use Rattle.board.specs.Alien.{entryRight, stacked}
 use Rattle.board.specs.ConditionLaws.{entry-is, marks-done, marks-far, marks-more, marks-wrong, stacked-none}
@@ -22,7 +22,13 @@ abbrev μ-loop : tie.MeasureT-loop
 μ-loop stack borders count seen₀ i₀ seen i = count - i
 
 loop-holds : tie.Need-loop-holds Inv-loop μ-loop
-loop-holds c = (search needs, all-none _, refl, λ x l. getD-replicate 1984 x false false l ∙ sym (stacked-none _ x))
+loop-holds c =
+    let e = c .pre .2 in (
+      search needs,
+      all-none _,
+      rw e (length-replicate {A = Bool} 1984 false),
+      λ x l. rw e (getD-replicate 1984 x false false l ∙ sym (stacked-none _ x)),
+    )
 
 mul-wide : tie.Need-mul-wide Inv-loop μ-loop
 mul-wide c = omega arith
@@ -38,14 +44,14 @@ returns c =
     let e = c .before .wide .ensures in
     marks-far _ _ _ _ (c .before .before .before .before .loop .i) (omega arith) (omega arith) (omega arith)
 
-array-read-entry-right : tie.Need-array-read-entry-right Inv-loop μ-loop
-array-read-entry-right c = search needs
+element-copy-out-entry-right : tie.Need-element-copy-out-entry-right Inv-loop μ-loop
+element-copy-out-entry-right c = search needs
 
 entry-right-requires : tie.Need-entry-right-requires Inv-loop μ-loop
 entry-right-requires c κs = tt
 
-array-write-seen : tie.Need-array-write-seen Inv-loop μ-loop
-array-write-seen c = search needs
+element-write-seen : tie.Need-element-write-seen Inv-loop μ-loop
+element-write-seen c = search needs
 
 add-i : tie.Need-add-i Inv-loop μ-loop
 add-i c = omega arith
@@ -55,8 +61,8 @@ loop-less c = omega arith
 
 loop-again : tie.Need-loop-again Inv-loop μ-loop
 loop-again c =
-    let r = c .before .before .before .before .before .before .loop in
-    let w = c .before .before .before .wide in
+    let r = c .before .before .before .before .before .before .before .loop in
+    let w = c .before .before .before .before .wide in
     let e = w .ensures in (
       omega arith,
       all-more (r .i) _ (r .inv .1)
@@ -68,8 +74,8 @@ loop-again c =
 
 returns-2 : tie.Need-returns-2 Inv-loop μ-loop
 returns-2 c =
-    let r = c .before .before .before .before .before .before .loop in
-    let w = c .before .before .before .wide in
+    let r = c .before .before .before .before .before .before .before .loop in
+    let w = c .before .before .before .before .wide in
     marks-wrong _ _ _ _ (r .i) (omega arith)
     (entry-is _ _ (r .i) (w .result) _ false (w .ensures) (r .inv .3 _ (omega arith))
     (sym (c .if2 .left) ∙ c .before .entry-right .ensures))
@@ -89,9 +95,9 @@ mark-stack-spec =
     element-copy-out-wide
     wide-requires
     returns
-    array-read-entry-right
+    element-copy-out-entry-right
     entry-right-requires
-    array-write-seen
+    element-write-seen
     add-i
     loop-less
     loop-again
