@@ -4,7 +4,7 @@
 --                       at no clue
 --   Drawn h w cs        the page's size is right, and the colours are 0 and 1
 --   lowered v           the coordinate that stands in an array as v: coordinates are raised by 64
---   RaisedAt ys xs i    the raised connection i is small, and its coordinates are not both even
+--   RaisedAt ys xs i    the raised connection i is small, and one of its coordinates is odd
 --   Raised ys xs n      so are all n of them
 --   pointAt ys xs i     the connection i of a transform whose raised coordinates stand in two arrays
 --   spelled ys xs n     its n connections
@@ -14,6 +14,7 @@
 --   readingOf Z s o     what a connection that reads o does to a placement
 --   fitsOf Z s t o      the transform t fits with its origin at cell o
 --   isClear r           it neither ends the placement nor is a wall
+use mathlib.Core.Path.{_≡_}
 use mathlib.Core.Bool.{Bool, true, false, cond, Bool·beq}
 use mathlib.Core.List.{List, [], map}
 use mathlib.Core.Option.{Option, some, none}
@@ -46,7 +47,7 @@ pub record RaisedAt (ys xs : List ℕ) (i : ℕ) : Type 0 where
   pub place : i < 2048
   pub row : getD ys i 0 < 128
   pub column : getD xs i 0 < 128
-  pub odd : 1 ≤ getD ys i 0 % 2 + getD xs i 0 % 2
+  pub odd : getD ys i 0 % 2 + getD xs i 0 % 2 ≡ 1
 
 abbrev pub Raised : List ℕ → List ℕ → ℕ → Type 0
 Raised ys xs n = (i : ℕ) → i < n → RaisedAt ys xs i

@@ -63,8 +63,8 @@ module _ (swap r c : Bool) (y x : ℕ) (down across : List ℕ) (n : ℕ) (t : T
             (either swap i (t .odd i h));
       }
     where
-      either : (u : Bool) (i : ℕ) → 1 ≤ getD down i 0 % 2 + getD across i 0 % 2
-          → 1 ≤ getD (cond u across down) i 0 % 2 + getD (cond u down across) i 0 % 2
+      either : (u : Bool) (i : ℕ) → getD down i 0 % 2 + getD across i 0 % 2 ≡ 1
+          → getD (cond u across down) i 0 % 2 + getD (cond u down across) i 0 % 2 ≡ 1
       either true i h = omega arith
       either false i h = h
 

@@ -45,4 +45,4 @@ pub record Turnable (swap r c : Bool) (y x : ℕ) (down across : List ℕ) (n : 
   pub even : (y % 2 ≡ 0) × (x % 2 ≡ 0)
   pub rows : (i : ℕ) → i < n → Lifts r y (getD (cond swap across down) i 0)
   pub columns : (i : ℕ) → i < n → Lifts c x (getD (cond swap down across) i 0)
-  pub odd : (i : ℕ) → i < n → 1 ≤ getD down i 0 % 2 + getD across i 0 % 2
+  pub odd : (i : ℕ) → i < n → getD down i 0 % 2 + getD across i 0 % 2 ≡ 1

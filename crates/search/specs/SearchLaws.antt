@@ -35,12 +35,12 @@ pub mates-reach : {h w : ℕ} {cells offs mates : List ℕ} {from to : ℕ} → 
 mates-reach p = omega (arith, p .end, p .long)
 
 module _ {A B : Type 0} where
-  any-map : (p : B → Bool) (f : A → B) (xs : List A) → any p (map f xs) ≡ any (λ x. p (f x)) xs
+  pub any-map : (p : B → Bool) (f : A → B) (xs : List A) → any p (map f xs) ≡ any (λ x. p (f x)) xs
   unfolding any
   any-map p f [] = refl
   any-map p f (x ∷ xs) = rw (any-map p f xs)
 
-  any-flat : (p : B → Bool) (f : A → List B) (xs : List A) → any p (flatMap f xs) ≡ any (λ x. any p (f x)) xs
+  pub any-flat : (p : B → Bool) (f : A → List B) (xs : List A) → any p (flatMap f xs) ≡ any (λ x. any p (f x)) xs
   unfolding any flatMap
   any-flat p f [] = refl
   any-flat p f (x ∷ xs) = any-append p (f x) (flatMap f xs) ∙ rw (any-flat p f xs)

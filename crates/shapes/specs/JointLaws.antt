@@ -170,7 +170,7 @@ joint-mem true Y X y x m =
 joint-mem false Y X y x m = absurd (List·Memᴰ·not-nil m)
 
 near-joint : (h w : ℕ) (number : ℕ → ℕ) (g y x Y X : ℕ) → y < 32 → x < w → w ≤ 32
-    → placeAt Y X ∈ connectionsAt (flat h w) number g (y * w + x) → (Y < 64) × (X < 64) × (1 ≤ Y % 2 + X % 2)
+    → placeAt Y X ∈ connectionsAt (flat h w) number g (y * w + x) → (Y < 64) × (X < 64) × (Y % 2 + X % 2 ≡ 1)
 near-joint h w number g y x Y X a b c m =
     go (List·Memᴰ·append-cases (jointIf p (2 * y + 1) (2 * x))
     (subst (λ (ps : List Point). placeAt Y X ∈ ps) (connections-at h w number g (y * w + x) y x refl b) m))
@@ -182,7 +182,7 @@ near-joint h w number g y x Y X a b c m =
     q = ltb (x + 1) w && eqb (number (y * w + x + 1)) g
 
     go : placeAt Y X ∈ jointIf p (2 * y + 1) (2 * x) ⊎ placeAt Y X ∈ jointIf q (2 * y) (2 * x + 1)
-        → (Y < 64) × (X < 64) × (1 ≤ Y % 2 + X % 2)
+        → (Y < 64) × (X < 64) × (Y % 2 + X % 2 ≡ 1)
     go (inl n) = let e = joint-mem p (2 * y + 1) (2 * x) Y X n in
         (omega (arith, e .0), omega (arith, e .1), omega (arith, e .0, e .1))
     go (inr n) = let e = joint-mem q (2 * y) (2 * x + 1) Y X n in

@@ -52,4 +52,4 @@ pub record JointIn (D A : List ℕ) (j : ℕ) : Type 0 where
   pub acrosses : length A ≡ 2048
   pub down : getD D j 0 < 64
   pub across : getD A j 0 < 64
-  pub odd : 1 ≤ getD D j 0 % 2 + getD A j 0 % 2
+  pub odd : getD D j 0 % 2 + getD A j 0 % 2 ≡ 1

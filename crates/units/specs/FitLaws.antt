@@ -2,21 +2,26 @@
 use mathlib.Core.Path.{_≡_, refl, sym, ap, _∙_, subst}
 use mathlib.Core.Bool.{Bool, true, false, _||_}
 use mathlib.Core.List.{List, [], _∷_}
-use Prim.Native.Nat.{ℕ, _-_, _≤_}
+use mathlib.Core.Logic.{⊎-elim}
+use Prim.Native.Nat.{ℕ, _+_, _-_, _≤_, _<_}
 use native.Mathlib.Omega.{arith}
+use borrow.Author.Tests.{lt-ltb, le-ltb}
 use lib.Dec.{T, ltb, ltb→lt}
 use lib.ListN.{length, getD}
 use Rattle.lists.specs.Lists.{any, all}
 use Rattle.lists.specs.ListLaws.{all-mem}
 use Rattle.lists.specs.Padded.{padded}
-use Rattle.rules.specs.Page.{Mark, Puzzle, Shape}
+use Rattle.rules.specs.Page.{Mark, Point, Puzzle, Shape}
 use Rattle.rules.specs.Flat.{Sized, flat}
 use Rattle.rules.specs.Groups.{entry}
 use Rattle.rules.specs.Check.{laid}
 use Rattle.rules.specs.Shapes.{shapeOf, flatTransforms}
-use Rattle.reasons.specs.Arrays.{part}
+use Rattle.reasons.specs.Arrays.{Cells, part}
 use Rattle.search.specs.Placing.{bare, fitsOf}
-use Rattle.search.specs.Searching.{fitsAmong, fitsBeside}
+use Rattle.search.specs.ListExtras.{any-append, part-next, part-split}
+use Rattle.search.specs.SearchLaws.{any-map}
+use Rattle.search.specs.Searching.{groupIn, fitsAmong, fitsBeside}
+use Rattle.planes.specs.Extras.{le-or-lt}
 use Rattle.shapes.specs.declared.Listed.{Listed}
 use Rattle.shapes.specs.ListExtras.{mem-getD}
 use Rattle.shapes.specs.Listing.{listing}
@@ -26,9 +31,10 @@ use Rattle.shapes.specs.PartLaws.{unit-at}
 use Rattle.shapes.specs.Spots.{spots, UnitAt}
 use Rattle.shapes.specs.Joints.{Joined}
 use Rattle.shapes.specs.UnitLaws.{transforms-flat}
-use Rattle.units.specs.ListExtras.{any-map, any-cong, any-none}
+use Rattle.units.specs.ListExtras.{any-cong, any-none}
+use Rattle.units.specs.Images.{imageJoints}
 use Rattle.units.specs.ImageLaws.{image-is}
-use Rattle.units.specs.Fitting.{UnitIn, Rows, fitsBy, fitsTurned}
+use Rattle.units.specs.Fitting.{UnitIn, Rows, soonEnd, soonIn, fitsListed, fitsTurned}
 
 -- the listed rows: row 0, and the others
 row-first : (a b c : Bool) → rowsBy a b c ≡ 0 ∷ part (padded 8 0 (rowsBy a b c)) 1 (length (rowsBy a b c))
@@ -89,12 +95,47 @@ rows-listed t e = subst Rows (sym e) (facts (fixes t 1) (fixes t 3) (flipListed 
               (mem-getD (padded 8 0 (rowsBy a b c)) j 0 (omega (arith, f .1))));
         }
 
+-- row 0, then the other listed rows
+module _ (F : List Point → Bool) {h w g n k : ℕ} {ids R C D A : List ℕ} (u : UnitAt h w ids g R C n)
+    (j : Joined h w (entry ids) g D A k) where
+  abbrev shape : Shape
+  shape = shapeOf (flat h w) (entry ids) g
+
+  abbrev fit : ℕ → Bool
+  fit r = F (imageJoints r (spots R C n) (spots D A k))
+
+  listed-rows : fitsListed F shape ≡ any fit (rowsOf shape)
+  unfolding fitsListed
+  listed-rows =
+      ap (any (λ t. F (t .connections))) (transforms-flat h w (entry ids) g (u .sized .columns))
+      ∙ (any-map (λ t. F (t .connections)) (λ r. image r shape) (rowsOf shape)
+      ∙ any-cong (λ r. F (image r shape .connections)) fit (λ r. ap F (image-is u j r)) (rowsOf shape))
+
+  split : fitsListed F shape
+      ≡ fit 0 || any fit (part (listing (rowsOf shape) .rows) 1 (listing (rowsOf shape) .count))
+  unfolding any
+  split = listed-rows ∙ ap (any fit) (rows-first shape)
+
+  pub fits-first : fit 0 ≡ true → fitsListed F shape ≡ true
+  fits-first e = split ∙ rw e
+
+  pub fits-others : {r : Listed} {b : Bool} → fit 0 ≡ false → r ≡ listing (rowsOf shape)
+      → b ≡ any fit (part (r .rows) 1 (r .count)) → b ≡ fitsListed F shape
+  fits-others {r} e d c = c ∙ (ap (λ (l : Listed). any fit (part (l .rows) 1 (l .count))) d ∙ sym (split ∙ rw e))
+
+pub soon-end : (first last : ℕ) → first ≤ last → (first ≤ soonEnd first last) × (soonEnd first last ≤ last)
+soon-end first last l =
+    ⊎-elim
+    (λ (k : first + 8 ≤ last). rw (le-ltb last (first + 8) k) (omega arith, k))
+    (λ (k : last < first + 8). rw (lt-ltb last (first + 8) k) (l, omega arith))
+    (le-or-lt (first + 8) last)
+
 module _ (Z : Puzzle) (s : ℕ → Mark) (cells offs : List ℕ) where
   -- a placement looks at the connections only
-  fits-bare : (t : Shape) (gs : List ℕ)
-      → fitsBeside Z s (bare (t .connections)) cells offs gs ≡ fitsBeside Z s t cells offs gs
-  unfolding fitsBeside fitsAmong fitsOf laid
-  fits-bare t gs = refl
+  pub turned-listed : (gs : List ℕ) (t : Shape)
+      → fitsListed (λ js. fitsBeside Z s (bare js) cells offs gs) t ≡ fitsTurned Z s cells offs gs t
+  unfolding fitsListed fitsTurned fitsBeside fitsAmong fitsOf laid
+  turned-listed gs t = refl
 
   -- no adjacent unit
   fits-none : (t : Shape) → fitsBeside Z s t cells offs [] ≡ false
@@ -105,36 +146,46 @@ module _ (Z : Puzzle) (s : ℕ → Mark) (cells offs : List ℕ) where
   unfolding fitsTurned
   turned-none t e = rw e (any-none _ fits-none (flatTransforms t))
 
-  module _ {h w g n k : ℕ} {ids R C D A : List ℕ} (u : UnitAt h w ids g R C n) (j : Joined h w (entry ids) g D A k)
-      (gs : List ℕ) where
-    abbrev shape : Shape
-    shape = shapeOf (flat h w) (entry ids) g
+  -- the first cells of the first group
+  soon-group : (t : Shape) (Q : ℕ) → getD offs Q 0 ≤ getD offs (Q + 1) 0
+      → fitsAmong Z s t (soonIn cells offs Q) ≡ true → fitsAmong Z s t (groupIn cells offs Q) ≡ true
+  unfolding fitsAmong soonIn groupIn
+  soon-group t Q l e =
+      let first = getD offs Q 0 in
+      let last = getD offs (Q + 1) 0 in
+      let end = soonEnd first last in
+      let b = soon-end first last l in
+      ap (any (fitsOf Z s t)) (part-split cells first end last (b .0) (b .1))
+      ∙ (any-append (fitsOf Z s t) (part cells first end) (part cells end last) ∙ rw e)
 
-    abbrev fit : ℕ → Bool
-    fit r = fitsBy Z s cells offs gs (spots R C n) (spots D A k) r
+  pub soon-beside : (t : Shape) (mates : List ℕ) {from to : ℕ} → from < to → to ≤ length mates
+      → getD offs (getD mates from 0) 0 ≤ getD offs (getD mates from 0 + 1) 0
+      → fitsAmong Z s t (soonIn cells offs (getD mates from 0)) ≡ true
+      → fitsBeside Z s t cells offs (part mates from to) ≡ true
+  unfolding fitsBeside any
+  soon-beside t mates {from} {to} h k l e =
+      ap (any (λ Q. fitsAmong Z s t (groupIn cells offs Q))) (part-next mates from to h k)
+      ∙ rw (soon-group t (getD mates from 0) l e)
 
-    turned-rows : fitsTurned Z s cells offs gs shape ≡ any fit (rowsOf shape)
-    unfolding fitsTurned fitsBy
-    turned-rows =
-        ap (any (λ t. fitsBeside Z s t cells offs gs)) (transforms-flat h w (entry ids) g (u .sized .columns))
-        ∙ (any-map (λ t. fitsBeside Z s t cells offs gs) (λ r. image r shape) (rowsOf shape)
-        ∙ any-cong (λ r. fitsBeside Z s (image r shape) cells offs gs) fit
-        (λ r.
-        sym (fits-bare (image r shape) gs)
-        ∙ ap (λ js. fitsBeside Z s (bare js) cells offs gs) (image-is u j r)) (rowsOf shape))
+  -- row 0 fits at once
+  pub soon-turned : {h w g n k : ℕ} {ids R C D A : List ℕ} → UnitAt h w ids g R C n → Joined h w (entry ids) g D A k
+      → (gs : List ℕ) {js : List Point} → js ≡ imageJoints 0 (spots R C n) (spots D A k)
+      → fitsBeside Z s (bare js) cells offs gs ≡ true
+      → fitsTurned Z s cells offs gs (shapeOf (flat h w) (entry ids) g) ≡ true
+  soon-turned {h} {w} {g} {ids = ids} u j gs e b =
+      sym (turned-listed gs (shapeOf (flat h w) (entry ids) g))
+      ∙ fits-first (λ js. fitsBeside Z s (bare js) cells offs gs) u j (rw (← e) b)
 
-    -- row 0, then the others
-    split : fitsTurned Z s cells offs gs shape
-        ≡ fit 0 || any fit (part (listing (rowsOf shape) .rows) 1 (listing (rowsOf shape) .count))
-    unfolding any
-    split = turned-rows ∙ ap (any fit) (rows-first shape)
-
-    pub fits-first : fit 0 ≡ true → fitsTurned Z s cells offs gs shape ≡ true
-    fits-first e = split ∙ rw e
-
-    pub fits-others : {r : Listed} {b : Bool} → fit 0 ≡ false → r ≡ listing (rowsOf shape)
-        → b ≡ any fit (part (r .rows) 1 (r .count)) → b ≡ fitsTurned Z s cells offs gs shape
-    fits-others {r} e d c = c ∙ (ap (λ (l : Listed). any fit (part (l .rows) 1 (l .count))) d ∙ sym (split ∙ rw e))
+pub soon-cells : {h w first last : ℕ} {cells : List ℕ} → Cells h w cells first last
+    → Cells h w cells first (soonEnd first last)
+soon-cells {first = first} {last = last} c =
+    let b = soon-end first last (c .order) in
+    record {
+      long = c .long;
+      order = b .0;
+      end = omega (arith, b .1, c .end);
+      each = λ i l. c .each i (omega (arith, b .1));
+    }
 
 -- what the unit's part gives to its places
 module _ {h w : ℕ} {ids : List ℕ} {g : ℕ} {cells : List ℕ} {first last : ℕ} (z : Sized h w)

@@ -3,12 +3,15 @@
 --   Lent R C D A Y X    the lengths of the lent memory: rows and columns, doubled places, raised doubled places
 --   UnitIn h w ids g cells first last   the places first to last of the list are the cells of unit g, at least one
 --   Rows r              a list of at most eight rows of the table, at least one
---   fitsBy              the unit's image by a row of the table fits at a cell of one of the groups
---   fitsTurned          one of a shape's listed transforms does
+--   soonEnd first last  where the first eight of the places first to last end
+--   soonIn cells offs Q the first eight cells of group Q
+--   fitsListed F t      F holds of the connections of one of the shape's listed transforms
+--   fitsTurned          one of them fits at a cell of one of the groups
 use mathlib.Core.Path.{_≡_}
-use mathlib.Core.Bool.{Bool}
+use mathlib.Core.Bool.{Bool, cond}
 use mathlib.Core.List.{List}
-use Prim.Native.Nat.{ℕ, _<_, _≤_}
+use Prim.Native.Nat.{ℕ, _+_, _<_, _≤_}
+use lib.Dec.{ltb}
 use lib.ListN.{length, getD}
 use Rattle.lists.specs.Lists.{any}
 use Rattle.rules.specs.Page.{Mark, Point, Puzzle, Shape}
@@ -16,10 +19,8 @@ use Rattle.rules.specs.Flat.{flat}
 use Rattle.rules.specs.Groups.{entry, members}
 use Rattle.rules.specs.Shapes.{flatTransforms}
 use Rattle.reasons.specs.Arrays.{part}
-use Rattle.search.specs.Placing.{bare}
 use Rattle.search.specs.Searching.{fitsBeside}
 use Rattle.shapes.specs.declared.Listed.{Listed}
-use Rattle.units.specs.Images.{imageJoints}
 
 pub record Lent (R C D A Y X : List ℕ) : Type 0 where
   pub rows : length R ≡ 1024
@@ -42,10 +43,14 @@ pub record Rows (r : Listed) : Type 0 where
   pub few : r .count ≤ 8
   pub low : (j : ℕ) → j < r .count → getD (r .rows) j 0 < 8
 
-module _ (Z : Puzzle) (s : ℕ → Mark) (cells offs mates : List ℕ) where
-  -- places, connections, row
-  unfoldable pub fitsBy : List Point → List Point → ℕ → Bool
-  fitsBy ps js r = fitsBeside Z s (bare (imageJoints r ps js)) cells offs mates
+abbrev pub soonEnd : ℕ → ℕ → ℕ
+soonEnd first last = cond (ltb last (first + 8)) last (first + 8)
 
-  unfoldable pub fitsTurned : Shape → Bool
-  fitsTurned t = any (λ u. fitsBeside Z s u cells offs mates) (flatTransforms t)
+unfoldable pub soonIn : List ℕ → List ℕ → ℕ → List ℕ
+soonIn cells offs Q = part cells (getD offs Q 0) (soonEnd (getD offs Q 0) (getD offs (Q + 1) 0))
+
+unfoldable pub fitsListed : (List Point → Bool) → Shape → Bool
+fitsListed F t = any (λ u. F (u .connections)) (flatTransforms t)
+
+unfoldable pub fitsTurned : Puzzle → (ℕ → Mark) → List ℕ → List ℕ → List ℕ → Shape → Bool
+fitsTurned Z s cells offs mates t = any (λ u. fitsBeside Z s u cells offs mates) (flatTransforms t)

@@ -3,6 +3,8 @@ pub mod Images
 pub mod ImageLaws
 pub mod Fitting
 pub mod FitLaws
+pub mod Held
+pub mod HeldLaws
 pub mod Stuck
 pub mod StuckLaws
 pub mod ReadyLaws

@@ -1,24 +1,12 @@
--- Lists: tests of mapped lists and of lists put together, and the numbers below a bound as a table.
+-- Lists: tests of a list's elements, and the numbers below a bound as a table.
 use mathlib.Core.Path.{_≡_, refl, ap, _∙_}
 use mathlib.Core.Bool.{Bool, false}
 use mathlib.Core.List.{List, [], _∷_, _++_, map}
 use Prim.Native.Nat.{ℕ, zero, suc, _+_}
 use native.Mathlib.Omega.{arith}
-use Rattle.lists.specs.Lists.{any, flatMap, range, rangeFrom}
+use Rattle.lists.specs.Lists.{any, range, rangeFrom}
 use Rattle.lists.specs.Table.{table}
 use Rattle.shapes.specs.ListExtras.{map-append}
-use Rattle.search.specs.ListExtras.{any-append}
-
-module _ {A B : Type 0} where
-  pub any-map : (p : B → Bool) (f : A → B) (xs : List A) → any p (map f xs) ≡ any (λ x. p (f x)) xs
-  unfolding any
-  any-map p f [] = refl
-  any-map p f (x ∷ xs) = rw (any-map p f xs)
-
-  pub any-flat : (p : B → Bool) (f : A → List B) (xs : List A) → any p (flatMap f xs) ≡ any (λ x. any p (f x)) xs
-  unfolding any flatMap
-  any-flat p f [] = refl
-  any-flat p f (x ∷ xs) = any-append p (f x) (flatMap f xs) ∙ rw (any-flat p f xs)
 
 module _ {A : Type 0} where
   pub any-cong : (f g : A → Bool) → ((x : A) → f x ≡ g x) → (xs : List A) → any f xs ≡ any g xs

@@ -27,10 +27,10 @@ use Rattle.groups.specs.PartLaws.{ids-entry, ids-length, ids-lt, count-le, offs
 use Rattle.groups.specs.PartLaws.{cells-lt, part-members, cell-at}
 use Rattle.search.specs.Placing.{puzzle}
 use Rattle.search.specs.Searching.{Beside, fitsBeside}
-use Rattle.search.specs.SearchLaws.{placed-fits, mates-low, beside-of}
+use Rattle.search.specs.SearchLaws.{any-flat, placed-fits, mates-low, beside-of}
 use Rattle.search.specs.GatherLaws.{listed-part}
 use Rattle.search.specs.Mates.{Known, Grouped}
-use Rattle.units.specs.ListExtras.{any-flat, any-cong}
+use Rattle.units.specs.ListExtras.{any-cong}
 use Rattle.units.specs.Fitting.{UnitIn, fitsTurned}
 use Rattle.units.specs.Stuck.{Ready, headOf, fitsOn, fitsUnit}
 

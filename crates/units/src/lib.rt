@@ -1,29 +1,32 @@
 // Step 3 of the check: the first unit for which no placement fits.
+mod listed; // listed.rt: the listed transforms of a unit, at the origins of a mask
+
 ghost use mathlib.Core.Path.{_≡_};
-ghost use Prim.Native.Nat.{_<_};
+ghost use Prim.Native.Nat.{_+_, _<_};
 ghost use lib.ListN.{length, getD};
 ghost use lib.Signed.{mag};
-ghost use Rattle.lists.specs.Lists.{any};
 ghost use Rattle.rules.specs.Codes.{marksIn};
 ghost use Rattle.rules.specs.Flat.{flat};
 ghost use Rattle.rules.specs.Groups.{entry};
 ghost use Rattle.rules.specs.Shapes.{shapeOf};
-ghost use Rattle.reasons.specs.Arrays.{part};
-ghost use Rattle.search.specs.Placing.{Drawn, Raised, puzzle, spelled};
-ghost use Rattle.search.specs.Searching.{Beside};
-ghost use Rattle.shapes.specs.Spots.{spots, Spotted};
+ghost use Rattle.search.specs.Placing.{Drawn, Raised, puzzle, bare, spelled};
+ghost use Rattle.search.specs.Searching.{Beside, fitsAmong};
+ghost use Rattle.shapes.specs.Joints.{Joined};
+ghost use Rattle.shapes.specs.Spots.{spots, Spotted, UnitAt};
 ghost use Rattle.units.specs.Images.{raiseOf, imageJoints, Jointed};
-ghost use Rattle.units.specs.Fitting.{Lent, UnitIn, Rows, fitsBy, fitsTurned};
+ghost use Rattle.units.specs.Fitting.{Lent, UnitIn, soonEnd, soonIn, fitsTurned};
+ghost use Rattle.units.specs.Held.{matesIn, Held, HeldOf};
 ghost use Rattle.units.specs.Stuck.{Ready, fitsUnit, firstFail};
 ghost use Rattle.groups.specs.Kinds.{joinsIn};
 ghost use Rattle.groups.specs.Parts.{groupsOf};
 ghost use Rattle.groups.specs.declared.Kind.the-variants.{Units};
-use search::fits_mates;
+use crate::listed::listed_fit;
+use planes::draw_mask;
+use planes::draw_planes;
+use search::fits_group;
 use search::turn;
-use shapes::Listed;
 use shapes::joints;
 use shapes::least;
-use shapes::list_rows;
 use shapes::places;
 
 // The eight rows of the table: whether the coordinates change places, and whether the new ones change sign.
@@ -79,197 +82,6 @@ pub fn turn_row<'a>(
     );
 }
 
-// Whether the unit's image by a row of the table fits at a cell of one of the groups that the list of mates has from
-// the place `from` to the place `to`.
-fn row_fits<'a>(
-    h: usize,
-    w: usize,
-    colours: &'a [u8; 1024],
-    borders: &'a [u8; 1984],
-    row: usize,
-    rows: &'a [u16; 1024],
-    columns: &'a [u16; 1024],
-    n: usize,
-    down: &'a [u16; 2048],
-    across: &'a [u16; 2048],
-    k: usize,
-    ys: &mut [u8; 2048],
-    xs: &mut [u8; 2048],
-    cells: &'a [u16; 1024],
-    offs: &'a [u16; 1025],
-    mates: &'a [u16; 4096],
-    from: usize,
-    to: usize,
-) -> bool
-    requires { ⌜ (row < 8) × Drawn h w (now colours) × Spotted (now rows) (now columns) n
-        × Jointed (now down) (now across) k × Beside h w (now cells) (now offs) (now mates) from to
-        × (length (now ys) ≡ 2048) × (length (now xs) ≡ 2048) ⌝ }
-    ensures { λ r. ⌜ (r ≡ fitsBy (puzzle h w (now (colours .entry))) (marksIn (now (borders .entry)))
-        (now (cells .entry)) (now (offs .entry)) (part (now (mates .entry)) from to)
-        (spots (now (rows .entry)) (now (columns .entry)) n) (spots (now (down .entry)) (now (across .entry)) k) row)
-        × (length (now (ys .exit)) ≡ 2048) × (length (now (xs .exit)) ≡ 2048) ⌝ }
-{
-    turn_row(row, rows, columns, n, down, across, k, ys, xs);
-    fits_mates(
-        h,
-        w,
-        colours,
-        borders,
-        ys,
-        xs,
-        k,
-        cells,
-        offs,
-        mates,
-        from,
-        to,
-    )
-}
-
-// Whether the unit's image by one of the listed rows after the first fits there.
-fn others_fit<'a>(
-    h: usize,
-    w: usize,
-    colours: &'a [u8; 1024],
-    borders: &'a [u8; 1984],
-    listed: Listed,
-    rows: &'a [u16; 1024],
-    columns: &'a [u16; 1024],
-    n: usize,
-    down: &'a [u16; 2048],
-    across: &'a [u16; 2048],
-    k: usize,
-    ys: &mut [u8; 2048],
-    xs: &mut [u8; 2048],
-    cells: &'a [u16; 1024],
-    offs: &'a [u16; 1025],
-    mates: &'a [u16; 4096],
-    from: usize,
-    to: usize,
-) -> bool
-    requires { ⌜ Rows listed × Drawn h w (now colours) × Spotted (now rows) (now columns) n
-        × Jointed (now down) (now across) k × Beside h w (now cells) (now offs) (now mates) from to
-        × (length (now ys) ≡ 2048) × (length (now xs) ≡ 2048) ⌝ }
-    ensures { λ r. ⌜ (r ≡ any (fitsBy (puzzle h w (now (colours .entry))) (marksIn (now (borders .entry)))
-        (now (cells .entry)) (now (offs .entry)) (part (now (mates .entry)) from to)
-        (spots (now (rows .entry)) (now (columns .entry)) n) (spots (now (down .entry)) (now (across .entry)) k))
-        (part (listed .rows) 1 (listed .count)))
-        × (length (now (ys .exit)) ≡ 2048) × (length (now (xs .exit)) ≡ 2048) ⌝ }
-{
-    let count = listed.count;
-    let mut j: usize = 1;
-    while j < count {
-        let row = listed.rows[j];
-        if row_fits(
-            h,
-            w,
-            colours,
-            borders,
-            row as usize,
-            rows,
-            columns,
-            n,
-            down,
-            across,
-            k,
-            ys,
-            xs,
-            cells,
-            offs,
-            mates,
-            from,
-            to,
-        ) {
-            return true;
-        }
-        j += 1;
-    }
-    false
-}
-
-// Whether a listed transform of unit `g` fits at a cell of one of the groups that the list of mates has from the place
-// `from` to the place `to`. The unit's cells stand from the place `first` of the list of units to the place `last`.
-pub fn unit_fits<'a>(
-    h: usize,
-    w: usize,
-    colours: &'a [u8; 1024],
-    borders: &'a [u8; 1984],
-    ids: &'a [u16; 1024],
-    g: usize,
-    units: &'a [u16; 1024],
-    first: usize,
-    last: usize,
-    cells: &'a [u16; 1024],
-    offs: &'a [u16; 1025],
-    mates: &'a [u16; 4096],
-    from: usize,
-    to: usize,
-    rows: &mut [u16; 1024],
-    columns: &mut [u16; 1024],
-    down: &mut [u16; 2048],
-    across: &mut [u16; 2048],
-    ys: &mut [u8; 2048],
-    xs: &mut [u8; 2048],
-) -> bool
-    requires { ⌜ Drawn h w (now colours) × UnitIn h w (now ids) g (now units) first last
-        × Beside h w (now cells) (now offs) (now mates) from to
-        × Lent (now rows) (now columns) (now down) (now across) (now ys) (now xs) ⌝ }
-    ensures { λ r. ⌜ (r ≡ fitsTurned (puzzle h w (now (colours .entry))) (marksIn (now (borders .entry)))
-        (now (cells .entry)) (now (offs .entry)) (part (now (mates .entry)) from to)
-        (shapeOf (flat h w) (entry (now (ids .entry))) g))
-        × Lent (now (rows .exit)) (now (columns .exit)) (now (down .exit)) (now (across .exit)) (now (ys .exit))
-        (now (xs .exit)) ⌝ }
-{
-    if from == to {
-        return false;
-    }
-    let n = places(units, first, last, w, rows, columns);
-    let k = joints(ids, h, w, g, rows, columns, n, down, across);
-    if row_fits(
-        h,
-        w,
-        colours,
-        borders,
-        0,
-        rows,
-        columns,
-        n,
-        down,
-        across,
-        k,
-        ys,
-        xs,
-        cells,
-        offs,
-        mates,
-        from,
-        to,
-    ) {
-        return true;
-    }
-    let listed = list_rows(ids, h, w, g, rows, columns, n);
-    others_fit(
-        h,
-        w,
-        colours,
-        borders,
-        listed,
-        rows,
-        columns,
-        n,
-        down,
-        across,
-        k,
-        ys,
-        xs,
-        cells,
-        offs,
-        mates,
-        from,
-        to,
-    )
-}
-
 // The number as an index.
 fn wide(x: u16) -> usize
     ensures { λ r. ⌜ r ≡ x ⌝ }
@@ -291,6 +103,247 @@ fn start_at(offs: &[u16; 1025], i: usize) -> usize
     ensures { λ r. ⌜ r ≡ getD (now (offs .entry)) i 0 ⌝ }
 {
     wide(offs[i])
+}
+
+// Where the first eight cells of a group end, which stand from `first` to `last`.
+fn soon_end(first: usize, last: usize) -> usize
+    requires { ⌜ first < 65536 ⌝ }
+    ensures { λ r. ⌜ r ≡ soonEnd first last ⌝ }
+{
+    if last < first + 8 {
+        return last;
+    }
+    first + 8
+}
+
+// Whether a transform fits at one of the first eight cells of the group that the list of mates has at the place `from`.
+fn fits_soon<'a>(
+    h: usize,
+    w: usize,
+    colours: &'a [u8; 1024],
+    borders: &'a [u8; 1984],
+    ys: &'a [u8; 2048],
+    xs: &'a [u8; 2048],
+    k: usize,
+    cells: &'a [u16; 1024],
+    offs: &'a [u16; 1025],
+    mates: &'a [u16; 4096],
+    from: usize,
+    to: usize,
+) -> bool
+    requires { ⌜ Drawn h w (now colours) × Raised (now ys) (now xs) k
+        × Beside h w (now cells) (now offs) (now mates) from to × (from < to) ⌝ }
+    ensures { λ r. ⌜ r ≡ fitsAmong (puzzle h w (now (colours .entry))) (marksIn (now (borders .entry)))
+        (bare (spelled (now (ys .entry)) (now (xs .entry)) k))
+        (soonIn (now (cells .entry)) (now (offs .entry)) (getD (now (mates .entry)) from 0)) ⌝ }
+{
+    let q = wide(mates[from]);
+    let first = wide(offs[q]);
+    let last = wide(offs[q + 1]);
+    fits_group(
+        h,
+        w,
+        colours,
+        borders,
+        ys,
+        xs,
+        k,
+        cells,
+        first,
+        soon_end(first, last),
+    )
+}
+
+// Makes planes and mask those of the page and of the potential unit `p`: its mates start at `starts`.
+fn prepare<'a>(
+    h: usize,
+    w: usize,
+    colours: &'a [u8; 1024],
+    borders: &'a [u8; 1984],
+    cells: &'a [u16; 1024],
+    offs: &'a [u16; 1025],
+    mates: &'a [u16; 4096],
+    starts: &'a [u16; 1025],
+    p: usize,
+    planes: &mut [u64; 192],
+    mask: &mut [u64; 33],
+)
+    requires { ⌜ Drawn h w (now colours) × (p < 1024)
+        × Beside h w (now cells) (now offs) (now mates) (getD (now starts) p 0) (getD (now starts) (p + 1) 0)
+        × Held h w (now colours) (now borders) (now cells) (now offs) (now mates) (now starts) (now planes)
+        (now mask) ⌝ }
+    ensures { λ r. ⌜ HeldOf h w (now (colours .entry)) (now (borders .entry)) (now (cells .entry))
+        (now (offs .entry)) (now (mates .entry)) (now (starts .entry)) p (now (planes .exit)) (now (mask .exit)) ⌝ }
+{
+    let name = mask[32];
+    if name == p as u64 + 1 {
+        return;
+    }
+    if name == 0 {
+        draw_planes(h, w, colours, borders, planes);
+    }
+    let from = start_at(starts, p);
+    let to = start_at(starts, p + 1);
+    draw_mask(h, w, cells, offs, mates, from, to, p as u64 + 1, mask);
+}
+
+// Whether a listed transform of unit `g` fits at a cell of one of the potential units adjacent to potential unit `p`:
+// there is one, and `starts` says where they start. The unit's `n` cells stand in rows and columns, its `k` connections
+// in down and across.
+fn written_fits<'a>(
+    h: usize,
+    w: usize,
+    colours: &'a [u8; 1024],
+    borders: &'a [u8; 1984],
+    ids: &'a [u16; 1024],
+    g: usize,
+    cells: &'a [u16; 1024],
+    offs: &'a [u16; 1025],
+    mates: &'a [u16; 4096],
+    starts: &'a [u16; 1025],
+    p: usize,
+    rows: &'a [u16; 1024],
+    columns: &'a [u16; 1024],
+    n: usize,
+    down: &'a [u16; 2048],
+    across: &'a [u16; 2048],
+    k: usize,
+    ys: &mut [u8; 2048],
+    xs: &mut [u8; 2048],
+    planes: &mut [u64; 192],
+    mask: &mut [u64; 33],
+) -> bool
+    requires { ⌜ Drawn h w (now colours) × UnitAt h w (now ids) g (now rows) (now columns) n
+        × Joined h w (entry (now ids)) g (now down) (now across) k × (p < 1024)
+        × Beside h w (now cells) (now offs) (now mates) (getD (now starts) p 0) (getD (now starts) (p + 1) 0)
+        × (getD (now starts) p 0 < getD (now starts) (p + 1) 0)
+        × Held h w (now colours) (now borders) (now cells) (now offs) (now mates) (now starts) (now planes)
+        (now mask)
+        × (length (now ys) ≡ 2048) × (length (now xs) ≡ 2048) ⌝ }
+    ensures { λ r. ⌜ (r ≡ fitsTurned (puzzle h w (now (colours .entry))) (marksIn (now (borders .entry)))
+        (now (cells .entry)) (now (offs .entry)) (matesIn (now (mates .entry)) (now (starts .entry)) p)
+        (shapeOf (flat h w) (entry (now (ids .entry))) g))
+        × Held h w (now (colours .entry)) (now (borders .entry)) (now (cells .entry)) (now (offs .entry))
+        (now (mates .entry)) (now (starts .entry)) (now (planes .exit)) (now (mask .exit))
+        × (length (now (ys .exit)) ≡ 2048) × (length (now (xs .exit)) ≡ 2048) ⌝ }
+{
+    let from = start_at(starts, p);
+    let to = start_at(starts, p + 1);
+    turn_row(0, rows, columns, n, down, across, k, ys, xs);
+    if fits_soon(
+        h,
+        w,
+        colours,
+        borders,
+        ys,
+        xs,
+        k,
+        cells,
+        offs,
+        mates,
+        from,
+        to,
+    ) {
+        return true;
+    }
+    prepare(
+        h,
+        w,
+        colours,
+        borders,
+        cells,
+        offs,
+        mates,
+        starts,
+        p,
+        planes,
+        mask,
+    );
+    listed_fit(
+        h,
+        w,
+        planes,
+        mask,
+        ids,
+        g,
+        rows,
+        columns,
+        n,
+        down,
+        across,
+        k,
+        ys,
+        xs,
+    )
+}
+
+// Whether a listed transform of unit `g` fits at a cell of one of the potential units adjacent to potential unit `p`,
+// which start at `starts`. The unit's cells stand from the place `first` of the list of units to the place `last`.
+fn unit_fits<'a>(
+    h: usize,
+    w: usize,
+    colours: &'a [u8; 1024],
+    borders: &'a [u8; 1984],
+    ids: &'a [u16; 1024],
+    g: usize,
+    units: &'a [u16; 1024],
+    first: usize,
+    last: usize,
+    cells: &'a [u16; 1024],
+    offs: &'a [u16; 1025],
+    mates: &'a [u16; 4096],
+    starts: &'a [u16; 1025],
+    p: usize,
+    rows: &mut [u16; 1024],
+    columns: &mut [u16; 1024],
+    down: &mut [u16; 2048],
+    across: &mut [u16; 2048],
+    ys: &mut [u8; 2048],
+    xs: &mut [u8; 2048],
+    planes: &mut [u64; 192],
+    mask: &mut [u64; 33],
+) -> bool
+    requires { ⌜ Drawn h w (now colours) × UnitIn h w (now ids) g (now units) first last × (p < 1024)
+        × Beside h w (now cells) (now offs) (now mates) (getD (now starts) p 0) (getD (now starts) (p + 1) 0)
+        × Lent (now rows) (now columns) (now down) (now across) (now ys) (now xs)
+        × Held h w (now colours) (now borders) (now cells) (now offs) (now mates) (now starts) (now planes)
+        (now mask) ⌝ }
+    ensures { λ r. ⌜ (r ≡ fitsTurned (puzzle h w (now (colours .entry))) (marksIn (now (borders .entry)))
+        (now (cells .entry)) (now (offs .entry)) (matesIn (now (mates .entry)) (now (starts .entry)) p)
+        (shapeOf (flat h w) (entry (now (ids .entry))) g))
+        × Lent (now (rows .exit)) (now (columns .exit)) (now (down .exit)) (now (across .exit)) (now (ys .exit))
+        (now (xs .exit))
+        × Held h w (now (colours .entry)) (now (borders .entry)) (now (cells .entry)) (now (offs .entry))
+        (now (mates .entry)) (now (starts .entry)) (now (planes .exit)) (now (mask .exit)) ⌝ }
+{
+    if start_at(starts, p) == start_at(starts, p + 1) {
+        return false;
+    }
+    let n = places(units, first, last, w, rows, columns);
+    let k = joints(ids, h, w, g, rows, columns, n, down, across);
+    written_fits(
+        h,
+        w,
+        colours,
+        borders,
+        ids,
+        g,
+        cells,
+        offs,
+        mates,
+        starts,
+        p,
+        rows,
+        columns,
+        n,
+        down,
+        across,
+        k,
+        ys,
+        xs,
+        planes,
+        mask,
+    )
 }
 
 // Whether a placement of unit `u` fits. The units' cells stand in `units` and start at `unit_offs`, those of the
@@ -315,21 +368,25 @@ fn fits_at<'a>(
     across: &mut [u16; 2048],
     ys: &mut [u8; 2048],
     xs: &mut [u8; 2048],
+    planes: &mut [u64; 192],
+    mask: &mut [u64; 33],
 ) -> bool
     requires { ⌜ Ready h w (now colours) (now borders) (now ids) (now units) (now «unit_offs») (now potential)
         (now cells) (now offs) (now mates) (now starts)
         × (u < groupsOf (flat h w) (joinsIn Units h w (now colours) (now borders)) .count)
-        × Lent (now rows) (now columns) (now down) (now across) (now ys) (now xs) ⌝ }
+        × Lent (now rows) (now columns) (now down) (now across) (now ys) (now xs)
+        × Held h w (now colours) (now borders) (now cells) (now offs) (now mates) (now starts) (now planes)
+        (now mask) ⌝ }
     ensures { λ r. ⌜ (r ≡ fitsUnit (puzzle h w (now (colours .entry))) (marksIn (now (borders .entry))) u)
         × Lent (now (rows .exit)) (now (columns .exit)) (now (down .exit)) (now (across .exit)) (now (ys .exit))
-        (now (xs .exit)) ⌝ }
+        (now (xs .exit))
+        × Held h w (now (colours .entry)) (now (borders .entry)) (now (cells .entry)) (now (offs .entry))
+        (now (mates .entry)) (now (starts .entry)) (now (planes .exit)) (now (mask .exit)) ⌝ }
 {
     let first = start_at(unit_offs, u);
     let last = start_at(unit_offs, u + 1);
     let c = number_at(units, first);
     let p = number_at(potential, c);
-    let from = start_at(starts, p);
-    let to = start_at(starts, p + 1);
     unit_fits(
         h,
         w,
@@ -343,14 +400,16 @@ fn fits_at<'a>(
         cells,
         offs,
         mates,
-        from,
-        to,
+        starts,
+        p,
         rows,
         columns,
         down,
         across,
         ys,
         xs,
+        planes,
+        mask,
     )
 }
 
@@ -386,6 +445,8 @@ pub fn first_stuck<'a>(
         × Lent (now (rows .exit)) (now (columns .exit)) (now (down .exit)) (now (across .exit)) (now (ys .exit))
         (now (xs .exit)) ⌝ }
 {
+    let mut planes = [0u64; 192];
+    let mut mask = [0u64; 33];
     let mut u = 0;
     while u < count {
         if fits_at(
@@ -408,6 +469,8 @@ pub fn first_stuck<'a>(
             across,
             ys,
             xs,
+            &mut planes,
+            &mut mask,
         ) {
             u += 1;
         } else {

@@ -6,6 +6,8 @@ use native.Mathlib.Omega.{arith}
 use Rattle.rules.specs.Codes.{marksIn}
 use Rattle.search.specs.Placing.{puzzle}
 use Rattle.units.specs.Fitting.{Lent}
+use Rattle.units.specs.Held.{Held}
+use Rattle.units.specs.HeldLaws.{held-start}
 use Rattle.units.specs.Stuck.{fitsUnit, firstFail, firstFrom}
 use Rattle.units.specs.StuckLaws.{fail-start, fail-done, fail-here, fail-next}
 use Rattle.units.specs.ReadyLaws.{unit-few}
@@ -14,40 +16,48 @@ use Rattle.units.proofs.first_stuck.Tie as tie
 
 abbrev Inv-loop : tie.InvT-loop
 Inv-loop h w colours borders ids units unit-offs count potential cells offs mates starts rows₀ columns₀ down₀ across₀
-    ys₀ xs₀ u₀ rows columns down across ys xs u =
+    ys₀ xs₀ planes₀ mask₀ u₀ rows columns down across ys xs planes mask u =
     (u ≤ count) × Lent rows columns down across ys xs ×
     (firstFail (fitsUnit (puzzle h w colours) (marksIn borders)) count
     ≡ firstFrom (fitsUnit (puzzle h w colours) (marksIn borders)) u (count - u))
+    × Held h w colours borders cells offs mates starts planes mask
 
 abbrev μ-loop : tie.MeasureT-loop
 μ-loop h w colours borders ids units unit-offs count potential cells offs mates starts rows₀ columns₀ down₀ across₀
-    ys₀ xs₀ u₀ rows columns down across ys xs u = count - u
+    ys₀ xs₀ planes₀ mask₀ u₀ rows columns down across ys xs planes mask u = count - u
 
 -- the test of a unit
 abbrev test : tie.Start Inv-loop μ-loop → ℕ → Bool
 test s = fitsUnit (puzzle (s .args .h) (s .args .w) (s .args .colours .now)) (marksIn (s .args .borders .now))
 
 loop-holds : tie.Need-loop-holds Inv-loop μ-loop
-loop-holds c = (omega arith, c .pre .2, fail-start (test c) (c .args .count))
+loop-holds c = (
+  omega arith,
+  c .pre .2,
+  fail-start (test c) (c .args .count),
+  held-start (c .args .h) (c .args .w) (c .args .colours .now) (c .args .borders .now) (c .args .cells .now)
+      (c .args .offs .now) (c .args .mates .now) (c .args .starts .now),
+)
 
 fits-at-requires : tie.Need-fits-at-requires Inv-loop μ-loop
 fits-at-requires c κs =
-    let t = c .before .before .before .before .before .before in
+    let t = c .before .before .before .before .before .before .before .before in
     let s = t .before .before in
-    (s .pre .0, rw (s .pre .1) at (t .loop-test .taken), t .before .loop .inv .1)
+    (s .pre .0, rw (s .pre .1) at (t .loop-test .taken), t .before .loop .inv .1, t .before .loop .inv .3)
 
 add-u : tie.Need-add-u Inv-loop μ-loop
 add-u c =
-    let t = c .before .before .before .before .before .before .before .before in
+    let t = c .before .before .before .before .before .before .before .before .before .before in
     let s = t .before .before in omega (arith, t .loop-test .taken, s .pre .1, unit-few (s .pre .0))
 
 loop-less : tie.Need-loop-less Inv-loop μ-loop
 loop-less c =
-    let t = c .before .before .before .before .before .before .before .before in omega (arith, t .loop-test .taken)
+    let t = c .before .before .before .before .before .before .before .before .before .before in
+    omega (arith, t .loop-test .taken)
 
 loop-again : tie.Need-loop-again Inv-loop μ-loop
 loop-again c =
-    let t = c .before .before .before .before .before .before .before .before in
+    let t = c .before .before .before .before .before .before .before .before .before .before in
     let l = t .before in
     let s = l .before in
     let e = c .before .fits-at .ensures in (
@@ -55,11 +65,12 @@ loop-again c =
       e .1,
       fail-next (test s) (s .args .count) (l .loop .u) (l .loop .inv .2) (t .loop-test .taken)
           (sym (e .0) ∙ c .if1 .taken),
+      e .2,
     )
 
 returns : tie.Need-returns Inv-loop μ-loop
 returns c =
-    let t = c .before .before .before .before .before .before .before .before in
+    let t = c .before .before .before .before .before .before .before .before .before .before in
     let l = t .before in
     let s = l .before in
     let e = c .before .fits-at .ensures in (

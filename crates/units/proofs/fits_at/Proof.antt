@@ -1,6 +1,5 @@
--- The entries that are read are the unit's part, its potential unit, and that one's part of the list of mates.
-use mathlib.Core.Path.{_≡_, ap, ap₂, _∙_}
-use Prim.Native.Nat.{_+_}
+-- The entries that are read are the unit's part and its potential unit.
+use mathlib.Core.Path.{_≡_, ap, _∙_}
 use native.Mathlib.Omega.{arith}
 use lib.ListN.{getD}
 use Rattle.rules.specs.Codes.{marksIn}
@@ -8,9 +7,9 @@ use Rattle.rules.specs.Flat.{flat}
 use Rattle.rules.specs.FlatLaws.{counts}
 use Rattle.rules.specs.Groups.{entry}
 use Rattle.rules.specs.Shapes.{shapeOf}
-use Rattle.reasons.specs.Arrays.{part}
 use Rattle.search.specs.Placing.{puzzle}
 use Rattle.units.specs.Fitting.{fitsTurned}
+use Rattle.units.specs.Held.{matesIn}
 use Rattle.units.specs.ReadyLaws.{unit-few, unit-in, head-low, home-low, unit-beside, fits-unit}
 use Rattle.units.proofs.fits_at.Statement.{statement}
 use Rattle.units.proofs.fits_at.Tie as tie
@@ -30,7 +29,7 @@ number-at-requires c κs =
     let u = unit-in (s .pre .0) (s .args .u) (s .pre .1) in
     omega (arith, u .some, u .end, c .before .start-at .ensures)
 
--- the unit's first cell, its potential unit, and where that one's mates start and end
+-- the unit's first cell, and its potential unit
 cell-is : (c : tie.After-number-at) → let s = c .before .before .before in
     c .number-at .result ≡ getD (s .args .units .now) (getD (s .args .unit-offs .now) (s .args .u) 0) 0
 cell-is c =
@@ -45,24 +44,6 @@ home-is c =
     let s = c .before .before .before .before in
     c .number-at2 .ensures ∙ ap (λ i. getD (s .args .potential .now) i 0) (cell-is (c .before))
 
-from-is : (c : tie.After-start-at3) → let s = c .before .before .before .before .before in
-    c .start-at3 .result
-    ≡ getD (s .args .starts .now)
-    (getD (s .args .potential .now)
-    (getD (s .args .units .now) (getD (s .args .unit-offs .now) (s .args .u) 0) 0) 0) 0
-from-is c =
-    let s = c .before .before .before .before .before in
-    c .start-at3 .ensures ∙ ap (λ i. getD (s .args .starts .now) i 0) (home-is (c .before))
-
-to-is : (c : tie.After-start-at4) → let s = c .before .before .before .before .before .before in
-    c .start-at4 .result
-    ≡ getD (s .args .starts .now)
-    (getD (s .args .potential .now)
-    (getD (s .args .units .now) (getD (s .args .unit-offs .now) (s .args .u) 0) 0) 0 + 1) 0
-to-is c =
-    let s = c .before .before .before .before .before .before in
-    c .start-at4 .ensures ∙ ap (λ i. getD (s .args .starts .now) (i + 1) 0) (home-is (c .before .before))
-
 number-at-requires-2 : tie.Need-number-at-requires-2
 number-at-requires-2 c κs =
     let s = c .before .before .before in
@@ -73,43 +54,32 @@ number-at-requires-2 c κs =
       counts (s .pre .0 .drawn .sized) .cells,
     )
 
-start-at-requires-3 : tie.Need-start-at-requires-3
-start-at-requires-3 c κs =
-    let s = c .before .before .before .before in
-    omega (arith, home-is c, home-low (s .pre .0) (s .args .u) (s .pre .1))
-
-add-start-at-2 : tie.Need-add-start-at-2
-add-start-at-2 c =
-    let s = c .before .before .before .before .before in
-    omega (arith, home-is (c .before), home-low (s .pre .0) (s .args .u) (s .pre .1))
-
-start-at-requires-4 : tie.Need-start-at-requires-4
-start-at-requires-4 c κs =
-    let s = c .before .before .before .before .before in
-    omega (arith, home-is (c .before), home-low (s .pre .0) (s .args .u) (s .pre .1))
-
 unit-fits-requires : tie.Need-unit-fits-requires
 unit-fits-requires c κs =
-    let t = c .before .before .before .before .before .before in
-    let l = t .before .before .before .before in
+    let p = c .before .before .before .before .before .before .before .before in
+    let l = p .before .before in
     let s = l .before .before in (
       s .pre .0 .drawn,
       rw (l .before .start-at .ensures, l .start-at2 .ensures) (unit-in (s .pre .0) (s .args .u) (s .pre .1)),
-      rw (from-is (t .before), to-is t) (unit-beside (s .pre .0) (s .args .u) (s .pre .1)),
+      rw (home-is p) (home-low (s .pre .0) (s .args .u) (s .pre .1)),
+      rw (home-is p) (unit-beside (s .pre .0) (s .args .u) (s .pre .1)),
       s .pre .2,
+      s .pre .3,
     )
 
 returns : tie.Need-returns
 returns c =
-    let t = c .before .before .before .before .before .before .before in
-    let s = t .before .before .before .before .before .before in
+    let p = c .before .before .before .before .before .before .before .before .before in
+    let s = p .before .before .before .before in
     let e = c .unit-fits .ensures in (
       e .0
-          ∙ (ap₂ (λ a b. fitsTurned (puzzle (s .args .h) (s .args .w) (s .args .colours .now))
-          (marksIn (s .args .borders .now)) (s .args .cells .now) (s .args .offs .now) (part (s .args .mates .now) a b)
-          (shapeOf (flat (s .args .h) (s .args .w)) (entry (s .args .ids .now)) (s .args .u))) (from-is (t .before))
-          (to-is t) ∙ fits-unit (s .pre .0) (s .args .u) (s .pre .1)),
+          ∙ (ap (λ q. fitsTurned (puzzle (s .args .h) (s .args .w) (s .args .colours .now))
+          (marksIn (s .args .borders .now)) (s .args .cells .now) (s .args .offs .now)
+          (matesIn (s .args .mates .now) (s .args .starts .now) q)
+          (shapeOf (flat (s .args .h) (s .args .w)) (entry (s .args .ids .now)) (s .args .u))) (home-is p)
+          ∙ fits-unit (s .pre .0) (s .args .u) (s .pre .1)),
       e .1,
+      e .2,
     )
 
 pub fits-at-spec : {M : Type 1} → statement M
@@ -121,8 +91,5 @@ fits-at-spec =
     start-at-requires-2
     number-at-requires
     number-at-requires-2
-    start-at-requires-3
-    add-start-at-2
-    start-at-requires-4
     unit-fits-requires
     returns)

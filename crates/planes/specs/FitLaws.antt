@@ -1,0 +1,179 @@
+-- The search over the planes answers as the plain one: some origin fits.
+use mathlib.Core.Path.{_≡_, refl, ap, ap₂, sym, _∙_}
+use mathlib.Core.Bool.{Bool, true, false, _&&_}
+use mathlib.Core.List.{List, [], _∷_, List·Memᴰ·head, List·Memᴰ·tail, List·Memᴰ·not-nil}
+use Prim.Native.Nat.{ℕ, zero, suc, _+_, _-_, _*_, _/_, _%_, _<_, _≤_}
+use native.Mathlib.Nat.{mod-lt, div-lt-iff-lt-mul}
+use native.Mathlib.Omega.{arith}
+use borrow.Author.Tests.{eq-eqb, eqb-true}
+use lib.Dec.{eqb}
+use lib.ListN.{length, getD, drop, length-take}
+use lib.Seq.{getD-take, getD-drop}
+use Rattle.lists.specs.Lists.{_∈_, any, all}
+use Rattle.lists.specs.ListLaws.{flat-find}
+use Rattle.lists.specs.Table.{getD-table}
+use Rattle.lists.specs.Tests.{allBelow, anyBelow, all-cong, and-left, and-right}
+use Rattle.rules.specs.declared.Placement.the-variants.{Fits}
+use Rattle.rules.specs.Page.{Puzzle, Mark}
+use Rattle.rules.specs.Codes.{marksIn}
+use Rattle.rules.specs.Check.{isFit}
+use Rattle.reasons.specs.Arrays.{Cells, part}
+use Rattle.search.specs.declared.Reading.{Reading}
+use Rattle.search.specs.declared.Reading.the-variants.{Ends, Clear, Walled}
+use Rattle.search.specs.JudgeLaws.{after, blocked-never, readAt, readFrom, laid-after}
+use Rattle.search.specs.Placing.{Drawn, Raised, puzzle, bare, spelled, readRaised, readingOf, isClear, fitsOf}
+use Rattle.search.specs.SearchLaws.{any-flat, cells-at}
+use Rattle.search.specs.Searching.{Beside, groupIn, fitsAmong, fitsBeside}
+use Rattle.planes.specs.Extras.{same-test, any-found, any-some, any-holds, holds-any, all-range}
+use Rattle.planes.specs.Bits.{bit}
+use Rattle.planes.specs.Planes.{planeWord, planesOf}
+use Rattle.planes.specs.PlaneLaws.{plane-clear}
+use Rattle.planes.specs.Masks.{cellIs, Masked, Answers, originsIn, spot, lineFits, maskFits}
+
+-- a placement fits exactly if every connection is clear
+after-clear : (Z : Puzzle) (s : ℕ → Mark) (rs : List Reading) → isFit Z s (after Fits rs) ≡ all isClear rs
+unfolding after all
+after-clear Z s [] = refl
+after-clear Z s (Ends ∷ rs) = refl
+after-clear Z s (Clear ∷ rs) = after-clear Z s rs
+after-clear Z s (Walled b ∷ rs) = blocked-never Z s b rs
+
+module _ (h w : ℕ) (cs : List ℕ) (s : ℕ → Mark) (ys xs : List ℕ) (o n : ℕ) where
+  fits-clear : fitsOf (puzzle h w cs) s (bare (spelled ys xs n)) o
+      ≡ allBelow n (λ j. isClear (readAt h w cs s ys xs o j))
+  unfolding fitsOf readFrom
+  fits-clear =
+      let e : n - 0 ≡ n = omega arith in
+      ap (isFit (puzzle h w cs) s) (laid-after h w cs s ys xs o n)
+      ∙ (after-clear (puzzle h w cs) s (readFrom h w cs s ys xs o 0 (n - 0))
+      ∙ (ap (λ m. all isClear (readFrom h w cs s ys xs o 0 m)) e
+      ∙ (all-range isClear (readAt h w cs s ys xs o) 0 n
+      ∙ all-cong n (λ j. isClear (readAt h w cs s ys xs o (0 + j))) (λ j. isClear (readAt h w cs s ys xs o j))
+      (λ j l. ap (λ k. isClear (readAt h w cs s ys xs o k)) (omega arith)))))
+
+module _ {h w : ℕ} {cs : List ℕ} (d : Drawn h w cs) (bs ys xs : List ℕ) (n : ℕ) (r : Raised ys xs n) where
+  abbrev Z : Puzzle
+  Z = puzzle h w cs
+
+  abbrev s : ℕ → Mark
+  s = marksIn bs
+
+  abbrev p : List ℕ
+  p = planesOf h w cs bs
+
+  -- connection j, laid with its origin at (y,x), is clear
+  abbrev clear : ℕ → ℕ → ℕ → Bool
+  clear y x j = spot p (2 * y + getD ys j 0) (getD xs j 0 / 2 + x)
+
+  spot-clear : (y x j : ℕ) → y < 32 → j < n
+      → clear y x j ≡ isClear (readingOf Z s (readRaised h w (2 * y + getD ys j 0) (2 * x + getD xs j 0)))
+  unfolding planesOf
+  spot-clear y x j l m =
+      let a = r j m in
+      let e : getD xs j 0 / 2 + x ≡ (2 * x + getD xs j 0) / 2 = omega arith in
+      ap₂ bit (getD-table 192 (planeWord h w cs bs) (2 * y + getD ys j 0) 0 (omega (arith, a .row))) e
+      ∙ plane-clear h w cs bs d (2 * y + getD ys j 0) (2 * x + getD xs j 0) (omega (arith, a .odd))
+
+  cell-fits : (o : ℕ) → o / w < 32
+      → allBelow n (clear (o / w) (o % w)) ≡ fitsOf Z s (bare (spelled ys xs n)) o
+  unfolding readAt
+  cell-fits o l =
+      all-cong n (clear (o / w) (o % w)) (λ j. isClear (readAt h w cs s ys xs o j))
+      (λ j m. spot-clear (o / w) (o % w) j l m)
+      ∙ sym (fits-clear h w cs s ys xs o n)
+
+  module _ (os : List ℕ) (page : (c : ℕ) → c ∈ os → c < h * w) {m : List ℕ} (k : Masked w os m) where
+    row-of : (c : ℕ) → c ∈ os → c / w < h
+    row-of c i = div-lt-iff-lt-mul {k = w} (omega (arith, d .sized .columns)) .1 (page c i)
+
+    cell-there : (y x c : ℕ) → cellIs w y x c ≡ true → (c / w ≡ y) × (c % w ≡ x)
+    unfolding cellIs
+    cell-there y x c e = (
+      eqb-true (c / w) y (and-left (eqb (c / w) y) (eqb (c % w) x) e),
+      eqb-true (c % w) x (and-right (eqb (c / w) y) (eqb (c % w) x) e),
+    )
+
+    cell-here : (c : ℕ) → cellIs w (c / w) (c % w) c ≡ true
+    unfolding cellIs
+    cell-here c = rw (eq-eqb (c / w) (c / w) refl, eq-eqb (c % w) (c % w) refl)
+
+    abbrev fit : ℕ → Bool
+    fit = fitsOf Z s (bare (spelled ys xs n))
+
+    sound-at : (y x c : ℕ) → y < 32 → c ∈ os → cellIs w y x c ≡ true → allBelow n (clear y x) ≡ true
+        → any fit os ≡ true
+    sound-at y x c l i e f =
+        let t = cell-there y x c e in
+        let low : c / w < 32 = rw (t .0) l in
+        let g : allBelow n (clear (c / w) (c % w)) ≡ true = rw (t .0, t .1) f in
+        holds-any fit i (sym (cell-fits c low) ∙ g)
+
+    sound : maskFits p m h ys xs n ≡ true → any fit os ≡ true
+    unfolding maskFits lineFits
+    sound e =
+        let a = any-some h (λ y. lineFits p y ys xs n (getD m y 0)) e in
+        let y = a .0 in
+        let tall : y < 32 = omega (arith, a .1, d .sized .tall) in
+        let b = any-some 64 (λ x. bit (getD m y 0) x && allBelow n (clear y x)) (a .2) in
+        let x = b .0 in
+        let q = any-holds (cellIs w y x) os
+        (sym (k .each y x tall) ∙ and-left (bit (getD m y 0) x) (allBelow n (clear y x)) (b .2)) in
+        sound-at y x (q .0) tall (q .1) (q .2) (and-right (bit (getD m y 0) x) (allBelow n (clear y x)) (b .2))
+
+    complete : any fit os ≡ true → maskFits p m h ys xs n ≡ true
+    unfolding maskFits lineFits
+    complete e =
+        let q = any-holds fit os e in
+        let c = q .0 in
+        let y = c / w in
+        let x = c % w in
+        let l : y < h = row-of c (q .1) in
+        let tall : y < 32 = omega (arith, d .sized .tall) in
+        let some : 0 < w = omega (arith, d .sized .columns) in
+        let narrow : x < 64 = omega (arith, mod-lt c some, d .sized .wide) in
+        let here : bit (getD m y 0) x ≡ true = k .each y x tall ∙ holds-any (cellIs w y x) (q .1) (cell-here c) in
+        let f : allBelow n (clear y x) ≡ true = cell-fits c tall ∙ q .2 in
+        any-found h (λ y. lineFits p y ys xs n (getD m y 0)) y l
+        (any-found 64 (λ x. bit (getD m y 0) x && allBelow n (clear y x)) x narrow (rw (here, f)))
+
+    pub mask-fits : maskFits (planesOf h w cs bs) m h ys xs n
+        ≡ any (fitsOf (puzzle h w cs) (marksIn bs) (bare (spelled ys xs n))) os
+    mask-fits = same-test (maskFits p m h ys xs n) (any fit os) sound complete
+
+mem-index : (xs : List ℕ) {x : ℕ} → x ∈ xs → (i : ℕ) × (i < length xs) × (getD xs i 0 ≡ x)
+mem-index [] m = absurd (List·Memᴰ·not-nil m)
+mem-index (y ∷ ys) (List·Memᴰ·head q) = (0, omega arith, sym q)
+mem-index (y ∷ ys) (List·Memᴰ·tail m) = let r = mem-index ys m in (suc (r .0), omega (arith, r .1), r .2)
+
+mem-part : (l : List ℕ) (from to : ℕ) {x : ℕ} → x ∈ part l from to
+    → (i : ℕ) × (from ≤ i) × (i < to) × (getD l i 0 ≡ x)
+mem-part l from to {x} m =
+    let r = mem-index (part l from to) m in
+    let i = r .0 in
+    let h : i < to - from = omega (arith, r .1, length-take (to - from) (drop from l)) in
+    let e : getD l (from + i) 0 ≡ x =
+    sym (getD-take (to - from) (drop from l) i 0 h ∙ getD-drop from l i 0) ∙ r .2 in
+    (from + i, omega arith, omega arith, e)
+
+module _ {h w : ℕ} {cells offs mates : List ℕ} {from to : ℕ} (b : Beside h w cells offs mates from to) where
+  -- the origins are cells of the page
+  origins-on : (c : ℕ) → c ∈ originsIn cells offs (part mates from to) → c < h * w
+  unfolding originsIn groupIn
+  origins-on c m =
+      let f = flat-find (groupIn cells offs) (part mates from to) m in
+      let i = mem-part mates from to (f .1) in
+      let q = f .0 in
+      let g : Cells h w cells (getD offs q 0) (getD offs (q + 1) 0) = rw (i .3) at (b .each (i .0) (i .1) (i .2)) in
+      let j = mem-part cells (getD offs q 0) (getD offs (q + 1) 0) (f .2) in
+      rw (j .3) at (cells-at g (j .0) (j .1) (j .2))
+
+  -- the planes of a page and the mask of the groups beside a unit answer whether some connections fit there
+  pub beside-answers : {cs m : List ℕ} (bs : List ℕ) → Drawn h w cs
+      → Masked w (originsIn cells offs (part mates from to)) m
+      → Answers h (planesOf h w cs bs) m
+      (λ js. fitsBeside (puzzle h w cs) (marksIn bs) (bare js) cells offs (part mates from to))
+  unfolding fitsBeside fitsAmong originsIn
+  beside-answers {cs} {m} bs d k ys xs n r =
+      mask-fits d bs ys xs n r (originsIn cells offs (part mates from to)) origins-on k
+      ∙ any-flat (fitsOf (puzzle h w cs) (marksIn bs) (bare (spelled ys xs n))) (groupIn cells offs) (part mates from
+      to)

@@ -1,0 +1,11 @@
+pub mod Extras
+pub mod Bits
+pub mod BitLaws
+pub mod RowLaws
+pub mod Planes
+pub mod PlaneLaws
+pub mod DrawLaws
+pub mod Masks
+pub mod WordLaws
+pub mod MaskLaws
+pub mod FitLaws

@@ -1,0 +1,81 @@
+-- Laws of the search in one row: the word that is left after some connections, and the loop with its early exit.
+use mathlib.Core.Path.{_≡_, refl, ap, ap₂, sym, _∙_}
+use mathlib.Core.Bool.{Bool, true, false, not, _&&_}
+use mathlib.Core.List.{List}
+use mathlib.Core.Logic.{⊎-elim}
+use Prim.Native.Nat.{ℕ, zero, suc, _+_, _*_, _/_, _^_, _<_, _≤_}
+use native.Mathlib.Nat.{lt-of-le-of-lt, eq-or-lt-of-le, le-of-suc-le-suc}
+use native.Mathlib.Numerals.{add-one}
+use native.Mathlib.Omega.{arith}
+use lib.Bits.{bitAnd, and-le-l}
+use lib.Dec.{eqb}
+use lib.ListN.{getD}
+use Rattle.lists.specs.Tests.{allBelow, any-cong}
+use Rattle.planes.specs.Extras.{and-assoc, and-swap}
+use Rattle.planes.specs.Bits.{bit}
+use Rattle.planes.specs.BitLaws.{bit-and, bit-shr, some-bit}
+use Rattle.planes.specs.Masks.{spot, clearWord, lineFits}
+
+module _ (p : List ℕ) (y : ℕ) (ys xs : List ℕ) (v : ℕ) where
+  abbrev left : ℕ → ℕ
+  left j = clearWord p y ys xs v j
+
+  -- connection j, as it is laid over the row
+  abbrev mask : ℕ → ℕ
+  mask j = getD p (2 * y + getD ys j 0) 0 / 2 ^ (getD xs j 0 / 2)
+
+  -- connection j is clear at column x
+  abbrev clear : ℕ → ℕ → Bool
+  clear x j = spot p (2 * y + getD ys j 0) (getD xs j 0 / 2 + x)
+
+  pub clear-none : v ≡ clearWord p y ys xs v 0
+  unfolding clearWord
+  clear-none = refl
+
+  pub clear-more : (j : ℕ) {acc : ℕ} → acc ≡ clearWord p y ys xs v j
+      → bitAnd acc (getD p (2 * y + getD ys j 0) 0 / 2 ^ (getD xs j 0 / 2)) ≡ clearWord p y ys xs v (j + 1)
+  unfolding clearWord
+  clear-more j e = rw (add-one, e)
+
+  -- no origin is left
+  stays : (j n : ℕ) → j ≤ n → left j ≡ 0 → left n ≡ 0
+  unfolding clearWord
+  stays j zero l e = let d : j ≡ 0 = omega arith in rw d at e
+  stays j (suc n) l e =
+      ⊎-elim
+      (λ (d : j ≡ suc n). rw d at e)
+      (λ (d : j < suc n). rw (stays j n (le-of-suc-le-suc d) e))
+      (eq-or-lt-of-le l)
+
+  left-le : (n : ℕ) → left n ≤ v
+  unfolding clearWord
+  left-le zero = omega arith
+  left-le (suc n) = omega (arith, left-le n, and-le-l (left n) (mask n))
+
+  left-bit : (n x : ℕ) → bit (left n) x ≡ bit v x && allBelow n (clear x)
+  unfolding clearWord allBelow
+  left-bit zero x = and-swap (bit v x)
+  left-bit (suc n) x =
+      bit-and (left n) (mask n) x
+      ∙ (ap₂ (λ (a b : Bool). a && b) (left-bit n x)
+      (bit-shr (getD p (2 * y + getD ys n 0) 0) (getD xs n 0 / 2) x)
+      ∙ and-assoc (bit v x) (allBelow n (clear x)) (clear x n))
+
+  fits-word : (n : ℕ) → v < 18446744073709551616 → lineFits p y ys xs n v ≡ not (eqb (left n) 0)
+  unfolding lineFits
+  fits-word n h =
+      any-cong 64 (λ x. bit v x && allBelow n (clear x)) (bit (left n)) (λ x l. sym (left-bit n x))
+      ∙ some-bit 64 (left n) (lt-of-le-of-lt (left-le n) h)
+
+  -- the exit in the loop, and its end
+  module _ (h : v < 18446744073709551616) (n j : ℕ) {acc : ℕ} (e : acc ≡ clearWord p y ys xs v j) where
+    pub fits-none : j ≤ n → acc ≡ 0 → false ≡ lineFits p y ys xs n v
+    fits-none l z = sym (fits-word n h ∙ rw (stays j n l (sym e ∙ z)))
+
+    pub fits-end : j ≤ n → n ≤ j → not (eqb acc 0) ≡ lineFits p y ys xs n v
+    fits-end l m = let d : j ≡ n = omega arith in rw (e, d) (sym (fits-word n h))
+
+-- a row without origins
+pub fits-empty : (p : List ℕ) (y : ℕ) (ys xs : List ℕ) (n : ℕ) {v : ℕ} → v ≡ 0 → lineFits p y ys xs n v ≡ false
+fits-empty p y ys xs n {v} e =
+    sym (fits-none p y ys xs v (omega arith) n 0 (clear-none p y ys xs v) (omega arith) e)
