@@ -1,5 +1,5 @@
 /*
- * The Double Choco border checker: three calls on a board image.
+ * The Double Choco border checker: three calls on a board image, and lists of them in one call.
  *
  * Link with libimage.a, which `rt staticlib image` writes to target/staticlib. The library keeps no state, allocates
  * nothing and calls nothing but memcpy and memset: calls on different images may run at the same time. A check takes
@@ -26,7 +26,7 @@
  * REASON MEMORY is at least 32,768 bytes, which is enough for every reason. A literal takes 2 bytes, low byte first:
  * twice the border's number, plus 1 for wall.
  *
- * EVERY CALL returns one number. If it is from 5 to 9 the call was refused, and image and memory are as they were.
+ * EVERY CALL but dbchoco_calls returns one number. If it is from 5 to 9 the call was refused, and image and memory are as they were.
  * Where several refusals apply the lowest number is given: 5, then 6, 7, 8, 9.
  *
  * An image or memory passes as its address and its length. The address must be valid for that many bytes, image and
@@ -97,6 +97,18 @@ uint32_t dbchoco_undo(uint8_t *image, size_t image_len);
  * passes exactly if it is a solution. A literal may be written more than once.
  */
 uint32_t dbchoco_check(const uint8_t *image, size_t image_len, uint8_t *memory, size_t memory_len);
+
+/*
+ * Decides and undos in one call, the image tested once: each code is a literal that is decided, as in reason memory, or
+ * DBCHOCO_UNDO. The calls are made one after the other up to the first that would be refused; that one and those after
+ * it are not made.
+ * Returns how many were made: the count of codes if all were. Why the next one is refused, dbchoco_decide or
+ * dbchoco_undo tells; on an alien image none is made. The address of the codes must be a multiple of 2, and not null.
+ */
+size_t dbchoco_calls(uint8_t *image, size_t image_len, const uint16_t *codes, size_t codes_len);
+
+/* The code of an undo. */
+#define DBCHOCO_UNDO 65535u
 
 #ifdef __cplusplus
 }

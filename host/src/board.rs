@@ -1,6 +1,7 @@
 //! A board that owns its image and its reason memory.
 
 use crate::answer::{Answer, Reason};
+use crate::call::Call;
 use crate::ffi;
 use crate::image::{self, Image, Memory, IMAGE_LENGTH};
 use crate::literal::{Literal, Side};
@@ -105,6 +106,43 @@ impl Board {
     /// Takes the last decision back. Refused with [`Refusal::Bare`] if there is none.
     pub fn undo(&mut self) -> Result<(), Refusal> {
         outcome(ffi::undo(&mut self.image))
+    }
+
+    /// Makes the calls one after the other, up to the first that is refused: then the error is its place in the list
+    /// with the refusal, and the calls from there on are not made.
+    ///
+    /// The board's bytes are tested once for the whole list, so that this is much faster than the calls one by one.
+    ///
+    /// ```
+    /// use dbchoco::{Board, Call, Literal, Refusal, Side};
+    ///
+    /// let mut board = Board::fresh(1, 3, &[0, 1, 0], &[-1; 3])?;
+    /// let wall = |border| Call::Decide(Literal { border, side: Side::Wall });
+    /// assert_eq!(board.apply(&[wall(1), Call::Undo, wall(0)]), Ok(()));
+    /// assert_eq!(board.apply(&[wall(1), wall(0), Call::Undo]), Err((1, Refusal::Taken)));
+    /// assert_eq!(board.decided().len(), 2);
+    /// # Ok::<(), Refusal>(())
+    /// ```
+    pub fn apply(&mut self, calls: &[Call]) -> Result<(), (usize, Refusal)> {
+        let codes: Vec<u16> = calls.iter().map(|call| call.code()).collect();
+        self.apply_codes(&codes)
+            .map_or(Ok(()), |at| match self.single(calls[at]) {
+                Err(refusal) => Err((at, refusal)),
+                Ok(()) => unreachable!("call {at} was refused, and is done now"),
+            })
+    }
+
+    /// Makes the calls of the codes; the place of the first that is refused, if one is.
+    pub(crate) fn apply_codes(&mut self, codes: &[u16]) -> Option<usize> {
+        let done = ffi::calls(&mut self.image, codes);
+        (done < codes.len()).then_some(done)
+    }
+
+    fn single(&mut self, call: Call) -> Result<(), Refusal> {
+        match call {
+            Call::Decide(literal) => self.decide(literal.border, literal.side),
+            Call::Undo => self.undo(),
+        }
     }
 
     /// Checks the board, which stays as it is. A reason lies in the board's memory until the next call.

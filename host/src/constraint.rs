@@ -1,7 +1,8 @@
 //! The drop-in for cspuz_core's `SimpleCustomConstraint`.
 
 use crate::board::Board;
-use crate::literal::Side;
+use crate::call::Call;
+use crate::literal::{Literal, Side};
 use crate::refusal::Refusal;
 
 /// A board with the methods and signatures of cspuz_core's `SimpleCustomConstraint`.
@@ -11,9 +12,17 @@ use crate::refusal::Refusal;
 ///
 /// As in the published Rust, a call that does not fit panics: an input that is not there or decided already, an undo
 /// with nothing decided, a count of inputs that is not the count of borders.
+///
+/// A solver makes many decides and undos for each check. They are kept until the next check and then made in one go,
+/// so that the board's bytes are tested twice for a check and not once for each call.
 #[derive(Clone, Debug)]
 pub struct Constraint {
     board: Board,
+    /// The codes of the calls since the last check, which are not made on the board yet.
+    kept: Vec<u16>,
+    /// The borders that are decided, the last last, kept calls included; and which they are.
+    stack: Vec<usize>,
+    decided: Vec<bool>,
 }
 
 /// All rows as one list; none if they are not h rows of w.
@@ -41,11 +50,26 @@ impl Constraint {
             .map(|clue| clue.unwrap_or(-1))
             .collect();
         let board = Board::fresh(h, w, &colours, &clues)?;
-        Ok(Constraint { board })
+        let decided = vec![false; board.borders()];
+        Ok(Constraint {
+            board,
+            kept: vec![],
+            stack: vec![],
+            decided,
+        })
+    }
+
+    /// Makes the calls that are kept.
+    fn settle(&mut self) {
+        if let Some(at) = self.board.apply_codes(&self.kept) {
+            unreachable!("call {at} of those kept is refused");
+        }
+        self.kept.clear();
     }
 
     /// The board behind the constraint.
-    pub fn board(&self) -> &Board {
+    pub fn board(&mut self) -> &Board {
+        self.settle();
         &self.board
     }
 
@@ -60,22 +84,38 @@ impl Constraint {
 
     /// Decides a border; `true` is wall.
     pub fn notify(&mut self, index: usize, value: bool) {
-        if let Err(refusal) = self.board.decide(index, Side::from(value)) {
-            panic!("border {index}: {refusal}");
-        }
+        let refusal = match self.decided.get(index) {
+            Some(false) => {
+                let side = Side::from(value);
+                let literal = Literal {
+                    border: index,
+                    side,
+                };
+                self.kept.push(Call::Decide(literal).code());
+                self.stack.push(index);
+                self.decided[index] = true;
+                return;
+            }
+            Some(true) => Refusal::Taken,
+            None => Refusal::Border,
+        };
+        panic!("border {index}: {refusal}");
     }
 
     /// The reason of a conflict, in the published order and with its repeats, or none for a pass.
     pub fn find_inconsistency(&mut self) -> Option<Vec<(usize, bool)>> {
+        self.settle();
         let reason = self.board.check().reason()?;
         Some(reason.into_iter().map(Into::into).collect())
     }
 
     /// Takes the last decision back.
     pub fn undo(&mut self) {
-        if let Err(refusal) = self.board.undo() {
-            panic!("undo: {refusal}");
-        }
+        let Some(border) = self.stack.pop() else {
+            panic!("undo: {}", Refusal::Bare);
+        };
+        self.decided[border] = false;
+        self.kept.push(Call::Undo.code());
     }
 
     /// `true`, as the published constraint has it: a check may wait until all pending inputs are notified.

@@ -1,4 +1,4 @@
-//! The three exported calls. All unsafe code of the crate is here.
+//! The exported calls. All unsafe code of the crate is here.
 
 use crate::image::{Image, Memory};
 
@@ -8,6 +8,12 @@ extern "C" {
     fn dbchoco_undo(image: *mut u8, image_len: usize) -> u32;
     fn dbchoco_check(image: *const u8, image_len: usize, memory: *mut u8, memory_len: usize)
         -> u32;
+    fn dbchoco_calls(
+        image: *mut u8,
+        image_len: usize,
+        codes: *const u16,
+        codes_len: usize,
+    ) -> usize;
 }
 
 pub fn decide(image: &mut Image, border: u32, side: u32) -> u32 {
@@ -27,6 +33,11 @@ pub fn check(image: &Image, memory: &mut Memory) -> u32 {
         let (memory, length) = (memory.as_mut_ptr(), memory.len());
         dbchoco_check(image.as_ptr(), image.len(), memory, length)
     }
+}
+
+pub fn calls(image: &mut Image, codes: &[u16]) -> usize {
+    // SAFETY: as in `decide`; the codes are only read, and the two borrows do not overlap.
+    unsafe { dbchoco_calls(image.as_mut_ptr(), image.len(), codes.as_ptr(), codes.len()) }
 }
 
 /// A check without memory, which is refused: 5 for an alien image, else 9.

@@ -33,6 +33,7 @@
 
 mod answer;
 mod board;
+mod call;
 mod constraint;
 #[allow(unsafe_code)]
 mod ffi;
@@ -42,6 +43,7 @@ mod refusal;
 
 pub use answer::{Answer, Literals, Reason};
 pub use board::Board;
+pub use call::Call;
 pub use constraint::Constraint;
 pub use image::{IMAGE_LENGTH, SIDE_LIMIT};
 pub use literal::{Literal, Side};

@@ -1,6 +1,6 @@
 //! Boards: document 01's small boards, the image of a fresh board, refusals, and saved images.
 
-use dbchoco::{Answer, Board, Refusal, Side, IMAGE_LENGTH};
+use dbchoco::{Answer, Board, Call, Literal, Refusal, Side, IMAGE_LENGTH};
 
 /// A board of rows such as "01", without clues, with literals such as "0w 1o" decided.
 fn board(rows: &[&str], decided: &str) -> Board {
@@ -178,4 +178,58 @@ fn a_check_fits_a_small_stack() {
     let small = std::thread::Builder::new().stack_size(208 << 10);
     let run = small.spawn(move || answer(&mut board));
     assert_eq!(run.unwrap().join().unwrap(), "pass 1984");
+}
+
+/// Numbers by chance, the same at each run.
+fn numbers() -> impl FnMut(usize) -> usize {
+    let mut word = 0x2545_f491_4f6c_dd1d_u64;
+    move |below| {
+        word ^= word << 13;
+        word ^= word >> 7;
+        word ^= word << 17;
+        (word % below as u64) as usize
+    }
+}
+
+#[test]
+fn a_list_of_calls_goes_as_the_calls_one_by_one() {
+    let mut number = numbers();
+    let (mut whole, mut stopped) = (0, 0);
+    for _ in 0..3_000 {
+        let (h, w) = (1 + number(6), 1 + number(6));
+        let colours: Vec<u8> = (0..h * w).map(|_| number(2) as u8).collect();
+        let mut board = Board::fresh(h, w, &colours, &vec![-1; h * w]).unwrap();
+        let borders = board.borders() + 1;
+        for _ in 0..4 {
+            let calls: Vec<Call> = (0..number(12))
+                .map(|_| match number(40) {
+                    0..=7 => Call::Undo,
+                    8 => Call::Decide(literal(32_760 + number(20), number(2))),
+                    9 => Call::Decide(literal(usize::MAX - number(2), number(2))),
+                    _ => Call::Decide(literal(number(borders), number(2))),
+                })
+                .collect();
+            let mut single = board.clone();
+            let wanted = calls.iter().enumerate().try_for_each(|(at, call)| {
+                let done = match call {
+                    Call::Decide(literal) => single.decide(literal.border, literal.side),
+                    Call::Undo => single.undo(),
+                };
+                done.map_err(|refusal| (at, refusal))
+            });
+            assert_eq!(board.apply(&calls), wanted, "{calls:?}");
+            assert_eq!(board, single, "{calls:?}");
+            if wanted.is_ok() {
+                whole += 1;
+            } else {
+                stopped += 1;
+            }
+        }
+    }
+    assert!(whole > 1_000 && stopped > 1_000, "{whole} {stopped}");
+}
+
+fn literal(border: usize, side: usize) -> Literal {
+    let side = Side::from(side == 1);
+    Literal { border, side }
 }

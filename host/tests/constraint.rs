@@ -11,7 +11,7 @@ fn made(color: &[&[i32]], num: &[&[Option<i32>]]) -> Result<Constraint, Refusal>
 #[test]
 fn rows_become_a_page() {
     let num: [&[Option<i32>]; 2] = [&[None, Some(-1), Some(3)], &[Some(0), None, None]];
-    let constraint = made(&[&[0, 1, 1], &[1, 0, 0]], &num).unwrap();
+    let mut constraint = made(&[&[0, 1, 1], &[1, 0, 0]], &num).unwrap();
     let board = constraint.board();
     assert_eq!((board.height(), board.width()), (2, 3));
     assert_eq!((board.colour(0, 1), board.colour(1, 1)), (Some(1), Some(0)));
@@ -63,4 +63,15 @@ fn a_border_off_the_page_panics() {
 #[should_panic(expected = "undo: there is no decision to undo")]
 fn an_undo_too_many_panics() {
     pair().undo();
+}
+
+#[test]
+fn kept_calls_are_made_before_the_board_is_shown() {
+    let mut constraint = pair();
+    constraint.notify(0, true);
+    assert_eq!(constraint.board().side(0), Some(dbchoco::Side::Wall));
+    constraint.undo();
+    constraint.notify(0, false);
+    constraint.undo();
+    assert_eq!(constraint.board().decided().len(), 0);
 }

@@ -9,3 +9,5 @@ pub mod CheckLaws
 pub mod Runs
 pub mod CodeLaws
 pub mod RunLaws
+pub mod Series
+pub mod SeriesLaws

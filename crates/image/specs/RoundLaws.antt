@@ -140,7 +140,7 @@ pub image-known : (b : Board) → Proper b → imageAlien (imageOf b) ≡ false
 unfolding imageAlien
 image-known b P = rw (long-is (imageOf b) (image-long b (P .typed)), board-image b P) (P .known)
 
-known-board : (s : List ℕ) → imageAlien s ≡ false → (length s ≡ 11076) × Proper (boardOf s)
+pub known-board : (s : List ℕ) → imageAlien s ≡ false → (length s ≡ 11076) × Proper (boardOf s)
 unfolding imageAlien rightLength
 known-board s a = go (eqb (length s) 11076) refl a
   where

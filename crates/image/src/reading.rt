@@ -12,7 +12,7 @@ use crate::STACK;
 use board::Board;
 
 // A byte as a number.
-fn wide_byte(x: u8) -> usize
+pub fn wide_byte(x: u8) -> usize
     ensures { λ r. ⌜ r ≡ x ⌝ }
 {
     x as usize
@@ -26,7 +26,7 @@ pub fn wide(x: u16) -> usize
 }
 
 // The number of two bytes, low byte first.
-fn two(s: &[u8], k: usize) -> u16
+pub fn two(s: &[u8], k: usize) -> u16
     requires { ⌜ k + 1 < length (now s) ⌝ }
     ensures { λ r. ⌜ r ≡ pair (now (s .entry)) k ⌝ }
 {

@@ -19,7 +19,16 @@ extern "C" {
         memory: *mut u8,
         memory_length: usize,
     ) -> u32;
+    fn dbchoco_calls(
+        image: *mut u8,
+        image_length: usize,
+        codes: *const u16,
+        codes_length: usize,
+    ) -> usize;
 }
+
+/// The code of an undo in a list of calls; any other is that of a literal, which is decided.
+pub const UNDO: u16 = 65_535;
 
 /// The least length of reason memory, in bytes.
 pub const MEMORY: usize = 32_768;
@@ -93,6 +102,33 @@ pub fn ours(image: &mut [u8], memory: &mut [u8], call: ImageCall) -> u32 {
             ImageCall::Check => dbchoco_check(address, length, memory.as_mut_ptr(), memory.len()),
         }
     }
+}
+
+/// The compiled call of a list of decides and undos: how many are made.
+pub fn our_calls(image: &mut [u8], codes: &[u16]) -> usize {
+    // SAFETY: addresses and lengths are those of two slices that live through the call.
+    unsafe { dbchoco_calls(image.as_mut_ptr(), image.len(), codes.as_ptr(), codes.len()) }
+}
+
+/// The plain image calls of the codes one by one, up to the first that is refused: how many are made.
+fn plain_calls(image: &mut [u8], codes: &[u16]) -> usize {
+    let mut single = |&code: &u16| match code {
+        UNDO => image::undo(image),
+        _ => image::decide(image, u32::from(code / 2), u32::from(code % 2)),
+    };
+    let refused = codes.iter().position(|code| single(code) != 0);
+    refused.unwrap_or(codes.len())
+}
+
+/// A list of calls in one, compared with the plain calls one by one, every byte of the image and the guards.
+pub fn compare_calls(image: &mut Lent, codes: &[u16]) -> usize {
+    let mut wanted_image = image.content().to_vec();
+    let wanted = plain_calls(&mut wanted_image, codes);
+    let made = our_calls(image.content_mut(), codes);
+    assert_eq!(made, wanted, "{codes:?} {:?}", image::read(image.content()));
+    assert!(image.content() == wanted_image, "image after {codes:?}");
+    image.look_at_guards();
+    made
 }
 
 /// The published check, with its last answer, which the book and the plain image calls both ask for.

@@ -3,7 +3,7 @@
 
 use compare::boards;
 use compare::expected::note_source;
-use compare::images::{ImageCall, Judge, Lent, MEMORY};
+use compare::images::{compare_calls, ImageCall, Judge, Lent, MEMORY, UNDO};
 use oracle::page::{Board, Puzzle};
 use oracle::random::Random;
 use oracle::{bench, generate, image};
@@ -17,7 +17,7 @@ struct Seen {
     good: usize,
 }
 
-/// The three calls on a copy of an image each, with memory that is enough or none at all.
+/// The three calls on a copy of an image each, with memory that is enough or none at all, and a list of two in one.
 fn three_calls(random: &mut Random, seen: &mut Seen, bytes: &[u8], memory: &mut Lent) {
     let mut judge = Judge::default();
     let border = random.below(12) as u32;
@@ -31,6 +31,8 @@ fn three_calls(random: &mut Random, seen: &mut Seen, bytes: &[u8], memory: &mut 
         let mut image = Lent::new(random, bytes);
         numbers.push(judge.call(&mut image, memory, call));
     }
+    let mut image = Lent::new(random, bytes);
+    compare_calls(&mut image, &[2 * border as u16 + side as u16, UNDO]);
     let alien = numbers[0] == ALIEN;
     assert!(numbers.iter().all(|&number| (number == ALIEN) == alien));
     if alien {

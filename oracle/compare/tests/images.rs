@@ -3,7 +3,7 @@
 
 use compare::boards;
 use compare::expected::note_source;
-use compare::images::{ours, ImageCall, Judge, Lent, MEMORY};
+use compare::images::{compare_calls, ours, ImageCall, Judge, Lent, MEMORY, UNDO};
 use oracle::book::{Answer, Book, Call};
 use oracle::page::{Board, Literal, Puzzle};
 use oracle::random::Random;
@@ -101,6 +101,40 @@ fn a_call(random: &mut Random, puzzle: &Puzzle, literals: &[Literal]) -> ImageCa
             ImageCall::Decide(border as u32, u32::from(wall))
         }
     }
+}
+
+/// The code of a decide or an undo by chance; most are not refused.
+fn a_code(random: &mut Random, puzzle: &Puzzle, literals: &[Literal]) -> u16 {
+    match random.below(40) {
+        0..=5 => UNDO,
+        6 => *random.pick(&[UNDO - 1, 3_968, 3_967, 2 * puzzle.borders() as u16]),
+        _ if literals.is_empty() => UNDO,
+        _ => {
+            let &(border, wall) = random.pick(literals);
+            2 * border as u16 + u16::from(wall)
+        }
+    }
+}
+
+#[test]
+fn a_list_in_one_call_goes_as_its_calls_one_by_one() {
+    let mut random = Random::new(74);
+    let (mut whole, mut stopped, mut made) = (0, 0, 0);
+    for round in 0..60 * boards::rounds() {
+        let (puzzle, literals) = page(&mut random, round);
+        let mut image = Lent::new(&mut random, &fresh(&puzzle));
+        for _ in 0..40 {
+            let length = random.below(12);
+            let code = |_| a_code(&mut random, &puzzle, &literals);
+            let codes: Vec<u16> = (0..length).map(code).collect();
+            let done = compare_calls(&mut image, &codes);
+            made += done;
+            whole += usize::from(done == length);
+            stopped += usize::from(done < length);
+        }
+    }
+    println!("{whole} lists made whole, {stopped} stopped; {made} calls made");
+    assert!(whole > 1_000 && stopped > 1_000);
 }
 
 /// Mostly just enough memory; at times too little, or an odd length.

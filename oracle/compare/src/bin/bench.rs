@@ -1,18 +1,18 @@
 //! Times of the proved code and of the published, in one process: `cargo run --release --bin bench`.
 //! Words after `--` take only the parts with that name (groups, check, stream, image-decide,
-//! image-undo, image-check), and only the boards whose name has one of the other words.
+//! image-undo, image-calls, image-check), and only the boards whose name has one of the other words.
 //!
 //! A part of the work is a line of PARTS: how to make its two sides ready on a board.
 
 use compare::boards;
 use compare::expected::published;
-use compare::images::{self, ImageCall, MEMORY};
+use compare::images::{self, our_calls, ImageCall, MEMORY, UNDO};
 use compare::ours::{Ours, ROOM};
 use compare::trial::Trial;
 use oracle::bench::{self, Named};
 use oracle::generate;
 use oracle::image;
-use oracle::page::{Board, Puzzle, KINDS};
+use oracle::page::{code, Board, Literal, Puzzle, KINDS};
 use oracle::random::Random;
 use std::hint::black_box;
 use std::time::{Duration, Instant};
@@ -39,7 +39,7 @@ struct Part {
     units: fn(&Board) -> usize,
 }
 
-const PARTS: [Part; 6] = [
+const PARTS: [Part; 7] = [
     Part {
         name: "groups",
         title: "the three groupings",
@@ -74,6 +74,13 @@ const PARTS: [Part; 6] = [
         ready: image_undo,
         boards: bench::boards,
         units: |_| 1,
+    },
+    Part {
+        name: "image-calls",
+        title: "one undo or decide on an image, of a list of up to 200 in one call",
+        ready: image_calls,
+        boards: bench::boards,
+        units: |board| 2 * board.decided.len().clamp(1, 100),
     },
     Part {
         name: "image-check",
@@ -198,6 +205,28 @@ fn image_undo(board: &Board) -> [Side; 2] {
         }
     };
     [on_image(&board, ImageCall::Undo), plain(their_work)]
+}
+
+/// Undos of the last decisions, up to 100, and the same decides again, in one list. A board without any has no calls.
+fn image_calls(board: &Board) -> [Side; 2] {
+    let board = board.clone();
+    let mut theirs = published(&board);
+    let back: Vec<Literal> = board.decided.iter().rev().take(100).copied().collect();
+    let decides: Vec<u16> = back.iter().rev().map(|l| code(l) as u16).collect();
+    let codes = [vec![UNDO; back.len()], decides].concat();
+    let mut image = image::write(&board);
+    let their_work = move || {
+        for _ in black_box(&back) {
+            theirs.undo();
+        }
+        for &(border, wall) in back.iter().rev() {
+            theirs.decide(border, wall);
+        }
+    };
+    let our_work = move || {
+        black_box(our_calls(&mut image, &codes));
+    };
+    [plain(our_work), plain(their_work)]
 }
 
 fn image_check(board: &Board) -> [Side; 2] {

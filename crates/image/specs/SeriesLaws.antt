@@ -1,0 +1,241 @@
+-- Calls on an image that is not alien, by cases from its bytes; and a list of them.
+use mathlib.Core.Path.{_≡_, refl, ap, sym, _∙_}
+use mathlib.Core.Bool.{Bool, true, false, cond}
+use mathlib.Core.List.{List, [], _∷_}
+use Prim.Native.Nat.{ℕ, suc, _+_, _-_, _*_, _<_, _≤_}
+use native.Mathlib.Omega.{arith}
+use borrow.Author.Tests.{eq-eqb, ne-eqb, eqb-false}
+use lib.Dec.{eqb}
+use lib.ListN.{length, getD, drop, drop-of-length-le}
+use lib.Seq.{drop-cons}
+use Rattle.lists.specs.Table.{getD-table}
+use Rattle.rules.specs.declared.Literal.{Literal}
+use Rattle.rules.specs.Flat.{borderCount}
+use Rattle.rules.specs.Codes.{codeOf}
+use Rattle.board.specs.declared.Board.{Board}
+use Rattle.board.specs.declared.Returned.{Returned}
+use Rattle.board.specs.Alien.{bordersOf, isAlien}
+use Rattle.board.specs.Board.{numberOf, decideOf, undoOf}
+use Rattle.board.specs.Cases.{decide-alien, undo-alien, decide-border, decide-taken, decide-done, undo-bare, undo-done}
+use Rattle.board.specs.ConditionLaws.{borders-of, borders-of-le}
+use Rattle.board.specs.NativeLaws.{native-has}
+use Rattle.image.specs.Image.{pair, boardOf, imageOf, Bytes, Proper, literalOf, ImageCall, decide, undo, numberBy}
+use Rattle.image.specs.Image.{boardBy, rightLength, imageAlien, imageNumber, imageAfter, written}
+use Rattle.image.specs.RoundLaws.{long-is, known-board, image-known}
+use Rattle.image.specs.CallLaws.{number-is, after-refused, decide-fits, decide-after, undo-fits, undo-after}
+use Rattle.image.specs.RunLaws.{proper-after}
+use Rattle.image.specs.Series.{callOf, doneOf, imageDone, Stepped}
+
+-- ---- an image that is not alien
+module _ (s : List ℕ) (h : Bytes s) (k : imageAlien s ≡ false) where
+  pub long : length s ≡ 11076
+  long = known-board s k .0
+
+  proper : Proper (boardOf s)
+  proper = known-board s k .1
+
+  -- a call leaves it so
+  pub after-known : (a : ImageCall) → imageAlien (imageAfter s a) ≡ false
+  unfolding imageAfter
+  after-known a = rw (long-is s long) (image-known (boardBy (boardOf s) a) (proper-after (boardOf s) a proper))
+
+  -- the number of a call is that of what the board returns
+  by-board : (a : ImageCall) → numberBy (boardOf s) a ≡ imageNumber s a
+  by-board a = number-is s h long (boardOf s) refl a
+
+  borders-are : bordersOf (getD s 0 0) (getD s 1 0) ≡ borderCount (boardOf s .height) (boardOf s .width)
+  unfolding boardOf
+  borders-are = borders-of (native-has (boardOf s) (proper .known) .size)
+
+  border-is : (n : ℕ) → n < 1984 → getD (boardOf s .borders) n 0 ≡ getD s (5122 + n) 0
+  unfolding boardOf
+  border-is n l = getD-table 1984 (λ i. getD s (5122 + i) 0) n 0 l
+
+  count-is : boardOf s .count ≡ pair s 7106
+  unfolding boardOf
+  count-is = refl
+
+  entry-is : (i : ℕ) → i < 1984 → getD (boardOf s .stack) i 0 ≡ pair s (7108 + 2 * i)
+  unfolding boardOf
+  entry-is i l = getD-table 1984 (λ j. pair s (7108 + 2 * j)) i 0 l
+
+  refused : (a : ImageCall) → (imageNumber s a ≡ 0 → ⊥) → Stepped s a s false
+  refused a f =
+      record {
+        done = sym (ne-eqb (imageNumber s a) 0 f);
+        after = after-refused s h long (boardOf s) refl a f;
+      }
+
+  stepped : {a : ImageCall} {t : List ℕ} → imageNumber s a ≡ 0 → t ≡ imageAfter s a → Stepped s a t true
+  stepped z e = record { done = sym (eq-eqb _ 0 z); after = e }
+
+  -- a decide, from what the code has: its literal l, and the count m of the page's borders
+  module _ (n d : ℕ) (l : Literal) (y : l ≡ literalOf n d) (m : ℕ) (q : m ≡ bordersOf (getD s 0 0) (getD s 1 0)) where
+    number : {r : Returned} → r ≡ decideOf (boardOf s) (literalOf n d)
+        → numberOf (r .outcome) ≡ imageNumber s (decide n d)
+    number e = ap (λ (r : Returned). numberOf (r .outcome)) e ∙ by-board (decide n d)
+
+    named : l .border ≡ n
+    named = ap (λ (j : Literal). j .border) y
+
+    pub few : m ≤ 1984
+    few = rw q (borders-of-le (getD s 0 0) (getD s 1 0))
+
+    pub decide-far : m ≤ l .border → Stepped s (decide n d) s false
+    decide-far g =
+        let e =
+        number (decide-border (boardOf s) (literalOf n d) (proper .known) (rw (← borders-are, ← q, ← named) g)) in
+        refused (decide n d) (λ z. let f : 6 ≡ 0 = e ∙ z in omega arith)
+
+    module _ (g : l .border < m) where
+      free : (v : ℕ) → getD s (5122 + l .border) 0 ≡ v → getD (boardOf s .borders) n 0 ≡ v
+      free v e =
+          let c = few in
+          let x = named in
+          border-is n (omega arith) ∙ ap (λ j. getD s (5122 + j) 0) (sym named) ∙ e
+
+      pub decide-held : (getD s (5122 + l .border) 0 ≡ 0 → ⊥) → Stepped s (decide n d) s false
+      decide-held f =
+          let e =
+          number
+          (decide-taken (boardOf s) (literalOf n d) (proper .known) (rw (← borders-are, ← q, ← named) g)
+          (λ z. f (sym (free (getD s (5122 + l .border) 0) refl) ∙ z))) in
+          refused (decide n d) (λ z. let o : 7 ≡ 0 = e ∙ z in omega arith)
+
+      -- one that is done
+      module _ (f : getD s (5122 + l .border) 0 ≡ 0) (c : ℕ) (e : c ≡ pair s 7106) where
+        decided : imageNumber s (decide n d) ≡ 0
+        decided =
+            sym
+            (number
+            (decide-done (boardOf s) (literalOf n d) (proper .known) (rw (← borders-are, ← q, ← named) g)
+            (free 0 f)))
+
+        pub decide-room : (l .border < 1984) × (c < 1984)
+        decide-room =
+            let r = decide-fits s h long (boardOf s) refl n d decided in
+            let x = few in
+            (omega arith, omega (arith, r .1, count-is))
+
+        pub decide-step : {v : ℕ} {t : List ℕ} → v ≡ codeOf (l .side)
+            → t ≡ written s (l .border) v (c + 1) c (l .border) → Stepped s (decide n d) t true
+        decide-step {v} {t} x w =
+            stepped decided
+            (decide-after s h long (boardOf s) refl n d decided l v t y x
+            (w ∙ ap (λ j. written s (l .border) v (j + 1) j (l .border)) (e ∙ sym count-is)))
+
+  -- an undo, where the image has the count m
+  module _ (m : ℕ) (e : m ≡ pair s 7106) where
+    pub undo-none : m ≡ 0 → Stepped s undo s false
+    undo-none z =
+        let q =
+        ap (λ (r : Returned). numberOf (r .outcome)) (undo-bare (boardOf s) (proper .known) (count-is ∙ sym e ∙ z))
+        ∙ by-board undo in
+        refused undo (λ x. let g : 8 ≡ 0 = q ∙ x in omega arith)
+
+    module _ (f : m ≡ 0 → ⊥) where
+      counted : boardOf s .count ≡ m
+      counted = count-is ∙ sym e
+
+      undone : imageNumber s undo ≡ 0
+      undone =
+          sym
+          (ap (λ (r : Returned). numberOf (r .outcome))
+          (undo-done (boardOf s) (proper .known) (λ z. f (sym counted ∙ z)))
+          ∙ by-board undo)
+
+      pub undo-low : m ≤ 1984
+      undo-low = rw (← counted) (undo-fits s h long (boardOf s) refl undone .1)
+
+      -- its entry n
+      module _ (n : ℕ) (x : n ≡ pair s (7108 + 2 * (m - 1))) where
+        entry : n ≡ getD (boardOf s .stack) (boardOf s .count - 1) 0
+        entry =
+            let o = undo-low in
+            x
+            ∙ sym (entry-is (m - 1) (omega arith))
+            ∙ ap (λ j. getD (boardOf s .stack) (j - 1) 0) (sym counted)
+
+        pub undo-room : n < 1984
+        undo-room = rw entry (undo-fits s h long (boardOf s) refl undone .2)
+
+        pub undo-step : {t : List ℕ} → t ≡ written s n 0 (m - 1) (m - 1) 0 → Stepped s undo t true
+        undo-step {t} w =
+            stepped undone
+            (undo-after s h long (boardOf s) refl undone n t entry
+            (w ∙ ap (λ j. written s n 0 (j - 1) (j - 1) 0) (sym counted)))
+
+-- ---- a list of calls
+-- no call is done on an alien image
+alien-number : (s : List ℕ) → imageAlien s ≡ true → (a : ImageCall) → imageNumber s a ≡ 5
+unfolding imageAlien imageNumber
+alien-number s k a = go (rightLength s) k a
+  where
+    go : (x : Bool) → cond x (isAlien (boardOf s)) true ≡ true → (c : ImageCall)
+        → cond x (numberBy (boardOf s) c) 5 ≡ 5
+    go true e (decide n d) =
+        sym (ap (λ (r : Returned). numberOf (r .outcome)) (decide-alien (boardOf s) (literalOf n d) e))
+    go true e undo = sym (ap (λ (r : Returned). numberOf (r .outcome)) (undo-alien (boardOf s) e))
+    go false e c = refl
+
+pub alien-none : (s codes : List ℕ) → imageAlien s ≡ true → (0 ≡ doneOf s codes) × (s ≡ imageDone s codes)
+unfolding doneOf imageDone
+alien-none s [] k = (refl, refl)
+alien-none s (c ∷ codes) k =
+    let n = alien-number s k (callOf c) in
+    let f = ne-eqb (imageNumber s (callOf c)) 0 (λ z. let g : 5 ≡ 0 = sym n ∙ z in omega arith) in
+    (rw f, rw f)
+
+-- i calls are done, and the image is s now
+pub record Running (start codes : List ℕ) (i : ℕ) (s : List ℕ) : Type 0 where
+  pub order : i ≤ length codes
+  pub bytes : Bytes s
+  pub known : imageAlien s ≡ false
+  pub number : doneOf start codes ≡ i + doneOf s (drop i codes)
+  pub image : imageDone start codes ≡ imageDone s (drop i codes)
+
+pub running-first : (s codes : List ℕ) → Bytes s → imageAlien s ≡ false → Running s codes 0 s
+running-first s codes h k =
+    record { order = omega arith; bytes = h; known = k; number = omega arith; image = refl }
+
+-- its length is the same all the time
+pub running-long : {start codes : List ℕ} {i : ℕ} {s : List ℕ} → Bytes start → imageAlien start ≡ false
+    → Running start codes i s → length s ≡ length start
+running-long {start} {codes} {i} {s} h k R = long s (R .bytes) (R .known) ∙ sym (long start h k)
+
+pub running-end : {start codes : List ℕ} {i : ℕ} {s : List ℕ} → Running start codes i s → length codes ≤ i
+    → (i ≡ doneOf start codes) × (s ≡ imageDone start codes)
+unfolding doneOf imageDone
+running-end {start} {codes} {i} {s} R l =
+    let e = drop-of-length-le codes l in
+    (sym (R .number ∙ rw e (omega arith)), sym (R .image ∙ rw e))
+
+module _ {start codes : List ℕ} {i : ℕ} {s : List ℕ} (R : Running start codes i s) (l : i < length codes) where
+  abbrev call : ImageCall
+  call = callOf (getD codes i 0)
+
+  here : drop i codes ≡ getD codes i 0 ∷ drop (suc i) codes
+  here = drop-cons codes i 0 l
+
+  pub running-next : {t : List ℕ} → Bytes t → Stepped s call t true → Running start codes (i + 1) t
+  unfolding doneOf imageDone
+  running-next {t} h S =
+      let e = sym (S .done) in
+      let o : i + 1 ≡ suc i = omega arith in
+      let n : i + suc (doneOf t (drop (suc i) codes)) ≡ suc i + doneOf t (drop (suc i) codes) = omega arith in
+      rw o
+      (record {
+        order = omega arith;
+        bytes = h;
+        known = rw (S .after) (after-known s (R .bytes) (R .known) call);
+        number = R .number ∙ rw (here, e, ← S .after) n;
+        image = R .image ∙ rw (here, e, ← S .after);
+      })
+
+  pub running-stop : {t : List ℕ} → Stepped s call t false → (i ≡ doneOf start codes) × (t ≡ imageDone start codes)
+  unfolding doneOf imageDone
+  running-stop S =
+      let e = sym (S .done) in
+      let n = eqb-false (imageNumber s call) 0 e in
+      let f = after-refused s (R .bytes) (long s (R .bytes) (R .known)) (boardOf s) refl call n in
+      (sym (R .number ∙ rw (here, e) (omega arith)), S .after ∙ sym f ∙ sym (R .image ∙ rw (here, e)))

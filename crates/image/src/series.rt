@@ -1,0 +1,94 @@
+// A list of decides and undos on an image that is tested once: a call on an image that is not alien leaves one that is
+// not alien, so that the next call needs no test.
+ghost use mathlib.Core.Path.{_≡_};
+ghost use mathlib.Core.Bool.{false};
+ghost use lib.ListN.{length, getD};
+ghost use Rattle.board.specs.Alien.{bordersOf};
+ghost use Rattle.image.specs.Image.{imageAlien, decide, undo};
+ghost use Rattle.image.specs.Series.{Stepped, callOf, doneOf, imageDone};
+use crate::BORDERS;
+use crate::COUNT;
+use crate::STACK;
+use crate::alien;
+use crate::literal;
+use crate::reading::two;
+use crate::reading::wide;
+use crate::reading::wide_byte;
+use crate::writing::rewrite;
+
+// The code of an undo in a list of calls. Any other is that of a literal, which is decided.
+const UNDO: u16 = 65535;
+
+// How many borders the page of an image has.
+fn border_count(image: &[u8]) -> usize
+    requires { ⌜ length (now image) ≡ 11076 ⌝ }
+    ensures { λ r. ⌜ r ≡ bordersOf (getD (now (image .entry)) 0 0) (getD (now (image .entry)) 1 0) ⌝ }
+{
+    board::border_count(wide_byte(image[0]), wide_byte(image[1]))
+}
+
+// Decides a border of an image that is not alien. Whether that is done.
+fn decided(image: &mut [u8], border: u32, side: u32) -> bool
+    requires { ⌜ (length (now image) ≡ 11076) × (imageAlien (now image) ≡ false) ⌝ }
+    ensures { λ r. ⌜ Stepped (now (image .entry)) (decide border side) (now (image .exit)) r ⌝ }
+{
+    let l = literal(border, side);
+    let n = l.border;
+    let s = l.side;
+    if border_count(image) <= n {
+        return false;
+    }
+    if image[BORDERS + n] != 0 {
+        return false;
+    }
+    let at = wide(two(image, COUNT));
+    rewrite(image, n, board::code(s), at + 1, at, n);
+    true
+}
+
+// Takes the last decision of an image that is not alien back. Whether that is done.
+fn undone(image: &mut [u8]) -> bool
+    requires { ⌜ (length (now image) ≡ 11076) × (imageAlien (now image) ≡ false) ⌝ }
+    ensures { λ r. ⌜ Stepped (now (image .entry)) undo (now (image .exit)) r ⌝ }
+{
+    let count = wide(two(image, COUNT));
+    if count == 0 {
+        return false;
+    }
+    let at = count - 1;
+    let n = wide(two(image, STACK + 2 * at));
+    rewrite(image, n, 0, at, at, 0);
+    true
+}
+
+// Makes the call of a code on an image that is not alien. Whether that is done.
+fn step(image: &mut [u8], code: u16) -> bool
+    requires { ⌜ (length (now image) ≡ 11076) × (imageAlien (now image) ≡ false) ⌝ }
+    ensures { λ r. ⌜ Stepped (now (image .entry)) (callOf code) (now (image .exit)) r ⌝ }
+{
+    if code == UNDO {
+        return undone(image);
+    }
+    decided(image, (code / 2) as u32, (code % 2) as u32)
+}
+
+// Makes the calls of the codes one after another, up to the first that is refused; none on an alien image. How many are
+// done.
+#[no_mangle]
+pub extern "C" fn dbchoco_calls(image: &mut [u8], codes: &[u16]) -> usize
+    ensures number { λ r. ⌜ r ≡ doneOf (now (image .entry)) (now (codes .entry)) ⌝ }
+    ensures bytes { λ _. ⌜ now (image .exit) ≡ imageDone (now (image .entry)) (now (codes .entry)) ⌝ }
+{
+    if alien(image) {
+        return 0;
+    }
+    let mut i: usize = 0;
+    while i < codes.len() {
+        if step(image, codes[i]) {
+            i += 1;
+        } else {
+            return i;
+        }
+    }
+    i
+}
