@@ -48,6 +48,8 @@ pub mod published;
 
 pub mod bench;
 pub mod book;
+pub mod branch;
+pub mod cuts;
 pub mod generate;
 pub mod image;
 pub mod page;
@@ -55,6 +57,7 @@ pub mod pieces;
 pub mod plain;
 pub mod random;
 pub mod rules;
+pub mod scenarios;
 pub mod shapes;
 pub mod sheet;
 pub mod vectors;

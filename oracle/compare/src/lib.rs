@@ -6,4 +6,5 @@ pub mod expected;
 pub mod images;
 pub mod many;
 pub mod ours;
+pub mod timing;
 pub mod trial;

@@ -1,0 +1,332 @@
+//! What the fixed vectors are: puzzles and calls on their boards.
+
+use crate::book::{Call, PLACES};
+use crate::page::{Board, Literal, Puzzle};
+use crate::plain::{self, Branch, Hit, View, BRANCHES};
+use crate::random::Random;
+use crate::{bench, generate, pieces, shapes};
+
+/// A puzzle and calls on its board.
+pub struct Scenario {
+    pub title: String,
+    pub puzzle: Puzzle,
+    pub calls: Vec<Call>,
+}
+
+const CHECK: Call = Call::Check(PLACES);
+
+fn scenario(title: &str, puzzle: Puzzle, calls: Vec<Call>) -> Scenario {
+    Scenario {
+        title: title.to_string(),
+        puzzle,
+        calls,
+    }
+}
+
+/// All of them.
+pub fn scenarios() -> Vec<Scenario> {
+    let mut all = refused_puzzles();
+    all.extend(small_boards());
+    all.extend(refused_calls());
+    all.extend(large_pages());
+    let pool = pool();
+    all.extend(of_branches(&pool));
+    all.extend(of_classes());
+    all.extend(of_mistakes(&pool));
+    all.extend(long_lists());
+    all.extend(of_orders());
+    all
+}
+
+fn refused_puzzles() -> Vec<Scenario> {
+    let make = |title: &str, h, w, colours: Vec<i32>, clues: Vec<i32>| {
+        let puzzle = Puzzle {
+            h,
+            w,
+            colours,
+            clues,
+        };
+        scenario(title, puzzle, vec![])
+    };
+    let none = |n: usize| vec![-1; n];
+    vec![
+        make("height 33", 33, 1, vec![0; 33], none(33)),
+        make("width 33", 1, 33, vec![0; 33], none(33)),
+        make("height 0", 0, 1, vec![], vec![]),
+        make("width 0, and ragged", 1, 0, vec![0], none(1)),
+        make("height 256", 256, 1, vec![0; 2], none(2)),
+        make("a colour too few", 1, 2, vec![0], none(2)),
+        make("a colour too many", 1, 2, vec![0, 1, 0], none(2)),
+        make("a clue too few, and a bad clue", 1, 2, vec![0, 1], vec![-2]),
+        make(
+            "a clue too many, and a bad colour",
+            1,
+            2,
+            vec![0, 2],
+            none(3),
+        ),
+        make("colour 2", 2, 1, vec![0, 2], none(2)),
+        make(
+            "colour 255, and a bad clue",
+            1,
+            2,
+            vec![255, 0],
+            vec![-2, -1],
+        ),
+        make("clue -2", 1, 2, vec![0, 1], vec![-1, -2]),
+        make("the least clue", 1, 2, vec![0, 1], vec![i32::MIN, -1]),
+    ]
+}
+
+/// A page without clues but these, from its digits.
+fn page(h: usize, w: usize, digits: &str, clues: &[(usize, i32)]) -> Puzzle {
+    let colours = digits.bytes().map(|digit| i32::from(digit - b'0'));
+    let mut puzzle = Puzzle::without_clues(h, w, colours.collect());
+    for &(cell, clue) in clues {
+        puzzle.clues[cell] = clue;
+    }
+    puzzle
+}
+
+/// Decides each literal, then checks.
+fn decided(literals: &[Literal]) -> Vec<Call> {
+    let mut calls: Vec<Call> = literals.iter().copied().map(Call::Decide).collect();
+    calls.push(CHECK);
+    calls
+}
+
+fn small_boards() -> Vec<Scenario> {
+    let pair = |clue: i32| page(1, 2, "01", &[(0, clue)]);
+    let mut calls = vec![CHECK];
+    calls.extend(decided(&[(0, true)]));
+    calls.push(Call::Undo);
+    calls.extend(decided(&[(0, false)]));
+    let opens: Vec<Literal> = vec![(0, false), (1, false), (2, false)];
+    let wall = vec![(0, true), (1, false), (2, false)];
+    let square = vec![(0, false), (2, false), (3, false), (1, true)];
+    vec![
+        scenario("1x1", page(1, 1, "0", &[]), vec![CHECK]),
+        scenario("1x2, one colour", page(1, 2, "00", &[]), vec![CHECK]),
+        scenario("1x2", page(1, 2, "01", &[]), calls),
+        scenario("1x2, clue 1", pair(1), vec![CHECK]),
+        scenario("1x2, clue 0", pair(0), vec![CHECK]),
+        scenario("1x2, clue 2", pair(2), vec![CHECK]),
+        scenario("1x2, the largest clue", pair(i32::MAX), vec![CHECK]),
+        scenario("1x3", page(1, 3, "010", &[]), decided(&opens[..2])),
+        scenario("1x4, open", page(1, 4, "0011", &[]), decided(&opens)),
+        scenario("1x4, a wall", page(1, 4, "0011", &[]), decided(&wall)),
+        scenario("2x2, a ring", page(2, 2, "0101", &[]), decided(&square)),
+    ]
+}
+
+fn refused_calls() -> Vec<Scenario> {
+    let calls = vec![
+        Call::Undo,
+        Call::Decide((7, true)),
+        Call::Decide((65_536, false)),
+        Call::Decide((2_147_483_647, true)),
+        Call::Decide((6, true)),
+        Call::Decide((6, true)),
+        Call::Decide((6, false)),
+        Call::Check(0),
+        Call::Check(PLACES - 1),
+        CHECK,
+        Call::Check(PLACES + 1),
+        Call::Undo,
+        CHECK,
+        Call::Undo,
+        Call::Undo,
+        Call::Decide((6, false)),
+        CHECK,
+    ];
+    let bare = vec![Call::Undo, Call::Decide((0, false)), Call::Check(0), CHECK];
+    vec![
+        scenario("refused calls on 2x3", page(2, 3, "001011", &[]), calls),
+        scenario("refused calls on 1x1", page(1, 1, "1", &[]), bare),
+    ]
+}
+
+/// Pages of the greatest height and width.
+fn large_pages() -> Vec<Scenario> {
+    let stripes = |h: usize, w: usize| {
+        let colours = (0..h * w).map(|cell| (cell % 2) as i32);
+        Puzzle::without_clues(h, w, colours.collect())
+    };
+    let ends = |last: usize| {
+        let mut calls = decided(&[(last, false), (last + 1, true), (0, true)]);
+        calls.extend([Call::Undo, CHECK]);
+        calls
+    };
+    vec![
+        scenario("32x32", stripes(32, 32), ends(1983)),
+        scenario("1x32", stripes(1, 32), ends(30)),
+        scenario("32x1", stripes(32, 1), ends(30)),
+    ]
+}
+
+/// A generated board with its hit.
+type Found = (Board, Option<Hit>);
+
+fn pool() -> Vec<Found> {
+    let mut random = Random::new(51);
+    let mut made = |_| {
+        let board = generate::board(&mut random, 5, 5);
+        let hit = plain::check(&board);
+        (board, hit)
+    };
+    (0..12_000).map(&mut made).collect()
+}
+
+/// All literals of a board decided and checked, then the last one undone and checked again.
+fn replayed(title: &str, board: &Board) -> Scenario {
+    let mut calls = decided(&board.decided);
+    calls.extend([Call::Undo, CHECK]);
+    scenario(title, board.puzzle.clone(), calls)
+}
+
+/// The smallest board of a kind, and the first of the kind with a page and a reason of some size.
+fn two_of(pool: &[Found], title: &str, wanted: impl Fn(&Found) -> bool) -> Vec<Scenario> {
+    let all: Vec<&Found> = pool.iter().filter(|found| wanted(found)).collect();
+    let size = |found: &&&Found| found.0.puzzle.cells() * 3 + found.0.decided.len();
+    let smallest = all.iter().min_by_key(size).expect(title);
+    let length = |found: &Found| found.1.as_ref().map_or(9, |hit| hit.reason.len());
+    let large = |found: &&&Found| found.0.puzzle.cells() >= 12 && length(found) >= 4;
+    let mut chosen = vec![replayed(title, &smallest.0)];
+    if let Some(second) = all.iter().find(large) {
+        chosen.push(replayed(&format!("{title}, larger"), &second.0));
+    }
+    chosen
+}
+
+fn of_branches(pool: &[Found]) -> Vec<Scenario> {
+    let mut all = vec![];
+    for branch in BRANCHES {
+        let wanted = |found: &Found| found.1.as_ref().is_some_and(|hit| hit.branch == branch);
+        all.extend(two_of(pool, &branch.to_string(), wanted));
+    }
+    let passes = |found: &Found| found.1.is_none() && found.0.decided.len() > 3;
+    let full = |found: &Found| found.1.is_none() && found.0.undecided() == 0;
+    all.extend(two_of(pool, "pass", passes));
+    all.extend(two_of(pool, "solution", full));
+    all
+}
+
+/// The rows of the transforms of the unit that failed.
+fn failed_rows(found: &Found) -> Option<Vec<usize>> {
+    let failed = found.1.as_ref()?.failed?;
+    let view = View::new(&found.0);
+    let shape = shapes::shape(&found.0.puzzle, &view.units.lists[failed.unit]);
+    Some(shapes::listed_rows(&shape))
+}
+
+/// For each list of transforms a blocked unit that has it, so that the reason shows their order.
+fn of_classes() -> Vec<Scenario> {
+    let mut random = Random::new(52);
+    let mut all = vec![];
+    for (piece, list) in pieces::CLASSES.iter().zip(shapes::LISTS) {
+        let (h, w) = if piece.len() == 8 { (4, 8) } else { (4, 5) };
+        let least = list.len().min(4);
+        let found = loop {
+            let Some(board) = generate::unit_board(&mut random, h, w, piece) else {
+                continue;
+            };
+            let hit = plain::check(&board);
+            let blocked = |hit: &Hit| hit.failed.map_or(0, |failed| failed.blocked);
+            let found = (board, hit);
+            if found.1.as_ref().is_some_and(|hit| blocked(hit) >= least)
+                && failed_rows(&found).as_deref() == Some(list)
+            {
+                break found;
+            }
+        };
+        all.push(replayed(&format!("blocked, rows {list:?}"), &found.0));
+    }
+    all
+}
+
+/// Boards that tell apart the check from versions with a likely mistake.
+fn of_mistakes(pool: &[Found]) -> Vec<Scenario> {
+    let hit = |found: &Found| found.1.clone();
+    let failed = |found: &Found| hit(found).and_then(|hit| hit.failed);
+    let others = |found: &Found| {
+        failed(found).is_some_and(|f| f.others > 0)
+            && hit(found).is_some_and(|hit| hit.branch == Branch::Blocked)
+    };
+    let dropped = |found: &Found| failed(found).is_some_and(|f| f.dropped > 0 && f.blocked > 0);
+    let repeats = |found: &Found| {
+        let mut once = hit(found).map_or(vec![], |hit| hit.reason);
+        let length = once.len();
+        once.sort();
+        once.dedup();
+        once.len() < length
+    };
+    let loose = |found: &Found| failed(found).is_some_and(|f| loose_inside(&found.0, f.unit));
+    let clued = |found: &Found, c: i32| {
+        hit(found).is_some_and(|hit| hit.branch == Branch::High(c)) && joined_block(&found.0)
+    };
+    let mut all = two_of(pool, "walls to units that are not adjacent", others);
+    all.extend(two_of(pool, "a wall read before leaving", dropped));
+    all.extend(two_of(pool, "a literal twice", repeats));
+    all.extend(two_of(pool, "an undecided border inside the unit", loose));
+    for c in [0, 1] {
+        let title = format!("clue above colour {c} in a block of several cells");
+        all.extend(two_of(pool, &title, |found| clued(found, c)));
+    }
+    all.push(replayed("stairs", &bench::stairs(6)));
+    all
+}
+
+/// Whether a border between two cells of a unit is undecided.
+fn loose_inside(board: &Board, unit: usize) -> bool {
+    let view = View::new(board);
+    let shape = shapes::shape(&board.puzzle, &view.units.lists[unit]);
+    view.inside(&view.units, unit).len() < shape.1.len()
+}
+
+/// Whether the block that step 1 hits has an open border.
+fn joined_block(board: &Board) -> bool {
+    let view = View::new(board);
+    let hit = |block: &usize| view.step1_block(*block).is_some();
+    let block = (0..view.blocks.lists.len()).find(hit);
+    block.is_some_and(|block| !view.inside(&view.blocks, block).is_empty())
+}
+
+/// Lists of calls by chance, refused ones among them.
+fn long_lists() -> Vec<Scenario> {
+    let mut random = Random::new(53);
+    let mut all = vec![];
+    for (h, w) in [(2, 3), (3, 3), (3, 4)] {
+        let cut = generate::solved_cut(&mut random, h, w - w * h % 2, 3);
+        let puzzle = generate::part_of(&mut random, &cut, 0, 15).puzzle;
+        let borders = puzzle.borders();
+        let call = |_| match random.below(9) {
+            0..=4 => Call::Decide((random.below(borders + 1), random.chance(50))),
+            5 | 6 => Call::Undo,
+            7 => Call::Check(random.between(PLACES - 1, PLACES)),
+            _ => CHECK,
+        };
+        let calls = (0..70).map(call).collect();
+        all.push(scenario("calls by chance", puzzle, calls));
+    }
+    all
+}
+
+/// Boards with two hits in one place, of which document 01 names the first.
+fn of_orders() -> Vec<Scenario> {
+    let opens = [0, 4, 2, 3, 6].map(|border| (border, false));
+    let walls = [(5, true), (1, true)];
+    let around: Vec<Literal> = opens.into_iter().chain(walls).collect();
+    let above = vec![(0, false), (1, true)];
+    vec![
+        scenario(
+            "a cell with two walls in its block",
+            page(2, 3, "000000", &[]),
+            decided(&around),
+        ),
+        scenario(
+            "a clue above both potential units",
+            page(1, 4, "0110", &[(0, 2)]),
+            decided(&above),
+        ),
+    ]
+}
