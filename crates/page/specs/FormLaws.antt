@@ -1,9 +1,9 @@
 -- Laws of the lines that follow each other, of the clues' test and of the whole page, one for each return of the code.
-use mathlib.Core.Path.{_≡_, ap, _∙_}
+use mathlib.Core.Path.{_≡_, refl, ap, sym, _∙_}
 use mathlib.Core.Bool.{true, false}
 use mathlib.Core.List.{List, [], _∷_}
-use mathlib.Core.Option.{none, some}
-use Prim.Native.Nat.{ℕ, _<_, _≤_}
+use mathlib.Core.Option.{Option, none, some, Option·none-ne-some, Option·some-injective}
+use Prim.Native.Nat.{ℕ, _-_, _<_, _≤_}
 use lib.ListN.{length}
 use borrow.Author.Tests.{le-leb, lt-leb}
 use Rattle.lists.specs.Lists.{any}
@@ -11,10 +11,13 @@ use Rattle.page.specs.declared.Clue.{Clue}
 use Rattle.page.specs.Readers.{Reader, rest, also, onto, lead, both, mapR, rep, done, strip}
 use Rattle.page.specs.Grammar.{pageWord, endWord, size, row, clue, call, close, sheet, onPage, sameCell}
 use Rattle.page.specs.Grammar.{cluesFit, whole, pageOf}
-use Rattle.page.specs.Places.{allFrom, endFrom}
+use Rattle.page.specs.declared.Line.{Line}
+use Rattle.page.specs.declared.Line.the-variants.{Row, Clue as ClueLine, Call}
+use Rattle.page.specs.Places.{allFrom, endFrom, left, afterLine, endOf}
 use Rattle.page.specs.ReaderLaws.{rest-past, rest-more}
 use Rattle.page.specs.Printed.{Takes}
-use Rattle.page.specs.Many.{many-none, many-more, many-past}
+use Rattle.page.specs.Many.{many-none, many-more, many-past, passes}
+use Rattle.page.specs.PageText.{row-takes, clue-takes, call-takes}
 
 -- what a reader reads from place p on, and what is left
 module _ {A : Type 0} {r : Reader A} (T : Takes 1 r) (s : List ℕ) (p : ℕ) where
@@ -41,6 +44,59 @@ module _ {A : Type 0} {r : Reader A} (T : Takes 1 r) (s : List ℕ) (p : ℕ) wh
   pub end-more : (a : A) (q : ℕ) → r (rest s p) ≡ some (a, rest s q) → endFrom r s p ≡ endFrom r s q
   unfolding endFrom
   end-more a q e = ap (λ (m : List A × List ℕ). m .1) (many-more T (rest s p) a (rest s q) e)
+
+  -- the same, from what is left alone
+  pub left-none : left (r (rest s p)) ≡ none → endFrom r s p ≡ rest s p
+  unfolding left
+  left-none e = go (r (rest s p)) refl e
+    where
+      go : (o : Option (A × List ℕ)) → r (rest s p) ≡ o → left o ≡ none → endFrom r s p ≡ rest s p
+      go none q f = end-none q
+      go (some x) q f = absurd (Option·none-ne-some _ (sym f))
+
+  pub left-more : (q : ℕ) → left (r (rest s p)) ≡ some (rest s q)
+      → (endFrom r s p ≡ endFrom r s q) × (length s - q < length s - p)
+  unfolding left
+  left-more q e = go (r (rest s p)) refl e
+    where
+      go : (o : Option (A × List ℕ)) → r (rest s p) ≡ o → left o ≡ some (rest s q)
+          → (endFrom r s p ≡ endFrom r s q) × (length s - q < length s - p)
+      go none h f = absurd (Option·none-ne-some _ f)
+      go (some x) h f =
+          let t : x .1 ≡ rest s q = Option·some-injective (x .1) (rest s q) f in
+          let k : r (rest s p) ≡ some (x .0, rest s q) = h ∙ ap (λ (l : List ℕ). some (x .0, l)) t in
+          (end-more (x .0) q k, passes T s p q (x .0) k)
+
+-- lines of one kind after each other
+module _ (l : Line) (s : List ℕ) (p : ℕ) where
+  pub lines-past : length s ≤ p → endOf l s p ≡ rest s p
+  unfolding endOf
+  lines-past h = go l
+    where
+      go : (k : Line) → endOf k s p ≡ rest s p
+      go Row = end-past row-takes s p h
+      go ClueLine = end-past clue-takes s p h
+      go Call = end-past call-takes s p h
+
+  pub lines-none : afterLine l (rest s p) ≡ none → endOf l s p ≡ rest s p
+  unfolding endOf afterLine
+  lines-none e = go l e
+    where
+      go : (k : Line) → afterLine k (rest s p) ≡ none → endOf k s p ≡ rest s p
+      go Row = left-none row-takes s p
+      go ClueLine = left-none clue-takes s p
+      go Call = left-none call-takes s p
+
+  pub lines-more : (q : ℕ) → afterLine l (rest s p) ≡ some (rest s q)
+      → (endOf l s p ≡ endOf l s q) × (length s - q < length s - p)
+  unfolding endOf afterLine
+  lines-more q e = go l e
+    where
+      go : (k : Line) → afterLine k (rest s p) ≡ some (rest s q)
+          → (endOf k s p ≡ endOf k s q) × (length s - q < length s - p)
+      go Row = left-more row-takes s p q
+      go ClueLine = left-more clue-takes s p q
+      go Call = left-more call-takes s p q
 
 -- a list of clues
 module _ {cs : List Clue} where

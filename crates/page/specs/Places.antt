@@ -5,6 +5,9 @@
 --   placeOf s r         what is left at the place r
 --   allFrom r s p       what r reads, one value after the other, from place p on
 --   endFrom r s p       what is left then
+--   left o              what is left after what was read
+--   afterLine l s       what is left after a line of the kind l
+--   endOf l s p         what is left after the lines of the kind l from place p on
 --   sheetAt s p         the page whose parts stand at the places p
 --   formOf s r          that page, or none
 --   judgedOf s r        the number, or that page
@@ -29,6 +32,8 @@ use Rattle.page.specs.declared.Row.{Row}
 use Rattle.page.specs.declared.Row.the-variants as rowRead
 use Rattle.page.specs.declared.ClueRead.{ClueRead}
 use Rattle.page.specs.declared.ClueRead.the-variants as clueRead
+use Rattle.page.specs.declared.Line.{Line}
+use Rattle.page.specs.declared.Line.the-variants as lineKind
 use Rattle.page.specs.declared.Parts.{Parts}
 use Rattle.page.specs.declared.Form.{Form}
 use Rattle.page.specs.declared.Form.the-variants as formRead
@@ -78,6 +83,20 @@ module _ {A : Type 0} where
 
   unfoldable pub endFrom : Reader A → List ℕ → ℕ → List ℕ
   endFrom r s p = many r (rest s p) .1
+
+  unfoldable pub left : Option (A × List ℕ) → Option (List ℕ)
+  left none = none
+  left (some x) = some (x .1)
+
+unfoldable pub afterLine : Line → List ℕ → Option (List ℕ)
+afterLine lineKind.Row s = left (row s)
+afterLine lineKind.Clue s = left (clue s)
+afterLine lineKind.Call s = left (call s)
+
+unfoldable pub endOf : Line → List ℕ → ℕ → List ℕ
+endOf lineKind.Row s p = endFrom row s p
+endOf lineKind.Clue s p = endFrom clue s p
+endOf lineKind.Call s p = endFrom call s p
 
 unfoldable pub sheetAt : List ℕ → Parts → Sheet
 sheetAt s p =

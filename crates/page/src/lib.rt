@@ -56,6 +56,13 @@ pub enum CallRead {
     No,
 }
 
+// What the lines of a part of a page are.
+pub enum Line {
+    Row,
+    Clue,
+    Call,
+}
+
 // The size, and the places where the rows, the clues and the calls begin.
 pub struct Parts {
     pub height: usize,

@@ -3,12 +3,13 @@
 ghost use mathlib.Core.Path.{_≡_};
 ghost use Rattle.lists.specs.Lists.{any};
 ghost use Rattle.page.specs.Readers.{rest};
-ghost use Rattle.page.specs.Grammar.{row, clue, call, onPage, sameCell, cluesFit, pageOf};
-ghost use Rattle.page.specs.Places.{allFrom, endFrom, formOf};
+ghost use Rattle.page.specs.Grammar.{clue, onPage, sameCell, cluesFit, pageOf};
+ghost use Rattle.page.specs.Places.{placeOf, allFrom, afterLine, endOf, formOf};
 use crate::CallRead;
 use crate::Clue;
 use crate::ClueRead;
 use crate::Form;
+use crate::Line;
 use crate::Parts;
 use crate::Place;
 use crate::Row;
@@ -16,41 +17,39 @@ use crate::Size;
 use crate::bytes;
 use crate::lines;
 
-// The place after the rows from `at` on.
-fn rows_end(s: &[u8], at: usize) -> usize
-    ensures { λ r. ⌜ rest (now (s .entry)) r ≡ endFrom row (now (s .entry)) at ⌝ }
+// The place after the line at `at`, if a line of that kind stands there.
+fn line_end(s: &[u8], at: usize, line: Line) -> Place
+    ensures { λ r. ⌜ placeOf (now (s .entry)) r ≡ afterLine line (rest (now (s .entry)) at) ⌝ }
 {
-    let mut p = at;
-    while p < s.len() {
-        let Row::Got(_, _, next) = lines::row_at(s, p) else {
-            return p;
-        };
-        p = next;
+    match line {
+        Line::Row => {
+            let Row::Got(_, _, next) = lines::row_at(s, at) else {
+                return Place::No;
+            };
+            Place::At(next)
+        }
+        Line::Clue => {
+            let ClueRead::Got(_, next) = lines::clue_at(s, at) else {
+                return Place::No;
+            };
+            Place::At(next)
+        }
+        Line::Call => {
+            let CallRead::Got(_, next) = lines::call_at(s, at) else {
+                return Place::No;
+            };
+            Place::At(next)
+        }
     }
-    p
 }
 
-// The place after the clues from `at` on.
-fn clues_end(s: &[u8], at: usize) -> usize
-    ensures { λ r. ⌜ rest (now (s .entry)) r ≡ endFrom clue (now (s .entry)) at ⌝ }
+// The place after the lines of that kind from `at` on.
+fn lines_end(s: &[u8], at: usize, line: Line) -> usize
+    ensures { λ r. ⌜ rest (now (s .entry)) r ≡ endOf line (now (s .entry)) at ⌝ }
 {
     let mut p = at;
     while p < s.len() {
-        let ClueRead::Got(_, next) = lines::clue_at(s, p) else {
-            return p;
-        };
-        p = next;
-    }
-    p
-}
-
-// The place after the calls from `at` on.
-fn calls_end(s: &[u8], at: usize) -> usize
-    ensures { λ r. ⌜ rest (now (s .entry)) r ≡ endFrom call (now (s .entry)) at ⌝ }
-{
-    let mut p = at;
-    while p < s.len() {
-        let CallRead::Got(_, next) = lines::call_at(s, p) else {
+        let Place::At(next) = line_end(s, p, line) else {
             return p;
         };
         p = next;
@@ -129,9 +128,9 @@ pub fn form_of(s: &[u8]) -> Form
     let Size::Got(height, width, rows) = lines::size_at(s, a) else {
         return Form::Bad;
     };
-    let clues = rows_end(s, rows);
-    let calls = clues_end(s, clues);
-    let end = calls_end(s, calls);
+    let clues = lines_end(s, rows, Line::Row);
+    let calls = lines_end(s, clues, Line::Clue);
+    let end = lines_end(s, calls, Line::Call);
     let Place::At(last) = bytes::word_at(s, end, b")\n") else {
         return Form::Bad;
     };

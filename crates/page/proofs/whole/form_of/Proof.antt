@@ -1,6 +1,6 @@
 -- `form_of` meets its contract: the words and the lines read are what the readers read there.
 use Rattle.page.specs.FormLaws.{Body, too-long, no-page, no-size, no-end, more-left, misfit, good}
-use Rattle.page.specs.Places.{formOf, placeOf, sizeOf, sheetAt}
+use Rattle.page.specs.Places.{formOf, placeOf, sizeOf, endOf, sheetAt}
 use Rattle.page.specs.ReaderLaws.{told, rest-all}
 use borrow.Author.Needs.{needs}
 use mathlib.Core.Path.{sym, _∙_}
@@ -8,18 +8,18 @@ use Rattle.page.proofs.whole.form_of.Statement.{statement}
 use Rattle.page.proofs.whole.form_of.Tie as tie
 
 -- The places where the size and the word before it were read
-abbrev at-size : tie.After-calls-end → tie.After-height
+abbrev at-size : tie.After-lines-end3 → tie.After-height
 at-size c = c .before .before .before .before
 
-abbrev at-word : tie.After-calls-end → tie.After-a
+abbrev at-word : tie.After-lines-end3 → tie.After-a
 at-word c = at-size c .before .before .before .before
 
 -- Where the calls end, the lines before are read
-body : (c : tie.After-calls-end)
+body : (c : tie.After-lines-end3)
     → Body (at-word c .before .before .before .before .before .before .args .s .now)
     (at-size c .height .given .0 .0) (at-size c .height .given .0 .1 .0) (at-size c .height .given .0 .1 .1 .0)
-    (c .before .before .rows-end .result) (c .before .clues-end .result) (c .calls-end .result)
-unfolding placeOf sizeOf
+    (c .before .before .lines-end .result) (c .before .lines-end2 .result) (c .lines-end3 .result)
+unfolding placeOf sizeOf endOf
 body c =
     record {
       short = at-word c .before .before .before .before .if1 .left;
@@ -27,9 +27,9 @@ body c =
       paged =
           rw rest-all at (told (placeOf _) (at-word c .before .before .word-at .ensures) (at-word c .a .given .1));
       sized = told (sizeOf _) (at-size c .before .before .size-at .ensures) (at-size c .height .given .1);
-      rowed = c .before .before .rows-end .ensures;
-      clued = c .before .clues-end .ensures;
-      called = c .calls-end .ensures;
+      rowed = c .before .before .lines-end .ensures;
+      clued = c .before .lines-end2 .ensures;
+      called = c .lines-end3 .ensures;
     }
 
 returns : tie.Need-returns
@@ -71,14 +71,14 @@ returns-3 c =
     (c .before .before .before .before .a .given .1)))
     (told (sizeOf _) (c .before .before .size-at .ensures) (c .enum-told2 .given .1)))
 
-rows-end-requires : tie.Need-rows-end-requires
-rows-end-requires c κs = search needs
+lines-end-requires : tie.Need-lines-end-requires
+lines-end-requires c κs = search needs
 
-clues-end-requires : tie.Need-clues-end-requires
-clues-end-requires c κs = search needs
+lines-end-requires-2 : tie.Need-lines-end-requires-2
+lines-end-requires-2 c κs = search needs
 
-calls-end-requires : tie.Need-calls-end-requires
-calls-end-requires c κs = search needs
+lines-end-requires-3 : tie.Need-lines-end-requires-3
+lines-end-requires-3 c κs = search needs
 
 slice-aggregate-word-at-2 : tie.Need-slice-aggregate-word-at-2
 slice-aggregate-word-at-2 c = search needs
@@ -140,9 +140,9 @@ form-of-spec =
     enum-known-height
     enum-told-2
     returns-3
-    rows-end-requires
-    clues-end-requires
-    calls-end-requires
+    lines-end-requires
+    lines-end-requires-2
+    lines-end-requires-3
     slice-aggregate-word-at-2
     word-at-requires-2
     enum-known-last
