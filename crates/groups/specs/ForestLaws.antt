@@ -1,19 +1,17 @@
--- Laws of the array of parents: it follows the labels border by border.
+-- Laws of the array of parents: it follows the labels merge by merge.
 use mathlib.Core.Path.{_≡_, sym, ap, _∙_}
 use mathlib.Core.Bool.{true}
 use mathlib.Core.List.{List, map}
-use Prim.Native.Nat.{ℕ, _+_, _<_, _≤_}
+use Prim.Native.Nat.{ℕ, _<_, _≤_}
 use native.Mathlib.Omega.{arith}
 use native.Mathlib.Decide.{ℕ-discrete}
 use borrow.Author.Tests.{le-leb, lt-leb}
 use lib.ListN.{getD, set, replicate, length-set, length-replicate}
 use lib.Seq.{getD-set-same, getD-set-other}
-use Rattle.lists.specs.Lists.{range}
 use Rattle.rules.specs.Groups.{entry, rename, mergeIf}
-use Rattle.groups.specs.Forests.{Forest, Rep, Runs}
+use Rattle.groups.specs.Forests.{Forest, Rep}
 use Rattle.groups.specs.LabelLaws.{rename-hit, rename-miss, rename-same, renamed, labelled-renamed}
-use Rattle.groups.specs.LabelLaws.{labelled-range}
-use Rattle.groups.specs.ListExtras.{range-at, zeros-at}
+use Rattle.groups.specs.ListExtras.{zeros-at}
 
 pub forest-zeros : Forest (replicate 1024 0)
 forest-zeros =
@@ -81,67 +79,6 @@ module _ (L : List ℕ) (a b : ℕ) where
 
   pub merge-same : getD L a 0 ≡ getD L b 0 → mergeIf true (entry L a) (entry L b) L ≡ L
   merge-same e = merge-earlier (omega arith) ∙ rw e (rename-same (getD L b 0) L)
-
--- the pass along the rows: at first nothing is written
-pub runs-none : (n : ℕ) (p : List ℕ) → Runs n 0 p (range n)
-runs-none n p =
-    record { labelled = labelled-range n; done = λ x h. absurd (omega arith); alone = λ x k h. range-at n x h }
-
-module _ (n k : ℕ) (p L : List ℕ) (f : Forest p) (r : Runs n k p L) (h : k < n) (few : n ≤ 1024) where
-  -- a cell by itself
-  pub runs-new : Runs n (k + 1) (set p k k) L
-  runs-new =
-      record {
-        labelled = r .labelled;
-        done = λ x l. done x l (ℕ-discrete x k);
-        alone = λ x l m. r .alone x (omega arith) m;
-      }
-    where
-      done : (x : ℕ) → x < k + 1 → Dec (x ≡ k) → getD (set p k k) x 0 ≡ getD L x 0
-      done x l (yes e) =
-          rw e (getD-set-same p k k 0 (omega (arith, f .long)) ∙ sym (r .alone k (omega arith) h))
-      done x l (no e) = getD-set-other p k x k 0 e ∙ r .done x (omega arith)
-
-  -- a cell joined to the one before it
-  pub runs-joined : (c : ℕ) → k ≡ c + 1
-      → Runs n (k + 1) (set p k (getD L c 0)) (mergeIf true (entry L c) (entry L k) L)
-  runs-joined c e =
-      let lk : getD L k 0 ≡ k = r .alone k (omega arith) h in
-      let lc : getD L c 0 ≤ c = r .labelled .least c (omega arith) in
-      let v : ℕ = getD L c 0 in
-      let own : getD L v 0 ≡ v = r .labelled .twice c (omega arith) in
-      let M : List ℕ = map (rename v k) L in
-      let at : (x : ℕ) → x < n → getD M x 0 ≡ rename v k (getD L x 0) =
-      renamed n v k L (r .labelled) (omega arith) own in
-      let m : mergeIf true (entry L c) (entry L k) L ≡ M =
-      merge-earlier L c k (omega arith) ∙ ap (λ (t : ℕ). map (rename v t) L) lk in
-      rw m
-      (record {
-        labelled = labelled-renamed n v k L (r .labelled) (omega arith) own;
-        done = λ x l. done x l M at lk (ℕ-discrete x k);
-        alone = λ x l o.
-            let a : getD L x 0 ≡ x = r .alone x (omega arith) o in
-            at x o ∙ rename-miss v k (getD L x 0) (λ z. omega arith) ∙ a;
-      })
-    where
-      done : (x : ℕ) → x < k + 1 → (M : List ℕ) → ((x : ℕ) → x < n → getD M x 0 ≡ rename (getD L c 0) k (getD L x 0))
-          → getD L k 0 ≡ k → Dec (x ≡ k) → getD (set p k (getD L c 0)) x 0 ≡ getD M x 0
-      done x l M at lk (yes q) =
-          rw q (getD-set-same p k (getD L c 0) 0 (omega (arith, f .long))
-          ∙ sym (rename-hit (getD L c 0) k (getD L k 0) lk) ∙ sym (at k h))
-      done x l M at lk (no q) =
-          let a : getD L x 0 ≤ x = r .labelled .least x (omega arith) in
-          getD-set-other p k x (getD L c 0) 0 q ∙ r .done x (omega arith)
-          ∙ sym (rename-miss (getD L c 0) k (getD L x 0) (λ z. omega arith)) ∙ sym (at x (omega arith))
-
--- every cell is written: its parent is its label
-pub runs-all : (n k : ℕ) (p L : List ℕ) → n ≤ k → Runs n k p L → Rep n p L
-runs-all n k p L h r =
-    record {
-      labelled = r .labelled;
-      same = λ x l. ap (λ (i : ℕ). getD L i 0) (r .done x (omega arith)) ∙ r .labelled .twice x l;
-      root = λ x l e. sym (r .done x (omega arith)) ∙ e;
-    }
 
 -- what a border that joins cells a and b asks of the forest, whose roots there are u and v
 module _ (n : ℕ) (p L : List ℕ) (f : Forest p) (r : Rep n p L) (few : n ≤ 1024) (a b u v : ℕ) (ha : a < n) (hb : b < n)

@@ -4,9 +4,7 @@
 --   Labelled n L      L has for each of n cells a label that is no later, and is its own label
 --   Forest p          p has for each of 1,024 cells a parent that is no later
 --   Rep n p L         each cell's root in the forest p is its label in L
---   Runs n k p L      p has the labels of the first k cells, and the later cells are still by themselves
---   Begun h w link k b p   the same of the labels once b borders of a page are taken
---   Linked h w link b p    p represents the labels once b borders of a page are taken
+--   Linked h w link p p represents the labels once all borders of a page are taken
 use mathlib.Core.Path.{_≡_}
 use mathlib.Core.Bool.{Bool}
 use mathlib.Core.List.{List}
@@ -14,7 +12,7 @@ use Prim.Native.Nat.{ℕ, _*_, _<_, _≤_}
 use lib.ListN.{length, getD}
 use Rattle.lists.specs.Lists.{range}
 use Rattle.rules.specs.Page.{Page}
-use Rattle.rules.specs.Flat.{flat}
+use Rattle.rules.specs.Flat.{flat, borderCount}
 use Rattle.rules.specs.Groups.{mergeAll}
 
 unfoldable pub after : Page → (ℕ → Bool) → ℕ → List ℕ
@@ -34,15 +32,6 @@ pub record Rep (n : ℕ) (p L : List ℕ) : Type 0 where
   pub same : (x : ℕ) → x < n → getD L (getD p x 0) 0 ≡ getD L x 0
   pub root : (x : ℕ) → x < n → getD p x 0 ≡ x → getD L x 0 ≡ x
 
-pub record Runs (n k : ℕ) (p L : List ℕ) : Type 0 where
-  pub labelled : Labelled n L
-  pub done : (x : ℕ) → x < k → getD p x 0 ≡ getD L x 0
-  pub alone : (x : ℕ) → k ≤ x → x < n → getD L x 0 ≡ x
-
-pub record Begun (h w : ℕ) (link : ℕ → Bool) (k b : ℕ) (p : List ℕ) : Type 0 where
+pub record Linked (h w : ℕ) (link : ℕ → Bool) (p : List ℕ) : Type 0 where
   pub forest : Forest p
-  pub runs : Runs (h * w) k p (after (flat h w) link b)
-
-pub record Linked (h w : ℕ) (link : ℕ → Bool) (b : ℕ) (p : List ℕ) : Type 0 where
-  pub forest : Forest p
-  pub rep : Rep (h * w) p (after (flat h w) link b)
+  pub rep : Rep (h * w) p (after (flat h w) link (borderCount h w))

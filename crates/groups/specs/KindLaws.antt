@@ -1,10 +1,10 @@
 -- Laws of the three kinds: case laws for the code's tests, and what joins over the arrays of a flat page.
 use mathlib.Core.Path.{_≡_, refl, sym}
-use mathlib.Core.Bool.{Bool, true, false, not, Bool·beq}
+use mathlib.Core.Bool.{not, _&&_}
 use mathlib.Core.List.{List}
 use Prim.Native.Nat.{ℕ}
 use native.Mathlib.Decide.{ℕ-discrete}
-use borrow.Author.Tests.{eq-eqb, ne-eqb}
+use borrow.Author.Tests.{ne-eqb}
 use lib.Dec.{eqb}
 use lib.ListN.{getD}
 use Rattle.rules.specs.Page.{Puzzle, isOpen, isWall}
@@ -32,42 +32,19 @@ wall-mark v = go (ℕ-discrete v 1) (ℕ-discrete v 2)
     go (no n) (yes e) = rw e
     go (no n) (no m) = rw (ne-eqb v 1 n, ne-eqb v 2 m)
 
-pub colour-one : (a b : ℕ) → a ≡ 1 → eqb b 1 ≡ oneColourBy a b
-unfolding oneColourBy
-colour-one a b e = rw (eq-eqb a 1 e) (go (eqb b 1))
-  where
-    go : (t : Bool) → t ≡ Bool·beq true t
-    go true = refl
-    go false = refl
-
-pub colour-other : (a b : ℕ) → (a ≡ 1 → ⊥) → not (eqb b 1) ≡ oneColourBy a b
-unfolding oneColourBy
-colour-other a b n = rw (ne-eqb a 1 n) (go (eqb b 1))
-  where
-    go : (t : Bool) → not t ≡ Bool·beq false t
-    go true = refl
-    go false = refl
-
+-- what the code computes for each kind
 module _ (v a b : ℕ) where
   pub joins-block : eqb v 2 ≡ joinsBy Blocks v a b
   unfolding joinsBy
   joins-block = sym (open-mark v)
 
-  pub joins-unit : v ≡ 2 → oneColourBy a b ≡ joinsBy Units v a b
+  pub joins-unit : (eqb v 2 && oneColourBy a b) ≡ joinsBy Units v a b
   unfolding joinsBy
-  joins-unit e = rw (open-mark v, eq-eqb v 2 e)
+  joins-unit = rw (open-mark v)
 
-  pub joins-no-unit : (v ≡ 2 → ⊥) → false ≡ joinsBy Units v a b
+  pub joins-potential : (not (eqb v 1) && oneColourBy a b) ≡ joinsBy Potential v a b
   unfolding joinsBy
-  joins-no-unit n = rw (open-mark v, ne-eqb v 2 n)
-
-  pub joins-potential : (v ≡ 1 → ⊥) → oneColourBy a b ≡ joinsBy Potential v a b
-  unfolding joinsBy
-  joins-potential n = rw (wall-mark v, ne-eqb v 1 n)
-
-  pub joins-no-potential : v ≡ 1 → false ≡ joinsBy Potential v a b
-  unfolding joinsBy
-  joins-no-potential e = rw (wall-mark v, eq-eqb v 1 e)
+  joins-potential = rw (wall-mark v)
 
 one-colour-at : (h w : ℕ) (cs : List ℕ) (b : ℕ)
     → oneColour (coloured h w cs) b ≡ oneColourBy (getD cs (flatFirst h w b) 0) (getD cs (flatSecond h w b) 0)

@@ -6,7 +6,11 @@ pub mod ListExtras
 pub mod KindLaws
 pub mod LabelLaws
 pub mod ForestLaws
+pub mod Ties
+pub mod MergeLaws
+pub mod ScanLaws
 pub mod GridLaws
+pub mod TieLaws
 pub mod SortLaws
 pub mod NumberLaws
 pub mod PartLaws
