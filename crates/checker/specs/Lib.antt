@@ -6,6 +6,7 @@ pub mod Faults
 pub mod BlockCases
 pub mod Tallied
 pub mod FaultCases
+pub mod LoneCases
 pub mod Faulty
 pub mod Breaches
 pub mod WallCases

@@ -13,6 +13,7 @@ ghost use Rattle.reasons.specs.Arrays.{part};
 ghost use Rattle.checker.specs.Arrays.{Listed, Lists, Parted, sizeIn};
 ghost use Rattle.checker.specs.Faults.{orFault, firstFault, isClear, unitsOf, scanFault, smallFault, bigFault};
 ghost use Rattle.checker.specs.Faulty.{firstFaulty};
+ghost use Rattle.checker.specs.LoneCases.{loneFault};
 ghost use Rattle.checker.specs.Faults.{clueFault, tallyFault, cellFault, faultOn};
 use crate::Clue;
 use crate::Fault;
@@ -299,6 +300,31 @@ fn size_of(offs: &[u16; 1025], g: usize) -> usize
     wide(offs[g + 1]) - wide(offs[g])
 }
 
+// What is wrong with a block of the one cell c; ids and offs are those of the potential units.
+fn lone_fault<'a>(
+    clues: &'a [i32; 1024],
+    ids: &'a [u16; 1024],
+    offs: &'a [u16; 1025],
+    c: usize,
+) -> Fault
+    requires { ⌜ (c < 1024) × Parted (now ids) (now offs) ⌝ }
+    ensures { λ r. ⌜ r ≡ loneFault (cluesIn (now (clues .entry))) (entry (now (ids .entry)))
+        (sizeIn (now (offs .entry))) c ⌝ }
+{
+    let clue = clue_at(clues[c]);
+    let Clue::Is(n) = clue else {
+        return Fault::Clear;
+    };
+    if n == 0 {
+        return Fault::Inside;
+    }
+    let unit = wide(ids[c]);
+    if n <= size_of(offs, unit) {
+        return Fault::Clear;
+    }
+    Fault::Edge(unit)
+}
+
 // What is wrong with the block of the cells from..to; ids and offs are those of the potential units.
 pub fn block_fault<'a>(
     colours: &'a [u8; 1024],
@@ -315,6 +341,9 @@ pub fn block_fault<'a>(
         (sizeIn (now (offs .entry)))
         (part (now (cells .entry)) from to) ⌝ }
 {
+    if to == from + 1 {
+        return lone_fault(clues, ids, offs, wide(cells[from]));
+    }
     let t = tally(colours, clues, ids, cells, from, to);
     let f = scan(t, colours, clues, ids, cells, from, to);
     if is_clear(f) {

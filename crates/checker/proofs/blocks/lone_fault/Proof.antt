@@ -1,0 +1,93 @@
+-- `lone_fault` meets its contract: a case law for each return.
+use mathlib.Core.Path.{_≡_, sym, ap, _∙_}
+use mathlib.Core.Option.{some}
+use Prim.Native.Nat.{_<_, _≤_}
+use lib.ListN.{getD}
+use lib.IntN.{pos}
+use mir.Facts.{toZ-ofZ}
+use mir.Syntax.{w32}
+use borrow.Author.Needs.{needs, sfits-of}
+use Rattle.rules.specs.Codes.{clueOf, cluesIn}
+use Rattle.rules.specs.Groups.{entry}
+use Rattle.checker.specs.Arrays.{sizeIn}
+use Rattle.checker.specs.Tallies.{optionOf, clueIn, option-clue}
+use Rattle.checker.specs.LoneCases.{lone-free, lone-none, lone-fits, lone-big}
+use Rattle.checker.proofs.blocks.lone_fault.Statement.{statement}
+use Rattle.checker.proofs.blocks.lone_fault.Tie as tie
+
+-- the clue read is the cell's
+clue : (c : tie.After-clue-at)
+    → cluesIn (c .before .before .args .clues .now) (c .before .before .args .c) ≡ optionOf (c .clue-at .result)
+unfolding cluesIn
+clue c =
+    let a = c .before .before .args in
+    let z = getD (a .clues .now) (a .c) (pos 0) in
+    let k = ap (λ z. clueIn (clueOf z)) (toZ-ofZ {w = w32} {z = z} (sfits-of (c .before .clue-at-arg .given))) in
+    sym (ap optionOf (c .clue-at .ensures ∙ k) ∙ option-clue (clueOf z))
+
+mul-clue-at : tie.Need-mul-clue-at
+mul-clue-at c = search needs
+
+element-copy-out-clue-at : tie.Need-element-copy-out-clue-at
+element-copy-out-clue-at c = search needs
+
+clue-at-requires : tie.Need-clue-at-requires
+clue-at-requires c κs = search needs
+
+enum-known-clue : tie.Need-enum-known-clue
+enum-known-clue c = search needs
+
+enum-told : tie.Need-enum-told
+enum-told c = search needs
+
+returns : tie.Need-returns
+returns c = lone-free _ _ _ _ (clue (c .before .before) ∙ ap optionOf (c .enum-told .given .1))
+
+returns-2 : tie.Need-returns-2
+returns-2 c =
+    lone-none _ _ _ _ _ (clue (c .before .before .before .before) ∙ ap optionOf (c .before .before .clue .given .1)) (c .if1 .taken)
+
+mul-wide : tie.Need-mul-wide
+mul-wide c = search needs
+
+element-copy-out-wide : tie.Need-element-copy-out-wide
+element-copy-out-wide c = search needs
+
+wide-requires : tie.Need-wide-requires
+wide-requires c κs = search needs
+
+size-of-requires : tie.Need-size-of-requires
+size-of-requires c κs =
+    let s = c .before .before .before .before .before .before .before .before in
+    rw (c .wide .ensures) (s .pre .1 .few (s .args .c), s .pre .1 .rises (s .args .c))
+
+returns-3 : tie.Need-returns-3
+unfolding entry
+returns-3 c =
+    let fits = rw (c .before .size-of .ensures, c .before .before .wide .ensures) at (c .if2 .taken) in
+    lone-fits _ _ _ _ _ (clue (c .before .before .before .before .before .before .before .before) ∙ ap optionOf (c .before .before .before .before .before .before .clue .given .1)) (c .before .before .before .before .if1 .left) fits
+
+returns-4 : tie.Need-returns-4
+unfolding entry
+returns-4 c =
+    let big = rw (c .before .size-of .ensures, c .before .before .wide .ensures) at (c .if2 .left) in
+    rw (c .before .before .wide .ensures)
+    (lone-big _ _ _ _ _ (clue (c .before .before .before .before .before .before .before .before) ∙ ap optionOf (c .before .before .before .before .before .before .clue .given .1)) (c .before .before .before .before .if1 .left) big)
+
+pub lone-fault-spec : {M : Type 1} → statement M
+lone-fault-spec =
+    tie.close
+    (tie.spec
+    mul-clue-at
+    element-copy-out-clue-at
+    clue-at-requires
+    enum-known-clue
+    enum-told
+    returns
+    returns-2
+    mul-wide
+    element-copy-out-wide
+    wide-requires
+    size-of-requires
+    returns-3
+    returns-4)
