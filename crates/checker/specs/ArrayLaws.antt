@@ -4,7 +4,7 @@ use mathlib.Core.List.{List, [], _∷_, _++_}
 use Prim.Native.Nat.{ℕ, suc, _+_, _-_, _<_, _≤_}
 use native.Mathlib.Omega.{arith}
 use lib.ListN.{length, getD, drop, length-take, length-drop}
-use lib.Seq.{take-suc, drop-cons, getD-drop}
+use lib.Seq.{length-take-le, take-suc, drop-cons, getD-drop}
 use Rattle.reasons.specs.Arrays.{part}
 
 -- the part from i on
@@ -30,3 +30,6 @@ part-more from i cs h k =
 
 pub part-length : (from i : ℕ) (cs : List ℕ) → length (part cs from i) ≤ i - from
 part-length from i cs = simp length-take (omega arith)
+
+pub part-count : (from i : ℕ) (cs : List ℕ) → from ≤ i → i ≤ length cs → length (part cs from i) ≡ i - from
+part-count from i cs h k = length-take-le _ _ (simp length-drop (omega arith))

@@ -7,6 +7,8 @@ pub mod BlockCases
 pub mod Tallied
 pub mod FaultCases
 pub mod LoneCases
+pub mod Looks
+pub mod Looked
 pub mod Faulty
 pub mod Breaches
 pub mod WallCases

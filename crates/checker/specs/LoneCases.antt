@@ -48,7 +48,8 @@ module _ (clueAt : ℕ → Option ℕ) (unitAt sizeAt : ℕ → ℕ) where
   lone-big x n e h k = rw (e, le-ltb n 1 (omega arith), lt-ltb (sizeAt (unitAt x)) n k)
 
   pub lone-fault : (colourAt : ℕ → Bool) (x : ℕ) → loneFault x ≡ faultOn colourAt clueAt unitAt sizeAt (x ∷ [])
-  unfolding loneFault onlyFault faultOn tallyOf partOf ownUnit ofColour filter hasClue any clueOf firstHit orElse firstFault cellFault scanFault tallyFault smallFault clueFault bigFault orFault
+  unfolding loneFault onlyFault faultOn tallyOf partOf ownUnit ofColour filter hasClue any clueOf firstHit orElse
+      firstFault cellFault scanFault tallyFault smallFault clueFault bigFault orFault
   lone-fault colourAt x = go (colourAt x)
     where
       same : eqb (unitAt x) (unitAt x) ≡ true

@@ -32,29 +32,29 @@ is-false : (b : Bool) → (T b → ⊥) → b ≡ false
 is-false true f = absurd (f tt)
 is-false false f = refl
 
-beq-eq : (a b : Bool) → T (Bool·beq a b) → a ≡ b
+pub beq-eq : (a b : Bool) → T (Bool·beq a b) → a ≡ b
 beq-eq true true t = refl
 beq-eq true false t = absurd t
 beq-eq false true t = absurd t
 beq-eq false false t = refl
 
-beq-refl : (a : Bool) → T (Bool·beq a a)
+pub beq-refl : (a : Bool) → T (Bool·beq a a)
 beq-refl true = tt
 beq-refl false = tt
 
 ne-test : (m n : ℕ) → (m ≡ n → ⊥) → T (not (eqb m n))
 ne-test m n f = ⊎-elim (λ t. absurd (f (eqb→eq m n t))) (λ t. t) (T-dec (eqb m n))
 
-clash-none : (o : Option ℕ) → clash o none ≡ false
+pub clash-none : (o : Option ℕ) → clash o none ≡ false
 clash-none none = refl
 clash-none (some n) = refl
 
-clash-self : (o : Option ℕ) → clash o o ≡ false
+pub clash-self : (o : Option ℕ) → clash o o ≡ false
 clash-self none = refl
 clash-self (some n) = is-false (not (eqb n n)) (λ t. T-not (eqb n n) t (eqb-refl n))
 
 -- a clue that does not clash with the first one is the first one, or none
-clash-cases : (n o : Option ℕ) → clash n o ≡ false → (n ≡ none → o ≡ none) → (o ≡ none) ⊎ (o ≡ n)
+pub clash-cases : (n o : Option ℕ) → clash n o ≡ false → (n ≡ none → o ≡ none) → (o ≡ none) ⊎ (o ≡ n)
 clash-cases none o e f = inl (f refl)
 clash-cases (some n) none e f = inl refl
 clash-cases (some n) (some o) e f =

@@ -84,7 +84,7 @@ module _ (colourAt : ℕ → Bool) (clueAt : ℕ → Option ℕ) (unitAt : ℕ �
   abbrev snoc : List ℕ → ℕ → List ℕ
   snoc xs x = xs ++ (x ∷ [])
 
-  coloured-more : (c : Bool) (xs : List ℕ) (x : ℕ)
+  pub coloured-more : (c : Bool) (xs : List ℕ) (x : ℕ)
       → ofColour c (snoc xs x) ≡ ofColour c xs ++ keep (Bool·beq (colourAt x) c) x []
   unfolding ofColour filter
   coloured-more c xs x = filter-append (λ y. Bool·beq (colourAt y) c) xs (x ∷ [])
@@ -131,7 +131,7 @@ module _ (colourAt : ℕ → Bool) (clueAt : ℕ → Option ℕ) (unitAt : ℕ �
       go true = part-put (ofColour c xs) x
       go false = ap partFrom (append-nil (ofColour c xs))
 
-  clue-more : (xs : List ℕ) (x : ℕ)
+  pub clue-more : (xs : List ℕ) (x : ℕ)
       → clueIn (clueOf clueAt (snoc xs x)) ≡ firstClue (clueIn (clueOf clueAt xs)) (clueIn (clueAt x))
   unfolding clueOf firstHit orElse
   clue-more xs x = ap clueIn (first-append clueAt xs (x ∷ [])) ∙ go (firstHit clueAt xs) (clueAt x)

@@ -1,6 +1,6 @@
 // Step 1: what is wrong with a block.
 ghost use mathlib.Core.Path.{_≡_};
-ghost use mathlib.Core.Bool.{_||_};
+ghost use mathlib.Core.Bool.{true, _||_};
 ghost use Prim.Native.Nat.{_+_, _-_, _<_, _≤_};
 ghost use lib.Dec.{eqb};
 ghost use lib.ListN.{getD};
@@ -14,6 +14,7 @@ ghost use Rattle.checker.specs.Arrays.{Listed, Lists, Parted, sizeIn};
 ghost use Rattle.checker.specs.Faults.{orFault, firstFault, isClear, unitsOf, scanFault, smallFault, bigFault};
 ghost use Rattle.checker.specs.Faulty.{firstFaulty};
 ghost use Rattle.checker.specs.LoneCases.{loneFault};
+ghost use Rattle.checker.specs.Looks.{bitOf, Room};
 ghost use Rattle.checker.specs.Faults.{clueFault, tallyFault, cellFault, faultOn};
 use crate::Clue;
 use crate::Fault;
@@ -325,6 +326,83 @@ fn lone_fault<'a>(
     Fault::Edge(unit)
 }
 
+// A colour as an index.
+fn bit(colour: u8) -> usize
+    ensures { λ r. ⌜ r ≡ bitOf (eqb colour 1) ⌝ }
+{
+    if colour == 1 {
+        return 1;
+    }
+    0
+}
+
+// Whether nothing is wrong with `size` cells of one colour and their potential unit, beside `other` cells of the other
+// colour and the block's clue.
+fn has_room(offs: &[u16; 1025], size: usize, unit: usize, other: usize, clue: Clue) -> bool
+    requires { ⌜ ((size ≡ 0 → ⊥) → (unit < 1024) × (getD (now offs) unit 0 ≤ getD (now offs) (unit + 1) 0)) ⌝ }
+    ensures { λ r. ⌜ (r ≡ true → Room size other clue (sizeIn (now (offs .entry)) unit)) ⌝ }
+{
+    if size == 0 {
+        return true;
+    }
+    let room = size_of(offs, unit);
+    if room < other {
+        return false;
+    }
+    let Clue::Is(n) = clue else {
+        return true;
+    };
+    if n < size {
+        return false;
+    }
+    n <= room
+}
+
+// Whether one look at the cells from..to shows that nothing is wrong; else what it is takes a second look. The first
+// potential unit of a colour is kept at the colour's place, where 1,024 stands for none.
+fn looks_clear<'a>(
+    colours: &'a [u8; 1024],
+    clues: &'a [i32; 1024],
+    ids: &'a [u16; 1024],
+    offs: &'a [u16; 1025],
+    cells: &'a [u16; 1024],
+    from: usize,
+    to: usize,
+) -> bool
+    requires { ⌜ Listed from to (now cells) × Parted (now ids) (now offs) ⌝ }
+    ensures { λ r. ⌜ (r ≡ true → Fault.Clear ≡ faultOn (coloursIn (now (colours .entry)))
+        (cluesIn (now (clues .entry))) (entry (now (ids .entry))) (sizeIn (now (offs .entry)))
+        (part (now (cells .entry)) from to)) ⌝ }
+{
+    let mut own = [1024usize; 2];
+    let mut first = Clue::Free;
+    let mut ones = 0;
+    let mut i = from;
+    while i < to {
+        let c = wide(cells[i]);
+        let unit = wide(ids[c]);
+        let one = bit(colours[c]);
+        if own[one] != unit {
+            if own[one] != 1024 {
+                return false;
+            }
+            own[one] = unit;
+        }
+        let clue = clue_at(clues[c]);
+        if clash(first, clue) {
+            return false;
+        }
+        first = first_clue(first, clue);
+        ones += one;
+        i += 1;
+    }
+    let zeros = to - from - ones;
+    if has_room(offs, zeros, own[0], ones, first) {
+        return has_room(offs, ones, own[1], zeros, first);
+    }
+    false
+}
+
 // What is wrong with the block of the cells from..to; ids and offs are those of the potential units.
 pub fn block_fault<'a>(
     colours: &'a [u8; 1024],
@@ -343,6 +421,9 @@ pub fn block_fault<'a>(
 {
     if to == from + 1 {
         return lone_fault(clues, ids, offs, wide(cells[from]));
+    }
+    if looks_clear(colours, clues, ids, offs, cells, from, to) {
+        return Fault::Clear;
     }
     let t = tally(colours, clues, ids, cells, from, to);
     let f = scan(t, colours, clues, ids, cells, from, to);

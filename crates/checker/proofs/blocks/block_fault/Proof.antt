@@ -1,14 +1,17 @@
--- `block_fault` meets its contract: one cell's fault; else the scan's, and where it is clear that of the tally.
+-- `block_fault` meets its contract: one cell's fault; nothing where one look shows it; else the scan's fault, and where
+-- that is clear the tally's.
 use mathlib.Core.Path.{sym, ap, _∙_}
-use mathlib.Core.Bool.{true, false}
+use mathlib.Core.Bool.{Bool, true, false}
+use Prim.Native.Nat.{_+_, _<_, _≤_}
 use Rattle.rules.specs.Codes.{coloursIn, cluesIn}
 use Rattle.rules.specs.Groups.{entry}
 use Rattle.checker.specs.Arrays.{sizeIn}
 use Rattle.reasons.specs.Arrays.{part}
-use Rattle.checker.specs.Tallies.{partOf, tallyOf}
+use Rattle.checker.specs.Tallies.{ownUnit, partOf, tallyOf}
 use Rattle.checker.specs.LoneCases.{lone-fault, part-one}
 use Rattle.checker.specs.FaultCases.{fault-clear, fault-found, own-parted}
 use native.Mathlib.Omega.{arith}
+use lib.ListN.{getD}
 use borrow.Author.Needs.{needs}
 use Rattle.checker.proofs.blocks.block_fault.Statement.{statement}
 use Rattle.checker.proofs.blocks.block_fault.Tie as tie
@@ -35,10 +38,18 @@ returns : tie.Need-returns
 returns c =
     let s = c .before .before .before .before in
     let a = s .args in
+    let t = c .before .before .before .if1 .taken in
+    let one = part-one (a .from) (a .to) (a .cells .now) t (omega (arith, s .pre .0)) in
     c .lone-fault .ensures
-    ∙ rw (part-one (a .from) (a .to) (a .cells .now) (c .before .before .before .if1 .taken) (omega (arith, s .pre .0)), ← c .before .wide .ensures)
+    ∙ rw (one, ← c .before .wide .ensures)
     (lone-fault (cluesIn (a .clues .now)) (entry (a .ids .now)) (sizeIn (a .offs .now)) (coloursIn (a .colours .now))
     (c .before .wide .result))
+
+looks-clear-requires : tie.Need-looks-clear-requires
+looks-clear-requires c κs = search needs
+
+returns-2 : tie.Need-returns-2
+returns-2 c = c .before .looks-clear .ensures (c .if2 .taken)
 
 tally-requires : tie.Need-tally-requires
 tally-requires c κs = search needs
@@ -49,44 +60,49 @@ scan-requires c κs = search needs
 is-clear-requires : tie.Need-is-clear-requires
 is-clear-requires c κs = search needs
 
+-- the potential unit of a colour's first cell has a size
+parted : (c : tie.After-tally) → (colour : Bool)
+    → let a = c .before .before .before .before .args in
+    let u = ownUnit (coloursIn (a .colours .now)) (cluesIn (a .clues .now)) (entry (a .ids .now))
+    (part (a .cells .now) (a .from) (a .to)) colour in
+    (u < 1024) × (getD (a .offs .now) u 0 ≤ getD (a .offs .now) (u + 1) 0)
+parted c =
+    let a = c .before .before .before .before .args in
+    own-parted (coloursIn (a .colours .now)) (cluesIn (a .clues .now)) (a .ids .now) (a .offs .now)
+    (part (a .cells .now) (a .from) (a .to)) (c .before .before .before .before .pre .1)
+
 size-of-requires : tie.Need-size-of-requires
 unfolding tallyOf partOf
 size-of-requires c κs =
-    let a = c .before .before .before .before .before .before .before .args in
-    let o = own-parted (coloursIn (a .colours .now)) (cluesIn (a .clues .now)) (a .ids .now) (a .offs .now)
-    (part (a .cells .now) (a .from) (a .to)) (c .before .before .before .before .before .before .before .pre .1) false in
-    rw (ap (λ t. t .zero .unit) (c .before .before .before .before .before .tally .ensures)) o
+    let d = c .before .before .before .before .before in
+    rw (ap (λ t. t .zero .unit) (d .tally .ensures)) (parted d false)
 
 size-of-requires-2 : tie.Need-size-of-requires-2
 unfolding tallyOf partOf
 size-of-requires-2 c κs =
-    let a = c .before .before .before .before .before .before .before .before .args in
-    let o = own-parted (coloursIn (a .colours .now)) (cluesIn (a .clues .now)) (a .ids .now) (a .offs .now)
-    (part (a .cells .now) (a .from) (a .to)) (c .before .before .before .before .before .before .before .before .pre .1) true
-    in
-    rw (ap (λ t. t .one .unit) (c .before .before .before .before .before .before .tally .ensures)) o
+    let d = c .before .before .before .before .before .before in
+    rw (ap (λ t. t .one .unit) (d .tally .ensures)) (parted d true)
 
 tally-fault-requires : tie.Need-tally-fault-requires
 tally-fault-requires c κs = search needs
 
-returns-2 : tie.Need-returns-2
-returns-2 c =
-    let a = c .before .before .before .before .before .before .before .before .before .before .args in
-    fault-clear (coloursIn (a .colours .now)) (cluesIn (a .clues .now)) (entry (a .ids .now)) (sizeIn (a .offs .now))
-    (part (a .cells .now) (a .from) (a .to))
-    _ _ _ (c .before .before .before .before .before .before .before .before .tally .ensures)
-    (c .before .before .before .before .before .before .before .scan .ensures)
-    (c .tally-fault .ensures ∙ rw (c .before .size-of2 .ensures, c .before .before .size-of .ensures))
-    (sym (c .before .before .before .before .before .before .is-clear .ensures)
-    ∙ c .before .before .before .before .before .if2 .taken)
-
 returns-3 : tie.Need-returns-3
 returns-3 c =
-    let a = c .before .before .before .before .before .args in
+    let e = c .before .before .before .before .before in
+    let d = e .before .before .before in
+    let a = d .before .before .before .before .args in
+    fault-clear (coloursIn (a .colours .now)) (cluesIn (a .clues .now)) (entry (a .ids .now)) (sizeIn (a .offs .now))
+    (part (a .cells .now) (a .from) (a .to)) _ _ _ (d .tally .ensures) (e .before .before .scan .ensures)
+    (c .tally-fault .ensures ∙ rw (c .before .size-of2 .ensures, c .before .before .size-of .ensures))
+    (sym (e .before .is-clear .ensures) ∙ e .if3 .taken)
+
+returns-4 : tie.Need-returns-4
+returns-4 c =
+    let d = c .before .before .before in
+    let a = d .before .before .before .before .args in
     fault-found (coloursIn (a .colours .now)) (cluesIn (a .clues .now)) (entry (a .ids .now)) (sizeIn (a .offs .now))
-    (part (a .cells .now) (a .from) (a .to))
-    _ _ (c .before .before .before .tally .ensures) (c .before .before .scan .ensures)
-    (sym (c .before .is-clear .ensures) ∙ c .if2 .left)
+    (part (a .cells .now) (a .from) (a .to)) _ _ (d .tally .ensures) (c .before .before .scan .ensures)
+    (sym (c .before .is-clear .ensures) ∙ c .if3 .left)
 
 pub block-fault-spec : {M : Type 1} → statement M
 block-fault-spec =
@@ -98,11 +114,13 @@ block-fault-spec =
     wide-requires
     lone-fault-requires
     returns
+    looks-clear-requires
+    returns-2
     tally-requires
     scan-requires
     is-clear-requires
     size-of-requires
     size-of-requires-2
     tally-fault-requires
-    returns-2
-    returns-3)
+    returns-3
+    returns-4)

@@ -1,7 +1,6 @@
 -- `lone_fault` meets its contract: a case law for each return.
 use mathlib.Core.Path.{_≡_, sym, ap, _∙_}
 use mathlib.Core.Option.{some}
-use Prim.Native.Nat.{_<_, _≤_}
 use lib.ListN.{getD}
 use lib.IntN.{pos}
 use mir.Facts.{toZ-ofZ}
@@ -9,7 +8,6 @@ use mir.Syntax.{w32}
 use borrow.Author.Needs.{needs, sfits-of}
 use Rattle.rules.specs.Codes.{clueOf, cluesIn}
 use Rattle.rules.specs.Groups.{entry}
-use Rattle.checker.specs.Arrays.{sizeIn}
 use Rattle.checker.specs.Tallies.{optionOf, clueIn, option-clue}
 use Rattle.checker.specs.LoneCases.{lone-free, lone-none, lone-fits, lone-big}
 use Rattle.checker.proofs.blocks.lone_fault.Statement.{statement}
@@ -24,6 +22,12 @@ clue c =
     let z = getD (a .clues .now) (a .c) (pos 0) in
     let k = ap (λ z. clueIn (clueOf z)) (toZ-ofZ {w = w32} {z = z} (sfits-of (c .before .clue-at-arg .given))) in
     sym (ap optionOf (c .clue-at .ensures ∙ k) ∙ option-clue (clueOf z))
+
+-- and is there
+is : (c : tie.After-clue)
+    → cluesIn (c .before .before .before .before .args .clues .now) (c .before .before .before .before .args .c)
+    ≡ some (c .clue .given .0 .0)
+is c = clue (c .before .before) ∙ ap optionOf (c .clue .given .1)
 
 mul-clue-at : tie.Need-mul-clue-at
 mul-clue-at c = search needs
@@ -44,8 +48,7 @@ returns : tie.Need-returns
 returns c = lone-free _ _ _ _ (clue (c .before .before) ∙ ap optionOf (c .enum-told .given .1))
 
 returns-2 : tie.Need-returns-2
-returns-2 c =
-    lone-none _ _ _ _ _ (clue (c .before .before .before .before) ∙ ap optionOf (c .before .before .clue .given .1)) (c .if1 .taken)
+returns-2 c = lone-none _ _ _ _ _ (is (c .before .before)) (c .if1 .taken)
 
 mul-wide : tie.Need-mul-wide
 mul-wide c = search needs
@@ -65,14 +68,15 @@ returns-3 : tie.Need-returns-3
 unfolding entry
 returns-3 c =
     let fits = rw (c .before .size-of .ensures, c .before .before .wide .ensures) at (c .if2 .taken) in
-    lone-fits _ _ _ _ _ (clue (c .before .before .before .before .before .before .before .before) ∙ ap optionOf (c .before .before .before .before .before .before .clue .given .1)) (c .before .before .before .before .if1 .left) fits
+    let d = c .before .before .before .before in
+    lone-fits _ _ _ _ _ (is (d .before .before)) (d .if1 .left) fits
 
 returns-4 : tie.Need-returns-4
 unfolding entry
 returns-4 c =
     let big = rw (c .before .size-of .ensures, c .before .before .wide .ensures) at (c .if2 .left) in
-    rw (c .before .before .wide .ensures)
-    (lone-big _ _ _ _ _ (clue (c .before .before .before .before .before .before .before .before) ∙ ap optionOf (c .before .before .before .before .before .before .clue .given .1)) (c .before .before .before .before .if1 .left) big)
+    let d = c .before .before .before .before in
+    rw (c .before .before .wide .ensures) (lone-big _ _ _ _ _ (is (d .before .before)) (d .if1 .left) big)
 
 pub lone-fault-spec : {M : Type 1} → statement M
 lone-fault-spec =
