@@ -73,12 +73,11 @@ fn append_if(memory: &mut [u16], at: usize, kept: bool, literal: Literal) -> usi
     at
 }
 
-// The neighbour of (y,x) above, below, left, right, for d 0, 1, 2, 3.
-pub fn step(h: usize, w: usize, y: usize, x: usize, d: usize) -> Neighbour
-    requires { ⌜ Sized h w × (y < h) × (x < w) ⌝ }
+// The neighbour of the cell c, which is (y,x), above, below, left, right, for d 0, 1, 2, 3.
+fn beside(h: usize, w: usize, c: usize, y: usize, x: usize, d: usize) -> Neighbour
+    requires { ⌜ Sized h w × (y < h) × (x < w) × (c ≡ y * w + x) ⌝ }
     ensures { λ r. ⌜ Stepped h w y x d r ⌝ }
 {
-    let c = y * w + x;
     let side = y * (w - 1) + x;
     let under = h * (w - 1) + c;
     if d == 0 {
@@ -97,6 +96,14 @@ pub fn step(h: usize, w: usize, y: usize, x: usize, d: usize) -> Neighbour
         return Neighbour::new(true, side - 1, c - 1);
     }
     Neighbour::new(x + 1 < w, side, c + 1)
+}
+
+// The neighbour of (y,x) above, below, left, right, for d 0, 1, 2, 3.
+pub fn step(h: usize, w: usize, y: usize, x: usize, d: usize) -> Neighbour
+    requires { ⌜ Sized h w × (y < h) × (x < w) ⌝ }
+    ensures { λ r. ⌜ Stepped h w y x d r ⌝ }
+{
+    beside(h, w, y * w + x, y, x, d)
 }
 
 // The cells c and to have one colour.

@@ -10,13 +10,13 @@ ghost use Rattle.reasons.specs.Memory.{Wrote};
 ghost use Rattle.reasons.specs.Arrays.{hopAt};
 ghost use Rattle.reasons.specs.Search.{pathIn, Lined, Looked, Ended};
 use crate::append;
-use crate::step;
+use crate::beside;
 use crate::wide;
 use rules::Literal;
 use rules::Side;
 
-// The search looks from the cell c in the direction d: a neighbour over an open border that is not found yet goes to
-// the end of the queue. Gives the queue's new end.
+// The search looks from the cell c, which is (y,x), in the direction d: a neighbour over an open border that is not
+// found yet goes to the end of the queue. Gives the queue's new end.
 fn visit(
     queue: &mut [u16; 1024],
     parent: &mut [u16; 1024],
@@ -27,15 +27,17 @@ fn visit(
     h: usize,
     w: usize,
     c: usize,
+    y: usize,
+    x: usize,
     d: usize,
 ) -> usize
     requires { ⌜ Sized h w × (length (now borders) ≡ 1984) × (c < h * w) × (getD (now found) c 0 ≡ 1)
-        × Lined (h * w) (now queue) (now parent) (now over) (now found) tail ⌝ }
+        × Lined (h * w) (now queue) (now parent) (now over) (now found) tail × (y ≡ c / w) × (x ≡ c % w) ⌝ }
     ensures { λ r. ⌜ Looked h w (now (borders .entry)) c (hopAt h w (c / w) (c % w) d) (now (queue .entry))
         (now (parent .entry)) (now (over .entry)) (now (found .entry)) tail (now (queue .exit)) (now (parent .exit))
         (now (over .exit)) (now (found .exit)) r ⌝ }
 {
-    let n = step(h, w, c / w, c % w, d);
+    let n = beside(h, w, c, y, x, d);
     if !n.some {
         return tail;
     }
@@ -72,13 +74,13 @@ fn expand(
         (now (parent .entry)) (now (over .entry)) (now (found .entry)) tail (now (queue .exit)) (now (parent .exit))
         (now (over .exit)) (now (found .exit)) r ⌝ }
 {
-    let mut end = tail;
-    let mut d = 0;
-    while d < 4 {
-        end = visit(queue, parent, over, found, end, borders, h, w, c, d);
-        d += 1;
-    }
-    end
+    // four calls and no loop, so that each is compiled for its direction
+    let y = c / w;
+    let x = c % w;
+    let above = visit(queue, parent, over, found, tail, borders, h, w, c, y, x, 0);
+    let below = visit(queue, parent, over, found, above, borders, h, w, c, y, x, 1);
+    let left = visit(queue, parent, over, found, below, borders, h, w, c, y, x, 2);
+    visit(queue, parent, over, found, left, borders, h, w, c, y, x, 3)
 }
 
 // The search from a, breadth first, until b is found or nothing is left.
