@@ -1,4 +1,4 @@
--- How many literals Inside, Edge, the walls of step 3 and Path have at most.
+-- How many literals Inside, Edge and Path have at most.
 use mathlib.Core.Path.{_≡_, refl, sym, ap}
 use mathlib.Core.Bool.{Bool, true, false, not, _&&_, _||_, cond}
 use mathlib.Core.Logic.{_⊎_, inl, inr}
@@ -22,7 +22,7 @@ use Rattle.rules.specs.Groups.{members}
 use Rattle.rules.specs.Reasons.{gather, insideAt, inside, edgeAt, edge, Found, Search, isFound, visitIf, look, hunt}
 use Rattle.rules.specs.Reasons.{trace, path}
 use Rattle.reasons.specs.ListExtras.{upTo}
-use Rattle.reasons.specs.Arrays.{hopAt, scanHops, scanAt, scanOf}
+use Rattle.reasons.specs.Arrays.{hopAt}
 use Rattle.reasons.specs.StepLaws.{around-is, ahead-is, around-near}
 
 filter-le : {A : Type 0} (p : A → Bool) (xs : List A) → length (filter p xs) ≤ length xs
@@ -92,18 +92,6 @@ module _ (h w : ℕ) (s : ℕ → Mark) (number : ℕ → ℕ) (g : ℕ) where
   edge-le colour =
       flat-le (edgeAt (flat h w) colour s number g) 4
       (λ c. le-trans (gather-le Wall _ (flat h w .around c)) (around-le h w c)) (members (flat h w) number g)
-
--- the walls of step 3
-pub scan-le : (h w : ℕ) (cs bs ids : List ℕ) (side : Side) (same : Bool) (F xs : List ℕ)
-    → length (scanOf h w cs bs ids side same F xs) ≤ 4 * length xs
-unfolding scanOf scanAt
-scan-le h w cs bs ids side same F xs =
-    flat-le (scanAt h w cs bs ids side same F) 4
-    (λ c. le-trans (gather-le side _ (scanHops (flat h w) side c)) (hops-le side c)) xs
-  where
-    hops-le : (v : Side) (c : ℕ) → length (scanHops (flat h w) v c) ≤ 4
-    hops-le Wall c = around-le h w c
-    hops-le Open c = omega (arith, ahead-le h w c)
 
 -- Path: each step back takes one entry off the found list, and each cell is found once
 pub trace-le : (f : List Found) (x : ℕ) → length (trace f x) ≤ length f

@@ -1,10 +1,10 @@
--- Laws of Wrote: nothing written, one literal, one list after another, a loop, and the memory from place 0.
+-- Laws of Wrote: nothing written, one literal, one list after another, and a loop.
 use mathlib.Core.Path.{_≡_, refl, ap, _∙_}
-use mathlib.Core.List.{List, [], _∷_, _++_, map, append-assoc}
+use mathlib.Core.List.{List, [], _∷_, _++_, map}
 use Prim.Native.Nat.{ℕ, _+_, _<_, _≤_}
 use native.Mathlib.Omega.{arith}
-use lib.ListN.{length, take, drop, set, length-append, length-map}
-use lib.Seq.{sets-eq, length-sets}
+use lib.ListN.{length, set, length-append, length-map}
+use lib.Seq.{length-sets}
 use Rattle.rules.specs.declared.Literal.{Literal}
 use Rattle.rules.specs.Codes.{literalCode, put}
 use Rattle.reasons.specs.Memory.{Wrote}
@@ -38,22 +38,6 @@ module _ {m : List ℕ} {i : ℕ} {ls : List Literal} {m′ : List ℕ} {j : ℕ
   pub wrote-length : length m′ ≡ length m
   unfolding put
   wrote-length = ap length (a .memory) ∙ length-sets m i (map literalCode ls)
-
-  -- the codes stand at their places, and the memory is unchanged elsewhere
-  pub wrote-plain : i + length ls ≤ length m → m′ ≡ take i m ++ (map literalCode ls ++ drop (i + length ls) m)
-  unfolding put
-  wrote-plain h =
-      a .memory
-      ∙ sets-eq (map literalCode ls) m i (rw (length-map ls literalCode) h)
-      ∙ rw (length-map ls literalCode) (simp append-assoc)
-
--- from the start of the memory
-pub wrote-first : {m : List ℕ} {ls : List Literal} {m′ : List ℕ} {j : ℕ} → Wrote m 0 ls m′ j → length ls ≤ length m
-    → (j ≡ length ls) × (m′ ≡ map literalCode ls ++ drop j m)
-wrote-first {m} {ls} a h =
-    let e : 0 + length ls ≡ length ls = omega arith in
-    let p = a .place ∙ e in
-    (p, wrote-plain a (omega arith) ∙ rw (e, p))
 
 -- a loop that writes the lists f 0, f 1, ..
 module _ (f : ℕ → List Literal) {m : List ℕ} {i : ℕ} where

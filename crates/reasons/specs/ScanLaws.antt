@@ -2,7 +2,7 @@
 use mathlib.Core.Path.{_≡_, refl, sym, ap, _∙_}
 use mathlib.Core.Bool.{Bool, true, false, not, _&&_, cond, Bool·beq}
 use mathlib.Core.List.{List, [], _∷_, _++_, map, List·Memᴰ·head, List·Memᴰ·tail}
-use Prim.Native.Nat.{ℕ, zero, suc, _+_, _-_, _*_, _/_, _%_, _<_, _≤_}
+use Prim.Native.Nat.{ℕ, zero, suc, _+_, _-_, _*_, _/_, _%_, _<_}
 use native.Mathlib.Omega.{arith}
 use borrow.Author.Tests.{eq-eqb, ne-eqb, ltb-true, ltb-false}
 use lib.Dec.{eqb, ltb}
@@ -21,7 +21,7 @@ use Rattle.rules.specs.Groups.{entry, members}
 use Rattle.rules.specs.Reasons.{gather, insideAt, inside, edgeAt, edge}
 use Rattle.reasons.specs.declared.Neighbour.{Neighbour}
 use Rattle.reasons.specs.Arrays.{Cells, Part, part, hopAt, hopsIn, hopOf, Near, Stepped, isMarked}
-use Rattle.reasons.specs.Arrays.{openKept, wallKept, scanCount, scanDirection, scanHops, scanTest, scanAt, scanOf}
+use Rattle.reasons.specs.Arrays.{openKept, wallKept, scanTest, scanTo, scanAt, scanOf}
 use Rattle.reasons.specs.Arrays.{insideIn, edgeIn, groupReason}
 use Rattle.reasons.specs.ListExtras.{upTo, up-same, flat-up, flat-same, if-same}
 use Rattle.reasons.specs.StepLaws.{around-is, ahead-is}
@@ -101,21 +101,16 @@ module _ (bs : List ℕ) (b : ℕ) where
       go false = refl
 
 -- what a cell gives, direction by direction
-module _ (h w : ℕ) (cs bs ids : List ℕ) (side : Side) (same : Bool) (F : List ℕ) (c : ℕ) where
-  abbrev pub scanHop : ℕ → List Literal
-  scanHop i = gather side (scanTest cs bs ids side same F c) (hopAt h w (c / w) (c % w) (scanDirection side i))
-
-  pub scan-cell : scanAt h w cs bs ids side same F c ≡ upTo scanHop (scanCount side)
+module _ (h w : ℕ) (cs bs ids : List ℕ) (same : Bool) (F : List ℕ) (c : ℕ) where
+  pub scan-walls : scanAt h w cs bs ids Wall same F c ≡ upTo (scanTo h w cs bs ids Wall same F c) 4
   unfolding scanAt
-  scan-cell =
-      rw (hops side)
-      (gather-up side (scanTest cs bs ids side same F c) (λ i. hopAt h w (c / w) (c % w) (scanDirection side i))
-      (scanCount side))
-    where
-      hops : (v : Side) → scanHops (flat h w) v c
-          ≡ upTo (λ i. hopAt h w (c / w) (c % w) (scanDirection v i)) (scanCount v)
-      hops Wall = around-is h w c
-      hops Open = ahead-is h w c
+  scan-walls = rw (around-is h w c) (gather-up Wall (scanTest cs bs ids Wall same F c) (hopAt h w (c / w) (c % w)) 4)
+
+  pub scan-open : scanAt h w cs bs ids Open same F c ≡ upTo (λ i. scanTo h w cs bs ids Open same F c (2 * i + 1)) 2
+  unfolding scanAt
+  scan-open =
+      rw (ahead-is h w c)
+      (gather-up Open (scanTest cs bs ids Open same F c) (λ i. hopAt h w (c / w) (c % w) (2 * i + 1)) 2)
 
 -- a part of a cell list, cell by cell
 module _ {h w : ℕ} {cells : List ℕ} {from to : ℕ} (k : Cells h w cells from to) where
@@ -234,7 +229,3 @@ group-scan cs bs {ids} {g} Open p o =
     swap true false = refl
     swap false true = refl
     swap false false = refl
-
-pub scan-count-le : (side : Side) → scanCount side ≤ 4
-scan-count-le Wall = omega arith
-scan-count-le Open = omega arith

@@ -1,21 +1,18 @@
 // 01's reasons: Inside, Edge and Path, written into lent reason memory.
 ghost use mathlib.Core.Path.{_≡_};
-ghost use mathlib.Core.Bool.{true, false, _&&_, Bool·beq};
 ghost use mathlib.Core.List.{[], _∷_};
-ghost use Prim.Native.Nat.{_+_, _*_, _/_, _%_, _<_, _≤_};
+ghost use Prim.Native.Nat.{_+_, _*_, _<_, _≤_};
 ghost use lib.ListN.{length};
-ghost use Rattle.lists.specs.Lists.{keep};
 ghost use Rattle.rules.specs.Flat.{Sized};
-ghost use Rattle.rules.specs.Codes.{literalCode, marksIn, coloursIn};
-ghost use Rattle.rules.specs.Groups.{entry};
+ghost use Rattle.rules.specs.Codes.{literalCode};
 ghost use Rattle.reasons.specs.Memory.{Wrote};
-ghost use Rattle.reasons.specs.Arrays.{Arrays, Cells, Part, part, Fits, Stepped, hopOf};
-ghost use Rattle.reasons.specs.Arrays.{isMarked, openKept, wallKept, scanCount, scanDirection, scanTest, scanAt};
-ghost use Rattle.reasons.specs.Arrays.{scanOf, insideIn, edgeIn, groupReason};
+ghost use Rattle.reasons.specs.Arrays.{Arrays, Cells, Part, part, Stepped, scanOf, insideIn, edgeIn, groupReason};
+use crate::scans::scan_cell;
 use rules::Literal;
 use rules::Side;
 
 pub mod paths; // paths.rt: Path, by a search over open borders, and the reason of a wall
+pub mod scans; // scans.rt: what a scan keeps of one cell
 
 // A neighbour of a cell, if there is one: over which border, and which cell.
 pub struct Neighbour {
@@ -62,17 +59,6 @@ pub fn append(memory: &mut [u16], at: usize, literal: Literal) -> usize
     at + 1
 }
 
-// The same, where `kept`; otherwise nothing is written.
-fn append_if(memory: &mut [u16], at: usize, kept: bool, literal: Literal) -> usize
-    requires { ⌜ (at + length (keep kept literal []) ≤ length (now memory)) × (kept ≡ true → literal .border < 1984) ⌝ }
-    ensures { λ r. ⌜ Wrote (now (memory .entry)) at (keep kept literal []) (now (memory .exit)) r ⌝ }
-{
-    if kept {
-        return append(memory, at, literal);
-    }
-    at
-}
-
 // The neighbour of the cell c, which is (y,x), above, below, left, right, for d 0, 1, 2, 3.
 fn beside(h: usize, w: usize, c: usize, y: usize, x: usize, d: usize) -> Neighbour
     requires { ⌜ Sized h w × (y < h) × (x < w) × (c ≡ y * w + x) ⌝ }
@@ -104,166 +90,6 @@ pub fn step(h: usize, w: usize, y: usize, x: usize, d: usize) -> Neighbour
     ensures { λ r. ⌜ Stepped h w y x d r ⌝ }
 {
     beside(h, w, y * w + x, y, x, d)
-}
-
-// The cells c and to have one colour.
-fn one_colour(colours: &[u8; 1024], c: usize, to: usize) -> bool
-    requires { ⌜ (length (now colours) ≡ 1024) × (c < 1024) × (to < 1024) ⌝ }
-    ensures { λ r. ⌜ r ≡ Bool·beq (coloursIn (now (colours .entry)) c) (coloursIn (now (colours .entry)) to) ⌝ }
-{
-    if colours[c] == 1 {
-        return colours[to] == 1;
-    }
-    colours[to] != 1
-}
-
-// The group is marked. A number past the last flag has no mark.
-fn is_marked(marked: &[u8; 1024], group: usize) -> bool
-    requires { ⌜ length (now marked) ≡ 1024 ⌝ }
-    ensures { λ r. ⌜ r ≡ isMarked (now (marked .entry)) group ⌝ }
-{
-    if group < 1024 {
-        return marked[group] == 1;
-    }
-    false
-}
-
-// The border to the neighbour n is open, and its group is marked. False if there is no neighbour.
-fn open_kept<'a>(
-    borders: &'a [u8; 1984],
-    ids: &'a [u16; 1024],
-    marked: &'a [u8; 1024],
-    n: Neighbour,
-) -> bool
-    requires { ⌜ Arrays (now borders) (now ids) × (length (now marked) ≡ 1024) × (n .some ≡ true → Fits n) ⌝ }
-    ensures { λ r. ⌜ r ≡ (n .some && openKept (marksIn (now (borders .entry))) (entry (now (ids .entry)))
-        (isMarked (now (marked .entry))) (hopOf n)) ⌝ }
-{
-    if !n.some {
-        return false;
-    }
-    let border = n.border;
-    let to = n.to;
-    if borders[border] == 2 {
-        return is_marked(marked, wide(ids[to]));
-    }
-    false
-}
-
-// The border to the neighbour n of the cell c is wall, n has the colour of c (or, if `same` is false, the other one),
-// and its group is not marked. False if there is no neighbour.
-fn wall_kept<'a>(
-    colours: &'a [u8; 1024],
-    borders: &'a [u8; 1984],
-    ids: &'a [u16; 1024],
-    same: bool,
-    marked: &'a [u8; 1024],
-    c: usize,
-    n: Neighbour,
-) -> bool
-    requires { ⌜ Arrays (now borders) (now ids) × (length (now colours) ≡ 1024) × (length (now marked) ≡ 1024)
-        × (c < 1024) × (n .some ≡ true → Fits n) ⌝ }
-    ensures { λ r. ⌜ r ≡ (n .some && wallKept (coloursIn (now (colours .entry))) (marksIn (now (borders .entry)))
-        (entry (now (ids .entry))) same (isMarked (now (marked .entry))) c (hopOf n)) ⌝ }
-{
-    if !n.some {
-        return false;
-    }
-    let border = n.border;
-    let to = n.to;
-    if borders[border] != 1 {
-        return false;
-    }
-    if one_colour(colours, c, to) != same {
-        return false;
-    }
-    !is_marked(marked, wide(ids[to]))
-}
-
-// How many directions a scan for borders of that side looks in.
-fn directions(side: Side) -> usize
-    ensures { λ r. ⌜ r ≡ scanCount side ⌝ }
-{
-    match side {
-        Side::Wall => 4,
-        Side::Open => 2,
-    }
-}
-
-// The i-th of them: above, below, left, right for walls, and below, right for open borders.
-fn direction(side: Side, i: usize) -> usize
-    requires { ⌜ i < 4 ⌝ }
-    ensures { λ r. ⌜ r ≡ scanDirection side i ⌝ }
-{
-    match side {
-        Side::Wall => i,
-        Side::Open => 2 * i + 1,
-    }
-}
-
-// The scan keeps the border to the neighbour n of the cell c.
-fn is_kept<'a>(
-    colours: &'a [u8; 1024],
-    borders: &'a [u8; 1984],
-    ids: &'a [u16; 1024],
-    side: Side,
-    same: bool,
-    marked: &'a [u8; 1024],
-    c: usize,
-    n: Neighbour,
-) -> bool
-    requires { ⌜ Arrays (now borders) (now ids) × (length (now colours) ≡ 1024) × (length (now marked) ≡ 1024)
-        × (c < 1024) × (n .some ≡ true → Fits n) ⌝ }
-    ensures { λ r. ⌜ r ≡ (n .some && scanTest (now (colours .entry)) (now (borders .entry)) (now (ids .entry)) side same
-        (now (marked .entry)) c (hopOf n)) ⌝ }
-{
-    match side {
-        Side::Wall => wall_kept(colours, borders, ids, same, marked, c, n),
-        Side::Open => open_kept(borders, ids, marked, n),
-    }
-}
-
-// Writes the borders that the scan keeps of one cell.
-fn scan_cell<'a>(
-    memory: &mut [u16],
-    from: usize,
-    h: usize,
-    w: usize,
-    colours: &'a [u8; 1024],
-    borders: &'a [u8; 1984],
-    ids: &'a [u16; 1024],
-    side: Side,
-    same: bool,
-    marked: &'a [u8; 1024],
-    c: usize,
-) -> usize
-    requires { ⌜ Sized h w × Arrays (now borders) (now ids) × (length (now colours) ≡ 1024)
-        × (length (now marked) ≡ 1024) × (c < h * w) × (from + length (scanAt h w (now colours) (now borders)
-        (now ids) side same (now marked) c) ≤ length (now memory)) ⌝ }
-    ensures { λ r. ⌜ Wrote (now (memory .entry)) from (scanAt h w (now (colours .entry)) (now (borders .entry))
-        (now (ids .entry)) side same (now (marked .entry)) c) (now (memory .exit)) r ⌝ }
-{
-    let y = c / w;
-    let x = c % w;
-    let count = directions(side);
-    let mut at = from;
-    let mut i = 0;
-    while i < count {
-        let d = direction(side, i);
-        let n = step(h, w, y, x, d);
-        let kept = is_kept(colours, borders, ids, side, same, marked, c, n);
-        at = append_if(
-            memory,
-            at,
-            kept,
-            Literal {
-                border: n.border,
-                side,
-            },
-        );
-        i += 1;
-    }
-    at
 }
 
 // Writes what a scan of the cells `cells[from..to]` keeps, from the place `start`; gives the next place. Open borders:

@@ -2,8 +2,8 @@
 use Rattle.reasons.specs.MemoryLaws.{wrote-none}
 use native.Mathlib.Omega.{arith}
 use borrow.Author.Needs.{needs}
-use Rattle.reasons.proofs.append_if.Statement.{statement}
-use Rattle.reasons.proofs.append_if.Tie as tie
+use Rattle.reasons.proofs.scans.append_if.Statement.{statement}
+use Rattle.reasons.proofs.scans.append_if.Tie as tie
 
 append-requires : tie.Need-append-requires
 append-requires c κs =

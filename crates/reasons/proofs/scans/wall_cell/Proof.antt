@@ -1,0 +1,109 @@
+-- One direction after another.
+use mathlib.Core.Path.{_≡_, refl}
+use mathlib.Core.List.{List}
+use Prim.Native.Nat.{ℕ, _+_, _≤_}
+use lib.ListN.{length}
+use Rattle.rules.specs.declared.Side.the-variants.{Wall}
+use Rattle.rules.specs.declared.Literal.{Literal}
+use Rattle.reasons.specs.Memory.{Wrote}
+use Rattle.reasons.specs.Arrays.{scanTo, scanAt}
+use Rattle.reasons.specs.ListExtras.{upTo}
+use Rattle.reasons.specs.MemoryLaws.{loop-none, loop-more, loop-fits}
+use Rattle.reasons.specs.StepLaws.{Row, row-of}
+use Rattle.reasons.specs.ScanLaws.{scan-walls}
+use native.Mathlib.Omega.{arith}
+use borrow.Author.Needs.{needs}
+use Rattle.reasons.proofs.scans.wall_cell.Statement.{statement}
+use Rattle.reasons.proofs.scans.wall_cell.Tie as tie
+
+row : (s : tie.Start) → Row (s .args .h) (s .args .w) (s .args .c)
+row s = row-of _ _ _ (s .pre .4)
+
+abbrev at : tie.Start → ℕ → List Literal
+at s =
+    let a = s .args in
+    scanTo (a .h) (a .w) (a .colours .now) (a .borders .now) (a .ids .now) Wall (a .same) (a .marked .now) (a .c)
+
+whole : (s : tie.Start) →
+    let a = s .args in
+    scanAt (a .h) (a .w) (a .colours .now) (a .borders .now) (a .ids .now) Wall (a .same) (a .marked .now) (a .c)
+    ≡ upTo (at s) 4
+whole s =
+    let a = s .args in
+    scan-walls (a .h) (a .w) (a .colours .now) (a .borders .now) (a .ids .now) (a .same) (a .marked .now) (a .c)
+
+start : (s : tie.Start) → let a = s .args in Wrote (a .memory .now) (a .from) (upTo (at s) 0) (a .memory .now) (a .from)
+start s = loop-none (at s)
+
+room : (s : tie.Start) → s .args .from + length (upTo (at s) 4) ≤ length (s .args .memory .now)
+room s = rw (whole s) at (s .pre .5)
+
+div-y : tie.Need-div-y
+div-y c = row (c .before) .wide
+
+rem-x : tie.Need-rem-x
+rem-x c = row (c .before) .wide
+
+wall-hop-requires : tie.Need-wall-hop-requires
+wall-hop-requires c κs =
+    let s = c .before .before in
+    let fits = loop-fits (at s) 0 (start s) 4 (omega arith) (room s) in
+    (s .pre .0, s .pre .1, s .pre .2, s .pre .3, s .pre .4, refl, refl, fits)
+
+wall-hop-requires-2 : tie.Need-wall-hop-requires-2
+wall-hop-requires-2 c κs =
+    let v1 = c .before .before .before in
+    let s = v1 .before .before .before in
+    let above = loop-more (at s) 0 (start s) (v1 .wall-hop .ensures) in
+    let fits = loop-fits (at s) 1 above 4 (omega arith) (room s) in
+    (s .pre .0, s .pre .1, s .pre .2, s .pre .3, s .pre .4, refl, refl, fits)
+
+wall-hop-requires-3 : tie.Need-wall-hop-requires-3
+wall-hop-requires-3 c κs =
+    let v2 = c .before .before .before in
+    let v1 = v2 .before .before .before .before in
+    let s = v1 .before .before .before in
+    let above = loop-more (at s) 0 (start s) (v1 .wall-hop .ensures) in
+    let below = loop-more (at s) 1 above (v2 .wall-hop2 .ensures) in
+    let fits = loop-fits (at s) 2 below 4 (omega arith) (room s) in
+    (s .pre .0, s .pre .1, s .pre .2, s .pre .3, s .pre .4, refl, refl, fits)
+
+wall-hop-requires-4 : tie.Need-wall-hop-requires-4
+wall-hop-requires-4 c κs =
+    let v3 = c .before .before .before in
+    let v2 = v3 .before .before .before .before in
+    let v1 = v2 .before .before .before .before in
+    let s = v1 .before .before .before in
+    let above = loop-more (at s) 0 (start s) (v1 .wall-hop .ensures) in
+    let below = loop-more (at s) 1 above (v2 .wall-hop2 .ensures) in
+    let left = loop-more (at s) 2 below (v3 .wall-hop3 .ensures) in
+    let fits = loop-fits (at s) 3 left 4 (omega arith) (room s) in
+    (s .pre .0, s .pre .1, s .pre .2, s .pre .3, s .pre .4, refl, refl, fits)
+
+same-length : tie.Need-same-length
+same-length c = search needs
+
+returns : tie.Need-returns
+returns c =
+    let v4 = c .before .before in
+    let v3 = v4 .before .before .before .before in
+    let v2 = v3 .before .before .before .before in
+    let v1 = v2 .before .before .before .before in
+    let s = v1 .before .before .before in
+    let above = loop-more (at s) 0 (start s) (v1 .wall-hop .ensures) in
+    let below = loop-more (at s) 1 above (v2 .wall-hop2 .ensures) in
+    let left = loop-more (at s) 2 below (v3 .wall-hop3 .ensures) in
+    rw (whole s) (loop-more (at s) 3 left (v4 .wall-hop4 .ensures))
+
+pub wall-cell-spec : {M : Type 1} → statement M
+wall-cell-spec =
+    tie.close
+    (tie.spec
+    div-y
+    rem-x
+    wall-hop-requires
+    wall-hop-requires-2
+    wall-hop-requires-3
+    wall-hop-requires-4
+    same-length
+    returns)
