@@ -5,7 +5,7 @@ use mathlib.Core.List.{List, [], _∷_, List·Memᴰ·head, List·Memᴰ·tail, 
 use Prim.Native.Nat.{ℕ, zero, suc, _+_, _-_, _*_, _/_, _%_, _<_, _≤_}
 use native.Mathlib.Nat.{mod-lt, div-lt-iff-lt-mul}
 use native.Mathlib.Omega.{arith}
-use borrow.Author.Tests.{eq-eqb, eqb-true}
+use borrow.Author.Tests.{eqb-true}
 use lib.Dec.{eqb}
 use lib.ListN.{length, getD, drop, length-take}
 use lib.Seq.{getD-take, getD-drop}
@@ -29,6 +29,7 @@ use Rattle.planes.specs.Bits.{bit}
 use Rattle.planes.specs.Planes.{planeWord, planesOf}
 use Rattle.planes.specs.PlaneLaws.{plane-clear}
 use Rattle.planes.specs.Masks.{cellIs, Masked, Answers, originsIn, spot, lineFits, maskFits}
+use Rattle.planes.specs.MaskLaws.{masked-here}
 
 -- a placement fits exactly if every connection is clear
 after-clear : (Z : Puzzle) (s : ℕ → Mark) (rs : List Reading) → isFit Z s (after Fits rs) ≡ all isClear rs
@@ -65,7 +66,7 @@ module _ {h w : ℕ} {cs : List ℕ} (d : Drawn h w cs) (bs ys xs : List ℕ) (n
   abbrev clear : ℕ → ℕ → ℕ → Bool
   clear y x j = spot p (2 * y + getD ys j 0) (getD xs j 0 / 2 + x)
 
-  spot-clear : (y x j : ℕ) → y < 32 → j < n
+  pub spot-clear : (y x j : ℕ) → y < 32 → j < n
       → clear y x j ≡ isClear (readingOf Z s (readRaised h w (2 * y + getD ys j 0) (2 * x + getD xs j 0)))
   unfolding planesOf
   spot-clear y x j l m =
@@ -92,10 +93,6 @@ module _ {h w : ℕ} {cs : List ℕ} (d : Drawn h w cs) (bs ys xs : List ℕ) (n
       eqb-true (c / w) y (and-left (eqb (c / w) y) (eqb (c % w) x) e),
       eqb-true (c % w) x (and-right (eqb (c / w) y) (eqb (c % w) x) e),
     )
-
-    cell-here : (c : ℕ) → cellIs w (c / w) (c % w) c ≡ true
-    unfolding cellIs
-    cell-here c = rw (eq-eqb (c / w) (c / w) refl, eq-eqb (c % w) (c % w) refl)
 
     abbrev fit : ℕ → Bool
     fit = fitsOf Z s (bare (spelled ys xs n))
@@ -131,7 +128,7 @@ module _ {h w : ℕ} {cs : List ℕ} (d : Drawn h w cs) (bs ys xs : List ℕ) (n
         let tall : y < 32 = omega (arith, d .sized .tall) in
         let some : 0 < w = omega (arith, d .sized .columns) in
         let narrow : x < 64 = omega (arith, mod-lt c some, d .sized .wide) in
-        let here : bit (getD m y 0) x ≡ true = k .each y x tall ∙ holds-any (cellIs w y x) (q .1) (cell-here c) in
+        let here : bit (getD m y 0) x ≡ true = masked-here w c tall (q .1) k in
         let f : allBelow n (clear y x) ≡ true = cell-fits c tall ∙ q .2 in
         any-found h (λ y. lineFits p y ys xs n (getD m y 0)) y l
         (any-found 64 (λ x. bit (getD m y 0) x && allBelow n (clear y x)) x narrow (rw (here, f)))
@@ -157,7 +154,7 @@ mem-part l from to {x} m =
 
 module _ {h w : ℕ} {cells offs mates : List ℕ} {from to : ℕ} (b : Beside h w cells offs mates from to) where
   -- the origins are cells of the page
-  origins-on : (c : ℕ) → c ∈ originsIn cells offs (part mates from to) → c < h * w
+  pub origins-on : (c : ℕ) → c ∈ originsIn cells offs (part mates from to) → c < h * w
   unfolding originsIn groupIn
   origins-on c m =
       let f = flat-find (groupIn cells offs) (part mates from to) m in

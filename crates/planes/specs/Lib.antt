@@ -9,3 +9,5 @@ pub mod Masks
 pub mod WordLaws
 pub mod MaskLaws
 pub mod FitLaws
+pub mod Survivors
+pub mod SurvivorLaws

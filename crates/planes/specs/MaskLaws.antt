@@ -11,12 +11,12 @@ use lib.Bits.{bitOr}
 use lib.Dec.{eqb}
 use lib.ListN.{length, getD, set, replicate, length-set, length-replicate}
 use lib.Seq.{getD-set-same, getD-set-other}
-use Rattle.lists.specs.Lists.{any, flatMap}
+use Rattle.lists.specs.Lists.{_∈_, any, flatMap}
 use Rattle.rules.specs.Flat.{Sized}
 use Rattle.reasons.specs.Arrays.{part}
 use Rattle.search.specs.ListExtras.{any-append, or-false, part-none, part-one, part-split, flat-append}
 use Rattle.search.specs.Searching.{groupIn}
-use Rattle.planes.specs.Extras.{eq-or-not, zeros}
+use Rattle.planes.specs.Extras.{eq-or-not, zeros, holds-any}
 use Rattle.planes.specs.Bits.{bit}
 use Rattle.planes.specs.BitLaws.{bit-zero, bit-with}
 use Rattle.planes.specs.Masks.{cellIs, Masked, originsIn}
@@ -90,6 +90,15 @@ module _ (w : ℕ) where
             ∙ sym (any-append (cellIs w y x) xs (c ∷ []))))))
             (eq-or-not y (c / w));
       }
+
+  -- the bit of a cell
+  cell-here : (c : ℕ) → cellIs w (c / w) (c % w) c ≡ true
+  unfolding cellIs
+  cell-here c = rw (eq-eqb (c / w) (c / w) refl, eq-eqb (c % w) (c % w) refl)
+
+  pub masked-here : {xs m : List ℕ} (c : ℕ) → c / w < 32 → c ∈ xs → Masked w xs m
+      → bit (getD m (c / w) 0) (c % w) ≡ true
+  masked-here c l i k = k .each (c / w) (c % w) l ∙ holds-any (cellIs w (c / w) (c % w)) i (cell-here c)
 
 -- the cells of a group, one after the other
 module _ (w : ℕ) (cells : List ℕ) (from : ℕ) (xs : List ℕ) where

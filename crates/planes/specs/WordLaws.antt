@@ -52,7 +52,7 @@ module _ (p : List ℕ) (y : ℕ) (ys xs : List ℕ) (v : ℕ) where
   left-le zero = omega arith
   left-le (suc n) = omega (arith, left-le n, and-le-l (left n) (mask n))
 
-  left-bit : (n x : ℕ) → bit (left n) x ≡ bit v x && allBelow n (clear x)
+  pub left-bit : (n x : ℕ) → bit (left n) x ≡ bit v x && allBelow n (clear x)
   unfolding clearWord allBelow
   left-bit zero x = and-swap (bit v x)
   left-bit (suc n) x =
@@ -61,21 +61,19 @@ module _ (p : List ℕ) (y : ℕ) (ys xs : List ℕ) (v : ℕ) where
       (bit-shr (getD p (2 * y + getD ys n 0) 0) (getD xs n 0 / 2) x)
       ∙ and-assoc (bit v x) (allBelow n (clear x)) (clear x n))
 
-  fits-word : (n : ℕ) → v < 18446744073709551616 → lineFits p y ys xs n v ≡ not (eqb (left n) 0)
+  pub fits-word : (n : ℕ) → v < 18446744073709551616 → lineFits p y ys xs n v ≡ not (eqb (left n) 0)
   unfolding lineFits
   fits-word n h =
       any-cong 64 (λ x. bit v x && allBelow n (clear x)) (bit (left n)) (λ x l. sym (left-bit n x))
       ∙ some-bit 64 (left n) (lt-of-le-of-lt (left-le n) h)
 
-  -- the exit in the loop, and its end
-  module _ (h : v < 18446744073709551616) (n j : ℕ) {acc : ℕ} (e : acc ≡ clearWord p y ys xs v j) where
-    pub fits-none : j ≤ n → acc ≡ 0 → false ≡ lineFits p y ys xs n v
-    fits-none l z = sym (fits-word n h ∙ rw (stays j n l (sym e ∙ z)))
-
-    pub fits-end : j ≤ n → n ≤ j → not (eqb acc 0) ≡ lineFits p y ys xs n v
-    fits-end l m = let d : j ≡ n = omega arith in rw (e, d) (sym (fits-word n h))
+  -- the exit in the loop
+  pub left-none : (n j : ℕ) {acc : ℕ} → acc ≡ clearWord p y ys xs v j → j ≤ n → acc ≡ 0
+      → 0 ≡ clearWord p y ys xs v n
+  left-none n j e l z = sym (stays j n l (sym e ∙ z))
 
 -- a row without origins
 pub fits-empty : (p : List ℕ) (y : ℕ) (ys xs : List ℕ) (n : ℕ) {v : ℕ} → v ≡ 0 → lineFits p y ys xs n v ≡ false
 fits-empty p y ys xs n {v} e =
-    sym (fits-none p y ys xs v (omega arith) n 0 (clear-none p y ys xs v) (omega arith) e)
+    fits-word p y ys xs v n (omega arith)
+    ∙ rw (← left-none p y ys xs v n 0 (clear-none p y ys xs v) (omega arith) e)

@@ -10,7 +10,9 @@ ghost use Rattle.search.specs.Placing.{Raised};
 ghost use Rattle.search.specs.Searching.{Beside};
 ghost use Rattle.planes.specs.Bits.{flag};
 ghost use Rattle.planes.specs.Planes.{clearAt, clearRow, lineWord, planesOf};
-ghost use Rattle.planes.specs.Masks.{Masked, Sizes, Span, originsIn, lineFits, maskFits};
+ghost use Rattle.planes.specs.Masks.{Masked, Sizes, Span, originsIn, clearWord, lineFits, maskFits};
+
+pub mod survivors; // survivors.rt: the origins at which a transform lies on one colour, and the blockers there
 
 // 1 if the border joins two cells of one colour and is not wall, otherwise 0.
 fn clear<'a>(
@@ -163,7 +165,32 @@ fn step(planes: &[u64; 192], acc: u64, y: usize, down: u8, across: u8) -> u64
     acc & (planes[2 * y + down as usize] >> (across / 2))
 }
 
-// Whether a transform fits at one of the origins `word` of row y. Its n connections stand in ys and xs, raised by 64.
+// The origins `word` of row y at which all n connections of a transform are clear. They stand in ys and xs, raised by
+// 64.
+fn line_left<'a>(
+    planes: &'a [u64; 192],
+    word: u64,
+    y: usize,
+    ys: &'a [u8; 2048],
+    xs: &'a [u8; 2048],
+    n: usize,
+) -> u64
+    requires { ⌜ (length (now planes) ≡ 192) × (y < 32) × Raised (now ys) (now xs) n ⌝ }
+    ensures { λ r. ⌜ r ≡ clearWord (now (planes .entry)) y (now (ys .entry)) (now (xs .entry)) word n ⌝ }
+{
+    let mut acc = word;
+    let mut j = 0;
+    while j < n {
+        if acc == 0 {
+            return 0;
+        }
+        acc = step(planes, acc, y, ys[j], xs[j]);
+        j += 1;
+    }
+    acc
+}
+
+// Whether a transform fits at one of the origins `word` of row y.
 fn line_fits<'a>(
     planes: &'a [u64; 192],
     word: u64,
@@ -175,16 +202,7 @@ fn line_fits<'a>(
     requires { ⌜ (length (now planes) ≡ 192) × (y < 32) × Raised (now ys) (now xs) n ⌝ }
     ensures { λ r. ⌜ r ≡ lineFits (now (planes .entry)) y (now (ys .entry)) (now (xs .entry)) n word ⌝ }
 {
-    let mut acc = word;
-    let mut j = 0;
-    while j < n {
-        if acc == 0 {
-            return false;
-        }
-        acc = step(planes, acc, y, ys[j], xs[j]);
-        j += 1;
-    }
-    acc != 0
+    line_left(planes, word, y, ys, xs, n) != 0
 }
 
 // The first of the mask's h rows that has an origin; h if none has.

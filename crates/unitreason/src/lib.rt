@@ -16,11 +16,16 @@ ghost use Rattle.units.specs.Fitting.{Lent, Rows};
 ghost use Rattle.units.specs.Stuck.{potentialIn};
 ghost use Rattle.unitreason.specs.Writing.{Numbered, Low, Mated, flagsOf, edgesIn, farIn, wallsIn};
 ghost use Rattle.unitreason.specs.Writing.{Arranged, Imaged, Asked, blocksListed, clued};
+use planes::draw_mask;
+use planes::draw_planes;
+use planes::survivors::block_mates;
+use planes::survivors::draw_colours;
+use planes::survivors::draw_places;
+use planes::survivors::survivors;
 use reasons::edge;
 use reasons::inside;
 use reasons::scan;
 use rules::Side;
-use search::block_mates;
 use shapes::Listed;
 use shapes::joints;
 use shapes::list_rows;
@@ -249,19 +254,30 @@ fn block_rows<'a>(
         (now (offs .entry)) (part (now (mates .entry)) from to) (spots (now (rows .entry)) (now (columns .entry)) n)
         (spots (now (down .entry)) (now (across .entry)) k) listed) (now (memory .exit)) r ⌝ }
 {
+    let mut same = [0u64; 192];
+    draw_colours(h, w, colours, &mut same);
+    let mut planes = [0u64; 192];
+    draw_planes(h, w, colours, borders, &mut planes);
+    let mut mask = [0u64; 33];
+    draw_mask(h, w, cells, offs, mates, from, to, 0, &mut mask);
+    let mut spread = [0u16; 1024];
+    draw_places(h, w, &mut spread);
+    let mut left = [0u64; 32];
     let count = listed.count;
     let mut at = start;
     let mut j = 0;
     while j < count {
         let row = listed.rows[j];
         turn_row(row as usize, rows, columns, n, down, across, k, ys, xs);
+        survivors(&same, &mask, h, ys, xs, k, &mut left);
         at = block_mates(
             memory,
             at,
             h,
             w,
-            colours,
-            borders,
+            &planes,
+            &spread,
+            &left,
             ys,
             xs,
             k,

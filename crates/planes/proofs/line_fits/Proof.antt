@@ -1,92 +1,19 @@
--- The loop's invariant: the word has the origins at which the connections before j are clear.
-use mathlib.Core.Path.{_≡_, _∙_}
-use Prim.Native.Nat.{_-_, _≤_}
-use native.Mathlib.Omega.{arith}
-use Rattle.search.specs.Placing.{RaisedAt}
-use Rattle.planes.specs.Masks.{clearWord}
-use Rattle.planes.specs.WordLaws.{clear-none, clear-more, fits-none, fits-end}
+-- A word is not 0 exactly if it has a bit.
+use mathlib.Core.Path.{sym, _∙_}
+use borrow.Author.Needs.{needs}
+use Rattle.planes.specs.WordLaws.{fits-word}
 use Rattle.planes.proofs.line_fits.Statement.{statement}
 use Rattle.planes.proofs.line_fits.Tie as tie
 
-abbrev Inv-loop : tie.InvT-loop
-Inv-loop planes word y ys xs n acc₀ j₀ acc j = (j ≤ n) × (acc ≡ clearWord planes y ys xs word j)
+line-left-requires : tie.Need-line-left-requires
+line-left-requires c κs = search needs
 
-abbrev μ-loop : tie.MeasureT-loop
-μ-loop planes word y ys xs n acc₀ j₀ acc j = n - j
-
-loop-holds : tie.Need-loop-holds Inv-loop μ-loop
-loop-holds c = (
-  omega arith,
-  clear-none (c .args .planes .now) (c .args .y) (c .args .ys .now) (c .args .xs .now) (c
-      .args .word),
-)
-
-returns : tie.Need-returns Inv-loop μ-loop
+returns : tie.Need-returns
 returns c =
-    let l = c .before .before in
-    let s = l .before in
-    fits-none (s .args .planes .now) (s .args .y) (s .args .ys .now) (s .args .xs .now) (s .args .word)
-    (s .fits .word .fits) (s .args .n) (l .loop .j) (l .loop .inv .1) (l .loop .inv .0) (c .if1 .taken)
-
--- the next connection is small
-small : (c : tie.Else1 Inv-loop μ-loop)
-    → RaisedAt (c .before .before .before .args .ys .now) (c .before .before .before .args .xs .now) (c .before
-    .before .loop .j)
-small c = c .before .before .before .pre .2 (c .before .before .loop .j) (c .before .loop-test .taken)
-
-element-copy-out-step : tie.Need-element-copy-out-step Inv-loop μ-loop
-element-copy-out-step c = omega (arith, small c .place)
-
-element-copy-out-step-2 : tie.Need-element-copy-out-step-2 Inv-loop μ-loop
-element-copy-out-step-2 c = omega (arith, small (c .before) .place)
-
-step-requires : tie.Need-step-requires Inv-loop μ-loop
-step-requires c κs =
-    let i = c .before .before in
-    let s = i .before .before .before in
-    (s .pre .0, s .pre .1, small i .row, small i .column)
-
-add-j : tie.Need-add-j Inv-loop μ-loop
-add-j c = omega (arith, small (c .before .before .before) .place)
-
-loop-less : tie.Need-loop-less Inv-loop μ-loop
-loop-less c = omega (arith, c .before .before .before .before .loop-test .taken)
-
-loop-again : tie.Need-loop-again Inv-loop μ-loop
-loop-again c =
-    let i = c .before .before .before .before in
-    let l = i .before in
-    let s = l .before in (
-      omega (arith, i .loop-test .taken),
-      c .step .ensures
-          ∙ clear-more (s .args .planes .now) (s .args .y) (s .args .ys .now) (s .args .xs .now) (s .args .word) (l
-          .loop .j)
-          (l .loop .inv .1),
-    )
-
-returns-2 : tie.Need-returns-2 Inv-loop μ-loop
-returns-2 c =
-    let l = c .before in
-    let s = l .before in
-    fits-end (s .args .planes .now) (s .args .y) (s .args .ys .now) (s .args .xs .now) (s .args .word)
-    (s .fits .word .fits) (s .args .n) (l .loop .j) (l .loop .inv .1) (l .loop .inv .0) (omega (
-      arith,
-      c .loop-test
-          .left,
-    ))
+    let s = c .before in
+    rw (c .line-left .ensures)
+    (sym (fits-word (s .args .planes .now) (s .args .y) (s .args .ys .now) (s .args .xs .now) (s .args .word)
+    (s .args .n) (s .fits .word .fits)))
 
 pub line-fits-spec : {M : Type 1} → statement M
-line-fits-spec =
-    tie.close
-    (tie.spec
-    Inv-loop
-    μ-loop
-    loop-holds
-    returns
-    element-copy-out-step
-    element-copy-out-step-2
-    step-requires
-    add-j
-    loop-less
-    loop-again
-    returns-2)
+line-fits-spec = tie.close (tie.spec line-left-requires returns)

@@ -1,9 +1,9 @@
 -- The loop's invariant: the blockers of the images by the listed rows before j are written.
-use mathlib.Core.Path.{_≡_}
+use mathlib.Core.Path.{_≡_, refl}
 use mathlib.Core.List.{List}
-use Prim.Native.Nat.{ℕ, _≤_, _-_}
+use Prim.Native.Nat.{ℕ, zero, _≤_, _-_}
 use native.Mathlib.Omega.{arith}
-use lib.ListN.{length, getD}
+use lib.ListN.{length, getD, length-replicate}
 use Rattle.rules.specs.Codes.{marksIn}
 use Rattle.rules.specs.declared.Literal.{Literal}
 use Rattle.reasons.specs.Arrays.{part}
@@ -11,21 +11,23 @@ use Rattle.reasons.specs.ListExtras.{upTo}
 use Rattle.reasons.specs.Memory.{Wrote}
 use Rattle.reasons.specs.MemoryLaws.{wrote-length, loop-none, loop-more, loop-fits, loop-end}
 use Rattle.search.specs.Placing.{puzzle}
+use Rattle.planes.specs.Survivors.{noWalls}
 use Rattle.shapes.specs.Spots.{spots}
+use Rattle.unitreason.specs.BlockLaws.{planes-long, lain-rows, blocks-row}
 use Rattle.unitreason.specs.Writing.{blocksBy, blocksListed}
 use Rattle.unitreason.proofs.block_rows.Statement.{statement}
 use Rattle.unitreason.proofs.block_rows.Tie as tie
 
 abbrev Inv-loop : tie.InvT-loop
-Inv-loop memory₀ start h w colours borders rows columns n down across k ys₀ xs₀ cells offs mates from to listed count
-    at₀ j₀ memory ys xs at j =
-    (j ≤ listed .count) × (length ys ≡ 2048) × (length xs ≡ 2048) × Wrote memory₀ start
+Inv-loop memory₀ start h w colours borders rows columns n down across k ys₀ xs₀ cells offs mates from to listed same planes
+    mask spread left₀ count at₀ j₀ memory ys xs left at j =
+    (j ≤ listed .count) × (length ys ≡ 2048) × (length xs ≡ 2048) × (length left ≡ 32) × Wrote memory₀ start
     (upTo (λ i. blocksBy (puzzle h w colours) (marksIn borders) cells offs (part mates from to) (spots rows columns n)
     (spots down across k) (getD (listed .rows) i 0)) j) memory at
 
 abbrev μ-loop : tie.MeasureT-loop
-μ-loop memory₀ start h w colours borders rows columns n down across k ys₀ xs₀ cells offs mates from to listed count at₀
-    j₀ memory ys xs at j = listed .count - j
+μ-loop memory₀ start h w colours borders rows columns n down across k ys₀ xs₀ cells offs mates from to listed same planes
+    mask spread left₀ count at₀ j₀ memory ys xs left at j = listed .count - j
 
 -- the blockers by the listed row i
 abbrev each : tie.Start Inv-loop μ-loop → ℕ → List Literal
@@ -35,21 +37,42 @@ each s i =
     (spots (s .args .rows .now) (s .args .columns .now) (s .args .n))
     (spots (s .args .down .now) (s .args .across .now) (s .args .k)) (getD (s .args .t7 .rows) i 0)
 
+draw-colours-requires : tie.Need-draw-colours-requires Inv-loop μ-loop
+draw-colours-requires c κs = (c .before .before .pre .1 .sized, refl)
+
+draw-planes-requires : tie.Need-draw-planes-requires Inv-loop μ-loop
+draw-planes-requires c κs = (c .before .before .before .before .pre .1 .sized, refl)
+
+draw-mask-requires : tie.Need-draw-mask-requires Inv-loop μ-loop
+draw-mask-requires c κs =
+    let s = c .before .before .before .before .before .before in
+    (s .pre .1 .sized, s .pre .4, length-replicate 33 zero)
+
+draw-places-requires : tie.Need-draw-places-requires Inv-loop μ-loop
+draw-places-requires c κs =
+    (c .before .before .before .before .before .before .before .before .pre .1 .sized, length-replicate 1024 zero)
+
 loop-holds : tie.Need-loop-holds Inv-loop μ-loop
-loop-holds c = let s = c .before in (omega arith, s .pre .5, s .pre .6, loop-none (each s))
+loop-holds c =
+    let s = c .before .before .before .before .before .before .before .before .before in
+    (omega arith, s .pre .5, s .pre .6, length-replicate 32 zero, loop-none (each s))
 
 element-copy-out-row : tie.Need-element-copy-out-row Inv-loop μ-loop
-element-copy-out-row c = let s = c .before .before .before in omega (arith, s .pre .0 .few)
+element-copy-out-row c =
+    let s = c .before .before .before .before .before .before .before .before .before .before .before in
+    omega (arith, s .pre .0 .few, c .loop-test .taken)
 
 cast-turn-row : tie.Need-cast-turn-row Inv-loop μ-loop
 cast-turn-row c =
-    let s = c .before .before .before .before in omega (arith, s .pre .0 .low _ (c .before .loop-test .taken))
+    let r = c .before in
+    let s = c .before .before .before .before .before .before .before .before .before .before .before .before in
+    omega (arith, s .pre .0 .low _ (r .loop-test .taken))
 
 turn-row-requires : tie.Need-turn-row-requires Inv-loop μ-loop
 turn-row-requires c κs =
     let r = c .before .before .before in
     let l = r .before in
-    let s = l .before .before in (
+    let s = c .before .before .before .before .before .before .before .before .before .before .before .before .before .before in (
       s .pre .0 .low _ (r .loop-test .taken),
       s .pre .2,
       s .pre .3,
@@ -57,53 +80,80 @@ turn-row-requires c κs =
       l .loop .inv .2,
     )
 
+survivors-requires : tie.Need-survivors-requires Inv-loop μ-loop
+survivors-requires c κs =
+    let t = c .before .before .before .before .before in
+    let l = c .before .before .before .before .before .before .before .before .before .before in
+    let s = c .before .before .before .before .before .before .before .before .before .before .before .before .before .before .before .before .before .before .before .before in (
+      record {
+        tall = s .pre .1 .sized .tall;
+        planes = planes-long (s .args .h) (s .args .w) (s .args .colours .now) noWalls
+            (c .before .before .before .before .before .before .before .before .before .before .before .before .before .before .before .before .before .draw-colours .ensures);
+        mask = c .before .before .before .before .before .before .before .before .before .before .before .before .before .draw-mask .ensures .0 .size;
+      },
+      t .turn-row .ensures .0,
+      l .loop .inv .3,
+    )
+
 block-mates-requires : tie.Need-block-mates-requires Inv-loop μ-loop
 unfolding blocksBy blocksListed
 block-mates-requires c κs =
-    let t = c .before .before .before in
-    let r = t .before .before .before .before in
+    let v = c .before .before .before .before .before .before in
+    let t = c .before .before .before .before .before .before .before .before .before .before .before .before in
+    let r = c .before .before .before .before .before .before .before .before .before .before .before .before .before .before .before .before in
     let l = r .before in
-    let s = l .before .before in (
-      s .pre .1,
+    let s = c .before .before .before .before .before .before .before .before .before .before .before .before .before .before .before .before .before .before .before .before .before .before .before .before .before .before .before in
+    let bs = s .args .borders .now in
+    let e = c .before .before .before .before .before .before .before .before .before .before .before .before .before .before .before .before .before .before .before .before .before .before .before .before .draw-colours .ensures in (
+      s .pre .1 .sized,
       t .turn-row .ensures .0,
+      lain-rows (s .pre .1) bs _ _ (s .args .k) (t .turn-row .ensures .0) e (v .survivors .ensures),
+      c .before .before .before .before .before .before .before .before .before .before .before .before .before .before .before .before .before .before .draw-places .ensures,
       s .pre .4,
-      rw (t .turn-row .ensures .1)
-          (loop-fits (each s) (l .loop .j) (l .loop .inv .3) (s .args .t7 .count) (r .loop-test .taken) (s .pre .7)),
+      rw (blocks-row (s .pre .1) bs _ _ (s .args .k) (t .turn-row .ensures .0) e (v .survivors .ensures)
+          (c .before .before .before .before .before .before .before .before .before .before .before .before .before .before .before .before .before .before .before .before .before .before .draw-planes .ensures) (s .pre .4) (c .before .before .before .before .before .before .before .before .before .before .before .before .before .before .before .before .before .before .before .before .draw-mask .ensures .0) (t .turn-row .ensures .1))
+          (loop-fits (each s) (l .loop .j) (l .loop .inv .4) (s .args .t7 .count) (r .loop-test .taken) (s .pre .7)),
     )
 
 add-j : tie.Need-add-j Inv-loop μ-loop
 add-j c =
-    let r = c .before .before .before .before .before .before .before .before .before .before in
-    let s = r .before .before .before in omega (arith, s .pre .0 .few, r .loop-test .taken)
+    let s = c .before .before .before .before .before .before .before .before .before .before .before .before .before .before .before .before .before .before .before .before .before .before .before .before .before .before .before .before .before .before in
+    omega (arith, s .pre .0 .few, c .before .before .before .before .before .before .before .before .before .before .before .before .before .before .before .before .before .before .before .loop-test .taken)
 
 loop-less : tie.Need-loop-less Inv-loop μ-loop
-loop-less c =
-    let r = c .before .before .before .before .before .before .before .before .before .before in
-    omega (arith, r .loop-test .taken)
+loop-less c = omega (arith, c .before .before .before .before .before .before .before .before .before .before .before .before .before .before .before .before .before .before .before .loop-test .taken)
 
 loop-again : tie.Need-loop-again Inv-loop μ-loop
 unfolding blocksBy
 loop-again c =
-    let b = c .before .before in
-    let t = b .before .before .before .before in
-    let r = t .before .before .before .before in
+    let m = c .before .before in
+    let v = c .before .before .before .before .before .before .before .before .before in
+    let t = c .before .before .before .before .before .before .before .before .before .before .before .before .before .before .before in
+    let r = c .before .before .before .before .before .before .before .before .before .before .before .before .before .before .before .before .before .before .before in
     let l = r .before in
-    let s = l .before .before in (
+    let s = c .before .before .before .before .before .before .before .before .before .before .before .before .before .before .before .before .before .before .before .before .before .before .before .before .before .before .before .before .before .before in
+    let bs = s .args .borders .now in
+    let e = c .before .before .before .before .before .before .before .before .before .before .before .before .before .before .before .before .before .before .before .before .before .before .before .before .before .before .before .draw-colours .ensures in (
       omega (arith, r .loop-test .taken),
       t .turn-row .ensures .2,
       t .turn-row .ensures .3,
-      loop-more (each s) (l .loop .j) (l .loop .inv .3) (rw (t .turn-row .ensures .1) at (b .block-mates .ensures)),
+      v .survivors .ensures .size,
+      loop-more (each s) (l .loop .j) (l .loop .inv .4)
+          (rw (blocks-row (s .pre .1) bs _ _ (s .args .k) (t .turn-row .ensures .0) e (v .survivors .ensures)
+          (c .before .before .before .before .before .before .before .before .before .before .before .before .before .before .before .before .before .before .before .before .before .before .before .before .before .draw-planes .ensures) (s .pre .4) (c .before .before .before .before .before .before .before .before .before .before .before .before .before .before .before .before .before .before .before .before .before .before .before .draw-mask .ensures .0) (t .turn-row .ensures .1))
+          at (m .block-mates .ensures)),
     )
 
 same-length : tie.Need-same-length Inv-loop μ-loop
-same-length c = wrote-length (c .before .loop .inv .3)
+same-length c = wrote-length (c .before .loop .inv .4)
 
 returns : tie.Need-returns Inv-loop μ-loop
 unfolding blocksListed
 returns c =
     let l = c .before in
-    let s = l .before .before in
-    loop-end (each s) (l .loop .j) (l .loop .inv .3) (s .args .t7 .count) (omega arith) (c .loop-test .left)
+    let s = c .before .before .before .before .before .before .before .before .before .before .before in
+    loop-end (each s) (l .loop .j) (l .loop .inv .4) (s .args .t7 .count) (omega (arith, l .loop .inv .0))
+    (c .loop-test .left)
 
 pub block-rows-spec : {M : Type 1} → statement M
 block-rows-spec =
@@ -111,10 +161,15 @@ block-rows-spec =
     (tie.spec
     Inv-loop
     μ-loop
+    draw-colours-requires
+    draw-planes-requires
+    draw-mask-requires
+    draw-places-requires
     loop-holds
     element-copy-out-row
     cast-turn-row
     turn-row-requires
+    survivors-requires
     block-mates-requires
     add-j
     loop-less

@@ -1,0 +1,106 @@
+-- The loop's invariant: the blockers at the cells before i are written.
+use mathlib.Core.Path.{_≡_}
+use Prim.Native.Nat.{_≤_, _-_}
+use native.Mathlib.Omega.{arith}
+use borrow.Author.Needs.{needs}
+use Rattle.lists.specs.Lists.{flatMap}
+use Rattle.rules.specs.FlatLaws.{counts}
+use Rattle.reasons.specs.Arrays.{part}
+use Rattle.reasons.specs.Memory.{Wrote}
+use Rattle.reasons.specs.MemoryLaws.{wrote-length}
+use Rattle.search.specs.ListExtras.{write-none, write-more, write-fits}
+use Rattle.search.specs.SearchLaws.{cells-reach, cells-at}
+use Rattle.planes.specs.Survivors.{blockIn}
+use Rattle.planes.proofs.survivors.block_group.Statement.{statement}
+use Rattle.planes.proofs.survivors.block_group.Tie as tie
+
+abbrev Inv-loop : tie.InvT-loop
+Inv-loop memory₀ start h w planes places rows ys xs n cells from to at₀ i₀ memory at i =
+    (from ≤ i) × (i ≤ to) × Wrote memory₀ start
+    (flatMap (blockIn h w planes rows ys xs n) (part cells from i)) memory at
+
+abbrev μ-loop : tie.MeasureT-loop
+μ-loop memory₀ start h w planes places rows ys xs n cells from to at₀ i₀ memory at i = to - i
+
+loop-holds : tie.Need-loop-holds Inv-loop μ-loop
+loop-holds c = let s = c .before in (
+  omega arith,
+  s .pre .4 .order,
+  write-none (blockIn (s .args .h) (s .args .w) (s .args .planes .now) (s .args .rows .now) (s .args .ys .now)
+      (s .args .xs .now) (s .args .n)) (s .args .cells .now) (s .args .from),
+)
+
+mul-block-at : tie.Need-mul-block-at Inv-loop μ-loop
+mul-block-at c = search needs
+
+element-copy-out-block-at : tie.Need-element-copy-out-block-at Inv-loop μ-loop
+element-copy-out-block-at c = let s = c .before .before .before .before in omega (arith, s .pre .4 .end)
+
+cast-block-at : tie.Need-cast-block-at Inv-loop μ-loop
+cast-block-at c =
+    let s = c .before .before .before .before .before in
+    omega (
+      arith,
+      cells-at (s .pre .4) _ (c .before .before .before .loop .inv .0)
+          (c .before .before .loop-test .taken),
+      counts (s .pre .0),
+    )
+
+block-at-requires : tie.Need-block-at-requires Inv-loop μ-loop
+block-at-requires c κs =
+    let s = c .before .before .before .before .before in (
+      s .pre .0,
+      s .pre .1,
+      s .pre .2,
+      s .pre .3,
+      cells-at (s .pre .4) _ (c .before .before .before .loop .inv .0)
+          (c .before .before .loop-test .taken),
+      write-fits (blockIn (s .args .h) (s .args .w) (s .args .planes .now) (s .args .rows .now) (s .args .ys .now)
+      (s .args .xs .now) (s .args .n)) (s .args .cells .now) _ _
+          (c .before .before .before .loop .inv .0) (c .before .before .before .loop .inv .2) _
+          (c .before .before .loop-test .taken) (cells-reach (s .pre .4)) (s .pre .5),
+    )
+
+add-i : tie.Need-add-i Inv-loop μ-loop
+add-i c = search needs
+
+loop-less : tie.Need-loop-less Inv-loop μ-loop
+loop-less c = omega arith
+
+loop-again : tie.Need-loop-again Inv-loop μ-loop
+loop-again c =
+    let s = c .before .before .before .before .before .before .before .before in (
+      omega arith,
+      omega arith,
+      write-more (blockIn (s .args .h) (s .args .w) (s .args .planes .now) (s .args .rows .now) (s .args .ys .now)
+      (s .args .xs .now) (s .args .n)) (s .args .cells .now) _ _
+          (c .before .before .before .before .before .before .loop .inv .0)
+          (c .before .before .before .before .before .before .loop .inv .2) (omega (arith, cells-reach (s .pre .4)))
+          (c .before .before .block-at .ensures),
+    )
+
+same-length : tie.Need-same-length Inv-loop μ-loop
+same-length c = wrote-length (c .before .loop .inv .2)
+
+returns : tie.Need-returns Inv-loop μ-loop
+returns c =
+    let s = c .before .before .before in
+    let e : c .before .loop .i ≡ s .args .to = omega arith in
+    rw e at (c .before .loop .inv .2)
+
+pub block-group-spec : {M : Type 1} → statement M
+block-group-spec =
+    tie.close
+    (tie.spec
+    Inv-loop
+    μ-loop
+    loop-holds
+    mul-block-at
+    element-copy-out-block-at
+    cast-block-at
+    block-at-requires
+    add-i
+    loop-less
+    loop-again
+    same-length
+    returns)

@@ -1,0 +1,75 @@
+-- Survivors: the origins at which a transform lies on one colour, and its placements there, read from the end.
+--
+--   On h w y x          the raised doubled place (y,x) lies on the page
+--   borderAt h w y x    the border there
+--   clearOf p ys xs y x j   connection j, laid with its origin at (y,x), is clear by the planes p
+--   backOf h w p .. y x n   the placement there, n connections read from the last one on: the first wall is the blocker
+--   noWalls             borders of which none is wall
+--   Survived p m h ys xs n rows   rows has the origins of the mask m at which all n connections are clear by p
+--   Lain h w rows ys xs n         at the origins in rows every connection is on the page
+--   placedAt .. y x     the placement with its origin at (y,x), which cannot lie there unless rows has that origin
+--   Placed h w places   for each cell 32 times its row, and its column
+--   blockerOf p         the blocker of a placement, if it has one
+--   blockIn .. o        that of the placement with its origin at cell o
+use mathlib.Core.Path.{_≡_}
+use mathlib.Core.Bool.{Bool, true, cond}
+use mathlib.Core.List.{List, [], _∷_}
+use Prim.Native.Nat.{ℕ, zero, suc, _+_, _-_, _*_, _/_, _%_, _≤_, _<_}
+use lib.Dec.{eqb}
+use lib.ListN.{length, getD, replicate}
+use Rattle.rules.specs.declared.Literal.{Literal}
+use Rattle.rules.specs.declared.Placement.{Placement}
+use Rattle.rules.specs.declared.Placement.the-variants.{Fits, Blocked, Cannot}
+use Rattle.rules.specs.Flat.{belowOf, rightOf}
+use Rattle.rules.specs.Page.{wallAt}
+use Rattle.planes.specs.Bits.{bit}
+use Rattle.planes.specs.Masks.{spot, clearWord}
+
+pub record On (h w y x : ℕ) : Type 0 where
+  pub top : 64 ≤ y
+  pub left : 64 ≤ x
+  pub bottom : y - 64 ≤ 2 * (h - 1)
+  pub right : x - 64 ≤ 2 * (w - 1)
+
+unfoldable pub borderAt : ℕ → ℕ → ℕ → ℕ → ℕ
+borderAt h w y x =
+    cond (eqb ((y - 64) % 2) 1) (belowOf h w ((y - 64) / 2) ((x - 64) / 2))
+    (rightOf h w ((y - 64) / 2) ((x - 64) / 2))
+
+unfoldable pub clearOf : List ℕ → List ℕ → List ℕ → ℕ → ℕ → ℕ → Bool
+clearOf p ys xs y x j = spot p (2 * y + getD ys j 0) ((2 * x + getD xs j 0) / 2)
+
+abbrev pub noWalls : List ℕ
+noWalls = replicate 1984 0
+
+pub record Survived (p m : List ℕ) (h : ℕ) (ys xs : List ℕ) (n : ℕ) (rows : List ℕ) : Type 0 where
+  pub size : length rows ≡ 32
+  pub each : (y : ℕ) → y < h → getD rows y 0 ≡ clearWord p y ys xs (getD m y 0) n
+
+pub record Lain (h w : ℕ) (rows ys xs : List ℕ) (n : ℕ) : Type 0 where
+  pub each : (y x : ℕ) → y < h → x < w → bit (getD rows y 0) x ≡ true → (j : ℕ) → j < n
+      → On h w (2 * y + getD ys j 0) (2 * x + getD xs j 0)
+
+pub record Placed (h w : ℕ) (places : List ℕ) : Type 0 where
+  pub size : length places ≡ 1024
+  pub each : (c : ℕ) → c < h * w → getD places c 0 ≡ c / w * 32 + c % w
+
+abbrev pub blockerOf : Placement → List Literal
+blockerOf Fits = []
+blockerOf Cannot = []
+blockerOf (Blocked b) = wallAt b ∷ []
+
+module _ (h w : ℕ) (p : List ℕ) where
+  -- "the last wall is the blocker"
+  unfoldable pub backOf : List ℕ → List ℕ → ℕ → ℕ → ℕ → Placement
+  backOf ys xs y x zero = Fits
+  backOf ys xs y x (suc j) =
+      cond (clearOf p ys xs y x j) (backOf ys xs y x j)
+      (Blocked (borderAt h w (2 * y + getD ys j 0) (2 * x + getD xs j 0)))
+
+  module _ (rows ys xs : List ℕ) (n : ℕ) where
+    unfoldable pub placedAt : ℕ → ℕ → Placement
+    placedAt y x = cond (bit (getD rows y 0) x) (backOf ys xs y x n) Cannot
+
+    unfoldable pub blockIn : ℕ → List Literal
+    blockIn o = blockerOf (placedAt (o / w) (o % w))
