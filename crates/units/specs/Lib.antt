@@ -3,6 +3,7 @@ pub mod Images
 pub mod ImageLaws
 pub mod Fitting
 pub mod FitLaws
+pub mod SingleLaws
 pub mod Held
 pub mod HeldLaws
 pub mod Stuck

@@ -1,10 +1,12 @@
 -- What the arrays of the units, of the potential units and of their mates give to the search.
 use mathlib.Core.Path.{_≡_, refl, sym, ap, _∙_}
-use mathlib.Core.Bool.{Bool}
-use mathlib.Core.List.{List, [], _∷_, map, List·Memᴰ·not-nil}
+use mathlib.Core.Bool.{Bool, true, false}
+use mathlib.Core.List.{List, [], _∷_, map, List·Memᴰ·head, List·Memᴰ·not-nil}
+use mathlib.Core.Logic.{⊎-elim}
 use Prim.Native.Nat.{ℕ, _+_, _-_, _*_, _<_, _≤_}
 use native.Mathlib.Omega.{arith}
-use borrow.Author.Tests.{lt-ltb}
+use borrow.Author.Tests.{lt-ltb, le-ltb}
+use lib.Dec.{ltb}
 use lib.ListN.{length, getD}
 use Rattle.lists.specs.Lists.{_∈_, any, flatMap}
 use Rattle.rules.specs.Page.{Mark, Puzzle}
@@ -26,12 +28,16 @@ use Rattle.groups.specs.SortLaws.{start-zero}
 use Rattle.groups.specs.PartLaws.{ids-entry, ids-length, ids-lt, count-le, offs-at, offs-next, offs-le, cells-long}
 use Rattle.groups.specs.PartLaws.{cells-lt, part-members, cell-at}
 use Rattle.search.specs.Placing.{puzzle}
-use Rattle.search.specs.Searching.{Beside, fitsBeside}
-use Rattle.search.specs.SearchLaws.{any-flat, placed-fits, mates-low, beside-of}
+use Rattle.search.specs.ListExtras.{part-none, part-next}
+use Rattle.search.specs.Searching.{Beside, groupIn, fitsBeside}
+use Rattle.search.specs.SearchLaws.{any-flat, cells-reach, placed-fits, mates-low, mates-reach, beside-of}
 use Rattle.search.specs.GatherLaws.{listed-part}
 use Rattle.search.specs.Mates.{Known, Grouped}
 use Rattle.units.specs.ListExtras.{any-cong}
+use Rattle.planes.specs.Extras.{le-or-lt}
 use Rattle.units.specs.Fitting.{UnitIn, fitsTurned}
+use Rattle.units.specs.FitLaws.{turned-none}
+use Rattle.units.specs.SingleLaws.{single-fits}
 use Rattle.units.specs.Stuck.{Ready, headOf, fitsOn, fitsUnit}
 
 head-is : (xs : List ℕ) → 1 ≤ length xs → (rest : List ℕ) × (xs ≡ headOf xs ∷ rest)
@@ -188,6 +194,18 @@ module _ {h w : ℕ} {cs bs ids cells offs pids pcells poffs list starts : List 
   pub potential-grouped : Grouped h w cs bs pcells poffs (groupsOf (flat h w) wide .count)
   potential-grouped = rw (r .potential-cells, r .potential-offs) (grouped-of size cs bs)
 
+  -- a potential unit has a first cell
+  potential-first : (q : ℕ) → q < groupsOf (flat h w) wide .count
+      → getD pcells (getD poffs q 0) 0 ∈ groupIn pcells poffs q
+  unfolding groupIn
+  potential-first q l =
+      let c = potential-grouped .each q l in
+      rw (part-next pcells (getD poffs q 0) (getD poffs (q + 1) 0) potential-rises (cells-reach c))
+      (List·Memᴰ·head refl)
+    where
+      potential-rises : getD poffs q 0 < getD poffs (q + 1) 0
+      potential-rises = rw (r .potential-offs) (rises size wide q l)
+
   module _ (u : ℕ) (l : u < groupsOf (flat h w) own .count) where
     pub unit-in : UnitIn h w ids u cells (getD offs u 0) (getD offs (u + 1) 0)
     unit-in = rw (r .units-ids, r .units-cells, r .units-offs) (own-part size own u l)
@@ -247,12 +265,39 @@ module _ {h w : ℕ} {cs bs ids cells offs pids pcells poffs list starts : List 
     own-full = full size own u l
 
     -- what the code finds for a unit is what the definition asks
+    pub fits-home : fitsTurned Z s pcells poffs (mates Z s home) (shapeOf (flat h w) (entry ids) u) ≡ fitsUnit Z s u
+    unfolding fitsUnit
+    fits-home =
+        sym (placed home)
+        ∙ (ap (λ p. any (isFit Z s) (placements Z s u p)) (home-is ∙ ap (potentialOf Z s) head-of)
+        ∙ sym (first-cell (members (flat h w) (unitOf Z s) u) own-full))
+
     pub fits-unit : fitsTurned Z s pcells poffs (part list (getD starts home 0) (getD starts (home + 1) 0))
         (shapeOf (flat h w) (entry ids) u) ≡ fitsUnit Z s u
-    unfolding fitsUnit
     fits-unit =
         ap (λ gs. fitsTurned Z s pcells poffs gs (shapeOf (flat h w) (entry ids) u))
         (listed-part (r .adjacent) home home-count)
-        ∙ (sym (placed home)
-        ∙ (ap (λ p. any (isFit Z s) (placements Z s u p)) (home-is ∙ ap (potentialOf Z s) head-of)
-        ∙ sym (first-cell (members (flat h w) (unitOf Z s) u) own-full)))
+        ∙ fits-home
+
+    -- a unit of one cell fits exactly if its potential unit has an adjacent one
+    module _ (one : getD offs (u + 1) 0 ≡ getD offs u 0 + 1) where
+      pub single-mate : {q : ℕ} → q ∈ mates Z s home → fitsUnit Z s u ≡ true
+      single-mate {q} m =
+          let l : q < groupsOf (flat h w) wide .count = mates-low potential-grouped home q m in
+          sym fits-home ∙ single-fits Z s pcells poffs (size .columns) unit-in one m (potential-first q l)
+
+      pub single-none : mates Z s home ≡ [] → fitsUnit Z s u ≡ false
+      single-none e = sym fits-home ∙ turned-none Z s pcells poffs (shapeOf (flat h w) (entry ids) u) e
+
+      pub single-unit : ltb (getD starts home 0) (getD starts (home + 1) 0) ≡ fitsUnit Z s u
+      single-unit =
+          let from = getD starts home 0 in
+          let to = getD starts (home + 1) 0 in
+          let p : part list from to ≡ mates Z s home = listed-part (r .adjacent) home home-count in
+          ⊎-elim
+          (λ (l : to ≤ from). le-ltb from to l ∙ sym (single-none (sym p ∙ part-none list from to l)))
+          (λ (l : from < to).
+          let m : getD list from 0 ∈ part list from to =
+          rw (part-next list from to l (mates-reach unit-beside)) (List·Memᴰ·head refl) in
+          lt-ltb from to l ∙ sym (single-mate (rw p at m)))
+          (le-or-lt to from)

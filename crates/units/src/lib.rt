@@ -346,8 +346,9 @@ fn unit_fits<'a>(
     )
 }
 
-// Whether a placement of unit `u` fits. The units' cells stand in `units` and start at `unit_offs`, those of the
-// potential units in `cells` and `offs`; `mates` has the potential units adjacent to each, which start at `starts`.
+// Whether a placement of unit `u` fits: one of one cell, which has no connections, fits beside any adjacent potential
+// unit. The units' cells stand in `units` and start at `unit_offs`, those of the potential units in `cells` and `offs`;
+// `mates` has the potential units adjacent to each, which start at `starts`.
 fn fits_at<'a>(
     h: usize,
     w: usize,
@@ -387,6 +388,9 @@ fn fits_at<'a>(
     let last = start_at(unit_offs, u + 1);
     let c = number_at(units, first);
     let p = number_at(potential, c);
+    if last == first + 1 {
+        return start_at(starts, p) < start_at(starts, p + 1);
+    }
     unit_fits(
         h,
         w,

@@ -1,5 +1,6 @@
 -- The entries that are read are the unit's part and its potential unit.
 use mathlib.Core.Path.{_≡_, ap, _∙_}
+use Prim.Native.Nat.{_<_}
 use native.Mathlib.Omega.{arith}
 use lib.ListN.{getD}
 use Rattle.rules.specs.Codes.{marksIn}
@@ -10,7 +11,7 @@ use Rattle.rules.specs.Shapes.{shapeOf}
 use Rattle.search.specs.Placing.{puzzle}
 use Rattle.units.specs.Fitting.{fitsTurned}
 use Rattle.units.specs.Held.{matesIn}
-use Rattle.units.specs.ReadyLaws.{unit-few, unit-in, head-low, home-low, unit-beside, fits-unit}
+use Rattle.units.specs.ReadyLaws.{unit-few, unit-in, head-low, home-low, unit-beside, fits-unit, single-unit}
 use Rattle.units.proofs.fits_at.Statement.{statement}
 use Rattle.units.proofs.fits_at.Tie as tie
 
@@ -54,9 +55,44 @@ number-at-requires-2 c κs =
       counts (s .pre .0 .drawn .sized) .cells,
     )
 
+add-if1 : tie.Need-add-if1
+add-if1 c =
+    let l = c .before .before in
+    let s = l .before .before in
+    let u = unit-in (s .pre .0) (s .args .u) (s .pre .1) in
+    omega (arith, u .some, u .end, l .before .start-at .ensures)
+
+-- the unit has one cell
+home-few : (c : tie.After-number-at2) → c .number-at2 .result < 1024
+home-few c =
+    let s = c .before .before .before .before in
+    rw (home-is c) (home-low (s .pre .0) (s .args .u) (s .pre .1))
+
+start-at-requires-3 : tie.Need-start-at-requires-3
+start-at-requires-3 c κs = omega (arith, home-few (c .before))
+
+add-start-at-2 : tie.Need-add-start-at-2
+add-start-at-2 c = omega (arith, home-few (c .before .before))
+
+start-at-requires-4 : tie.Need-start-at-requires-4
+start-at-requires-4 c κs = omega (arith, home-few (c .before .before))
+
+returns : tie.Need-returns
+returns c =
+    let i = c .before .before in
+    let p = i .before in
+    let l = p .before .before in
+    let s = l .before .before in (
+      rw (c .before .start-at3 .ensures, c .start-at4 .ensures, home-is p)
+          (single-unit (s .pre .0) (s .args .u) (s .pre .1)
+          (rw (l .before .start-at .ensures, l .start-at2 .ensures) at (i .if1 .taken))),
+      s .pre .2,
+      s .pre .3,
+    )
+
 unit-fits-requires : tie.Need-unit-fits-requires
 unit-fits-requires c κs =
-    let p = c .before .before .before .before .before .before .before .before in
+    let p = c .before .before .before .before .before .before .before .before .before in
     let l = p .before .before in
     let s = l .before .before in (
       s .pre .0 .drawn,
@@ -67,9 +103,9 @@ unit-fits-requires c κs =
       s .pre .3,
     )
 
-returns : tie.Need-returns
-returns c =
-    let p = c .before .before .before .before .before .before .before .before .before in
+returns-2 : tie.Need-returns-2
+returns-2 c =
+    let p = c .before .before .before .before .before .before .before .before .before .before in
     let s = p .before .before .before .before in
     let e = c .unit-fits .ensures in (
       e .0
@@ -91,5 +127,10 @@ fits-at-spec =
     start-at-requires-2
     number-at-requires
     number-at-requires-2
+    add-if1
+    start-at-requires-3
+    add-start-at-2
+    start-at-requires-4
+    returns
     unit-fits-requires
-    returns)
+    returns-2)

@@ -1,0 +1,109 @@
+-- A unit of one cell has no connections: it fits at any cell of any adjacent unit.
+use mathlib.Core.Path.{_≡_, refl, sym, ap, _∙_}
+use mathlib.Core.Bool.{Bool, true, false}
+use mathlib.Core.List.{List, [], _∷_, _++_, map, List·Memᴰ·head, List·Memᴰ·eq-of-singleton}
+use Prim.Native.Nat.{ℕ, _+_, _*_, _/_, _%_, _<_, _≤_}
+use native.Mathlib.Omega.{arith}
+use borrow.Author.Tests.{ne-eqb, ltb-true}
+use lib.Dec.{eqb, ltb}
+use lib.ListN.{getD}
+use Rattle.lists.specs.Lists.{_∈_, any, filter, keep, flatMap}
+use Rattle.rules.specs.Page.{Hop, Mark, Point, Puzzle, Shape}
+use Rattle.rules.specs.Flat.{flat, hopIf, hopBelow, hopRight, aheadAt, cellAt}
+use Rattle.rules.specs.FlatLaws.{spot}
+use Rattle.rules.specs.Groups.{entry, members}
+use Rattle.rules.specs.Check.{laid, judge}
+use Rattle.rules.specs.Shapes.{shapeOf, normal, shiftBy, turned, connectionsAt}
+use Rattle.argument.specs.Numbers.{mem-members, members-in}
+use Rattle.reasons.specs.ListExtras.{if-same}
+use Rattle.reasons.specs.StepLaws.{row-of}
+use Rattle.search.specs.ListExtras.{part-one}
+use Rattle.search.specs.Placing.{fitsOf}
+use Rattle.search.specs.Searching.{groupIn, fitsAmong, fitsBeside}
+use Rattle.planes.specs.Extras.{holds-any}
+use Rattle.shapes.specs.Rows.{image}
+use Rattle.shapes.specs.UnitLaws.{transforms-flat}
+use Rattle.units.specs.Fitting.{UnitIn, fitsTurned}
+use Rattle.units.specs.FitLaws.{rows-first}
+
+-- a neighbour that fails the test is not kept
+module _ (p : Hop → Bool) where
+  hop-none : (b : Bool) (n t : ℕ) → (b ≡ true → p (record { border = n; to = t }) ≡ false) → filter p (hopIf b n t) ≡ []
+  unfolding filter hopIf
+  hop-none true n t e = rw (e refl)
+  hop-none false n t e = refl
+
+  hops-none : (xs ys : List Hop) → filter p xs ≡ [] → filter p ys ≡ [] → filter p (xs ++ ys) ≡ []
+  unfolding filter
+  hops-none [] ys a b = b
+  hops-none (x ∷ xs) ys a b = go (p x) a (λ e. hops-none xs ys e b)
+    where
+      go : (k : Bool) → keep k x (filter p xs) ≡ [] → (filter p xs ≡ [] → filter p (xs ++ ys) ≡ [])
+          → keep k x (filter p (xs ++ ys)) ≡ []
+      go true e f = let z : _≡_ {A = ℕ} 0 1 = cc in absurd (omega arith)
+      go false e f = f e
+
+normal-none : (ps : List Point) → normal ps [] .connections ≡ []
+unfolding normal shiftBy
+normal-none [] = refl
+normal-none (p ∷ ps) = refl
+
+module _ (h w : ℕ) (number : ℕ → ℕ) (g c : ℕ) (alone : members (flat h w) number g ≡ c ∷ []) where
+  inside : c < h * w
+  unfolding flat
+  inside = members-in (flat h w) number g c (rw alone (List·Memᴰ·head refl))
+
+  -- another cell of the page is in another group
+  other : (t : ℕ) → t < h * w → (t ≡ c → ⊥) → eqb (number t) g ≡ false
+  unfolding flat
+  other t l n =
+      if-same (number t) g
+      (λ e. absurd (n (List·Memᴰ·eq-of-singleton (rw alone at (mem-members (flat h w) number g t l e)))))
+      (λ e. ne-eqb (number t) g e)
+
+  ahead-none : filter (λ (k : Hop). eqb (number (k .to)) g) (flat h w .ahead c) ≡ []
+  unfolding flat aheadAt hopBelow hopRight cellAt
+  ahead-none =
+      let r = row-of h w c inside in
+      let m = spot h w (c / w) (c % w) (r .row) (r .column) in
+      hops-none _ _ _
+      (hop-none _ _ _ _
+      (λ e. other _ (m .lower (ltb-true _ _ e)) (λ z. omega (arith, m .next, r .same, r .wide))))
+      (hop-none _ _ _ _ (λ e. other _ (m .beside (ltb-true _ _ e)) (λ z. omega (arith, r .same))))
+
+  joints-none : flatMap (connectionsAt (flat h w) number g) (members (flat h w) number g) ≡ []
+  unfolding flatMap connectionsAt
+  joints-none = rw (alone, ahead-none)
+
+  connections-none : shapeOf (flat h w) number g .connections ≡ []
+  unfolding shapeOf
+  connections-none = rw joints-none (normal-none _)
+
+image-none : (r : ℕ) (t : Shape) → t .connections ≡ [] → image r t .connections ≡ []
+unfolding image turned
+image-none r t e = rw e (normal-none _)
+
+-- a transform without connections fits at any cell
+module _ (Z : Puzzle) (s : ℕ → Mark) (cells offs : List ℕ) where
+  bare-fits : (t : Shape) → t .connections ≡ [] → (o : ℕ) → fitsOf Z s t o ≡ true
+  unfolding fitsOf laid judge
+  bare-fits t e o = rw e
+
+  bare-beside : (t : Shape) → t .connections ≡ [] → {gs : List ℕ} {q x : ℕ} → q ∈ gs → x ∈ groupIn cells offs q
+      → fitsBeside Z s t cells offs gs ≡ true
+  unfolding fitsBeside fitsAmong
+  bare-beside t e {q = q} {x = x} m n =
+      holds-any (λ Q. any (fitsOf Z s t) (groupIn cells offs Q)) m (holds-any (fitsOf Z s t) n (bare-fits t e x))
+
+  pub single-fits : {h w g first last : ℕ} {ids units : List ℕ} → 1 ≤ w → UnitIn h w ids g units first last
+      → last ≡ first + 1 → {gs : List ℕ} {q x : ℕ} → q ∈ gs → x ∈ groupIn cells offs q
+      → fitsTurned Z s cells offs gs (shapeOf (flat h w) (entry ids) g) ≡ true
+  unfolding fitsTurned any
+  single-fits {h} {w} {g} {first} {last} {ids} {units} l u e {gs} m n =
+      let shape = shapeOf (flat h w) (entry ids) g in
+      let alone : members (flat h w) (entry ids) g ≡ getD units first 0 ∷ [] =
+      sym (u .group) ∙ rw e (part-one units first (omega (arith, u .some, u .end, u .long))) in
+      let none : shape .connections ≡ [] = connections-none h w (entry ids) g _ alone in
+      ap (any (λ t. fitsBeside Z s t cells offs gs))
+      (transforms-flat h w (entry ids) g l ∙ ap (map (λ r. image r shape)) (rows-first shape))
+      ∙ rw (bare-beside (image 0 shape) (image-none 0 shape none) m n)
