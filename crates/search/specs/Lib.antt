@@ -9,5 +9,6 @@ pub mod Mates
 pub mod MateLaws
 pub mod TouchLaws
 pub mod GatherLaws
+pub mod SampleLaws
 pub mod Raising
 pub mod RaiseLaws

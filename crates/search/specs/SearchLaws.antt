@@ -4,8 +4,8 @@ use mathlib.Core.Bool.{Bool}
 use mathlib.Core.List.{List, [], _∷_, map, List·Memᴰ·head, List·Memᴰ·tail}
 use Prim.Native.Nat.{ℕ, zero, suc, _+_, _-_, _*_, _≤_, _<_}
 use native.Mathlib.Omega.{arith}
-use lib.ListN.{length, getD, drop, length-append}
-use lib.Seq.{getD-take, getD-drop}
+use lib.ListN.{length, getD, drop, length-drop}
+use lib.Seq.{getD-take, getD-drop, length-take-le}
 use Rattle.lists.specs.Lists.{_∈_, any, flatMap}
 use Rattle.lists.specs.ListLaws.{filter-mem, range-lt}
 use Rattle.rules.specs.Page.{Puzzle, Shape, Mark}
@@ -14,10 +14,9 @@ use Rattle.rules.specs.Flat.{flat}
 use Rattle.rules.specs.Groups.{members, potentialOf}
 use Rattle.rules.specs.Check.{laid, isFit, blockers, mates}
 use Rattle.reasons.specs.Arrays.{Cells, part}
-use Rattle.reasons.specs.ListExtras.{upTo, up-more}
 use Rattle.search.specs.Placing.{puzzle, fitsOf}
 use Rattle.search.specs.ListExtras.{any-append, flat-append}
-use Rattle.search.specs.Mates.{Grouped, Known, Listed}
+use Rattle.search.specs.Mates.{Grouped, Known, Listed, Leading}
 use Rattle.search.specs.GatherLaws.{listed-part, up-mono}
 use Rattle.search.specs.Searching.{Beside, groupIn, fitsAmong, fitsBeside, blockOf, blocksAmong, blocksBeside}
 
@@ -109,44 +108,51 @@ unfolding mates
 mates-low g p q m = rw (g .all) (range-lt _ (filter-mem _ _ m))
 
 module _ {h w : ℕ} {cs bs ids cells offs : List ℕ} {count : ℕ} (g : Grouped h w cs bs cells offs count)
-    (k : Known h w cs bs ids) {list starts : List ℕ} (l : Listed (mates (puzzle h w cs) (marksIn bs)) list starts count)
-    (p : ℕ) (hp : p < count) where
-  entry-low : (i : ℕ) → getD starts p 0 ≤ i → i < getD starts (p + 1) 0 → getD list i 0 < count
-  entry-low i a b =
+    (k : Known h w cs bs ids) where
+  -- the mates of p stand in a part of a list
+  module _ (list : List ℕ) (p from to : ℕ) (is : part list from to ≡ mates (puzzle h w cs) (marksIn bs) p)
+      (long : length list ≡ 4096) (order : from ≤ to) (end : to ≤ 4096) where
+    entry-low : (i : ℕ) → from ≤ i → i < to → getD list i 0 < count
+    entry-low i a b =
+        let f = mates (puzzle h w cs) (marksIn bs) in
+        let j : from + (i - from) ≡ i = omega arith in
+        let n : length (f p) ≡ to - from =
+        sym (ap length is)
+        ∙ length-take-le (to - from) (drop from list) (omega (arith, length-drop from list)) in
+        let v : getD (f p) (i - from) 0 ≡ getD list i 0 =
+        rw (
+          ← is,
+          getD-take (to - from) (drop from list) (i - from) 0 (omega arith),
+          getD-drop from list (i - from) 0,
+          j,
+        ) in
+        rw v at (mates-low g p _ (mem-getD (f p) (i - from) (omega arith)))
+
+    beside-part : Beside h w cells offs list from to
+    beside-part =
+        let c : count ≤ 1024 = rw (g .all) (k .few) in
+        record {
+          long = long;
+          order = order;
+          end = end;
+          low = λ i a b. omega (arith, entry-low i a b);
+          each = λ i a b. g .each (getD list i 0) (entry-low i a b);
+        }
+
+  pub beside-leading : {list : List ℕ} (p : ℕ) {n : ℕ} → Leading (mates (puzzle h w cs) (marksIn bs) p) list n
+      → Beside h w cells offs list 0 n
+  beside-leading {list} p {n} l = beside-part list p 0 n (l .first) (l .long) (omega arith) (l .few)
+
+  -- the mates of all
+  pub beside-of : {list starts : List ℕ} → Listed (mates (puzzle h w cs) (marksIn bs)) list starts count
+      → (p : ℕ) → p < count → Beside h w cells offs list (getD starts p 0) (getD starts (p + 1) 0)
+  beside-of {list} {starts} l p hp =
       let f = mates (puzzle h w cs) (marksIn bs) in
-      let e : part list (getD starts p 0) (getD starts (p + 1) 0) ≡ f p = listed-part l p hp in
-      let j : getD starts p 0 + (i - getD starts p 0) ≡ i = omega arith in
-      let n : length (f p) ≡ getD starts (p + 1) 0 - getD starts p 0 =
-      omega (
+      beside-part list p (getD starts p 0) (getD starts (p + 1) 0) (listed-part l p hp) (l .long)
+      (omega (
         arith,
         l .starts p (omega arith),
         l .starts (p + 1) (omega arith),
-        ap length (up-more f p),
-        length-append (upTo f p) (f p),
-      ) in
-      let v : getD (f p) (i - getD starts p 0) 0 ≡ getD list i 0 =
-      rw (
-        ← e,
-        getD-take (getD starts (p + 1) 0 - getD starts p 0) (drop (getD starts p 0) list) (i - getD starts p 0) 0
-            (omega arith),
-        getD-drop (getD starts p 0) list (i - getD starts p 0) 0,
-        j,
-      ) in
-      rw v at (mates-low g p _ (mem-getD (f p) (i - getD starts p 0) (omega arith)))
-
-  pub beside-of : Beside h w cells offs list (getD starts p 0) (getD starts (p + 1) 0)
-  beside-of =
-      let f = mates (puzzle h w cs) (marksIn bs) in
-      let c : count ≤ 1024 = rw (g .all) (k .few) in
-      record {
-        long = l .long;
-        order = omega (
-          arith,
-          l .starts p (omega arith),
-          l .starts (p + 1) (omega arith),
-          up-mono f p (p + 1) (omega arith),
-        );
-        end = omega (arith, l .starts (p + 1) (omega arith), up-mono f (p + 1) count (omega arith), l .room);
-        low = λ i a b. omega (arith, entry-low i a b);
-        each = λ i a b. g .each (getD list i 0) (entry-low i a b);
-      }
+        up-mono f p (p + 1) (omega arith),
+      ))
+      (omega (arith, l .starts (p + 1) (omega arith), up-mono f (p + 1) count (omega arith), l .room))

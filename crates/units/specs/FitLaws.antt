@@ -8,7 +8,7 @@ use native.Mathlib.Omega.{arith}
 use borrow.Author.Tests.{lt-ltb, le-ltb}
 use lib.Dec.{T, ltb, ltb→lt}
 use lib.ListN.{length, getD}
-use Rattle.lists.specs.Lists.{any, all}
+use Rattle.lists.specs.Lists.{_∈_, any, all}
 use Rattle.lists.specs.ListLaws.{all-mem}
 use Rattle.lists.specs.Padded.{padded}
 use Rattle.rules.specs.Page.{Mark, Point, Puzzle, Shape}
@@ -18,10 +18,10 @@ use Rattle.rules.specs.Check.{laid}
 use Rattle.rules.specs.Shapes.{shapeOf, flatTransforms}
 use Rattle.reasons.specs.Arrays.{Cells, part}
 use Rattle.search.specs.Placing.{bare, fitsOf}
-use Rattle.search.specs.ListExtras.{any-append, part-next, part-split}
+use Rattle.search.specs.ListExtras.{any-append, part-split}
 use Rattle.search.specs.SearchLaws.{any-map}
 use Rattle.search.specs.Searching.{groupIn, fitsAmong, fitsBeside}
-use Rattle.planes.specs.Extras.{le-or-lt}
+use Rattle.planes.specs.Extras.{le-or-lt, holds-any}
 use Rattle.shapes.specs.declared.Listed.{Listed}
 use Rattle.shapes.specs.ListExtras.{mem-getD}
 use Rattle.shapes.specs.Listing.{listing}
@@ -146,7 +146,7 @@ module _ (Z : Puzzle) (s : ℕ → Mark) (cells offs : List ℕ) where
   unfolding fitsTurned
   turned-none t e = rw e (any-none _ fits-none (flatTransforms t))
 
-  -- the first cells of the first group
+  -- the first cells of a group
   soon-group : (t : Shape) (Q : ℕ) → getD offs Q 0 ≤ getD offs (Q + 1) 0
       → fitsAmong Z s t (soonIn cells offs Q) ≡ true → fitsAmong Z s t (groupIn cells offs Q) ≡ true
   unfolding fitsAmong soonIn groupIn
@@ -158,14 +158,10 @@ module _ (Z : Puzzle) (s : ℕ → Mark) (cells offs : List ℕ) where
       ap (any (fitsOf Z s t)) (part-split cells first end last (b .0) (b .1))
       ∙ (any-append (fitsOf Z s t) (part cells first end) (part cells end last) ∙ rw e)
 
-  pub soon-beside : (t : Shape) (mates : List ℕ) {from to : ℕ} → from < to → to ≤ length mates
-      → getD offs (getD mates from 0) 0 ≤ getD offs (getD mates from 0 + 1) 0
-      → fitsAmong Z s t (soonIn cells offs (getD mates from 0)) ≡ true
-      → fitsBeside Z s t cells offs (part mates from to) ≡ true
-  unfolding fitsBeside any
-  soon-beside t mates {from} {to} h k l e =
-      ap (any (λ Q. fitsAmong Z s t (groupIn cells offs Q))) (part-next mates from to h k)
-      ∙ rw (soon-group t (getD mates from 0) l e)
+  pub soon-beside : (t : Shape) {gs : List ℕ} {Q : ℕ} → Q ∈ gs → getD offs Q 0 ≤ getD offs (Q + 1) 0
+      → fitsAmong Z s t (soonIn cells offs Q) ≡ true → fitsBeside Z s t cells offs gs ≡ true
+  unfolding fitsBeside
+  soon-beside t {Q = Q} m l e = holds-any (λ q. fitsAmong Z s t (groupIn cells offs q)) m (soon-group t Q l e)
 
   -- row 0 fits at once
   pub soon-turned : {h w g n k : ℕ} {ids R C D A : List ℕ} → UnitAt h w ids g R C n → Joined h w (entry ids) g D A k

@@ -1,28 +1,43 @@
--- What the memory for planes and mask holds between two units.
+-- What the memory of the search holds between two units.
 --
---   matesIn mates starts q   the potential units adjacent to potential unit q
+--   Home .. p           p is one of the potential units, whose numbers, cells and starts stand in arrays
+--   Nearby near         where the list has not 0 at p, it has a potential unit adjacent to p, raised by 1
 --   HeldOf .. q p m     the planes of the page, and the mask of the cells of the potential units adjacent to q; the
 --                       last place of the mask is q + 1
---   Held .. p m         nothing yet, and the last place of the mask is 0; or what is held of the potential unit there
+--   Held .. p m list    nothing yet, and the last place of the mask is 0; or what is held of the potential unit there;
+--                       and the length of the list that adjacent units are written to
 use mathlib.Core.Path.{_≡_}
 use mathlib.Core.List.{List}
-use Prim.Native.Nat.{ℕ, _+_}
+use Prim.Native.Nat.{ℕ, _+_, _<_}
 use lib.ListN.{length, getD, replicate}
-use Rattle.reasons.specs.Arrays.{part}
+use Rattle.lists.specs.Lists.{_∈_}
+use Rattle.rules.specs.Codes.{marksIn}
+use Rattle.rules.specs.Check.{mates}
+use Rattle.rules.specs.Groups.{potentialCount}
+use Rattle.search.specs.Placing.{Drawn, puzzle}
+use Rattle.search.specs.Mates.{Known, Grouped}
 use Rattle.planes.specs.Planes.{planesOf}
 use Rattle.planes.specs.Masks.{Masked, originsIn}
 
-abbrev pub matesIn : List ℕ → List ℕ → ℕ → List ℕ
-matesIn mates starts q = part mates (getD starts q 0) (getD starts (q + 1) 0)
+pub record Home (h w : ℕ) (cs bs ids cells offs : List ℕ) (p : ℕ) : Type 0 where
+  pub drawn : Drawn h w cs
+  pub known : Known h w cs bs ids
+  pub grouped : Grouped h w cs bs cells offs (potentialCount (puzzle h w cs) (marksIn bs))
+  pub low : p < potentialCount (puzzle h w cs) (marksIn bs)
 
-module _ (h w : ℕ) (cs bs cells offs mates starts : List ℕ) where
+pub record Nearby (h w : ℕ) (cs bs near : List ℕ) : Type 0 where
+  pub long : length near ≡ 1024
+  pub some : (p q : ℕ) → getD near p 0 ≡ q + 1 → q ∈ mates (puzzle h w cs) (marksIn bs) p
+
+module _ (h w : ℕ) (cs bs cells offs : List ℕ) where
   pub record HeldOf (q : ℕ) (p m : List ℕ) : Type 0 where
     pub planes : p ≡ planesOf h w cs bs
-    pub mask : Masked w (originsIn cells offs (matesIn mates starts q)) m
+    pub mask : Masked w (originsIn cells offs (mates (puzzle h w cs) (marksIn bs) q)) m
     pub name : getD m 32 0 ≡ q + 1
 
-  pub record Held (p m : List ℕ) : Type 0 where
+  pub record Held (p m list : List ℕ) : Type 0 where
     pub long : length p ≡ 192
     pub size : length m ≡ 33
+    pub room : length list ≡ 4096
     pub none : getD m 32 0 ≡ 0 → p ≡ replicate 192 0
     pub some : (q : ℕ) → getD m 32 0 ≡ q + 1 → HeldOf q p m

@@ -1,27 +1,105 @@
--- Laws of the memory for planes and mask.
-use mathlib.Core.Path.{_≡_, refl, sym, ap, _∙_, subst}
-use mathlib.Core.Bool.{Bool}
+-- Laws of the memory of the search: adjacent units, planes and mask.
+use mathlib.Core.Path.{_≡_, refl, sym, ap, _∙_}
 use mathlib.Core.List.{List}
-use Prim.Native.Nat.{ℕ, zero, suc, _+_, _-_}
+use Prim.Native.Nat.{ℕ, zero, suc, _+_, _-_, _<_, _≤_}
 use native.Mathlib.Omega.{arith}
-use lib.ListN.{length, getD, replicate, length-replicate}
+use lib.ListN.{length, getD, set, replicate, length-append, length-set, length-replicate}
+use lib.Seq.{getD-set-same, getD-set-other, take-append-le, take-length}
+use Rattle.lists.specs.Lists.{_∈_, range}
+use Rattle.lists.specs.Appends.{length-filter}
+use Rattle.lists.specs.Padded.{padded}
 use Rattle.lists.specs.Table.{length-table}
-use Rattle.rules.specs.Page.{Point}
+use Rattle.rules.specs.Check.{adjacent, mates}
 use Rattle.rules.specs.Codes.{marksIn}
-use Rattle.reasons.specs.Arrays.{part}
-use Rattle.search.specs.Placing.{Drawn, puzzle, bare}
-use Rattle.search.specs.Searching.{Beside, fitsBeside}
+use Rattle.rules.specs.Groups.{potentialCount}
+use Rattle.argument.specs.ListExtras.{length-rangeFrom}
+use Rattle.reasons.specs.Arrays.{Cells}
+use Rattle.reasons.specs.ListExtras.{if-same}
+use Rattle.search.specs.Mates.{OneOf, Leading}
+use Rattle.search.specs.Placing.{puzzle, bare}
+use Rattle.search.specs.Searching.{fitsBeside}
+use Rattle.search.specs.SearchLaws.{mates-low, beside-leading}
 use Rattle.planes.specs.Planes.{planeWord, planesOf}
-use Rattle.planes.specs.Masks.{Masked, Sizes, Answers, originsIn}
+use Rattle.planes.specs.Masks.{Sizes, Answers}
 use Rattle.planes.specs.FitLaws.{beside-answers}
-use Rattle.units.specs.Held.{matesIn, HeldOf, Held}
+use Rattle.units.specs.Held.{Home, Nearby, HeldOf, Held}
 
-module _ (h w : ℕ) (cs bs cells offs mates starts : List ℕ) where
-  pub held-start : Held h w cs bs cells offs mates starts (replicate 192 0) (replicate 33 0)
+zeros : (n i : ℕ) → _≡_ {A = ℕ} (getD (replicate n 0) i 0) 0
+zeros zero i = refl
+zeros (suc n) zero = refl
+zeros (suc n) (suc i) = zeros n i
+
+-- adjacent units are kept as they are asked for
+module _ (h w : ℕ) (cs bs : List ℕ) where
+  pub nearby-none : Nearby h w cs bs (replicate 1024 0)
+  nearby-none =
+      record { long = length-replicate 1024 zero; some = λ p q e. absurd (omega (arith, zeros 1024 p)) }
+
+pub nearby-more : {h w : ℕ} {cs bs near : List ℕ} → Nearby h w cs bs near → (p q : ℕ) → p < 1024
+    → q ∈ mates (puzzle h w cs) (marksIn bs) p → Nearby h w cs bs (set near p (q + 1))
+nearby-more {h} {w} {cs} {bs} {near} k p q l m =
+    record {
+      long = length-set near p (q + 1) ∙ k .long;
+      some =
+          λ p′ q′ e.
+          if-same p′ p
+          (λ z.
+          let v : q + 1 ≡ q′ + 1 =
+          sym (getD-set-same near p (q + 1) 0 (omega (arith, k .long))) ∙ (rw z at e) in
+          let d : q ≡ q′ = omega arith in
+          rw (z, ← d) m)
+          (λ z. k .some p′ q′ (sym (getD-set-other near p p′ (q + 1) 0 z) ∙ e));
+    }
+
+-- a potential unit that the arrays have
+module _ {h w : ℕ} {cs bs ids cells offs : List ℕ} {p : ℕ} (k : Home h w cs bs ids cells offs p) where
+  pub home-few : p < 1024
+  home-few = omega (arith, k .low, k .known .few)
+
+  pub home-cells : Cells h w cells (getD offs p 0) (getD offs (p + 1) 0)
+  home-cells = k .grouped .each p (k .low)
+
+  pub mate-few : {q : ℕ} → q ∈ mates (puzzle h w cs) (marksIn bs) p → q < 1024
+  mate-few {q} m = omega (arith, mates-low (k .grouped) p q m, k .known .few)
+
+  pub mate-cells : {q : ℕ} → q ∈ mates (puzzle h w cs) (marksIn bs) p
+      → Cells h w cells (getD offs q 0) (getD offs (q + 1) 0)
+  mate-cells {q} m = k .grouped .each q (mates-low (k .grouped) p q m)
+
+  pub mate-kept : {q : ℕ} → q ∈ mates (puzzle h w cs) (marksIn bs) p → OneOf (mates (puzzle h w cs) (marksIn bs) p) q
+  mate-kept m = record { some = λ l. m; none = λ l. absurd (omega (arith, mate-few m)) }
+
+  -- some list begins with its adjacent units
+  mates-few : length (mates (puzzle h w cs) (marksIn bs) p) ≤ 4096
+  unfolding mates
+  mates-few =
+      let n = potentialCount (puzzle h w cs) (marksIn bs) in
+      omega (
+        arith,
+        length-filter (adjacent (puzzle h w cs) (marksIn bs) p) (range n),
+        length-rangeFrom 0 n,
+        k .known .few,
+      )
+
+  mates-lead : let xs = mates (puzzle h w cs) (marksIn bs) p in Leading xs (padded 4096 0 xs) (length xs)
+  mates-lead =
+      let xs = mates (puzzle h w cs) (marksIn bs) p in
+      let zs = replicate {A = ℕ} (4096 - length xs) 0 in
+      record {
+        long = omega (arith, mates-few, length-append xs zs, length-replicate {A = ℕ} (4096 - length xs) 0);
+        few = mates-few;
+        first =
+            let z : length xs - 0 ≡ length xs = omega arith in
+            rw z (take-append-le (length xs) xs zs (omega arith) ∙ take-length xs);
+      }
+
+module _ (h w : ℕ) (cs bs cells offs : List ℕ) where
+  pub held-start : Held h w cs bs cells offs (replicate 192 0) (replicate 33 0) (replicate 4096 0)
   held-start =
       record {
         long = length-replicate 192 zero;
         size = length-replicate 33 zero;
+        room = length-replicate 4096 zero;
         none = λ e. refl;
         some = λ q e. absurd (never q e);
       }
@@ -33,29 +111,34 @@ planes-long : (h w : ℕ) (cs bs : List ℕ) {p : List ℕ} → p ≡ planesOf h
 unfolding planesOf
 planes-long h w cs bs e = ap length e ∙ length-table 192 (planeWord h w cs bs)
 
-module _ {h w : ℕ} {cs bs cells offs mates starts p m : List ℕ} where
+module _ {h w : ℕ} {cs bs cells offs p m list : List ℕ} where
   -- planes that are drawn stay
-  pub held-planes : Held h w cs bs cells offs mates starts p m → (getD m 32 0 ≡ 0 → ⊥) → p ≡ planesOf h w cs bs
+  pub held-planes : Held h w cs bs cells offs p m list → (getD m 32 0 ≡ 0 → ⊥) → p ≡ planesOf h w cs bs
   held-planes k e = k .some (getD m 32 0 - 1) (last (getD m 32 0) e) .planes
     where
       last : (n : ℕ) → (n ≡ 0 → ⊥) → n ≡ n - 1 + 1
       last zero f = absurd (f refl)
       last (suc n) f = omega arith
 
-  module _ {q : ℕ} (k : HeldOf h w cs bs cells offs mates starts q p m) where
-    pub held-of : Held h w cs bs cells offs mates starts p m
-    held-of =
-        record {
-          long = planes-long h w cs bs (k .planes);
-          size = k .mask .size;
-          none = λ e. let z : _≡_ {A = ℕ} 0 1 = omega (arith, k .name) in absurd (omega arith);
-          some = λ r e. let d : q ≡ r = omega (arith, k .name) in rw d at k;
-        }
+module _ {h w : ℕ} {cs bs cells offs p m : List ℕ} {q : ℕ} (k : HeldOf h w cs bs cells offs q p m) where
+  pub held-of : {list : List ℕ} → length list ≡ 4096 → Held h w cs bs cells offs p m list
+  held-of l =
+      record {
+        long = planes-long h w cs bs (k .planes);
+        size = k .mask .size;
+        room = l;
+        none = λ e. let z : _≡_ {A = ℕ} 0 1 = omega (arith, k .name) in absurd (omega arith);
+        some = λ r e. let d : q ≡ r = omega (arith, k .name) in rw d at k;
+      }
 
-    pub held-sizes : Drawn h w cs → Sizes h p m
-    held-sizes d = record { tall = d .sized .tall; planes = planes-long h w cs bs (k .planes); mask = k .mask .size }
+  module _ {ids : List ℕ} (a : Home h w cs bs ids cells offs q) where
+    pub held-sizes : Sizes h p m
+    held-sizes =
+        record { tall = a .drawn .sized .tall; planes = planes-long h w cs bs (k .planes); mask = k .mask .size }
 
-    pub held-answers : Drawn h w cs → Beside h w cells offs mates (getD starts q 0) (getD starts (q + 1) 0)
-        → Answers h p m
-        (λ js. fitsBeside (puzzle h w cs) (marksIn bs) (bare js) cells offs (matesIn mates starts q))
-    held-answers d b = rw (k .planes) (beside-answers b bs d (k .mask))
+    pub held-answers : Answers h p m
+        (λ js. fitsBeside (puzzle h w cs) (marksIn bs) (bare js) cells offs (mates (puzzle h w cs) (marksIn bs) q))
+    held-answers =
+        let l = mates-lead a in
+        let b = beside-leading (a .grouped) (a .known) q l in
+        rw (k .planes, ← l .first) (beside-answers b bs (a .drawn) (rw (l .first) (k .mask)))

@@ -2,11 +2,9 @@
 use mathlib.Core.Path.{_≡_, refl, sym, ap, _∙_}
 use mathlib.Core.Bool.{Bool, true, false}
 use mathlib.Core.List.{List, [], _∷_, map, List·Memᴰ·head, List·Memᴰ·not-nil}
-use mathlib.Core.Logic.{⊎-elim}
 use Prim.Native.Nat.{ℕ, _+_, _-_, _*_, _<_, _≤_}
 use native.Mathlib.Omega.{arith}
-use borrow.Author.Tests.{lt-ltb, le-ltb}
-use lib.Dec.{ltb}
+use borrow.Author.Tests.{lt-ltb}
 use lib.ListN.{length, getD}
 use Rattle.lists.specs.Lists.{_∈_, any, flatMap}
 use Rattle.rules.specs.Page.{Mark, Puzzle}
@@ -28,17 +26,16 @@ use Rattle.groups.specs.SortLaws.{start-zero}
 use Rattle.groups.specs.PartLaws.{ids-entry, ids-length, ids-lt, count-le, offs-at, offs-next, offs-le, cells-long}
 use Rattle.groups.specs.PartLaws.{cells-lt, part-members, cell-at}
 use Rattle.search.specs.Placing.{puzzle}
-use Rattle.search.specs.ListExtras.{part-none, part-next}
-use Rattle.search.specs.Searching.{Beside, groupIn, fitsBeside}
-use Rattle.search.specs.SearchLaws.{any-flat, cells-reach, placed-fits, mates-low, mates-reach, beside-of}
-use Rattle.search.specs.GatherLaws.{listed-part}
+use Rattle.search.specs.ListExtras.{part-next}
+use Rattle.search.specs.Searching.{groupIn, fitsBeside}
+use Rattle.search.specs.SearchLaws.{any-flat, cells-reach, placed-fits, mates-low}
 use Rattle.search.specs.Mates.{Known, Grouped}
 use Rattle.units.specs.ListExtras.{any-cong}
-use Rattle.planes.specs.Extras.{le-or-lt}
+use Rattle.units.specs.Held.{Home}
 use Rattle.units.specs.Fitting.{UnitIn, fitsTurned}
 use Rattle.units.specs.FitLaws.{turned-none}
 use Rattle.units.specs.SingleLaws.{single-fits}
-use Rattle.units.specs.Stuck.{Ready, headOf, fitsOn, fitsUnit}
+use Rattle.units.specs.Stuck.{ReadyFor, headOf, fitsOn, fitsUnit}
 
 head-is : (xs : List ℕ) → 1 ≤ length xs → (rest : List ℕ) × (xs ≡ headOf xs ∷ rest)
 head-is [] h = absurd (omega arith)
@@ -162,8 +159,8 @@ module _ {h w : ℕ} (z : Sized h w) (cs bs : List ℕ) where
       (ap (λ f. flatTransforms (shapeOf (flat h w) f u)) (sym own-numbers))
 
 -- the arrays together
-module _ {h w : ℕ} {cs bs ids cells offs pids pcells poffs list starts : List ℕ}
-    (r : Ready h w cs bs ids cells offs pids pcells poffs list starts) where
+module _ {A : Type 0} {h w : ℕ} {cs bs ids cells offs pids pcells poffs : List ℕ}
+    (r : ReadyFor A h w cs bs ids cells offs pids pcells poffs) where
   abbrev Z : Puzzle
   Z = puzzle h w cs
 
@@ -230,8 +227,14 @@ module _ {h w : ℕ} {cs bs ids cells offs pids pcells poffs list starts : List 
     pub home-low : home < 1024
     home-low = omega (arith, potential-known .below (getD cells (getD offs u 0) 0) head-low, potential-known .few)
 
-    pub unit-beside : Beside h w pcells poffs list (getD starts home 0) (getD starts (home + 1) 0)
-    unit-beside = beside-of potential-grouped potential-known (r .adjacent) home home-count
+    pub home-of : Home h w cs bs pids pcells poffs home
+    home-of =
+        record {
+          drawn = r .drawn;
+          known = potential-known;
+          grouped = rw (potential-grouped .all) at potential-grouped;
+          low = rw (potential-grouped .all) at home-count;
+        }
 
     pub transforms-are : transformsOf Z s u ≡ flatTransforms (shapeOf (flat h w) (entry ids) u)
     transforms-are =
@@ -272,32 +275,12 @@ module _ {h w : ℕ} {cs bs ids cells offs pids pcells poffs list starts : List 
         ∙ (ap (λ p. any (isFit Z s) (placements Z s u p)) (home-is ∙ ap (potentialOf Z s) head-of)
         ∙ sym (first-cell (members (flat h w) (unitOf Z s) u) own-full))
 
-    pub fits-unit : fitsTurned Z s pcells poffs (part list (getD starts home 0) (getD starts (home + 1) 0))
-        (shapeOf (flat h w) (entry ids) u) ≡ fitsUnit Z s u
-    fits-unit =
-        ap (λ gs. fitsTurned Z s pcells poffs gs (shapeOf (flat h w) (entry ids) u))
-        (listed-part (r .adjacent) home home-count)
-        ∙ fits-home
+    -- without an adjacent potential unit it fits nowhere
+    pub fits-nowhere : mates Z s home ≡ [] → fitsUnit Z s u ≡ false
+    fits-nowhere e = sym fits-home ∙ turned-none Z s pcells poffs (shapeOf (flat h w) (entry ids) u) e
 
-    -- a unit of one cell fits exactly if its potential unit has an adjacent one
-    module _ (one : getD offs (u + 1) 0 ≡ getD offs u 0 + 1) where
-      pub single-mate : {q : ℕ} → q ∈ mates Z s home → fitsUnit Z s u ≡ true
-      single-mate {q} m =
-          let l : q < groupsOf (flat h w) wide .count = mates-low potential-grouped home q m in
-          sym fits-home ∙ single-fits Z s pcells poffs (size .columns) unit-in one m (potential-first q l)
-
-      pub single-none : mates Z s home ≡ [] → fitsUnit Z s u ≡ false
-      single-none e = sym fits-home ∙ turned-none Z s pcells poffs (shapeOf (flat h w) (entry ids) u) e
-
-      pub single-unit : ltb (getD starts home 0) (getD starts (home + 1) 0) ≡ fitsUnit Z s u
-      single-unit =
-          let from = getD starts home 0 in
-          let to = getD starts (home + 1) 0 in
-          let p : part list from to ≡ mates Z s home = listed-part (r .adjacent) home home-count in
-          ⊎-elim
-          (λ (l : to ≤ from). le-ltb from to l ∙ sym (single-none (sym p ∙ part-none list from to l)))
-          (λ (l : from < to).
-          let m : getD list from 0 ∈ part list from to =
-          rw (part-next list from to l (mates-reach unit-beside)) (List·Memᴰ·head refl) in
-          lt-ltb from to l ∙ sym (single-mate (rw p at m)))
-          (le-or-lt to from)
+    -- with one, a unit of one cell fits
+    pub single-unit : getD offs (u + 1) 0 ≡ getD offs u 0 + 1 → {q : ℕ} → q ∈ mates Z s home → fitsUnit Z s u ≡ true
+    single-unit one {q} m =
+        let l : q < groupsOf (flat h w) wide .count = mates-low potential-grouped home q m in
+        sym fits-home ∙ single-fits Z s pcells poffs (size .columns) unit-in one m (potential-first q l)

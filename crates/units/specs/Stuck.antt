@@ -6,7 +6,9 @@
 --   headOf xs           the first of some cells
 --   potentialIn U       the potential unit of unit U: that of its first cell
 --   stuckHit n U        step 3's hit, where U is the first of n units that does not fit, or n
---   Ready               the arrays: units, potential units, and the potential units adjacent to each of them
+--   ReadyFor A          the arrays of the units and of the potential units, with a proof of A
+--   Sorted              these arrays alone
+--   Ready               with the potential units adjacent to each of them, in one list
 use mathlib.Core.Path.{_≡_}
 use mathlib.Core.Bool.{Bool, true, cond}
 use mathlib.Core.List.{List, [], _∷_}
@@ -54,7 +56,7 @@ module _ (Z : Puzzle) (s : ℕ → Mark) where
   unfoldable pub stuckHit : ℕ → ℕ → Option Reason
   stuckHit n U = cond (ltb U n) (some (unitReason Z s U (potentialIn U))) none
 
-pub record Ready (h w : ℕ) (cs bs ids cells offs pids pcells poffs list starts : List ℕ) : Type 0 where
+pub record ReadyFor (A : Type 0) (h w : ℕ) (cs bs ids cells offs pids pcells poffs : List ℕ) : Type 0 where
   pub drawn : Drawn h w cs
   pub units-ids : ids ≡ groupsOf (flat h w) (joinsIn Units h w cs bs) .ids
   pub units-cells : cells ≡ groupsOf (flat h w) (joinsIn Units h w cs bs) .cells
@@ -62,5 +64,15 @@ pub record Ready (h w : ℕ) (cs bs ids cells offs pids pcells poffs list starts
   pub potential-ids : pids ≡ groupsOf (flat h w) (joinsIn Potential h w cs bs) .ids
   pub potential-cells : pcells ≡ groupsOf (flat h w) (joinsIn Potential h w cs bs) .cells
   pub potential-offs : poffs ≡ groupsOf (flat h w) (joinsIn Potential h w cs bs) .offs
-  pub adjacent : Listed (mates (puzzle h w cs) (marksIn bs)) list starts
-      (groupsOf (flat h w) (joinsIn Potential h w cs bs) .count)
+  pub adjacent : A
+
+abbrev pub Sorted : ℕ → ℕ → List ℕ → List ℕ → List ℕ → List ℕ → List ℕ → List ℕ → List ℕ → List ℕ → Type 0
+Sorted h w cs bs ids cells offs pids pcells poffs = ReadyFor (Unit {0}) h w cs bs ids cells offs pids pcells poffs
+
+abbrev pub Ready : ℕ → ℕ → List ℕ → List ℕ → List ℕ → List ℕ → List ℕ → List ℕ → List ℕ → List ℕ → List ℕ → List ℕ
+    → Type 0
+Ready h w cs bs ids cells offs pids pcells poffs list starts =
+    ReadyFor
+    (Listed (mates (puzzle h w cs) (marksIn bs)) list starts
+    (groupsOf (flat h w) (joinsIn Potential h w cs bs) .count))
+    h w cs bs ids cells offs pids pcells poffs

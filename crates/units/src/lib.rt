@@ -1,33 +1,27 @@
 // Step 3 of the check: the first unit for which no placement fits.
+mod fitting; // fitting.rt: whether a unit fits beside its potential unit
 mod listed; // listed.rt: the listed transforms of a unit, at the origins of a mask
 
 ghost use mathlib.Core.Path.{_≡_};
-ghost use Prim.Native.Nat.{_+_, _<_};
+ghost use Prim.Native.Nat.{_<_};
 ghost use lib.ListN.{length, getD};
 ghost use lib.Signed.{mag};
 ghost use Rattle.rules.specs.Codes.{marksIn};
 ghost use Rattle.rules.specs.Flat.{flat};
 ghost use Rattle.rules.specs.Groups.{entry};
-ghost use Rattle.rules.specs.Shapes.{shapeOf};
-ghost use Rattle.search.specs.Placing.{Drawn, Raised, puzzle, bare, spelled};
-ghost use Rattle.search.specs.Searching.{Beside, fitsAmong};
-ghost use Rattle.shapes.specs.Joints.{Joined};
-ghost use Rattle.shapes.specs.Spots.{spots, Spotted, UnitAt};
+ghost use Rattle.search.specs.Placing.{Raised, puzzle, spelled};
+ghost use Rattle.shapes.specs.Spots.{spots, Spotted};
 ghost use Rattle.units.specs.Images.{raiseOf, imageJoints, Jointed};
-ghost use Rattle.units.specs.Fitting.{Lent, UnitIn, soonEnd, soonIn, fitsTurned};
-ghost use Rattle.units.specs.Held.{matesIn, Held, HeldOf};
-ghost use Rattle.units.specs.Stuck.{Ready, fitsUnit, firstFail};
+ghost use Rattle.units.specs.Fitting.{Lent};
+ghost use Rattle.units.specs.Held.{Nearby, Held};
+ghost use Rattle.units.specs.Stuck.{Sorted, fitsUnit, firstFail};
 ghost use Rattle.groups.specs.Kinds.{joinsIn};
 ghost use Rattle.groups.specs.Parts.{groupsOf};
 ghost use Rattle.groups.specs.declared.Kind.the-variants.{Units};
-use crate::listed::listed_fit;
-use planes::draw_mask;
-use planes::draw_planes;
-use search::fits_group;
+use crate::fitting::near_mate;
+use crate::fitting::unit_fits;
 use search::turn;
-use shapes::joints;
 use shapes::least;
-use shapes::places;
 
 // The eight rows of the table: whether the coordinates change places, and whether the new ones change sign.
 const SWAP: [bool; 8] = [false, false, true, true, false, false, true, true];
@@ -105,250 +99,9 @@ fn start_at(offs: &[u16; 1025], i: usize) -> usize
     wide(offs[i])
 }
 
-// Where the first eight cells of a group end, which stand from `first` to `last`.
-fn soon_end(first: usize, last: usize) -> usize
-    requires { ⌜ first < 65536 ⌝ }
-    ensures { λ r. ⌜ r ≡ soonEnd first last ⌝ }
-{
-    if last < first + 8 {
-        return last;
-    }
-    first + 8
-}
-
-// Whether a transform fits at one of the first eight cells of the group that the list of mates has at the place `from`.
-fn fits_soon<'a>(
-    h: usize,
-    w: usize,
-    colours: &'a [u8; 1024],
-    borders: &'a [u8; 1984],
-    ys: &'a [u8; 2048],
-    xs: &'a [u8; 2048],
-    k: usize,
-    cells: &'a [u16; 1024],
-    offs: &'a [u16; 1025],
-    mates: &'a [u16; 4096],
-    from: usize,
-    to: usize,
-) -> bool
-    requires { ⌜ Drawn h w (now colours) × Raised (now ys) (now xs) k
-        × Beside h w (now cells) (now offs) (now mates) from to × (from < to) ⌝ }
-    ensures { λ r. ⌜ r ≡ fitsAmong (puzzle h w (now (colours .entry))) (marksIn (now (borders .entry)))
-        (bare (spelled (now (ys .entry)) (now (xs .entry)) k))
-        (soonIn (now (cells .entry)) (now (offs .entry)) (getD (now (mates .entry)) from 0)) ⌝ }
-{
-    let q = wide(mates[from]);
-    let first = wide(offs[q]);
-    let last = wide(offs[q + 1]);
-    fits_group(
-        h,
-        w,
-        colours,
-        borders,
-        ys,
-        xs,
-        k,
-        cells,
-        first,
-        soon_end(first, last),
-    )
-}
-
-// Makes planes and mask those of the page and of the potential unit `p`: its mates start at `starts`.
-fn prepare<'a>(
-    h: usize,
-    w: usize,
-    colours: &'a [u8; 1024],
-    borders: &'a [u8; 1984],
-    cells: &'a [u16; 1024],
-    offs: &'a [u16; 1025],
-    mates: &'a [u16; 4096],
-    starts: &'a [u16; 1025],
-    p: usize,
-    planes: &mut [u64; 192],
-    mask: &mut [u64; 33],
-)
-    requires { ⌜ Drawn h w (now colours) × (p < 1024)
-        × Beside h w (now cells) (now offs) (now mates) (getD (now starts) p 0) (getD (now starts) (p + 1) 0)
-        × Held h w (now colours) (now borders) (now cells) (now offs) (now mates) (now starts) (now planes)
-        (now mask) ⌝ }
-    ensures { λ r. ⌜ HeldOf h w (now (colours .entry)) (now (borders .entry)) (now (cells .entry))
-        (now (offs .entry)) (now (mates .entry)) (now (starts .entry)) p (now (planes .exit)) (now (mask .exit)) ⌝ }
-{
-    let name = mask[32];
-    if name == p as u64 + 1 {
-        return;
-    }
-    if name == 0 {
-        draw_planes(h, w, colours, borders, planes);
-    }
-    let from = start_at(starts, p);
-    let to = start_at(starts, p + 1);
-    draw_mask(h, w, cells, offs, mates, from, to, p as u64 + 1, mask);
-}
-
-// Whether a listed transform of unit `g` fits at a cell of one of the potential units adjacent to potential unit `p`:
-// there is one, and `starts` says where they start. The unit's `n` cells stand in rows and columns, its `k` connections
-// in down and across.
-fn written_fits<'a>(
-    h: usize,
-    w: usize,
-    colours: &'a [u8; 1024],
-    borders: &'a [u8; 1984],
-    ids: &'a [u16; 1024],
-    g: usize,
-    cells: &'a [u16; 1024],
-    offs: &'a [u16; 1025],
-    mates: &'a [u16; 4096],
-    starts: &'a [u16; 1025],
-    p: usize,
-    rows: &'a [u16; 1024],
-    columns: &'a [u16; 1024],
-    n: usize,
-    down: &'a [u16; 2048],
-    across: &'a [u16; 2048],
-    k: usize,
-    ys: &mut [u8; 2048],
-    xs: &mut [u8; 2048],
-    planes: &mut [u64; 192],
-    mask: &mut [u64; 33],
-) -> bool
-    requires { ⌜ Drawn h w (now colours) × UnitAt h w (now ids) g (now rows) (now columns) n
-        × Joined h w (entry (now ids)) g (now down) (now across) k × (p < 1024)
-        × Beside h w (now cells) (now offs) (now mates) (getD (now starts) p 0) (getD (now starts) (p + 1) 0)
-        × (getD (now starts) p 0 < getD (now starts) (p + 1) 0)
-        × Held h w (now colours) (now borders) (now cells) (now offs) (now mates) (now starts) (now planes)
-        (now mask)
-        × (length (now ys) ≡ 2048) × (length (now xs) ≡ 2048) ⌝ }
-    ensures { λ r. ⌜ (r ≡ fitsTurned (puzzle h w (now (colours .entry))) (marksIn (now (borders .entry)))
-        (now (cells .entry)) (now (offs .entry)) (matesIn (now (mates .entry)) (now (starts .entry)) p)
-        (shapeOf (flat h w) (entry (now (ids .entry))) g))
-        × Held h w (now (colours .entry)) (now (borders .entry)) (now (cells .entry)) (now (offs .entry))
-        (now (mates .entry)) (now (starts .entry)) (now (planes .exit)) (now (mask .exit))
-        × (length (now (ys .exit)) ≡ 2048) × (length (now (xs .exit)) ≡ 2048) ⌝ }
-{
-    let from = start_at(starts, p);
-    let to = start_at(starts, p + 1);
-    turn_row(0, rows, columns, n, down, across, k, ys, xs);
-    if fits_soon(
-        h,
-        w,
-        colours,
-        borders,
-        ys,
-        xs,
-        k,
-        cells,
-        offs,
-        mates,
-        from,
-        to,
-    ) {
-        return true;
-    }
-    prepare(
-        h,
-        w,
-        colours,
-        borders,
-        cells,
-        offs,
-        mates,
-        starts,
-        p,
-        planes,
-        mask,
-    );
-    listed_fit(
-        h,
-        w,
-        planes,
-        mask,
-        ids,
-        g,
-        rows,
-        columns,
-        n,
-        down,
-        across,
-        k,
-        ys,
-        xs,
-    )
-}
-
-// Whether a listed transform of unit `g` fits at a cell of one of the potential units adjacent to potential unit `p`,
-// which start at `starts`. The unit's cells stand from the place `first` of the list of units to the place `last`.
-fn unit_fits<'a>(
-    h: usize,
-    w: usize,
-    colours: &'a [u8; 1024],
-    borders: &'a [u8; 1984],
-    ids: &'a [u16; 1024],
-    g: usize,
-    units: &'a [u16; 1024],
-    first: usize,
-    last: usize,
-    cells: &'a [u16; 1024],
-    offs: &'a [u16; 1025],
-    mates: &'a [u16; 4096],
-    starts: &'a [u16; 1025],
-    p: usize,
-    rows: &mut [u16; 1024],
-    columns: &mut [u16; 1024],
-    down: &mut [u16; 2048],
-    across: &mut [u16; 2048],
-    ys: &mut [u8; 2048],
-    xs: &mut [u8; 2048],
-    planes: &mut [u64; 192],
-    mask: &mut [u64; 33],
-) -> bool
-    requires { ⌜ Drawn h w (now colours) × UnitIn h w (now ids) g (now units) first last × (p < 1024)
-        × Beside h w (now cells) (now offs) (now mates) (getD (now starts) p 0) (getD (now starts) (p + 1) 0)
-        × Lent (now rows) (now columns) (now down) (now across) (now ys) (now xs)
-        × Held h w (now colours) (now borders) (now cells) (now offs) (now mates) (now starts) (now planes)
-        (now mask) ⌝ }
-    ensures { λ r. ⌜ (r ≡ fitsTurned (puzzle h w (now (colours .entry))) (marksIn (now (borders .entry)))
-        (now (cells .entry)) (now (offs .entry)) (matesIn (now (mates .entry)) (now (starts .entry)) p)
-        (shapeOf (flat h w) (entry (now (ids .entry))) g))
-        × Lent (now (rows .exit)) (now (columns .exit)) (now (down .exit)) (now (across .exit)) (now (ys .exit))
-        (now (xs .exit))
-        × Held h w (now (colours .entry)) (now (borders .entry)) (now (cells .entry)) (now (offs .entry))
-        (now (mates .entry)) (now (starts .entry)) (now (planes .exit)) (now (mask .exit)) ⌝ }
-{
-    if start_at(starts, p) == start_at(starts, p + 1) {
-        return false;
-    }
-    let n = places(units, first, last, w, rows, columns);
-    let k = joints(ids, h, w, g, rows, columns, n, down, across);
-    written_fits(
-        h,
-        w,
-        colours,
-        borders,
-        ids,
-        g,
-        cells,
-        offs,
-        mates,
-        starts,
-        p,
-        rows,
-        columns,
-        n,
-        down,
-        across,
-        k,
-        ys,
-        xs,
-        planes,
-        mask,
-    )
-}
-
-// Whether a placement of unit `u` fits: one of one cell, which has no connections, fits beside any adjacent potential
-// unit. The units' cells stand in `units` and start at `unit_offs`, those of the potential units in `cells` and `offs`;
-// `mates` has the potential units adjacent to each, which start at `starts`.
+// Whether a placement of unit `u` fits: none does where its potential unit has no adjacent one; with one, a unit of one
+// cell fits, which has no connections. The units' cells stand in `units` and start at `unit_offs`, those of the
+// potential units in `cells` and `offs`; `near`, planes, mask and list are memory that is kept from unit to unit.
 fn fits_at<'a>(
     h: usize,
     w: usize,
@@ -360,9 +113,8 @@ fn fits_at<'a>(
     potential: &'a [u16; 1024],
     cells: &'a [u16; 1024],
     offs: &'a [u16; 1025],
-    mates: &'a [u16; 4096],
-    starts: &'a [u16; 1025],
     u: usize,
+    near: &mut [u16; 1024],
     rows: &mut [u16; 1024],
     columns: &mut [u16; 1024],
     down: &mut [u16; 2048],
@@ -371,25 +123,31 @@ fn fits_at<'a>(
     xs: &mut [u8; 2048],
     planes: &mut [u64; 192],
     mask: &mut [u64; 33],
+    list: &mut [u16; 4096],
 ) -> bool
-    requires { ⌜ Ready h w (now colours) (now borders) (now ids) (now units) (now «unit_offs») (now potential)
-        (now cells) (now offs) (now mates) (now starts)
+    requires { ⌜ Sorted h w (now colours) (now borders) (now ids) (now units) (now «unit_offs») (now potential)
+        (now cells) (now offs)
         × (u < groupsOf (flat h w) (joinsIn Units h w (now colours) (now borders)) .count)
+        × Nearby h w (now colours) (now borders) (now near)
         × Lent (now rows) (now columns) (now down) (now across) (now ys) (now xs)
-        × Held h w (now colours) (now borders) (now cells) (now offs) (now mates) (now starts) (now planes)
-        (now mask) ⌝ }
+        × Held h w (now colours) (now borders) (now cells) (now offs) (now planes) (now mask) (now list) ⌝ }
     ensures { λ r. ⌜ (r ≡ fitsUnit (puzzle h w (now (colours .entry))) (marksIn (now (borders .entry))) u)
+        × Nearby h w (now (colours .entry)) (now (borders .entry)) (now (near .exit))
         × Lent (now (rows .exit)) (now (columns .exit)) (now (down .exit)) (now (across .exit)) (now (ys .exit))
         (now (xs .exit))
         × Held h w (now (colours .entry)) (now (borders .entry)) (now (cells .entry)) (now (offs .entry))
-        (now (mates .entry)) (now (starts .entry)) (now (planes .exit)) (now (mask .exit)) ⌝ }
+        (now (planes .exit)) (now (mask .exit)) (now (list .exit)) ⌝ }
 {
     let first = start_at(unit_offs, u);
     let last = start_at(unit_offs, u + 1);
     let c = number_at(units, first);
     let p = number_at(potential, c);
+    let q = near_mate(h, w, colours, borders, potential, cells, offs, p, near);
+    if 1024 <= q {
+        return false;
+    }
     if last == first + 1 {
-        return start_at(starts, p) < start_at(starts, p + 1);
+        return true;
     }
     unit_fits(
         h,
@@ -401,11 +159,11 @@ fn fits_at<'a>(
         units,
         first,
         last,
+        potential,
         cells,
         offs,
-        mates,
-        starts,
         p,
+        q,
         rows,
         columns,
         down,
@@ -414,11 +172,12 @@ fn fits_at<'a>(
         xs,
         planes,
         mask,
+        list,
     )
 }
 
-// The first of `count` units for which no placement fits; `count` if there is none. The arrays are those of the units,
-// of the potential units, and of the potential units adjacent to each; the rest is lent memory.
+// The first of `count` units for which no placement fits; `count` if there is none. The arrays are those of the units
+// and of the potential units.
 pub fn first_stuck<'a>(
     h: usize,
     w: usize,
@@ -431,26 +190,23 @@ pub fn first_stuck<'a>(
     potential: &'a [u16; 1024],
     cells: &'a [u16; 1024],
     offs: &'a [u16; 1025],
-    mates: &'a [u16; 4096],
-    starts: &'a [u16; 1025],
-    rows: &mut [u16; 1024],
-    columns: &mut [u16; 1024],
-    down: &mut [u16; 2048],
-    across: &mut [u16; 2048],
-    ys: &mut [u8; 2048],
-    xs: &mut [u8; 2048],
 ) -> usize
-    requires { ⌜ Ready h w (now colours) (now borders) (now ids) (now units) (now «unit_offs») (now potential)
-        (now cells) (now offs) (now mates) (now starts)
-        × (count ≡ groupsOf (flat h w) (joinsIn Units h w (now colours) (now borders)) .count)
-        × Lent (now rows) (now columns) (now down) (now across) (now ys) (now xs) ⌝ }
-    ensures { λ r. ⌜ (r ≡ firstFail (fitsUnit (puzzle h w (now (colours .entry))) (marksIn (now (borders .entry))))
-        count)
-        × Lent (now (rows .exit)) (now (columns .exit)) (now (down .exit)) (now (across .exit)) (now (ys .exit))
-        (now (xs .exit)) ⌝ }
+    requires { ⌜ Sorted h w (now colours) (now borders) (now ids) (now units) (now «unit_offs») (now potential)
+        (now cells) (now offs)
+        × (count ≡ groupsOf (flat h w) (joinsIn Units h w (now colours) (now borders)) .count) ⌝ }
+    ensures { λ r. ⌜ r ≡ firstFail (fitsUnit (puzzle h w (now (colours .entry))) (marksIn (now (borders .entry))))
+        count ⌝ }
 {
+    let mut near = [0u16; 1024];
+    let mut rows = [0u16; 1024];
+    let mut columns = [0u16; 1024];
+    let mut down = [0u16; 2048];
+    let mut across = [0u16; 2048];
+    let mut ys = [0u8; 2048];
+    let mut xs = [0u8; 2048];
     let mut planes = [0u64; 192];
     let mut mask = [0u64; 33];
+    let mut list = [0u16; 4096];
     let mut u = 0;
     while u < count {
         if fits_at(
@@ -464,17 +220,17 @@ pub fn first_stuck<'a>(
             potential,
             cells,
             offs,
-            mates,
-            starts,
             u,
-            rows,
-            columns,
-            down,
-            across,
-            ys,
-            xs,
+            &mut near,
+            &mut rows,
+            &mut columns,
+            &mut down,
+            &mut across,
+            &mut ys,
+            &mut xs,
             &mut planes,
             &mut mask,
+            &mut list,
         ) {
             u += 1;
         } else {

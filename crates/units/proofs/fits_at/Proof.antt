@@ -1,17 +1,17 @@
 -- The entries that are read are the unit's part and its potential unit.
-use mathlib.Core.Path.{_≡_, ap, _∙_}
-use Prim.Native.Nat.{_<_}
+use mathlib.Core.Path.{_≡_, sym, ap, _∙_}
 use native.Mathlib.Omega.{arith}
 use lib.ListN.{getD}
+use Rattle.rules.specs.Check.{mates}
 use Rattle.rules.specs.Codes.{marksIn}
 use Rattle.rules.specs.Flat.{flat}
 use Rattle.rules.specs.FlatLaws.{counts}
 use Rattle.rules.specs.Groups.{entry}
 use Rattle.rules.specs.Shapes.{shapeOf}
+use Rattle.search.specs.Mates.{OneOf}
 use Rattle.search.specs.Placing.{puzzle}
 use Rattle.units.specs.Fitting.{fitsTurned}
-use Rattle.units.specs.Held.{matesIn}
-use Rattle.units.specs.ReadyLaws.{unit-few, unit-in, head-low, home-low, unit-beside, fits-unit, single-unit}
+use Rattle.units.specs.ReadyLaws.{unit-few, unit-in, head-low, home-of, fits-home, fits-nowhere, single-unit}
 use Rattle.units.proofs.fits_at.Statement.{statement}
 use Rattle.units.proofs.fits_at.Tie as tie
 
@@ -30,7 +30,7 @@ number-at-requires c κs =
     let u = unit-in (s .pre .0) (s .args .u) (s .pre .1) in
     omega (arith, u .some, u .end, c .before .start-at .ensures)
 
--- the unit's first cell, and its potential unit
+-- the unit's first cell, its potential unit, and a potential unit adjacent to that
 cell-is : (c : tie.After-number-at) → let s = c .before .before .before in
     c .number-at .result ≡ getD (s .args .units .now) (getD (s .args .unit-offs .now) (s .args .u) 0) 0
 cell-is c =
@@ -45,6 +45,13 @@ home-is c =
     let s = c .before .before .before .before in
     c .number-at2 .ensures ∙ ap (λ i. getD (s .args .potential .now) i 0) (cell-is (c .before))
 
+one : (c : tie.After-near-mate) → let s = c .before .before .before .before .before .before in
+    OneOf
+    (mates (puzzle (s .args .h) (s .args .w) (s .args .colours .now)) (marksIn (s .args .borders .now))
+    (getD (s .args .potential .now) (getD (s .args .units .now) (getD (s .args .unit-offs .now) (s .args .u) 0) 0) 0))
+    (c .near-mate .result)
+one c = rw (home-is (c .before .before)) at (c .near-mate .ensures .0)
+
 number-at-requires-2 : tie.Need-number-at-requires-2
 number-at-requires-2 c κs =
     let s = c .before .before .before in
@@ -55,65 +62,68 @@ number-at-requires-2 c κs =
       counts (s .pre .0 .drawn .sized) .cells,
     )
 
-add-if1 : tie.Need-add-if1
-add-if1 c =
-    let l = c .before .before in
+near-mate-requires : tie.Need-near-mate-requires
+near-mate-requires c κs =
+    let s = c .before .before .before .before .before in
+    (rw (home-is (c .before)) (home-of (s .pre .0) (s .args .u) (s .pre .1)), s .pre .2)
+
+returns : tie.Need-returns
+returns c =
+    let m = c .before in
+    let s = m .before .before .before .before .before .before in (
+      sym (fits-nowhere (s .pre .0) (s .args .u) (s .pre .1) (one m .none (c .if1 .taken))),
+      m .near-mate .ensures .1,
+      s .pre .3,
+      s .pre .4,
+    )
+
+add-if2 : tie.Need-add-if2
+add-if2 c =
+    let l = c .before .before .before .before .before in
     let s = l .before .before in
     let u = unit-in (s .pre .0) (s .args .u) (s .pre .1) in
     omega (arith, u .some, u .end, l .before .start-at .ensures)
 
--- the unit has one cell
-home-few : (c : tie.After-number-at2) → c .number-at2 .result < 1024
-home-few c =
-    let s = c .before .before .before .before in
-    rw (home-is c) (home-low (s .pre .0) (s .args .u) (s .pre .1))
-
-start-at-requires-3 : tie.Need-start-at-requires-3
-start-at-requires-3 c κs = omega (arith, home-few (c .before))
-
-add-start-at-2 : tie.Need-add-start-at-2
-add-start-at-2 c = omega (arith, home-few (c .before .before))
-
-start-at-requires-4 : tie.Need-start-at-requires-4
-start-at-requires-4 c κs = omega (arith, home-few (c .before .before))
-
-returns : tie.Need-returns
-returns c =
-    let i = c .before .before in
-    let p = i .before in
-    let l = p .before .before in
+returns-2 : tie.Need-returns-2
+returns-2 c =
+    let m = c .before .before in
+    let l = m .before .before .before .before in
     let s = l .before .before in (
-      rw (c .before .start-at3 .ensures, c .start-at4 .ensures, home-is p)
-          (single-unit (s .pre .0) (s .args .u) (s .pre .1)
-          (rw (l .before .start-at .ensures, l .start-at2 .ensures) at (i .if1 .taken))),
-      s .pre .2,
+      sym (single-unit (s .pre .0) (s .args .u) (s .pre .1)
+          (rw (l .before .start-at .ensures, l .start-at2 .ensures) at (c .if2 .taken))
+          (one m .some (c .before .if1 .left))),
+      m .near-mate .ensures .1,
       s .pre .3,
+      s .pre .4,
     )
 
 unit-fits-requires : tie.Need-unit-fits-requires
 unit-fits-requires c κs =
-    let p = c .before .before .before .before .before .before .before .before .before in
+    let i = c .before .before .before .before .before .before .before .before .before .before in
+    let m = i .before in
+    let p = m .before .before in
     let l = p .before .before in
     let s = l .before .before in (
-      s .pre .0 .drawn,
+      rw (home-is p) (home-of (s .pre .0) (s .args .u) (s .pre .1)),
+      m .near-mate .ensures .0 .some (i .if1 .left),
       rw (l .before .start-at .ensures, l .start-at2 .ensures) (unit-in (s .pre .0) (s .args .u) (s .pre .1)),
-      rw (home-is p) (home-low (s .pre .0) (s .args .u) (s .pre .1)),
-      rw (home-is p) (unit-beside (s .pre .0) (s .args .u) (s .pre .1)),
-      s .pre .2,
       s .pre .3,
+      s .pre .4,
     )
 
-returns-2 : tie.Need-returns-2
-returns-2 c =
-    let p = c .before .before .before .before .before .before .before .before .before .before in
+returns-3 : tie.Need-returns-3
+returns-3 c =
+    let m = c .before .before .before .before .before .before .before .before .before .before .before .before in
+    let p = m .before .before in
     let s = p .before .before .before .before in
     let e = c .unit-fits .ensures in (
       e .0
           ∙ (ap (λ q. fitsTurned (puzzle (s .args .h) (s .args .w) (s .args .colours .now))
           (marksIn (s .args .borders .now)) (s .args .cells .now) (s .args .offs .now)
-          (matesIn (s .args .mates .now) (s .args .starts .now) q)
+          (mates (puzzle (s .args .h) (s .args .w) (s .args .colours .now)) (marksIn (s .args .borders .now)) q)
           (shapeOf (flat (s .args .h) (s .args .w)) (entry (s .args .ids .now)) (s .args .u))) (home-is p)
-          ∙ fits-unit (s .pre .0) (s .args .u) (s .pre .1)),
+          ∙ fits-home (s .pre .0) (s .args .u) (s .pre .1)),
+      m .near-mate .ensures .1,
       e .1,
       e .2,
     )
@@ -127,10 +137,9 @@ fits-at-spec =
     start-at-requires-2
     number-at-requires
     number-at-requires-2
-    add-if1
-    start-at-requires-3
-    add-start-at-2
-    start-at-requires-4
+    near-mate-requires
     returns
+    add-if2
+    returns-2
     unit-fits-requires
-    returns-2)
+    returns-3)

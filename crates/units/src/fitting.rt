@@ -1,0 +1,293 @@
+// Whether a unit fits beside its potential unit.
+ghost use mathlib.Core.Path.{_≡_};
+ghost use Prim.Native.Nat.{_+_, _<_};
+ghost use lib.ListN.{length, getD};
+ghost use Rattle.lists.specs.Lists.{_∈_};
+ghost use Rattle.rules.specs.Check.{mates};
+ghost use Rattle.rules.specs.Codes.{marksIn};
+ghost use Rattle.rules.specs.Flat.{flat};
+ghost use Rattle.rules.specs.Groups.{entry};
+ghost use Rattle.rules.specs.Shapes.{shapeOf};
+ghost use Rattle.reasons.specs.Arrays.{Cells};
+ghost use Rattle.search.specs.Mates.{OneOf};
+ghost use Rattle.search.specs.Placing.{Drawn, Raised, puzzle, bare, spelled};
+ghost use Rattle.search.specs.Searching.{fitsAmong};
+ghost use Rattle.shapes.specs.Joints.{Joined};
+ghost use Rattle.shapes.specs.Spots.{UnitAt};
+ghost use Rattle.units.specs.Fitting.{Lent, UnitIn, soonEnd, soonIn, fitsTurned};
+ghost use Rattle.units.specs.Held.{Home, Nearby, Held, HeldOf};
+use crate::listed::listed_fit;
+use crate::number_at;
+use crate::start_at;
+use crate::turn_row;
+use planes::draw_mask;
+use planes::draw_planes;
+use search::fits_group;
+use search::mates::mates_of;
+use search::mates::some_mate;
+use shapes::joints;
+use shapes::places;
+
+// One of the potential units adjacent to potential unit `p`; 1024 if there is none. `near` keeps it, raised by 1; it is
+// 0 where none was asked for.
+pub fn near_mate<'a>(
+    h: usize,
+    w: usize,
+    colours: &'a [u8; 1024],
+    borders: &'a [u8; 1984],
+    potential: &'a [u16; 1024],
+    cells: &'a [u16; 1024],
+    offs: &'a [u16; 1025],
+    p: usize,
+    near: &mut [u16; 1024],
+) -> usize
+    requires { ⌜ Home h w (now colours) (now borders) (now potential) (now cells) (now offs) p
+        × Nearby h w (now colours) (now borders) (now near) ⌝ }
+    ensures { λ r. ⌜ OneOf (mates (puzzle h w (now (colours .entry))) (marksIn (now (borders .entry))) p) r
+        × Nearby h w (now (colours .entry)) (now (borders .entry)) (now (near .exit)) ⌝ }
+{
+    let kept = number_at(near, p);
+    if 0 < kept {
+        return kept - 1;
+    }
+    let first = start_at(offs, p);
+    let last = start_at(offs, p + 1);
+    let q = some_mate(h, w, colours, borders, potential, cells, first, last);
+    if 1024 <= q {
+        return q;
+    }
+    near[p] = (q + 1) as u16;
+    q
+}
+
+// Where the first eight cells of a group end, which stand from `first` to `last`.
+fn soon_end(first: usize, last: usize) -> usize
+    requires { ⌜ first < 65536 ⌝ }
+    ensures { λ r. ⌜ r ≡ soonEnd first last ⌝ }
+{
+    if last < first + 8 {
+        return last;
+    }
+    first + 8
+}
+
+// Whether a transform fits at one of the first eight cells of potential unit `q`.
+fn fits_soon<'a>(
+    h: usize,
+    w: usize,
+    colours: &'a [u8; 1024],
+    borders: &'a [u8; 1984],
+    ys: &'a [u8; 2048],
+    xs: &'a [u8; 2048],
+    k: usize,
+    cells: &'a [u16; 1024],
+    offs: &'a [u16; 1025],
+    q: usize,
+) -> bool
+    requires { ⌜ Drawn h w (now colours) × Raised (now ys) (now xs) k × (q < 1024)
+        × Cells h w (now cells) (getD (now offs) q 0) (getD (now offs) (q + 1) 0) ⌝ }
+    ensures { λ r. ⌜ r ≡ fitsAmong (puzzle h w (now (colours .entry))) (marksIn (now (borders .entry)))
+        (bare (spelled (now (ys .entry)) (now (xs .entry)) k)) (soonIn (now (cells .entry)) (now (offs .entry)) q) ⌝ }
+{
+    let first = start_at(offs, q);
+    let last = start_at(offs, q + 1);
+    fits_group(
+        h,
+        w,
+        colours,
+        borders,
+        ys,
+        xs,
+        k,
+        cells,
+        first,
+        soon_end(first, last),
+    )
+}
+
+// Makes planes and mask those of the page and of the potential unit `p`; the list is lent for those adjacent to it.
+fn prepare<'a>(
+    h: usize,
+    w: usize,
+    colours: &'a [u8; 1024],
+    borders: &'a [u8; 1984],
+    potential: &'a [u16; 1024],
+    cells: &'a [u16; 1024],
+    offs: &'a [u16; 1025],
+    p: usize,
+    planes: &mut [u64; 192],
+    mask: &mut [u64; 33],
+    list: &mut [u16; 4096],
+)
+    requires { ⌜ Home h w (now colours) (now borders) (now potential) (now cells) (now offs) p
+        × Held h w (now colours) (now borders) (now cells) (now offs) (now planes) (now mask) (now list) ⌝ }
+    ensures { λ r. ⌜ HeldOf h w (now (colours .entry)) (now (borders .entry)) (now (cells .entry))
+        (now (offs .entry)) p (now (planes .exit)) (now (mask .exit)) × (length (now (list .exit)) ≡ 4096) ⌝ }
+{
+    let name = mask[32];
+    if name == p as u64 + 1 {
+        return;
+    }
+    if name == 0 {
+        draw_planes(h, w, colours, borders, planes);
+    }
+    let first = start_at(offs, p);
+    let last = start_at(offs, p + 1);
+    let n = mates_of(
+        h,
+        w,
+        colours,
+        borders,
+        potential,
+        cells,
+        first,
+        last,
+        p,
+        list,
+    );
+    draw_mask(h, w, cells, offs, list, 0, n, p as u64 + 1, mask);
+}
+
+// Whether a listed transform of unit `g` fits at a cell of one of the potential units adjacent to potential unit `p`;
+// `q` is one of them. The unit's `n` cells stand in rows and columns, its `k` connections in down and across.
+fn written_fits<'a>(
+    h: usize,
+    w: usize,
+    colours: &'a [u8; 1024],
+    borders: &'a [u8; 1984],
+    ids: &'a [u16; 1024],
+    g: usize,
+    potential: &'a [u16; 1024],
+    cells: &'a [u16; 1024],
+    offs: &'a [u16; 1025],
+    p: usize,
+    q: usize,
+    rows: &'a [u16; 1024],
+    columns: &'a [u16; 1024],
+    n: usize,
+    down: &'a [u16; 2048],
+    across: &'a [u16; 2048],
+    k: usize,
+    ys: &mut [u8; 2048],
+    xs: &mut [u8; 2048],
+    planes: &mut [u64; 192],
+    mask: &mut [u64; 33],
+    list: &mut [u16; 4096],
+) -> bool
+    requires { ⌜ Home h w (now colours) (now borders) (now potential) (now cells) (now offs) p
+        × (q ∈ mates (puzzle h w (now colours)) (marksIn (now borders)) p)
+        × UnitAt h w (now ids) g (now rows) (now columns) n
+        × Joined h w (entry (now ids)) g (now down) (now across) k
+        × Held h w (now colours) (now borders) (now cells) (now offs) (now planes) (now mask) (now list)
+        × (length (now ys) ≡ 2048) × (length (now xs) ≡ 2048) ⌝ }
+    ensures { λ r. ⌜ (r ≡ fitsTurned (puzzle h w (now (colours .entry))) (marksIn (now (borders .entry)))
+        (now (cells .entry)) (now (offs .entry))
+        (mates (puzzle h w (now (colours .entry))) (marksIn (now (borders .entry))) p)
+        (shapeOf (flat h w) (entry (now (ids .entry))) g))
+        × Held h w (now (colours .entry)) (now (borders .entry)) (now (cells .entry)) (now (offs .entry))
+        (now (planes .exit)) (now (mask .exit)) (now (list .exit))
+        × (length (now (ys .exit)) ≡ 2048) × (length (now (xs .exit)) ≡ 2048) ⌝ }
+{
+    turn_row(0, rows, columns, n, down, across, k, ys, xs);
+    if fits_soon(h, w, colours, borders, ys, xs, k, cells, offs, q) {
+        return true;
+    }
+    prepare(
+        h,
+        w,
+        colours,
+        borders,
+        potential,
+        cells,
+        offs,
+        p,
+        planes,
+        mask,
+        list,
+    );
+    listed_fit(
+        h,
+        w,
+        planes,
+        mask,
+        ids,
+        g,
+        rows,
+        columns,
+        n,
+        down,
+        across,
+        k,
+        ys,
+        xs,
+    )
+}
+
+// Whether a listed transform of unit `g` fits at a cell of one of the potential units adjacent to potential unit `p`;
+// `q` is one of them. The unit's cells stand from the place `first` of the list of units to the place `last`.
+pub fn unit_fits<'a>(
+    h: usize,
+    w: usize,
+    colours: &'a [u8; 1024],
+    borders: &'a [u8; 1984],
+    ids: &'a [u16; 1024],
+    g: usize,
+    units: &'a [u16; 1024],
+    first: usize,
+    last: usize,
+    potential: &'a [u16; 1024],
+    cells: &'a [u16; 1024],
+    offs: &'a [u16; 1025],
+    p: usize,
+    q: usize,
+    rows: &mut [u16; 1024],
+    columns: &mut [u16; 1024],
+    down: &mut [u16; 2048],
+    across: &mut [u16; 2048],
+    ys: &mut [u8; 2048],
+    xs: &mut [u8; 2048],
+    planes: &mut [u64; 192],
+    mask: &mut [u64; 33],
+    list: &mut [u16; 4096],
+) -> bool
+    requires { ⌜ Home h w (now colours) (now borders) (now potential) (now cells) (now offs) p
+        × (q ∈ mates (puzzle h w (now colours)) (marksIn (now borders)) p)
+        × UnitIn h w (now ids) g (now units) first last
+        × Lent (now rows) (now columns) (now down) (now across) (now ys) (now xs)
+        × Held h w (now colours) (now borders) (now cells) (now offs) (now planes) (now mask) (now list) ⌝ }
+    ensures { λ r. ⌜ (r ≡ fitsTurned (puzzle h w (now (colours .entry))) (marksIn (now (borders .entry)))
+        (now (cells .entry)) (now (offs .entry))
+        (mates (puzzle h w (now (colours .entry))) (marksIn (now (borders .entry))) p)
+        (shapeOf (flat h w) (entry (now (ids .entry))) g))
+        × Lent (now (rows .exit)) (now (columns .exit)) (now (down .exit)) (now (across .exit)) (now (ys .exit))
+        (now (xs .exit))
+        × Held h w (now (colours .entry)) (now (borders .entry)) (now (cells .entry)) (now (offs .entry))
+        (now (planes .exit)) (now (mask .exit)) (now (list .exit)) ⌝ }
+{
+    let n = places(units, first, last, w, rows, columns);
+    let k = joints(ids, h, w, g, rows, columns, n, down, across);
+    written_fits(
+        h,
+        w,
+        colours,
+        borders,
+        ids,
+        g,
+        potential,
+        cells,
+        offs,
+        p,
+        q,
+        rows,
+        columns,
+        n,
+        down,
+        across,
+        k,
+        ys,
+        xs,
+        planes,
+        mask,
+        list,
+    )
+}
