@@ -10,7 +10,7 @@ use native.Mathlib.Decide.{ℕ-discrete, decLt}
 use borrow.Author.Tests.{eq-eqb, ne-eqb, lt-ltb, le-ltb}
 use lib.Arith.{digits-lt, digits-div, digits-mod}
 use lib.ListN.{length, getD, set, take, replicate, length-set, length-replicate}
-use lib.Seq.{getD-take, length-take-le}
+use lib.Seq.{getD-set-other, getD-take, length-take-le}
 use Rattle.lists.specs.Table.{stored-more}
 use Rattle.rules.specs.Flat.{Sized, flat, flatFirst, flatSecond, borderCount}
 use Rattle.rules.specs.FlatLaws.{counts}
@@ -32,6 +32,15 @@ marked-more n m f marks v h e q s =
       long = length-set marks n v ∙ s .long;
       at = stored-more f false v marks n (omega (arith, s .long)) e (s .at);
     })
+
+-- a mark past those that matter
+pub marked-past : (n i : ℕ) (f : ℕ → Bool) (marks : List Bool) (v : Bool) → n ≤ i → Marked n f marks
+    → Marked n f (set marks i v)
+marked-past n i f marks v h s =
+    record {
+      long = length-set marks i v ∙ s .long;
+      at = λ x l. getD-set-other marks i x v false (λ e. omega arith) ∙ s .at x l;
+    }
 
 pub marked-none : (f : ℕ → Bool) (marks : List Bool) → length marks ≡ 1024 → Marked 0 f marks
 marked-none f marks e = record { long = e; at = λ x h. absurd (omega arith) }
