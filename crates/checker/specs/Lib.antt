@@ -12,6 +12,7 @@ pub mod Looked
 pub mod Faulty
 pub mod Breaches
 pub mod WallCases
+pub mod Clean
 pub mod Bridges
 pub mod Written
 pub mod WriteCases

@@ -30,7 +30,7 @@ unfolding orBreach
 or-missed r a b e f = rw (← e, f)
 
 module _ (s : ℕ → Mark) (block : ℕ → ℕ) (c : ℕ) where
-  on-append : (hs ks : List Hop) → breachOn s block c (hs ++ ks) ≡ orBreach (breachOn s block c hs)
+  pub on-append : (hs ks : List Hop) → breachOn s block c (hs ++ ks) ≡ orBreach (breachOn s block c hs)
       (breachOn s block c ks)
   unfolding breachOn orBreach
   on-append [] ks = refl

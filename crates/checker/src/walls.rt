@@ -1,13 +1,16 @@
 // Step 2: the first wall between two cells of one block.
 ghost use mathlib.Core.Path.{_≡_};
 ghost use mathlib.Core.Bool.{true, _&&_};
-ghost use Prim.Native.Nat.{_+_, _*_, _<_};
+ghost use Prim.Native.Nat.{_+_, _*_, _<_, _≤_};
+ghost use lib.Dec.{eqb};
 ghost use Rattle.rules.specs.Flat.{Sized, flat};
 ghost use Rattle.rules.specs.Codes.{marksIn};
 ghost use Rattle.rules.specs.Groups.{entry};
 ghost use Rattle.reasons.specs.Arrays.{Arrays, Fits, hopsIn, hopOf};
 ghost use Rattle.checker.specs.Breaches.{noBreach, isBreach, breachOn, breachFrom, firstBreach};
 ghost use Rattle.checker.specs.WallCases.{breachAt};
+ghost use Rattle.checker.specs.Looks.{bitOf};
+ghost use Rattle.checker.specs.Clean.{Apart};
 use crate::Breach;
 use reasons::Neighbour;
 
@@ -98,11 +101,68 @@ fn row_breach<'a>(
     nothing()
 }
 
+// 1 for a wall between two cells of one block, else 0.
+fn hit(mark: u8, a: u16, b: u16) -> u16
+    ensures { λ r. ⌜ r ≡ bitOf (eqb mark 1 && eqb a b) ⌝ }
+{
+    if mark != 1 {
+        return 0;
+    }
+    if a != b {
+        return 0;
+    }
+    1
+}
+
+// How many of the n borders from `at` on are walls between two cells of one block; the cells from c on stand before
+// them, those from d on behind them. There is no exit at the first: the loop then takes many at a time.
+fn count_hits<'a>(
+    borders: &'a [u8; 1984],
+    ids: &'a [u16; 1024],
+    at: usize,
+    c: usize,
+    d: usize,
+    n: usize,
+) -> u16
+    requires { ⌜ Arrays (now borders) (now ids) × (at + n ≤ 1984) × (c + n ≤ 1024) × (d + n ≤ 1024) ⌝ }
+    ensures { λ r. ⌜ (r ≡ 0 → Apart (marksIn (now (borders .entry))) (entry (now (ids .entry))) at c d n) ⌝ }
+{
+    let mut hits: u16 = 0;
+    let mut i = 0;
+    while i < n {
+        hits += hit(borders[at + i], ids[c + i], ids[d + i]);
+        i += 1;
+    }
+    hits
+}
+
+// Whether there is no breach: none over the borders below, and none over those on the right of each row.
+fn is_clean<'a>(h: usize, w: usize, borders: &'a [u8; 1984], ids: &'a [u16; 1024]) -> bool
+    requires { ⌜ Sized h w × Arrays (now borders) (now ids) ⌝ }
+    ensures { λ r. ⌜ (r ≡ true → noBreach ≡ firstBreach (flat h w) (marksIn (now (borders .entry)))
+        (entry (now (ids .entry)))) ⌝ }
+{
+    if count_hits(borders, ids, h * (w - 1), 0, w, (h - 1) * w) != 0 {
+        return false;
+    }
+    let mut y = 0;
+    while y < h {
+        if count_hits(borders, ids, y * (w - 1), y * w, y * w + 1, w - 1) != 0 {
+            return false;
+        }
+        y += 1;
+    }
+    true
+}
+
 // The first breach, row by row; ids are the blocks' numbers.
 pub fn first_breach<'a>(h: usize, w: usize, borders: &'a [u8; 1984], ids: &'a [u16; 1024]) -> Breach
     requires { ⌜ Sized h w × Arrays (now borders) (now ids) ⌝ }
     ensures { λ r. ⌜ r ≡ firstBreach (flat h w) (marksIn (now (borders .entry))) (entry (now (ids .entry))) ⌝ }
 {
+    if is_clean(h, w, borders, ids) {
+        return nothing();
+    }
     let mut y = 0;
     while y < h {
         let hit = row_breach(h, w, borders, ids, y);
