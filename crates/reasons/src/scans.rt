@@ -2,15 +2,16 @@
 ghost use mathlib.Core.Path.{_≡_};
 ghost use mathlib.Core.Bool.{true, _&&_, Bool·beq};
 ghost use mathlib.Core.List.{[]};
-ghost use Prim.Native.Nat.{_+_, _*_, _/_, _%_, _<_, _≤_};
+ghost use Prim.Native.Nat.{_+_, _*_, _<_, _≤_};
 ghost use lib.ListN.{length};
 ghost use Rattle.lists.specs.Lists.{keep};
 ghost use Rattle.rules.specs.Flat.{Sized};
 ghost use Rattle.rules.specs.Codes.{marksIn, coloursIn};
 ghost use Rattle.rules.specs.Groups.{entry};
+ghost use Rattle.rules.specs.Reasons.{gather};
 ghost use Rattle.rules.specs.declared.Side.the-variants.{Wall, Open};
 ghost use Rattle.reasons.specs.Memory.{Wrote};
-ghost use Rattle.reasons.specs.Arrays.{Arrays, Fits, hopOf, isMarked, openKept, wallKept, scanTo, scanAt};
+ghost use Rattle.reasons.specs.Arrays.{Arrays, Fits, hopOf, hopsIn, isMarked, openKept, wallKept, scanAt};
 use crate::Neighbour;
 use crate::append;
 use crate::beside;
@@ -103,28 +104,21 @@ fn wall_kept<'a>(
     !is_marked(marked, wide(ids[to]))
 }
 
-// Writes the border of the cell c, which is (y,x), in the direction d, if it is open and its neighbour's group is
-// marked.
+// Writes the border to the neighbour n, if it is open and the group of n is marked.
 fn open_hop<'a>(
     memory: &mut [u16],
     from: usize,
-    h: usize,
-    w: usize,
     borders: &'a [u8; 1984],
     ids: &'a [u16; 1024],
     marked: &'a [u8; 1024],
-    c: usize,
-    y: usize,
-    x: usize,
-    d: usize,
+    n: Neighbour,
 ) -> usize
-    requires { ⌜ Sized h w × Arrays (now borders) (now ids) × (length (now marked) ≡ 1024) × (c < h * w) × (y ≡ c / w)
-        × (x ≡ c % w) × (from + length (scanTo h w [] (now borders) (now ids) Open true (now marked) c d)
-        ≤ length (now memory)) ⌝ }
-    ensures { λ r. ⌜ Wrote (now (memory .entry)) from (scanTo h w [] (now (borders .entry)) (now (ids .entry)) Open
-        true (now (marked .entry)) c d) (now (memory .exit)) r ⌝ }
+    requires { ⌜ Arrays (now borders) (now ids) × (length (now marked) ≡ 1024) × (n .some ≡ true → Fits n)
+        × (from + length (gather Open (openKept (marksIn (now borders)) (entry (now ids)) (isMarked (now marked)))
+        (hopsIn n)) ≤ length (now memory)) ⌝ }
+    ensures { λ r. ⌜ Wrote (now (memory .entry)) from (gather Open (openKept (marksIn (now (borders .entry)))
+        (entry (now (ids .entry))) (isMarked (now (marked .entry)))) (hopsIn n)) (now (memory .exit)) r ⌝ }
 {
-    let n = beside(h, w, c, y, x, d);
     let kept = open_kept(borders, ids, marked, n);
     append_if(
         memory,
@@ -137,29 +131,25 @@ fn open_hop<'a>(
     )
 }
 
-// Writes the border of the cell c, which is (y,x), in the direction d, if it is a wall that the scan keeps.
+// Writes the border to the neighbour n of the cell c, if it is a wall that the scan keeps.
 fn wall_hop<'a>(
     memory: &mut [u16],
     from: usize,
-    h: usize,
-    w: usize,
     colours: &'a [u8; 1024],
     borders: &'a [u8; 1984],
     ids: &'a [u16; 1024],
     same: bool,
     marked: &'a [u8; 1024],
     c: usize,
-    y: usize,
-    x: usize,
-    d: usize,
+    n: Neighbour,
 ) -> usize
-    requires { ⌜ Sized h w × Arrays (now borders) (now ids) × (length (now colours) ≡ 1024)
-        × (length (now marked) ≡ 1024) × (c < h * w) × (y ≡ c / w) × (x ≡ c % w) × (from + length (scanTo h w
-        (now colours) (now borders) (now ids) Wall same (now marked) c d) ≤ length (now memory)) ⌝ }
-    ensures { λ r. ⌜ Wrote (now (memory .entry)) from (scanTo h w (now (colours .entry)) (now (borders .entry))
-        (now (ids .entry)) Wall same (now (marked .entry)) c d) (now (memory .exit)) r ⌝ }
+    requires { ⌜ Arrays (now borders) (now ids) × (length (now colours) ≡ 1024) × (length (now marked) ≡ 1024)
+        × (c < 1024) × (n .some ≡ true → Fits n) × (from + length (gather Wall (wallKept (coloursIn (now colours))
+        (marksIn (now borders)) (entry (now ids)) same (isMarked (now marked)) c) (hopsIn n)) ≤ length (now memory)) ⌝ }
+    ensures { λ r. ⌜ Wrote (now (memory .entry)) from (gather Wall (wallKept (coloursIn (now (colours .entry)))
+        (marksIn (now (borders .entry))) (entry (now (ids .entry))) same (isMarked (now (marked .entry))) c)
+        (hopsIn n)) (now (memory .exit)) r ⌝ }
 {
-    let n = beside(h, w, c, y, x, d);
     let kept = wall_kept(colours, borders, ids, same, marked, c, n);
     append_if(
         memory,
@@ -191,8 +181,10 @@ fn open_cell<'a>(
     // a call for each direction and no loop, so that each is compiled for its direction
     let y = c / w;
     let x = c % w;
-    let below = open_hop(memory, from, h, w, borders, ids, marked, c, y, x, 1);
-    open_hop(memory, below, h, w, borders, ids, marked, c, y, x, 3)
+    let below = beside(h, w, c, y, x, 1);
+    let right = beside(h, w, c, y, x, 3);
+    let at = open_hop(memory, from, borders, ids, marked, below);
+    open_hop(memory, at, borders, ids, marked, right)
 }
 
 // Writes the walls of the cell c that the scan keeps: above, below, left, right.
@@ -216,66 +208,14 @@ fn wall_cell<'a>(
 {
     let y = c / w;
     let x = c % w;
-    let above = wall_hop(
-        memory,
-        from,
-        h,
-        w,
-        colours,
-        borders,
-        ids,
-        same,
-        marked,
-        c,
-        y,
-        x,
-        0,
-    );
-    let below = wall_hop(
-        memory,
-        above,
-        h,
-        w,
-        colours,
-        borders,
-        ids,
-        same,
-        marked,
-        c,
-        y,
-        x,
-        1,
-    );
-    let left = wall_hop(
-        memory,
-        below,
-        h,
-        w,
-        colours,
-        borders,
-        ids,
-        same,
-        marked,
-        c,
-        y,
-        x,
-        2,
-    );
-    wall_hop(
-        memory,
-        left,
-        h,
-        w,
-        colours,
-        borders,
-        ids,
-        same,
-        marked,
-        c,
-        y,
-        x,
-        3,
-    )
+    let above = beside(h, w, c, y, x, 0);
+    let below = beside(h, w, c, y, x, 1);
+    let left = beside(h, w, c, y, x, 2);
+    let right = beside(h, w, c, y, x, 3);
+    let next = wall_hop(memory, from, colours, borders, ids, same, marked, c, above);
+    let then = wall_hop(memory, next, colours, borders, ids, same, marked, c, below);
+    let last = wall_hop(memory, then, colours, borders, ids, same, marked, c, left);
+    wall_hop(memory, last, colours, borders, ids, same, marked, c, right)
 }
 
 // Writes the borders that the scan keeps of one cell.

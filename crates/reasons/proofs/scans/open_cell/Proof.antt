@@ -1,5 +1,5 @@
 -- One direction after another.
-use mathlib.Core.Path.{_≡_, refl}
+use mathlib.Core.Path.{_≡_}
 use mathlib.Core.Bool.{true}
 use mathlib.Core.List.{List, []}
 use Prim.Native.Nat.{ℕ, _+_, _*_, _≤_}
@@ -44,19 +44,29 @@ div-y c = row (c .before) .wide
 rem-x : tie.Need-rem-x
 rem-x c = row (c .before) .wide
 
+beside-requires : tie.Need-beside-requires
+beside-requires c κs = let s = c .before in (s .pre .0, row s .row, row s .column, row s .same)
+
+beside-requires-2 : tie.Need-beside-requires-2
+beside-requires-2 c κs = let s = c .before .before in (s .pre .0, row s .row, row s .column, row s .same)
+
 open-hop-requires : tie.Need-open-hop-requires
 open-hop-requires c κs =
-    let s = c .before .before in
+    let n = c .before in
+    let s = n .before .before .before in
     let fits = loop-fits (at s) 0 (start s) 2 (omega arith) (room s) in
-    (s .pre .0, s .pre .1, s .pre .2, s .pre .3, refl, refl, fits)
+    let below = n .before .beside .ensures in
+    (s .pre .1, s .pre .2, λ t. below .near t .fits, rw (below .is) fits)
 
 open-hop-requires-2 : tie.Need-open-hop-requires-2
 open-hop-requires-2 c κs =
     let v = c .before .before .before in
-    let s = v .before .before .before in
-    let below = loop-more (at s) 0 (start s) (v .open-hop .ensures) in
-    let fits = loop-fits (at s) 1 below 2 (omega arith) (room s) in
-    (s .pre .0, s .pre .1, s .pre .2, s .pre .3, refl, refl, fits)
+    let n = v .before .before in
+    let s = n .before .before .before in
+    let one = loop-more (at s) 0 (start s) (rw (n .before .beside .ensures .is) at (v .open-hop .ensures)) in
+    let fits = loop-fits (at s) 1 one 2 (omega arith) (room s) in
+    let right = n .beside2 .ensures in
+    (s .pre .1, s .pre .2, λ t. right .near t .fits, rw (right .is) fits)
 
 same-length : tie.Need-same-length
 same-length c = search needs
@@ -65,10 +75,20 @@ returns : tie.Need-returns
 returns c =
     let v2 = c .before .before in
     let v1 = v2 .before .before .before .before in
-    let s = v1 .before .before .before in
-    let below = loop-more (at s) 0 (start s) (v1 .open-hop .ensures) in
-    rw (whole s) (loop-more (at s) 1 below (v2 .open-hop2 .ensures))
+    let n = v1 .before .before in
+    let s = n .before .before .before in
+    let one = loop-more (at s) 0 (start s) (rw (n .before .beside .ensures .is) at (v1 .open-hop .ensures)) in
+    rw (whole s) (loop-more (at s) 1 one (rw (n .beside2 .ensures .is) at (v2 .open-hop2 .ensures)))
 
 pub open-cell-spec : {M : Type 1} → statement M
 open-cell-spec =
-    tie.close (tie.spec div-y rem-x open-hop-requires open-hop-requires-2 same-length returns)
+    tie.close
+    (tie.spec
+    div-y
+    rem-x
+    beside-requires
+    beside-requires-2
+    open-hop-requires
+    open-hop-requires-2
+    same-length
+    returns)

@@ -1,48 +1,39 @@
--- The neighbour in that direction, kept or not.
+-- The border to the neighbour, kept or not.
 use mathlib.Core.Path.{_≡_}
-use mathlib.Core.Bool.{Bool, true}
+use mathlib.Core.Bool.{Bool}
 use mathlib.Core.List.{[]}
-use Prim.Native.Nat.{_/_, _%_}
 use Rattle.lists.specs.Lists.{keep}
 use Rattle.rules.specs.declared.Side.the-variants.{Open}
 use Rattle.rules.specs.Page.{Hop}
-use Rattle.reasons.specs.Arrays.{Stepped, scanTest, scanTo}
-use Rattle.reasons.specs.StepLaws.{row-of}
-use Rattle.reasons.specs.ScanLaws.{gather-step, kept-near}
+use Rattle.rules.specs.Codes.{marksIn}
+use Rattle.rules.specs.Groups.{entry}
+use Rattle.rules.specs.Reasons.{gather}
+use Rattle.reasons.specs.Arrays.{hopsIn, isMarked, openKept}
+use Rattle.reasons.specs.ScanLaws.{gather-hops, kept-some}
 use borrow.Author.Needs.{needs}
 use Rattle.reasons.proofs.scans.open_hop.Statement.{statement}
 use Rattle.reasons.proofs.scans.open_hop.Tie as tie
 
 abbrev test : tie.Start → Hop → Bool
-test s = let a = s .args in scanTest [] (a .borders .now) (a .ids .now) Open true (a .marked .now) (a .c)
-
-stepped : (c : tie.After-beside) →
-    let a = c .before .before .args in Stepped (a .h) (a .w) (a .c / a .w) (a .c % a .w) (a .d) (c .beside .result)
-stepped c = rw (← c .before .before .pre .4, ← c .before .before .pre .5) (c .beside .ensures)
+test s =
+    let a = s .args in
+    openKept (marksIn (a .borders .now)) (entry (a .ids .now)) (isMarked (a .marked .now))
 
 kept : (c : tie.After-open-kept) →
-    let a = c .before .before .before .args in
-    scanTo (a .h) (a .w) [] (a .borders .now) (a .ids .now) Open true (a .marked .now) (a .c) (a .d)
-    ≡ keep (c .open-kept .result) (record { border = c .before .beside .result .border; side = Open }) []
-kept c = gather-step Open (test (c .before .before .before)) (stepped (c .before)) (c .open-kept .ensures)
-
-beside-requires : tie.Need-beside-requires
-beside-requires c κs =
-    let s = c .before in
-    let r = row-of (s .args .h) (s .args .w) (s .args .c) (s .pre .3) in
-    (s .pre .0, rw (s .pre .4) (r .row), rw (s .pre .5) (r .column), rw (s .pre .4, s .pre .5) (r .same))
+    let s = c .before .before in
+    gather Open (test s) (hopsIn (s .args .n))
+    ≡ keep (c .open-kept .result) (record { border = s .args .n .border; side = Open }) []
+kept c = gather-hops Open (test (c .before .before)) (c .before .before .args .n) (c .open-kept .ensures)
 
 open-kept-requires : tie.Need-open-kept-requires
-open-kept-requires c κs =
-    let s = c .before .before in
-    (s .pre .1, s .pre .2, λ t. c .beside .ensures .near t .fits)
+open-kept-requires c κs = search needs
 
 append-if-requires : tie.Need-append-if-requires
 append-if-requires c κs =
     let k = c .before in
-    let s = k .before .before .before in (
-      rw (kept k) at (s .pre .6),
-      λ t. kept-near Open (test s) (stepped (k .before)) (k .open-kept .ensures) t .fits .border,
+    let s = k .before .before in (
+      rw (kept k) at (s .pre .3),
+      λ t. s .pre .2 (kept-some Open (test s) (s .args .n) (k .open-kept .ensures) t) .border,
     )
 
 same-length : tie.Need-same-length
@@ -52,6 +43,4 @@ returns : tie.Need-returns
 returns c = rw (kept (c .before .before .before .before)) (c .before .before .append-if .ensures)
 
 pub open-hop-spec : {M : Type 1} → statement M
-open-hop-spec =
-    tie.close
-    (tie.spec beside-requires open-kept-requires append-if-requires same-length returns)
+open-hop-spec = tie.close (tie.spec open-kept-requires append-if-requires same-length returns)

@@ -1,10 +1,11 @@
 -- One direction after another.
-use mathlib.Core.Path.{_≡_, refl}
+use mathlib.Core.Path.{_≡_}
 use mathlib.Core.List.{List}
-use Prim.Native.Nat.{ℕ, _+_, _≤_}
+use Prim.Native.Nat.{ℕ, _+_, _<_, _≤_}
 use lib.ListN.{length}
 use Rattle.rules.specs.declared.Side.the-variants.{Wall}
 use Rattle.rules.specs.declared.Literal.{Literal}
+use Rattle.rules.specs.FlatLaws.{counts}
 use Rattle.reasons.specs.Memory.{Wrote}
 use Rattle.reasons.specs.Arrays.{scanTo, scanAt}
 use Rattle.reasons.specs.ListExtras.{upTo}
@@ -44,41 +45,74 @@ div-y c = row (c .before) .wide
 rem-x : tie.Need-rem-x
 rem-x c = row (c .before) .wide
 
+few : (s : tie.Start) → s .args .c < 1024
+few s = omega (arith, counts (s .pre .0), s .pre .4)
+
+beside-requires : tie.Need-beside-requires
+beside-requires c κs =
+    let s = c .before in (s .pre .0, row s .row, row s .column, row s .same)
+
+beside-requires-2 : tie.Need-beside-requires-2
+beside-requires-2 c κs =
+    let s = c .before .before in (s .pre .0, row s .row, row s .column, row s .same)
+
+beside-requires-3 : tie.Need-beside-requires-3
+beside-requires-3 c κs =
+    let s = c .before .before .before in (s .pre .0, row s .row, row s .column, row s .same)
+
+beside-requires-4 : tie.Need-beside-requires-4
+beside-requires-4 c κs =
+    let s = c .before .before .before .before in (s .pre .0, row s .row, row s .column, row s .same)
+
 wall-hop-requires : tie.Need-wall-hop-requires
 wall-hop-requires c κs =
-    let s = c .before .before in
+    let n = c .before in
+    let s = n .before .before .before .before .before in
     let fits = loop-fits (at s) 0 (start s) 4 (omega arith) (room s) in
-    (s .pre .0, s .pre .1, s .pre .2, s .pre .3, s .pre .4, refl, refl, fits)
+    let p = n .before .before .before .beside .ensures in
+    (s .pre .1, s .pre .2, s .pre .3, few s, λ t. p .near t .fits, rw (p .is) fits)
 
 wall-hop-requires-2 : tie.Need-wall-hop-requires-2
 wall-hop-requires-2 c κs =
     let v1 = c .before .before .before in
-    let s = v1 .before .before .before in
-    let above = loop-more (at s) 0 (start s) (v1 .wall-hop .ensures) in
-    let fits = loop-fits (at s) 1 above 4 (omega arith) (room s) in
-    (s .pre .0, s .pre .1, s .pre .2, s .pre .3, s .pre .4, refl, refl, fits)
+    let n = v1 .before .before in
+    let s = n .before .before .before .before .before in
+    let one = loop-more (at s) 0 (start s)
+    (rw (n .before .before .before .beside .ensures .is) at (v1 .wall-hop .ensures)) in
+    let fits = loop-fits (at s) 1 one 4 (omega arith) (room s) in
+    let p = n .before .before .beside2 .ensures in
+    (s .pre .1, s .pre .2, s .pre .3, few s, λ t. p .near t .fits, rw (p .is) fits)
 
 wall-hop-requires-3 : tie.Need-wall-hop-requires-3
 wall-hop-requires-3 c κs =
     let v2 = c .before .before .before in
     let v1 = v2 .before .before .before .before in
-    let s = v1 .before .before .before in
-    let above = loop-more (at s) 0 (start s) (v1 .wall-hop .ensures) in
-    let below = loop-more (at s) 1 above (v2 .wall-hop2 .ensures) in
-    let fits = loop-fits (at s) 2 below 4 (omega arith) (room s) in
-    (s .pre .0, s .pre .1, s .pre .2, s .pre .3, s .pre .4, refl, refl, fits)
+    let n = v1 .before .before in
+    let s = n .before .before .before .before .before in
+    let one = loop-more (at s) 0 (start s)
+    (rw (n .before .before .before .beside .ensures .is) at (v1 .wall-hop .ensures)) in
+    let two = loop-more (at s) 1 one
+    (rw (n .before .before .beside2 .ensures .is) at (v2 .wall-hop2 .ensures)) in
+    let fits = loop-fits (at s) 2 two 4 (omega arith) (room s) in
+    let p = n .before .beside3 .ensures in
+    (s .pre .1, s .pre .2, s .pre .3, few s, λ t. p .near t .fits, rw (p .is) fits)
 
 wall-hop-requires-4 : tie.Need-wall-hop-requires-4
 wall-hop-requires-4 c κs =
     let v3 = c .before .before .before in
     let v2 = v3 .before .before .before .before in
     let v1 = v2 .before .before .before .before in
-    let s = v1 .before .before .before in
-    let above = loop-more (at s) 0 (start s) (v1 .wall-hop .ensures) in
-    let below = loop-more (at s) 1 above (v2 .wall-hop2 .ensures) in
-    let left = loop-more (at s) 2 below (v3 .wall-hop3 .ensures) in
-    let fits = loop-fits (at s) 3 left 4 (omega arith) (room s) in
-    (s .pre .0, s .pre .1, s .pre .2, s .pre .3, s .pre .4, refl, refl, fits)
+    let n = v1 .before .before in
+    let s = n .before .before .before .before .before in
+    let one = loop-more (at s) 0 (start s)
+    (rw (n .before .before .before .beside .ensures .is) at (v1 .wall-hop .ensures)) in
+    let two = loop-more (at s) 1 one
+    (rw (n .before .before .beside2 .ensures .is) at (v2 .wall-hop2 .ensures)) in
+    let three = loop-more (at s) 2 two
+    (rw (n .before .beside3 .ensures .is) at (v3 .wall-hop3 .ensures)) in
+    let fits = loop-fits (at s) 3 three 4 (omega arith) (room s) in
+    let p = n .beside4 .ensures in
+    (s .pre .1, s .pre .2, s .pre .3, few s, λ t. p .near t .fits, rw (p .is) fits)
 
 same-length : tie.Need-same-length
 same-length c = search needs
@@ -89,11 +123,15 @@ returns c =
     let v3 = v4 .before .before .before .before in
     let v2 = v3 .before .before .before .before in
     let v1 = v2 .before .before .before .before in
-    let s = v1 .before .before .before in
-    let above = loop-more (at s) 0 (start s) (v1 .wall-hop .ensures) in
-    let below = loop-more (at s) 1 above (v2 .wall-hop2 .ensures) in
-    let left = loop-more (at s) 2 below (v3 .wall-hop3 .ensures) in
-    rw (whole s) (loop-more (at s) 3 left (v4 .wall-hop4 .ensures))
+    let n = v1 .before .before in
+    let s = n .before .before .before .before .before in
+    let one = loop-more (at s) 0 (start s)
+    (rw (n .before .before .before .beside .ensures .is) at (v1 .wall-hop .ensures)) in
+    let two = loop-more (at s) 1 one
+    (rw (n .before .before .beside2 .ensures .is) at (v2 .wall-hop2 .ensures)) in
+    let three = loop-more (at s) 2 two
+    (rw (n .before .beside3 .ensures .is) at (v3 .wall-hop3 .ensures)) in
+    rw (whole s) (loop-more (at s) 3 three (rw (n .beside4 .ensures .is) at (v4 .wall-hop4 .ensures)))
 
 pub wall-cell-spec : {M : Type 1} → statement M
 wall-cell-spec =
@@ -101,6 +139,10 @@ wall-cell-spec =
     (tie.spec
     div-y
     rem-x
+    beside-requires
+    beside-requires-2
+    beside-requires-3
+    beside-requires-4
     wall-hop-requires
     wall-hop-requires-2
     wall-hop-requires-3

@@ -1,16 +1,15 @@
--- The neighbour in that direction, kept or not.
+-- The border to the neighbour, kept or not.
 use mathlib.Core.Path.{_≡_}
 use mathlib.Core.Bool.{Bool}
 use mathlib.Core.List.{[]}
-use Prim.Native.Nat.{_/_, _%_, _<_}
 use Rattle.lists.specs.Lists.{keep}
 use Rattle.rules.specs.declared.Side.the-variants.{Wall}
-use Rattle.rules.specs.FlatLaws.{counts}
 use Rattle.rules.specs.Page.{Hop}
-use Rattle.reasons.specs.Arrays.{Stepped, scanTest, scanTo}
-use Rattle.reasons.specs.StepLaws.{row-of}
-use Rattle.reasons.specs.ScanLaws.{gather-step, kept-near}
-use native.Mathlib.Omega.{arith}
+use Rattle.rules.specs.Codes.{marksIn, coloursIn}
+use Rattle.rules.specs.Groups.{entry}
+use Rattle.rules.specs.Reasons.{gather}
+use Rattle.reasons.specs.Arrays.{hopsIn, isMarked, wallKept}
+use Rattle.reasons.specs.ScanLaws.{gather-hops, kept-some}
 use borrow.Author.Needs.{needs}
 use Rattle.reasons.proofs.scans.wall_hop.Statement.{statement}
 use Rattle.reasons.proofs.scans.wall_hop.Tie as tie
@@ -18,36 +17,24 @@ use Rattle.reasons.proofs.scans.wall_hop.Tie as tie
 abbrev test : tie.Start → Hop → Bool
 test s =
     let a = s .args in
-    scanTest (a .colours .now) (a .borders .now) (a .ids .now) Wall (a .same) (a .marked .now) (a .c)
-
-stepped : (c : tie.After-beside) →
-    let a = c .before .before .args in Stepped (a .h) (a .w) (a .c / a .w) (a .c % a .w) (a .d) (c .beside .result)
-stepped c = rw (← c .before .before .pre .5, ← c .before .before .pre .6) (c .beside .ensures)
+    wallKept (coloursIn (a .colours .now)) (marksIn (a .borders .now)) (entry (a .ids .now)) (a .same)
+    (isMarked (a .marked .now)) (a .c)
 
 kept : (c : tie.After-wall-kept) →
-    let a = c .before .before .before .args in
-    scanTo (a .h) (a .w) (a .colours .now) (a .borders .now) (a .ids .now) Wall (a .same) (a .marked .now) (a .c) (a .d)
-    ≡ keep (c .wall-kept .result) (record { border = c .before .beside .result .border; side = Wall }) []
-kept c = gather-step Wall (test (c .before .before .before)) (stepped (c .before)) (c .wall-kept .ensures)
-
-beside-requires : tie.Need-beside-requires
-beside-requires c κs =
-    let s = c .before in
-    let r = row-of (s .args .h) (s .args .w) (s .args .c) (s .pre .4) in
-    (s .pre .0, rw (s .pre .5) (r .row), rw (s .pre .6) (r .column), rw (s .pre .5, s .pre .6) (r .same))
+    let s = c .before .before in
+    gather Wall (test s) (hopsIn (s .args .n))
+    ≡ keep (c .wall-kept .result) (record { border = s .args .n .border; side = Wall }) []
+kept c = gather-hops Wall (test (c .before .before)) (c .before .before .args .n) (c .wall-kept .ensures)
 
 wall-kept-requires : tie.Need-wall-kept-requires
-wall-kept-requires c κs =
-    let s = c .before .before in
-    let few : s .args .c < 1024 = omega (arith, counts (s .pre .0), s .pre .4) in
-    (s .pre .1, s .pre .2, s .pre .3, few, λ t. c .beside .ensures .near t .fits)
+wall-kept-requires c κs = search needs
 
 append-if-requires : tie.Need-append-if-requires
 append-if-requires c κs =
     let k = c .before in
-    let s = k .before .before .before in (
-      rw (kept k) at (s .pre .7),
-      λ t. kept-near Wall (test s) (stepped (k .before)) (k .wall-kept .ensures) t .fits .border,
+    let s = k .before .before in (
+      rw (kept k) at (s .pre .5),
+      λ t. s .pre .4 (kept-some Wall (test s) (s .args .n) (k .wall-kept .ensures) t) .border,
     )
 
 same-length : tie.Need-same-length
@@ -57,6 +44,4 @@ returns : tie.Need-returns
 returns c = rw (kept (c .before .before .before .before)) (c .before .before .append-if .ensures)
 
 pub wall-hop-spec : {M : Type 1} → statement M
-wall-hop-spec =
-    tie.close
-    (tie.spec beside-requires wall-kept-requires append-if-requires same-length returns)
+wall-hop-spec = tie.close (tie.spec wall-kept-requires append-if-requires same-length returns)
