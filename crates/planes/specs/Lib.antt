@@ -10,4 +10,5 @@ pub mod WordLaws
 pub mod MaskLaws
 pub mod FitLaws
 pub mod Survivors
+pub mod PlacedLaws
 pub mod SurvivorLaws

@@ -1,17 +1,15 @@
--- Laws of survivors: where every connection joins one colour, a placement is that read from the end; elsewhere it cannot
--- lie. So the blockers of the survivors are those of all origins.
+-- Laws of survivors: where every connection joins one colour, a placement is that read from the end; elsewhere it
+-- cannot lie. So the blockers of the survivors are those of all origins.
 --
 --   Joins r             the reading r does not end a placement
-use mathlib.Core.Path.{_≡_, refl, ap, ap₂, sym, _∙_}
+use mathlib.Core.Path.{_≡_, refl, ap, sym, _∙_}
 use mathlib.Core.Bool.{Bool, true, false, _&&_, cond}
-use mathlib.Core.List.{List, [], _∷_, map}
-use mathlib.Core.Logic.{_⊎_, _≢_, inl, inr, ⊎-elim}
+use mathlib.Core.List.{List, _∷_, map}
+use mathlib.Core.Logic.{⊎-elim}
 use mathlib.Core.Option.{Option, some, none}
 use Prim.Native.Nat.{ℕ, zero, suc, _+_, _-_, _*_, _/_, _%_, _<_, _≤_}
-use native.Mathlib.Nat.{eq-or-lt-of-le, div-lt-iff-lt-mul, add-mul}
+use native.Mathlib.Nat.{eq-or-lt-of-le, div-lt-iff-lt-mul}
 use native.Mathlib.Omega.{arith}
-use borrow.Author.Tests.{eq-eqb, ne-eqb}
-use lib.Arith.{digits-div, digits-mod}
 use lib.Dec.{eqb}
 use lib.ListN.{getD}
 use Rattle.lists.specs.Lists.{flatMap, rangeFrom}
@@ -20,146 +18,27 @@ use Rattle.lists.specs.Tests.{allBelow, all-cong, all-at, and-right}
 use Rattle.rules.specs.declared.Placement.{Placement}
 use Rattle.rules.specs.declared.Placement.the-variants.{Fits, Blocked, Cannot}
 use Rattle.rules.specs.Codes.{marksIn}
-use Rattle.rules.specs.Flat.{Sized, belowOf, rightOf}
-use Rattle.rules.specs.FlatLaws.{counts}
-use Rattle.rules.specs.FlatLaws as flats
-use Rattle.rules.specs.Page.{Puzzle, Mark, isWall, wallAt}
+use Rattle.rules.specs.Page.{Puzzle, Mark, isWall}
 use Rattle.rules.specs.Rules.{oneColour}
 use Rattle.rules.specs.Check.{laid, blockers}
 use Rattle.reasons.specs.Arrays.{part}
 use Rattle.reasons.specs.ListExtras.{flat-same}
 use Rattle.search.specs.declared.Reading.{Reading}
 use Rattle.search.specs.declared.Reading.the-variants.{Ends, Clear, Walled}
-use Rattle.search.specs.BlockLaws.{Within}
 use Rattle.search.specs.JudgeLaws.{after, readAt, readFrom, laid-after}
 use Rattle.search.specs.Placing.{Drawn, Raised, puzzle, bare, spelled, readRaised, readingOf, isClear}
-use Rattle.search.specs.PlacingLaws.{mark-wall, off-above, off-left, off-below, off-right, reads-below, reads-right}
+use Rattle.search.specs.PlacingLaws.{mark-wall, off-above, off-left, off-below, off-right}
 use Rattle.search.specs.Searching.{Beside, groupIn, blockOf, blocksAmong, blocksBeside}
-use Rattle.planes.specs.Extras.{le-or-lt, eq-or-not, zeros}
+use Rattle.planes.specs.Extras.{le-or-lt, zeros}
 use Rattle.planes.specs.Bits.{bit}
-use Rattle.planes.specs.DrawLaws.{line-in}
 use Rattle.planes.specs.FitLaws.{spot-clear, origins-on}
-use Rattle.planes.specs.Masks.{Masked, originsIn, spot}
+use Rattle.planes.specs.Masks.{Masked, originsIn}
 use Rattle.planes.specs.MaskLaws.{place-in, masked-here}
+use Rattle.planes.specs.PlacedLaws.{reads-border}
 use Rattle.planes.specs.Planes.{planesOf}
-use Rattle.planes.specs.Survivors.{On, borderAt, clearOf, noWalls, Survived, Lain, Placed, blockerOf, backOf}
-use Rattle.planes.specs.Survivors.{placedAt, blockIn}
+use Rattle.planes.specs.Survivors.{On, borderAt, wallOf, noWalls, Survived, Lain, blockerOf, backOf, placedAt}
+use Rattle.planes.specs.Survivors.{blockIn}
 use Rattle.planes.specs.WordLaws.{left-bit}
-
--- the border at a place of the page
-module _ {h w y x : ℕ} (o : On h w y x) where
-  pub border-below : (y - 64) % 2 ≡ 1 → borderAt h w y x ≡ belowOf h w ((y - 64) / 2) ((x - 64) / 2)
-  unfolding borderAt
-  border-below e = rw e
-
-  pub border-right : ((y - 64) % 2 ≡ 1 → ⊥) → borderAt h w y x ≡ rightOf h w ((y - 64) / 2) ((x - 64) / 2)
-  unfolding borderAt
-  border-right e = rw (ne-eqb ((y - 64) % 2) 1 e)
-
-  reads-border : readRaised h w y x ≡ some (borderAt h w y x)
-  reads-border =
-      ⊎-elim
-      (λ (e : (y - 64) % 2 ≡ 1).
-      reads-below h w y x (o .top) (o .left) (o .bottom) (o .right) e ∙ ap some (sym (border-below e)))
-      (λ (e : (y - 64) % 2 ≢ 1).
-      reads-right h w y x (o .top) (o .left) (o .bottom) (o .right) e ∙ ap some (sym (border-right e)))
-      (eq-or-not ((y - 64) % 2) 1)
-
-  pub border-low : Sized h w → borderAt h w y x < 1984
-  unfolding belowOf rightOf
-  border-low s =
-      ⊎-elim
-      (λ (e : (y - 64) % 2 ≡ 1).
-      let l = line-in ((y - 64) / 2) s (omega (arith, o .bottom, s .rows)) in
-      omega (arith, border-below e, l .down (omega (arith, o .bottom, s .rows)), o .right, s .columns))
-      (λ (e : (y - 64) % 2 ≢ 1).
-      let l = flats.spot h w ((y - 64) / 2) 0 (omega (arith, o .bottom, s .rows)) (omega (arith, s .columns)) in
-      omega (arith, border-right e, l .line, o .right, s .columns, counts s .across))
-      (eq-or-not ((y - 64) % 2) 1)
-
--- one turn of the loop that reads from the end
-module _ (h w : ℕ) (p ys xs : List ℕ) (y x : ℕ) where
-  pub back-none : {z : ℕ} → z ≡ 0 → backOf h w p ys xs y x z ≡ Fits
-  unfolding backOf
-  back-none e = rw e
-
-  pub back-next : (z : ℕ) → 0 < z → clearOf p ys xs y x (z - 1) ≡ true
-      → backOf h w p ys xs y x z ≡ backOf h w p ys xs y x (z - 1)
-  unfolding backOf
-  back-next zero l e = absurd (omega arith)
-  back-next (suc k) l e = let d : suc k - 1 ≡ k = omega arith in rw (d, rw d at e)
-
-  pub back-wall : (z : ℕ) → 0 < z → clearOf p ys xs y x (z - 1) ≡ false
-      → backOf h w p ys xs y x z
-      ≡ Blocked (borderAt h w (2 * y + getD ys (z - 1) 0) (2 * x + getD xs (z - 1) 0))
-  unfolding backOf
-  back-wall zero l e = absurd (omega arith)
-  back-wall (suc k) l e = let d : suc k - 1 ≡ k = omega arith in rw (d, rw d at e)
-
--- where a cell is
-module _ {h w : ℕ} {places : List ℕ} {c : ℕ} (s : Sized h w) (p : Placed h w places) (l : c < h * w) where
-  pub place-row : getD places c 0 / 32 ≡ c / w
-  place-row = ap (λ (v : ℕ). v / 32) (p .each c l) ∙ digits-div (c / w) (place-in c s l .1)
-
-  pub place-column : getD places c 0 % 32 ≡ c % w
-  place-column = ap (λ (v : ℕ). v % 32) (p .each c l) ∙ digits-mod (c / w) (place-in c s l .1)
-
--- the cell after (y,x): in the next row, or in the next column
-module _ {w c : ℕ} (y x : ℕ) {y′ x′ : ℕ} (e : c ≡ y * w + x) where
-  pub next-row : x + 1 ≡ w → x < w → y′ ≡ y + 1 → x′ ≡ 0 → (c + 1 ≡ y′ * w + x′) × (x′ < w)
-  next-row q l a b =
-      let m : (y + 1) * w ≡ y * w + w = add-mul y 1 w ∙ omega arith in
-      (rw (a, b) (omega arith), omega arith)
-
-  pub next-column : (x + 1 ≡ w → ⊥) → x < w → y′ ≡ y → x′ ≡ x + 1 → (c + 1 ≡ y′ * w + x′) × (x′ < w)
-  next-column q l a b = (rw (a, b) (omega arith), omega arith)
-
--- the placement there
-module _ (h w : ℕ) (p rows ys xs : List ℕ) (n : ℕ) where
-  pub placed-some : (y x : ℕ) → bit (getD rows y 0) x ≡ true
-      → placedAt h w p rows ys xs n y x ≡ backOf h w p ys xs y x n
-  unfolding placedAt
-  placed-some y x e = rw e
-
-  pub placed-none : (y x : ℕ) → bit (getD rows y 0) x ≡ false → placedAt h w p rows ys xs n y x ≡ Cannot
-  unfolding placedAt
-  placed-none y x e = rw e
-
-  back-within : Sized h w → (y x k : ℕ)
-      → ((j : ℕ) → j < k → On h w (2 * y + getD ys j 0) (2 * x + getD xs j 0))
-      → Within (backOf h w p ys xs y x k)
-  unfolding backOf
-  back-within s y x zero o = tt
-  back-within s y x (suc k) o =
-      go (clearOf p ys xs y x k) (back-within s y x k (λ j l. o j (omega arith))) (border-low (o k (omega arith)) s)
-    where
-      go : (b : Bool) → Within (backOf h w p ys xs y x k)
-          → borderAt h w (2 * y + getD ys k 0) (2 * x + getD xs k 0) < 1984
-          → Within (cond b (backOf h w p ys xs y x k)
-          (Blocked (borderAt h w (2 * y + getD ys k 0) (2 * x + getD xs k 0))))
-      go true i l = i
-      go false i l = l
-
-  pub placed-within : Sized h w → Lain h w rows ys xs n → (y x : ℕ) → y < h → x < w
-      → Within (placedAt h w p rows ys xs n y x)
-  unfolding placedAt
-  placed-within s o y x a b =
-      go (bit (getD rows y 0) x) (λ e. back-within s y x n (o .each y x a b e))
-    where
-      go : (t : Bool) → (t ≡ true → Within (backOf h w p ys xs y x n))
-          → Within (cond t (backOf h w p ys xs y x n) Cannot)
-      go true i = i refl
-      go false i = tt
-
-  module _ (o : ℕ) {q : Placement} (e : q ≡ placedAt h w p rows ys xs n (o / w) (o % w)) where
-    pub block-one : {b : ℕ} → q ≡ Blocked b → blockIn h w p rows ys xs n o ≡ wallAt b ∷ []
-    unfolding blockIn
-    block-one d = rw (← e, d)
-
-    pub block-none : (q ≡ Fits) ⊎ (q ≡ Cannot) → blockIn h w p rows ys xs n o ≡ []
-    unfolding blockIn
-    block-none (inl d) = rw (← e, d)
-    block-none (inr d) = rw (← e, d)
 
 -- readings with and without walls
 abbrev Joins : Reading → Type 0
@@ -191,22 +70,20 @@ module _ (Z : Puzzle) (s : ℕ → Mark) where
       go true false e = tt
       go false v e = let z : _≡_ {A = ℕ} 0 1 = cc in absurd (omega arith)
 
-  walled-at : {o : Option ℕ} (b : ℕ) → o ≡ some b → Joins (readingOf Z s o) → isClear (readingOf Z s o) ≡ false
-      → readingOf Z s o ≡ Walled b
-  unfolding readingOf
-  walled-at {o} b e j c = rw e (go (oneColour Z b) (isWall (s b)) (rw e at j) (rw e at c))
-    where
-      go : (t v : Bool) → Joins (cond t (cond v (Walled b) Clear) Ends)
-          → isClear (cond t (cond v (Walled b) Clear) Ends) ≡ false
-          → cond t (cond v (Walled b) Clear) Ends ≡ Walled b
-      go true true j c = refl
-      go true false j c = let z : _≡_ {A = ℕ} 0 1 = cc in absurd (omega arith)
-      go false v j c = absurd j
-
-clear-is : (r : Reading) → isClear r ≡ true → r ≡ Clear
-clear-is Ends e = let z : _≡_ {A = ℕ} 0 1 = cc in absurd (omega arith)
-clear-is Clear e = refl
-clear-is (Walled b) e = let z : _≡_ {A = ℕ} 0 1 = cc in absurd (omega arith)
+-- where the reading does not end the placement, it is that of the border
+wall-reads : (Z : Puzzle) (bs : List ℕ) (h w y x : ℕ) {o : Option ℕ} → o ≡ some (borderAt h w y x)
+    → Joins (readingOf Z (marksIn bs) o)
+    → readingOf Z (marksIn bs) o ≡ cond (wallOf h w bs y x) (Walled (borderAt h w y x)) Clear
+unfolding readingOf marksIn wallOf
+wall-reads Z bs h w y x e j =
+    let b = borderAt h w y x in
+    rw (e, mark-wall (getD bs b 0))
+    (go (oneColour Z b) (eqb (getD bs b 0) 1) b (rw (e, mark-wall (getD bs b 0)) at j))
+  where
+    go : (t v : Bool) (b : ℕ) → Joins (cond t (cond v (Walled b) Clear) Ends)
+        → cond t (cond v (Walled b) Clear) Ends ≡ cond v (Walled b) Clear
+    go true v b j = refl
+    go false v b j = absurd j
 
 all-some : (n : ℕ) (f : ℕ → Bool) → allBelow n f ≡ false → (j : ℕ) × (j < n) × (f j ≡ false)
 unfolding allBelow
@@ -315,13 +192,6 @@ module _ {h w : ℕ} {cs : List ℕ} (d : Drawn h w cs) (bs ys xs : List ℕ) (n
   abbrev joined : ℕ → ℕ → Bool
   joined y x = allBelow n (λ j. isClear (at (marksIn noWalls) y x j))
 
-  clear-of : (y x j : ℕ) → y < 32 → j < n
-      → clearOf (planesOf h w cs bs) ys xs y x j ≡ isClear (at s y x j)
-  unfolding clearOf
-  clear-of y x j l m =
-      let e : (2 * x + getD xs j 0) / 2 ≡ getD xs j 0 / 2 + x = omega arith in
-      ap (spot (planesOf h w cs bs) (2 * y + getD ys j 0)) e ∙ spot-clear d bs ys xs n r y x j l m
-
   -- read from the end
   module _ (y x : ℕ) (l : y < 32) (t : joined y x ≡ true) where
     one : (j : ℕ) → j < n → isClear (at (marksIn noWalls) y x j) ≡ true
@@ -334,29 +204,31 @@ module _ {h w : ℕ} {cs : List ℕ} (d : Drawn h w cs) (bs ys xs : List ℕ) (n
     on-all j m = on-page h w cs (marksIn noWalls) _ _ (one j m)
 
     back-from : (k : ℕ) → k ≤ n → ((i : ℕ) → k ≤ i → i < n → at s y x i ≡ Clear)
-        → backOf h w (planesOf h w cs bs) ys xs y x k ≡ after Fits (map (at s y x) (rangeFrom 0 n))
+        → backOf h w bs ys xs y x k ≡ after Fits (map (at s y x) (rangeFrom 0 n))
     unfolding backOf
     back-from zero m c = sym (after-clear (at s y x) Fits 0 n (λ i a b. c i a (omega arith)))
     back-from (suc k) m c =
-        go (clearOf (planesOf h w cs bs) ys xs y x k) (clear-of y x k l (omega arith)) (back-from k (omega arith))
+        go (wallOf h w bs (2 * y + getD ys k 0) (2 * x + getD xs k 0))
+        (wall-reads Z bs h w _ _ (reads-border (on-all k (omega arith))) (joins k (omega arith)))
+        (back-from k (omega arith))
       where
-        go : (b : Bool) → b ≡ isClear (at s y x k)
+        go : (b : Bool)
+            → at s y x k ≡ cond b (Walled (borderAt h w (2 * y + getD ys k 0) (2 * x + getD xs k 0))) Clear
             → (((i : ℕ) → k ≤ i → i < n → at s y x i ≡ Clear)
-            → backOf h w (planesOf h w cs bs) ys xs y x k ≡ after Fits (map (at s y x) (rangeFrom 0 n)))
-            → cond b (backOf h w (planesOf h w cs bs) ys xs y x k)
-            (Blocked (borderAt h w (2 * y + getD ys k 0) (2 * x + getD xs k 0)))
+            → backOf h w bs ys xs y x k ≡ after Fits (map (at s y x) (rangeFrom 0 n)))
+            → cond b (Blocked (borderAt h w (2 * y + getD ys k 0) (2 * x + getD xs k 0)))
+            (backOf h w bs ys xs y x k)
             ≡ after Fits (map (at s y x) (rangeFrom 0 n))
-        go true e ih =
+        go false e ih =
             ih
             (λ i a b.
             ⊎-elim
-            (λ (q : k ≡ i). ap (at s y x) (sym q) ∙ clear-is (at s y x k) (sym e))
+            (λ (q : k ≡ i). ap (at s y x) (sym q) ∙ e)
             (λ (q : k < i). c i q b)
             (eq-or-lt-of-le a))
-        go false e ih =
+        go true e ih =
             sym
-            (after-wall (at s y x) Fits 0 n k _ (omega arith) (omega arith) (λ i a b. joins i (omega arith))
-            (walled-at Z s _ (reads-border (on-all k (omega arith))) (joins k (omega arith)) (sym e))
+            (after-wall (at s y x) Fits 0 n k _ (omega arith) (omega arith) (λ i a b. joins i (omega arith)) e
             (λ i a b. c i a (omega arith)))
 
   -- a placement, by its readings
@@ -390,17 +262,18 @@ module _ {h w : ℕ} {cs : List ℕ} (d : Drawn h w cs) (bs ys xs : List ℕ) (n
         }
 
     placed-is : (o : ℕ) → o < h * w → bit (getD m (o / w) 0) (o % w) ≡ true
-        → placedAt h w (planesOf h w cs bs) rows ys xs n (o / w) (o % w) ≡ laid Z s (bare (spelled ys xs n)) o
+        → placedAt h w bs rows ys xs n (o / w) (o % w) ≡ laid Z s (bare (spelled ys xs n)) o
     unfolding placedAt
     placed-is o l e =
         let a : o / w < h = div-lt-iff-lt-mul {k = w} (omega (arith, d .sized .columns)) .1 l in
         go (bit (getD rows (o / w) 0) (o % w)) (row-bit (o / w) (o % w) a ∙ rw e)
       where
         go : (b : Bool) → b ≡ joined (o / w) (o % w)
-            → cond b (backOf h w (planesOf h w cs bs) ys xs (o / w) (o % w) n) Cannot
+            → cond b (backOf h w bs ys xs (o / w) (o % w) n) Cannot
             ≡ laid Z s (bare (spelled ys xs n)) o
         go true q =
-            back-from (o / w) (o % w) (place-in o (d .sized) l .0) (sym q) n (omega arith) (λ i a b. absurd (omega arith))
+            back-from (o / w) (o % w) (place-in o (d .sized) l .0) (sym q) n (omega arith)
+            (λ i a b. absurd (omega arith))
             ∙ sym (laid-at o)
         go false q = sym (laid-at o ∙ cannot (o / w) (o % w) (sym q))
 
@@ -414,7 +287,7 @@ pub blocks-same : {h w : ℕ} {cs : List ℕ} → Drawn h w cs → (bs ys xs : L
     → {cells offs mates : List ℕ} {from to : ℕ} → Beside h w cells offs mates from to
     → {m rows : List ℕ} → Masked w (originsIn cells offs (part mates from to)) m
     → Survived (planesOf h w cs noWalls) m h ys xs n rows
-    → flatMap (λ Q. flatMap (blockIn h w (planesOf h w cs bs) rows ys xs n) (groupIn cells offs Q)) (part mates from to)
+    → flatMap (λ Q. flatMap (blockIn h w bs rows ys xs n) (groupIn cells offs Q)) (part mates from to)
     ≡ blocksBeside (puzzle h w cs) (marksIn bs) (bare (spelled ys xs n)) cells offs (part mates from to)
 unfolding blocksBeside blocksAmong blockOf blockIn originsIn
 blocks-same {h} {w} {cs} d bs ys xs n r {cells} {offs} {mates} {from} {to} b k v =

@@ -2,8 +2,9 @@
 --
 --   On h w y x          the raised doubled place (y,x) lies on the page
 --   borderAt h w y x    the border there
---   clearOf p ys xs y x j   connection j, laid with its origin at (y,x), is clear by the planes p
---   backOf h w p .. y x n   the placement there, n connections read from the last one on: the first wall is the blocker
+--   wallOf h w bs y x   it is a wall, by the borders bs
+--   backOf h w bs .. y x n   the placement with its origin at (y,x), n connections read from the last one on: the first
+--                       wall is the blocker
 --   noWalls             borders of which none is wall
 --   Survived p m h ys xs n rows   rows has the origins of the mask m at which all n connections are clear by p
 --   Lain h w rows ys xs n         at the origins in rows every connection is on the page
@@ -23,7 +24,7 @@ use Rattle.rules.specs.declared.Placement.the-variants.{Fits, Blocked, Cannot}
 use Rattle.rules.specs.Flat.{belowOf, rightOf}
 use Rattle.rules.specs.Page.{wallAt}
 use Rattle.planes.specs.Bits.{bit}
-use Rattle.planes.specs.Masks.{spot, clearWord}
+use Rattle.planes.specs.Masks.{clearWord}
 
 pub record On (h w y x : ℕ) : Type 0 where
   pub top : 64 ≤ y
@@ -36,8 +37,8 @@ borderAt h w y x =
     cond (eqb ((y - 64) % 2) 1) (belowOf h w ((y - 64) / 2) ((x - 64) / 2))
     (rightOf h w ((y - 64) / 2) ((x - 64) / 2))
 
-unfoldable pub clearOf : List ℕ → List ℕ → List ℕ → ℕ → ℕ → ℕ → Bool
-clearOf p ys xs y x j = spot p (2 * y + getD ys j 0) ((2 * x + getD xs j 0) / 2)
+unfoldable pub wallOf : ℕ → ℕ → List ℕ → ℕ → ℕ → Bool
+wallOf h w bs y x = eqb (getD bs (borderAt h w y x) 0) 1
 
 abbrev pub noWalls : List ℕ
 noWalls = replicate 1984 0
@@ -59,13 +60,13 @@ blockerOf Fits = []
 blockerOf Cannot = []
 blockerOf (Blocked b) = wallAt b ∷ []
 
-module _ (h w : ℕ) (p : List ℕ) where
+module _ (h w : ℕ) (bs : List ℕ) where
   -- "the last wall is the blocker"
   unfoldable pub backOf : List ℕ → List ℕ → ℕ → ℕ → ℕ → Placement
   backOf ys xs y x zero = Fits
   backOf ys xs y x (suc j) =
-      cond (clearOf p ys xs y x j) (backOf ys xs y x j)
-      (Blocked (borderAt h w (2 * y + getD ys j 0) (2 * x + getD xs j 0)))
+      cond (wallOf h w bs (2 * y + getD ys j 0) (2 * x + getD xs j 0))
+      (Blocked (borderAt h w (2 * y + getD ys j 0) (2 * x + getD xs j 0))) (backOf ys xs y x j)
 
   module _ (rows ys xs : List ℕ) (n : ℕ) where
     unfoldable pub placedAt : ℕ → ℕ → Placement

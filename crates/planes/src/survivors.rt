@@ -12,7 +12,8 @@ ghost use Rattle.search.specs.Searching.{Beside, groupIn};
 ghost use Rattle.planes.specs.Bits.{bit};
 ghost use Rattle.planes.specs.Masks.{Sizes};
 ghost use Rattle.planes.specs.Planes.{planesOf};
-ghost use Rattle.planes.specs.Survivors.{On, Survived, Lain, Placed, noWalls, borderAt, backOf, placedAt, blockIn};
+ghost use Rattle.planes.specs.Survivors.{On, Survived, Lain, Placed, noWalls};
+ghost use Rattle.planes.specs.Survivors.{borderAt, backOf, placedAt, blockIn};
 use crate::draw_planes;
 use crate::line_left;
 use reasons::append;
@@ -96,7 +97,7 @@ fn border_at(h: usize, w: usize, y: usize, x: usize) -> usize
 fn laid_back<'a>(
     h: usize,
     w: usize,
-    planes: &'a [u64; 192],
+    borders: &'a [u8; 1984],
     ys: &'a [u8; 2048],
     xs: &'a [u8; 2048],
     n: usize,
@@ -105,15 +106,14 @@ fn laid_back<'a>(
 ) -> Placement
     requires { ⌜ Sized h w × Raised (now ys) (now xs) n × (y < 32) × (x < 32)
         × ((j : ℕ) → j < n → On h w (2 * y + getD (now ys) j 0) (2 * x + getD (now xs) j 0)) ⌝ }
-    ensures { λ r. ⌜ r ≡ backOf h w (now (planes .entry)) (now (ys .entry)) (now (xs .entry)) y x n ⌝ }
+    ensures { λ r. ⌜ r ≡ backOf h w (now (borders .entry)) (now (ys .entry)) (now (xs .entry)) y x n ⌝ }
 {
     let mut j = n;
     while j > 0 {
         j -= 1;
-        let down = 2 * y + ys[j] as usize;
-        let across = 2 * x + xs[j] as usize;
-        if !has(planes[down], across / 2) {
-            return Placement::Blocked(border_at(h, w, down, across));
+        let border = border_at(h, w, 2 * y + ys[j] as usize, 2 * x + xs[j] as usize);
+        if borders[border] == 1 {
+            return Placement::Blocked(border);
         }
     }
     Placement::Fits
@@ -123,7 +123,7 @@ fn laid_back<'a>(
 fn placed<'a>(
     h: usize,
     w: usize,
-    planes: &'a [u64; 192],
+    borders: &'a [u8; 1984],
     rows: &'a [u64; 32],
     ys: &'a [u8; 2048],
     xs: &'a [u8; 2048],
@@ -133,11 +133,11 @@ fn placed<'a>(
 ) -> Placement
     requires { ⌜ Sized h w × Raised (now ys) (now xs) n × Lain h w (now rows) (now ys) (now xs) n × (y < h)
         × (x < w) ⌝ }
-    ensures { λ r. ⌜ r ≡ placedAt h w (now (planes .entry)) (now (rows .entry)) (now (ys .entry)) (now (xs .entry)) n y
+    ensures { λ r. ⌜ r ≡ placedAt h w (now (borders .entry)) (now (rows .entry)) (now (ys .entry)) (now (xs .entry)) n y
         x ⌝ }
 {
     if has(rows[y], x) {
-        return laid_back(h, w, planes, ys, xs, n, y, x);
+        return laid_back(h, w, borders, ys, xs, n, y, x);
     }
     Placement::Cannot
 }
@@ -148,7 +148,7 @@ fn block_at<'a>(
     at: usize,
     h: usize,
     w: usize,
-    planes: &'a [u64; 192],
+    borders: &'a [u8; 1984],
     places: &'a [u16; 1024],
     rows: &'a [u64; 32],
     ys: &'a [u8; 2048],
@@ -158,13 +158,14 @@ fn block_at<'a>(
 ) -> usize
     requires { ⌜ Sized h w × Raised (now ys) (now xs) n × Lain h w (now rows) (now ys) (now xs) n
         × Placed h w (now places) × (o < h * w)
-        × (at + length (blockIn h w (now planes) (now rows) (now ys) (now xs) n o) ≤ length (now memory)) ⌝ }
+        × (at + length (blockIn h w (now borders) (now rows) (now ys) (now xs) n o) ≤ length (now memory)) ⌝ }
     ensures { λ r. ⌜ Wrote (now (memory .entry)) at
-        (blockIn h w (now (planes .entry)) (now (rows .entry)) (now (ys .entry)) (now (xs .entry)) n o)
+        (blockIn h w (now (borders .entry)) (now (rows .entry)) (now (ys .entry)) (now (xs .entry)) n o)
         (now (memory .exit)) r ⌝ }
 {
     let place = places[o] as usize;
-    let Placement::Blocked(border) = placed(h, w, planes, rows, ys, xs, n, place / 32, place % 32) else {
+    let Placement::Blocked(border) = placed(h, w, borders, rows, ys, xs, n, place / 32, place % 32)
+    else {
         return at;
     };
     append(
@@ -183,7 +184,7 @@ fn block_group<'a>(
     start: usize,
     h: usize,
     w: usize,
-    planes: &'a [u64; 192],
+    borders: &'a [u8; 1984],
     places: &'a [u16; 1024],
     rows: &'a [u64; 32],
     ys: &'a [u8; 2048],
@@ -195,10 +196,10 @@ fn block_group<'a>(
 ) -> usize
     requires { ⌜ Sized h w × Raised (now ys) (now xs) n × Lain h w (now rows) (now ys) (now xs) n
         × Placed h w (now places) × Cells h w (now cells) from to
-        × (start + length (flatMap (blockIn h w (now planes) (now rows) (now ys) (now xs) n)
+        × (start + length (flatMap (blockIn h w (now borders) (now rows) (now ys) (now xs) n)
         (part (now cells) from to)) ≤ length (now memory)) ⌝ }
     ensures { λ r. ⌜ Wrote (now (memory .entry)) start
-        (flatMap (blockIn h w (now (planes .entry)) (now (rows .entry)) (now (ys .entry)) (now (xs .entry)) n)
+        (flatMap (blockIn h w (now (borders .entry)) (now (rows .entry)) (now (ys .entry)) (now (xs .entry)) n)
         (part (now (cells .entry)) from to)) (now (memory .exit)) r ⌝ }
 {
     let mut at = start;
@@ -209,7 +210,7 @@ fn block_group<'a>(
             at,
             h,
             w,
-            planes,
+            borders,
             places,
             rows,
             ys,
@@ -223,14 +224,13 @@ fn block_group<'a>(
 }
 
 // Writes the blockers of the placements at the cells of the groups that the list of mates has from the place `from` to
-// the place `to`; gives the next place. `planes` are the page's, `places` says where its cells are, and `rows` has the
-// survivors.
+// the place `to`; gives the next place. `places` says where the page's cells are, and `rows` has the survivors.
 pub fn block_mates<'a>(
     memory: &mut [u16],
     start: usize,
     h: usize,
     w: usize,
-    planes: &'a [u64; 192],
+    borders: &'a [u8; 1984],
     places: &'a [u16; 1024],
     rows: &'a [u64; 32],
     ys: &'a [u8; 2048],
@@ -244,10 +244,10 @@ pub fn block_mates<'a>(
 ) -> usize
     requires { ⌜ Sized h w × Raised (now ys) (now xs) n × Lain h w (now rows) (now ys) (now xs) n
         × Placed h w (now places) × Beside h w (now cells) (now offs) (now mates) from to
-        × (start + length (flatMap (λ Q. flatMap (blockIn h w (now planes) (now rows) (now ys) (now xs) n)
+        × (start + length (flatMap (λ Q. flatMap (blockIn h w (now borders) (now rows) (now ys) (now xs) n)
         (groupIn (now cells) (now offs) Q)) (part (now mates) from to)) ≤ length (now memory)) ⌝ }
     ensures { λ r. ⌜ Wrote (now (memory .entry)) start
-        (flatMap (λ Q. flatMap (blockIn h w (now (planes .entry)) (now (rows .entry)) (now (ys .entry))
+        (flatMap (λ Q. flatMap (blockIn h w (now (borders .entry)) (now (rows .entry)) (now (ys .entry))
         (now (xs .entry)) n) (groupIn (now (cells .entry)) (now (offs .entry)) Q))
         (part (now (mates .entry)) from to)) (now (memory .exit)) r ⌝ }
 {
@@ -260,7 +260,7 @@ pub fn block_mates<'a>(
             at,
             h,
             w,
-            planes,
+            borders,
             places,
             rows,
             ys,

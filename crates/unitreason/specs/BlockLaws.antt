@@ -19,7 +19,7 @@ pub planes-long : (h w : ℕ) (cs bs : List ℕ) {p : List ℕ} → p ≡ planes
 unfolding planesOf
 planes-long h w cs bs e = ap length e ∙ length-table 192 (planeWord h w cs bs)
 
--- q are the planes of the colours, p those of the page, m the mask of the origins
+-- q are the planes of the colours, m is the mask of the origins
 module _ {h w : ℕ} {cs : List ℕ} (d : Drawn h w cs) (bs ys xs : List ℕ) (n : ℕ) (r : Raised ys xs n)
     {q m rows : List ℕ} (e : q ≡ planesOf h w cs noWalls) (v : Survived q m h ys xs n rows) where
   survived : Survived (planesOf h w cs noWalls) m h ys xs n rows
@@ -28,9 +28,9 @@ module _ {h w : ℕ} {cs : List ℕ} (d : Drawn h w cs) (bs ys xs : List ℕ) (n
   pub lain-rows : Lain h w rows ys xs n
   lain-rows = lain d bs ys xs n r survived
 
-  pub blocks-row : {p : List ℕ} → p ≡ planesOf h w cs bs → {cells offs mates : List ℕ} {from to : ℕ}
+  pub blocks-row : {cells offs mates : List ℕ} {from to : ℕ}
       → Beside h w cells offs mates from to → Masked w (originsIn cells offs (part mates from to)) m
       → {js : List Point} → spelled ys xs n ≡ js
-      → flatMap (λ Q. flatMap (blockIn h w p rows ys xs n) (groupIn cells offs Q)) (part mates from to)
+      → flatMap (λ Q. flatMap (blockIn h w bs rows ys xs n) (groupIn cells offs Q)) (part mates from to)
       ≡ blocksBeside (puzzle h w cs) (marksIn bs) (bare js) cells offs (part mates from to)
-  blocks-row f b k g = rw (f, ← g) (blocks-same d bs ys xs n r b k survived)
+  blocks-row b k g = rw (← g) (blocks-same d bs ys xs n r b k survived)

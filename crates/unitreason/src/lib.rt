@@ -17,7 +17,6 @@ ghost use Rattle.units.specs.Stuck.{potentialIn};
 ghost use Rattle.unitreason.specs.Writing.{Numbered, Low, Mated, flagsOf, edgesIn, farIn, wallsIn};
 ghost use Rattle.unitreason.specs.Writing.{Arranged, Imaged, Asked, blocksListed, clued};
 use planes::draw_mask;
-use planes::draw_planes;
 use planes::survivors::block_mates;
 use planes::survivors::draw_colours;
 use planes::survivors::draw_places;
@@ -256,8 +255,6 @@ fn block_rows<'a>(
 {
     let mut same = [0u64; 192];
     draw_colours(h, w, colours, &mut same);
-    let mut planes = [0u64; 192];
-    draw_planes(h, w, colours, borders, &mut planes);
     let mut mask = [0u64; 33];
     draw_mask(h, w, cells, offs, mates, from, to, 0, &mut mask);
     let mut spread = [0u16; 1024];
@@ -275,7 +272,7 @@ fn block_rows<'a>(
             at,
             h,
             w,
-            &planes,
+            borders,
             &spread,
             &left,
             ys,

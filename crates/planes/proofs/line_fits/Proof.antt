@@ -1,5 +1,5 @@
 -- A word is not 0 exactly if it has a bit.
-use mathlib.Core.Path.{sym, _∙_}
+use mathlib.Core.Path.{sym}
 use borrow.Author.Needs.{needs}
 use Rattle.planes.specs.WordLaws.{fits-word}
 use Rattle.planes.proofs.line_fits.Statement.{statement}

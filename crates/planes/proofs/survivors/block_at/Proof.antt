@@ -1,7 +1,7 @@
 -- A blocked placement is written; the two others give nothing.
 use mathlib.Core.List.{[], _∷_}
 use mathlib.Core.Logic.{inl, inr, ⊎-elim}
-use mathlib.Core.Path.{_≡_, ap, ap₂, sym, _∙_}
+use mathlib.Core.Path.{_≡_, ap, ap₂, _∙_}
 use Prim.Native.Nat.{_/_, _%_, _<_}
 use native.Mathlib.Nat.{mod-lt, div-lt-iff-lt-mul}
 use native.Mathlib.Omega.{arith}
@@ -13,7 +13,7 @@ use Rattle.rules.specs.FlatLaws.{counts}
 use Rattle.rules.specs.Page.{wallAt}
 use Rattle.reasons.specs.MemoryLaws.{wrote-none}
 use Rattle.planes.specs.Survivors.{placedAt, blockIn}
-use Rattle.planes.specs.SurvivorLaws.{place-row, place-column, placed-within, block-one, block-none}
+use Rattle.planes.specs.PlacedLaws.{place-row, place-column, placed-within, block-one, block-none}
 use Rattle.planes.proofs.survivors.block_at.Statement.{statement}
 use Rattle.planes.proofs.survivors.block_at.Tie as tie
 
@@ -32,21 +32,22 @@ slim s = mod-lt (s .args .o) (omega (arith, s .pre .0 .columns))
 
 -- its placement
 is : (c : tie.After-placed) → let s = c .before .before .before in
-    c .placed .result ≡ placedAt (s .args .h) (s .args .w) (s .args .planes .now) (s .args .rows .now) (s .args .ys .now)
+    c .placed .result
+    ≡ placedAt (s .args .h) (s .args .w) (s .args .borders .now) (s .args .rows .now) (s .args .ys .now)
     (s .args .xs .now) (s .args .n) (s .args .o / s .args .w) (s .args .o % s .args .w)
 is c = let s = c .before .before .before in
     c .placed .ensures
     ∙ ap₂
-    (placedAt (s .args .h) (s .args .w) (s .args .planes .now) (s .args .rows .now) (s .args .ys .now)
+    (placedAt (s .args .h) (s .args .w) (s .args .borders .now) (s .args .rows .now) (s .args .ys .now)
     (s .args .xs .now) (s .args .n)) (row s) (column s)
 
 -- the blocker
 one : (c : tie.After-known-told) → let s = c .before .before .before .before .before .before in
-    blockIn (s .args .h) (s .args .w) (s .args .planes .now) (s .args .rows .now) (s .args .ys .now) (s .args .xs .now)
+    blockIn (s .args .h) (s .args .w) (s .args .borders .now) (s .args .rows .now) (s .args .ys .now) (s .args .xs .now)
     (s .args .n) (s .args .o) ≡ wallAt (c .before .border .given .0 .0) ∷ []
 one c = let s = c .before .before .before .before .before .before in
-    block-one (s .args .h) (s .args .w) (s .args .planes .now) (s .args .rows .now) (s .args .ys .now) (s .args .xs .now)
-    (s .args .n) (s .args .o) (is (c .before .before .before)) (c .before .border .given .1)
+    block-one (s .args .h) (s .args .w) (s .args .borders .now) (s .args .rows .now) (s .args .ys .now)
+    (s .args .xs .now) (s .args .n) (s .args .o) (is (c .before .before .before)) (c .before .border .given .1)
 
 mul-place : tie.Need-mul-place
 mul-place c = omega (arith, c .before .pre .4, counts (c .before .pre .0) .cells)
@@ -76,7 +77,7 @@ returns : tie.Need-returns
 returns c =
     let s = c .before .before .before .before in
     let p = c .before .placed .result in
-    let e = block-none (s .args .h) (s .args .w) (s .args .planes .now) (s .args .rows .now) (s .args .ys .now)
+    let e = block-none (s .args .h) (s .args .w) (s .args .borders .now) (s .args .rows .now) (s .args .ys .now)
     (s .args .xs .now) (s .args .n) (s .args .o) (is (c .before))
     (⊎-elim (λ t. inl (lives-at enum p 0 t .1)) (λ t. inr (lives-at enum p 2 t .1)) (c .match .keys2)) in
     rw e (wrote-none _ _)
@@ -84,7 +85,7 @@ returns c =
 append-requires : tie.Need-append-requires
 append-requires c κs =
     let s = c .before .before .before .before .before .before .before in
-    let w = placed-within (s .args .h) (s .args .w) (s .args .planes .now) (s .args .rows .now) (s .args .ys .now)
+    let w = placed-within (s .args .h) (s .args .w) (s .args .borders .now) (s .args .rows .now) (s .args .ys .now)
     (s .args .xs .now) (s .args .n) (s .pre .0) (s .pre .2) _ _ (low s) (slim s) in (
       omega (arith, ap length (one (c .before)), s .pre .5),
       rw (← is (c .before .before .before .before), c .before .before .border .given .1) at w,

@@ -1,9 +1,11 @@
 -- The loop's invariant: the blockers at the cells before i are written.
 use mathlib.Core.Path.{_≡_}
-use Prim.Native.Nat.{_≤_, _-_}
+use mathlib.Core.List.{List}
+use Prim.Native.Nat.{ℕ, _≤_, _-_}
 use native.Mathlib.Omega.{arith}
 use borrow.Author.Needs.{needs}
 use Rattle.lists.specs.Lists.{flatMap}
+use Rattle.rules.specs.declared.Literal.{Literal}
 use Rattle.rules.specs.FlatLaws.{counts}
 use Rattle.reasons.specs.Arrays.{part}
 use Rattle.reasons.specs.Memory.{Wrote}
@@ -15,19 +17,24 @@ use Rattle.planes.proofs.survivors.block_group.Statement.{statement}
 use Rattle.planes.proofs.survivors.block_group.Tie as tie
 
 abbrev Inv-loop : tie.InvT-loop
-Inv-loop memory₀ start h w planes places rows ys xs n cells from to at₀ i₀ memory at i =
+Inv-loop memory₀ start h w borders places rows ys xs n cells from to at₀ i₀ memory at i =
     (from ≤ i) × (i ≤ to) × Wrote memory₀ start
-    (flatMap (blockIn h w planes rows ys xs n) (part cells from i)) memory at
+    (flatMap (blockIn h w borders rows ys xs n) (part cells from i)) memory at
 
 abbrev μ-loop : tie.MeasureT-loop
-μ-loop memory₀ start h w planes places rows ys xs n cells from to at₀ i₀ memory at i = to - i
+μ-loop memory₀ start h w borders places rows ys xs n cells from to at₀ i₀ memory at i = to - i
+
+-- the blocker at a cell
+abbrev each : tie.Start Inv-loop μ-loop → ℕ → List Literal
+each s o =
+    blockIn (s .args .h) (s .args .w) (s .args .borders .now) (s .args .rows .now) (s .args .ys .now) (s .args .xs .now)
+    (s .args .n) o
 
 loop-holds : tie.Need-loop-holds Inv-loop μ-loop
 loop-holds c = let s = c .before in (
   omega arith,
   s .pre .4 .order,
-  write-none (blockIn (s .args .h) (s .args .w) (s .args .planes .now) (s .args .rows .now) (s .args .ys .now)
-      (s .args .xs .now) (s .args .n)) (s .args .cells .now) (s .args .from),
+  write-none (each s) (s .args .cells .now) (s .args .from),
 )
 
 mul-block-at : tie.Need-mul-block-at Inv-loop μ-loop
@@ -55,8 +62,7 @@ block-at-requires c κs =
       s .pre .3,
       cells-at (s .pre .4) _ (c .before .before .before .loop .inv .0)
           (c .before .before .loop-test .taken),
-      write-fits (blockIn (s .args .h) (s .args .w) (s .args .planes .now) (s .args .rows .now) (s .args .ys .now)
-      (s .args .xs .now) (s .args .n)) (s .args .cells .now) _ _
+      write-fits (each s) (s .args .cells .now) _ _
           (c .before .before .before .loop .inv .0) (c .before .before .before .loop .inv .2) _
           (c .before .before .loop-test .taken) (cells-reach (s .pre .4)) (s .pre .5),
     )
@@ -72,8 +78,7 @@ loop-again c =
     let s = c .before .before .before .before .before .before .before .before in (
       omega arith,
       omega arith,
-      write-more (blockIn (s .args .h) (s .args .w) (s .args .planes .now) (s .args .rows .now) (s .args .ys .now)
-      (s .args .xs .now) (s .args .n)) (s .args .cells .now) _ _
+      write-more (each s) (s .args .cells .now) _ _
           (c .before .before .before .before .before .before .loop .inv .0)
           (c .before .before .before .before .before .before .loop .inv .2) (omega (arith, cells-reach (s .pre .4)))
           (c .before .before .block-at .ensures),

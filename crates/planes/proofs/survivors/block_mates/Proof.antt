@@ -1,9 +1,11 @@
 -- The loop's invariant: the blockers beside the groups before i are written.
 use mathlib.Core.Path.{_≡_}
-use Prim.Native.Nat.{_≤_, _-_}
+use mathlib.Core.List.{List}
+use Prim.Native.Nat.{ℕ, _≤_, _-_}
 use native.Mathlib.Omega.{arith}
 use borrow.Author.Needs.{needs}
 use Rattle.lists.specs.Lists.{flatMap}
+use Rattle.rules.specs.declared.Literal.{Literal}
 use Rattle.reasons.specs.Arrays.{part}
 use Rattle.reasons.specs.Memory.{Wrote}
 use Rattle.reasons.specs.MemoryLaws.{wrote-length}
@@ -15,20 +17,26 @@ use Rattle.planes.proofs.survivors.block_mates.Statement.{statement}
 use Rattle.planes.proofs.survivors.block_mates.Tie as tie
 
 abbrev Inv-loop : tie.InvT-loop
-Inv-loop memory₀ start h w planes places rows ys xs n cells offs mates from to at₀ i₀ memory at i =
+Inv-loop memory₀ start h w borders places rows ys xs n cells offs mates from to at₀ i₀ memory at i =
     (from ≤ i) × (i ≤ to) × Wrote memory₀ start
-    (flatMap (λ q. flatMap (blockIn h w planes rows ys xs n) (groupIn cells offs q)) (part mates from i)) memory at
+    (flatMap (λ q. flatMap (blockIn h w borders rows ys xs n) (groupIn cells offs q)) (part mates from i)) memory at
 
 abbrev μ-loop : tie.MeasureT-loop
-μ-loop memory₀ start h w planes places rows ys xs n cells offs mates from to at₀ i₀ memory at i = to - i
+μ-loop memory₀ start h w borders places rows ys xs n cells offs mates from to at₀ i₀ memory at i = to - i
+
+-- the blockers beside a group
+abbrev each : tie.Start Inv-loop μ-loop → ℕ → List Literal
+each s q =
+    flatMap
+    (blockIn (s .args .h) (s .args .w) (s .args .borders .now) (s .args .rows .now) (s .args .ys .now)
+    (s .args .xs .now) (s .args .n))
+    (groupIn (s .args .cells .now) (s .args .offs .now) q)
 
 loop-holds : tie.Need-loop-holds Inv-loop μ-loop
 loop-holds c = let s = c .before in (
   omega arith,
   s .pre .4 .order,
-  write-none (λ q. flatMap (blockIn (s .args .h) (s .args .w) (s .args .planes .now) (s .args .rows .now) (s .args .ys .now)
-      (s .args .xs .now) (s .args .n))
-      (groupIn (s .args .cells .now) (s .args .offs .now) q)) (s .args .mates .now) (s .args .from),
+  write-none (each s) (s .args .mates .now) (s .args .from),
 )
 
 mul-q : tie.Need-mul-q Inv-loop μ-loop
@@ -102,9 +110,7 @@ block-group-requires c κs =
       s .pre .3,
       (s .pre .4 .each _ (c .before .before .before .before .before .loop .inv .0)
           (c .before .before .before .before .loop-test .taken)),
-      write-fits (λ q. flatMap (blockIn (s .args .h) (s .args .w) (s .args .planes .now) (s .args .rows .now) (s .args .ys .now)
-      (s .args .xs .now) (s .args .n))
-          (groupIn (s .args .cells .now) (s .args .offs .now) q)) (s .args .mates .now) _ _
+      write-fits (each s) (s .args .mates .now) _ _
           (c .before .before .before .before .before .loop .inv .0)
           (c .before .before .before .before .before .loop .inv .2) _
           (c .before .before .before .before .loop-test .taken) (mates-reach (s .pre .4)) (s .pre .5),
@@ -122,9 +128,7 @@ loop-again c =
     let s = c .before .before .before .before .before .before .before .before .before .before in (
       omega arith,
       omega arith,
-      write-more (λ q. flatMap (blockIn (s .args .h) (s .args .w) (s .args .planes .now) (s .args .rows .now) (s .args .ys .now)
-      (s .args .xs .now) (s .args .n))
-          (groupIn (s .args .cells .now) (s .args .offs .now) q)) (s .args .mates .now) _ _
+      write-more (each s) (s .args .mates .now) _ _
           (c .before .before .before .before .before .before .before .before .loop .inv .0)
           (c .before .before .before .before .before .before .before .before .loop .inv .2)
           (omega (arith, mates-reach (s .pre .4))) (c .before .before .block-group .ensures),

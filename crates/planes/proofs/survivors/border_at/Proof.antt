@@ -6,7 +6,7 @@ use borrow.Author.Needs.{needs}
 use Rattle.rules.specs.Flat.{belowOf, rightOf}
 use Rattle.rules.specs.FlatLaws.{counts}
 use Rattle.planes.specs.DrawLaws.{Line, line-in}
-use Rattle.planes.specs.SurvivorLaws.{border-below, border-right}
+use Rattle.planes.specs.PlacedLaws.{border-below, border-right}
 use Rattle.planes.proofs.survivors.border_at.Statement.{statement}
 use Rattle.planes.proofs.survivors.border_at.Tie as tie
 

@@ -1,5 +1,5 @@
 -- The loop's invariant: the places of the cells before c are written, and c is (y, x).
-use mathlib.Core.Path.{_≡_, refl, sym, ap, ap₂, _∙_}
+use mathlib.Core.Path.{_≡_, ap, _∙_}
 use mathlib.Core.Logic.{⊎-elim}
 use Prim.Native.Nat.{ℕ, _+_, _-_, _*_, _/_, _%_, _≤_, _<_}
 use native.Mathlib.Nat.{div-lt-iff-lt-mul}
@@ -8,7 +8,7 @@ use lib.Arith.{digits-div, digits-mod}
 use lib.ListN.{length, getD, length-set}
 use Rattle.lists.specs.Table.{stored-more}
 use Rattle.rules.specs.FlatLaws.{counts}
-use Rattle.planes.specs.SurvivorLaws.{next-row, next-column}
+use Rattle.planes.specs.PlacedLaws.{next-row, next-column}
 use Rattle.planes.proofs.survivors.draw_places.Statement.{statement}
 use Rattle.planes.proofs.survivors.draw_places.Tie as tie
 

@@ -2,7 +2,7 @@
 use mathlib.Core.Path.{sym, _∙_}
 use native.Mathlib.Omega.{arith}
 use borrow.Author.Needs.{needs}
-use Rattle.planes.specs.SurvivorLaws.{placed-some, placed-none}
+use Rattle.planes.specs.PlacedLaws.{placed-some, placed-none}
 use Rattle.planes.proofs.survivors.placed.Statement.{statement}
 use Rattle.planes.proofs.survivors.placed.Tie as tie
 
@@ -30,7 +30,7 @@ returns c =
     let s = c .before .before .before .before in
     c .laid-back .ensures
     ∙ sym
-    (placed-some (s .args .h) (s .args .w) (s .args .planes .now) (s .args .rows .now) (s .args .ys .now)
+    (placed-some (s .args .h) (s .args .w) (s .args .borders .now) (s .args .rows .now) (s .args .ys .now)
     (s .args .xs .now) (s .args .n) (s .args .y) (s .args .x)
     (sym (c .before .before .has .ensures) ∙ c .before .if1 .taken))
 
@@ -38,7 +38,7 @@ returns-2 : tie.Need-returns-2
 returns-2 c =
     let s = c .before .before .before in
     sym
-    (placed-none (s .args .h) (s .args .w) (s .args .planes .now) (s .args .rows .now) (s .args .ys .now)
+    (placed-none (s .args .h) (s .args .w) (s .args .borders .now) (s .args .rows .now) (s .args .ys .now)
     (s .args .xs .now) (s .args .n) (s .args .y) (s .args .x) (sym (c .before .has .ensures) ∙ c .if1 .left))
 
 pub placed-spec : {M : Type 1} → statement M
