@@ -6,8 +6,8 @@ use Rattle.reasons.specs.Arrays.{part, edgeIn}
 use Rattle.reasons.specs.MemoryLaws.{wrote-more}
 use Rattle.unitreason.specs.ListExtras.{room-first, room-second, room-third}
 use Rattle.unitreason.specs.Writing.{edgesIn, farIn, wallsIn}
-use Rattle.unitreason.proofs.walls_of.Statement.{statement}
-use Rattle.unitreason.proofs.walls_of.Tie as tie
+use Rattle.unitreason.proofs.walls.walls_of.Statement.{statement}
+use Rattle.unitreason.proofs.walls.walls_of.Tie as tie
 
 mul-wide : tie.Need-mul-wide
 mul-wide c = search needs

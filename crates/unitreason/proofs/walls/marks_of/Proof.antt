@@ -5,8 +5,8 @@ use native.Mathlib.Omega.{arith}
 use borrow.Author.Needs.{needs}
 use Rattle.reasons.specs.Arrays.{part}
 use Rattle.unitreason.specs.FlagLaws.{Flagged, flagged-none, flagged-more, flagged-all}
-use Rattle.unitreason.proofs.marks_of.Statement.{statement}
-use Rattle.unitreason.proofs.marks_of.Tie as tie
+use Rattle.unitreason.proofs.walls.marks_of.Statement.{statement}
+use Rattle.unitreason.proofs.walls.marks_of.Tie as tie
 
 abbrev Inv-loop : tie.InvT-loop
 Inv-loop mates from to marked₀ i₀ marked i = (from ≤ i) × (i ≤ to) × Flagged (part mates from i) marked

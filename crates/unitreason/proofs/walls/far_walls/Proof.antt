@@ -1,8 +1,8 @@
 -- A scan with the mates marked.
 use borrow.Author.Needs.{needs}
 use Rattle.unitreason.specs.Writing.{farIn}
-use Rattle.unitreason.proofs.far_walls.Statement.{statement}
-use Rattle.unitreason.proofs.far_walls.Tie as tie
+use Rattle.unitreason.proofs.walls.far_walls.Statement.{statement}
+use Rattle.unitreason.proofs.walls.far_walls.Tie as tie
 
 marks-of-requires : tie.Need-marks-of-requires
 marks-of-requires c κs = search needs

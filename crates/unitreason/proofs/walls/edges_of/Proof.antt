@@ -9,8 +9,8 @@ use Rattle.reasons.specs.Memory.{Wrote}
 use Rattle.reasons.specs.MemoryLaws.{wrote-length}
 use Rattle.search.specs.ListExtras.{write-none, write-more, write-fits}
 use Rattle.unitreason.specs.Writing.{edgesIn}
-use Rattle.unitreason.proofs.edges_of.Statement.{statement}
-use Rattle.unitreason.proofs.edges_of.Tie as tie
+use Rattle.unitreason.proofs.walls.edges_of.Statement.{statement}
+use Rattle.unitreason.proofs.walls.edges_of.Tie as tie
 
 abbrev Inv-loop : tie.InvT-loop
 Inv-loop memory₀ start h w colours borders ids cells offs mates from to at₀ i₀ memory at i =
