@@ -3,6 +3,7 @@
 --   fitsOn U xs         a placement of unit U fits; xs are its cells
 --   fitsUnit U          the same
 --   firstFrom f i n, firstFail f n   the first number from i on, from 0 on, that fails the test, among n
+--   Passed f n i        the first of n numbers that fails the test is the first from i on
 --   headOf xs           the first of some cells
 --   potentialIn U       the potential unit of unit U: that of its first cell
 --   stuckHit n U        step 3's hit, where U is the first of n units that does not fit, or n
@@ -13,7 +14,7 @@ use mathlib.Core.Path.{_≡_}
 use mathlib.Core.Bool.{Bool, true, cond}
 use mathlib.Core.List.{List, [], _∷_}
 use mathlib.Core.Option.{Option, some, none}
-use Prim.Native.Nat.{ℕ, zero, suc}
+use Prim.Native.Nat.{ℕ, zero, suc, _-_, _≤_}
 use lib.Dec.{ltb}
 use lib.ListN.{getD}
 use Rattle.lists.specs.Lists.{any}
@@ -35,6 +36,10 @@ firstFrom f i (suc n) = cond (f i) (firstFrom f (suc i) n) i
 
 unfoldable pub firstFail : (ℕ → Bool) → ℕ → ℕ
 firstFail f n = firstFrom f 0 n
+
+pub record Passed (f : ℕ → Bool) (n i : ℕ) : Type 0 where
+  pub most : i ≤ n
+  pub left : firstFail f n ≡ firstFrom f i (n - i)
 
 abbrev pub headOf : List ℕ → ℕ
 headOf xs = getD xs 0 0

@@ -11,32 +11,36 @@ use Rattle.lists.specs.Lists.{firstHit, orElse, range, rangeFrom}
 use Rattle.rules.specs.Page.{Mark, Puzzle}
 use Rattle.rules.specs.Groups.{members, unitOf, potentialOf}
 use Rattle.rules.specs.Check.{hitIf, unitReason, unitHitIn, unitHitOn, unitHit}
-use Rattle.units.specs.Stuck.{firstFrom, firstFail, headOf, fitsOn, fitsUnit, potentialIn, stuckHit}
+use Rattle.units.specs.Stuck.{firstFrom, firstFail, Passed, headOf, fitsOn, fitsUnit, potentialIn, stuckHit}
 
--- the loop
-module _ (f : ℕ → Bool) (n i : ℕ) (inv : firstFail f n ≡ firstFrom f i (n - i)) where
-  pub fail-done : n ≤ i → i ≤ n → n ≡ firstFail f n
+-- the search goes from number to number
+pub passed-start : (f : ℕ → Bool) (n : ℕ) → Passed f n 0
+unfolding firstFail
+passed-start f n = let e : n - 0 ≡ n = omega arith in record { most = omega arith; left = rw e }
+
+module _ {f : ℕ → Bool} {n i : ℕ} (k : Passed f n i) where
+  pub passed-done : n ≤ i → n ≡ firstFail f n
   unfolding firstFrom
-  fail-done h k =
+  passed-done h =
+      let m = k .most in
       let e : n - i ≡ 0 = omega arith in
       let d : n ≡ i = omega arith in
-      d ∙ sym (inv ∙ rw e)
+      d ∙ sym (k .left ∙ rw e)
+
+  pub passed-all : n ≤ i → Passed f n n
+  passed-all h = let m = k .most in let e : i ≡ n = omega arith in rw e at k
 
   module _ (h : i < n) where
     next : n - i ≡ suc (n - (i + 1))
     next = omega arith
 
-    pub fail-here : f i ≡ false → i ≡ firstFail f n
+    pub passed-here : f i ≡ false → i ≡ firstFail f n
     unfolding firstFrom
-    fail-here e = sym (inv ∙ rw (next, e))
+    passed-here e = sym (k .left ∙ rw (next, e))
 
-    pub fail-next : f i ≡ true → firstFail f n ≡ firstFrom f (i + 1) (n - (i + 1))
+    pub passed-next : f i ≡ true → Passed f n (i + 1)
     unfolding firstFrom
-    fail-next e = inv ∙ rw (next, e, add-one i)
-
-pub fail-start : (f : ℕ → Bool) (n : ℕ) → firstFail f n ≡ firstFrom f 0 (n - 0)
-unfolding firstFail
-fail-start f n = let e : n - 0 ≡ n = omega arith in rw e
+    passed-next e = record { most = omega arith; left = k .left ∙ rw (next, e, add-one i) }
 
 module _ (Z : Puzzle) (s : ℕ → Mark) where
   hit-on : (U : ℕ) (xs : List ℕ)

@@ -3,6 +3,7 @@ mod fitting; // fitting.rt: whether a unit fits beside its potential unit
 mod listed; // listed.rt: the listed transforms of a unit, at the origins of a mask
 
 ghost use mathlib.Core.Path.{_≡_};
+ghost use mathlib.Core.Bool.{true};
 ghost use Prim.Native.Nat.{_<_};
 ghost use lib.ListN.{length, getD};
 ghost use lib.Signed.{mag};
@@ -14,7 +15,7 @@ ghost use Rattle.shapes.specs.Spots.{spots, Spotted};
 ghost use Rattle.units.specs.Images.{raiseOf, imageJoints, Jointed};
 ghost use Rattle.units.specs.Fitting.{Lent};
 ghost use Rattle.units.specs.Held.{Nearby, Held};
-ghost use Rattle.units.specs.Stuck.{Sorted, fitsUnit, firstFail};
+ghost use Rattle.units.specs.Stuck.{Sorted, Passed, fitsUnit, firstFail};
 ghost use Rattle.groups.specs.Kinds.{joinsIn};
 ghost use Rattle.groups.specs.Parts.{groupsOf};
 ghost use Rattle.groups.specs.declared.Kind.the-variants.{Units};
@@ -176,8 +177,152 @@ fn fits_at<'a>(
     )
 }
 
+// Whether unit `u` has one cell, and its potential unit an adjacent one: then it fits.
+fn single_fits<'a>(
+    h: usize,
+    w: usize,
+    colours: &'a [u8; 1024],
+    borders: &'a [u8; 1984],
+    units: &'a [u16; 1024],
+    unit_offs: &'a [u16; 1025],
+    potential: &'a [u16; 1024],
+    cells: &'a [u16; 1024],
+    offs: &'a [u16; 1025],
+    u: usize,
+    near: &mut [u16; 1024],
+) -> bool
+    requires { ⌜ Sorted h w (now colours) (now borders)
+        (groupsOf (flat h w) (joinsIn Units h w (now colours) (now borders)) .ids) (now units) (now «unit_offs»)
+        (now potential) (now cells) (now offs)
+        × (u < groupsOf (flat h w) (joinsIn Units h w (now colours) (now borders)) .count)
+        × Nearby h w (now colours) (now borders) (now near) ⌝ }
+    ensures { λ r. ⌜ (r ≡ true → fitsUnit (puzzle h w (now (colours .entry))) (marksIn (now (borders .entry))) u ≡ true)
+        × Nearby h w (now (colours .entry)) (now (borders .entry)) (now (near .exit)) ⌝ }
+{
+    let first = start_at(unit_offs, u);
+    let last = start_at(unit_offs, u + 1);
+    if last != first + 1 {
+        return false;
+    }
+    let c = number_at(units, first);
+    let p = number_at(potential, c);
+    near_mate(h, w, colours, borders, potential, cells, offs, p, near) < 1024
+}
+
+// How many of the `count` units are passed at once: they stand before the first that has more than one cell or whose
+// potential unit has no adjacent one.
+fn after_singles<'a>(
+    h: usize,
+    w: usize,
+    colours: &'a [u8; 1024],
+    borders: &'a [u8; 1984],
+    units: &'a [u16; 1024],
+    unit_offs: &'a [u16; 1025],
+    count: usize,
+    potential: &'a [u16; 1024],
+    cells: &'a [u16; 1024],
+    offs: &'a [u16; 1025],
+    near: &mut [u16; 1024],
+) -> usize
+    requires { ⌜ Sorted h w (now colours) (now borders)
+        (groupsOf (flat h w) (joinsIn Units h w (now colours) (now borders)) .ids) (now units) (now «unit_offs»)
+        (now potential) (now cells) (now offs)
+        × (count ≡ groupsOf (flat h w) (joinsIn Units h w (now colours) (now borders)) .count)
+        × Nearby h w (now colours) (now borders) (now near) ⌝ }
+    ensures { λ r. ⌜ Passed (fitsUnit (puzzle h w (now (colours .entry))) (marksIn (now (borders .entry)))) count r
+        × Nearby h w (now (colours .entry)) (now (borders .entry)) (now (near .exit)) ⌝ }
+{
+    let mut u = 0;
+    while u < count {
+        if single_fits(
+            h,
+            w,
+            colours,
+            borders,
+            units,
+            unit_offs,
+            potential,
+            cells,
+            offs,
+            u,
+            near,
+        ) {
+            u += 1;
+        } else {
+            return u;
+        }
+    }
+    count
+}
+
+// The first of `count` units for which no placement fits, if none is before `from`; `count` if there is none.
+fn stuck_from<'a>(
+    h: usize,
+    w: usize,
+    colours: &'a [u8; 1024],
+    borders: &'a [u8; 1984],
+    ids: &'a [u16; 1024],
+    units: &'a [u16; 1024],
+    unit_offs: &'a [u16; 1025],
+    count: usize,
+    potential: &'a [u16; 1024],
+    cells: &'a [u16; 1024],
+    offs: &'a [u16; 1025],
+    from: usize,
+    near: &mut [u16; 1024],
+) -> usize
+    requires { ⌜ Sorted h w (now colours) (now borders) (now ids) (now units) (now «unit_offs») (now potential)
+        (now cells) (now offs)
+        × (count ≡ groupsOf (flat h w) (joinsIn Units h w (now colours) (now borders)) .count)
+        × Passed (fitsUnit (puzzle h w (now colours)) (marksIn (now borders))) count from
+        × Nearby h w (now colours) (now borders) (now near) ⌝ }
+    ensures { λ r. ⌜ r ≡ firstFail (fitsUnit (puzzle h w (now (colours .entry))) (marksIn (now (borders .entry))))
+        count ⌝ }
+{
+    let mut rows = [0u16; 1024];
+    let mut columns = [0u16; 1024];
+    let mut down = [0u16; 2048];
+    let mut across = [0u16; 2048];
+    let mut ys = [0u8; 2048];
+    let mut xs = [0u8; 2048];
+    let mut planes = [0u64; 192];
+    let mut mask = [0u64; 33];
+    let mut list = [0u16; 4096];
+    let mut u = from;
+    while u < count {
+        if fits_at(
+            h,
+            w,
+            colours,
+            borders,
+            ids,
+            units,
+            unit_offs,
+            potential,
+            cells,
+            offs,
+            u,
+            near,
+            &mut rows,
+            &mut columns,
+            &mut down,
+            &mut across,
+            &mut ys,
+            &mut xs,
+            &mut planes,
+            &mut mask,
+            &mut list,
+        ) {
+            u += 1;
+        } else {
+            return u;
+        }
+    }
+    count
+}
+
 // The first of `count` units for which no placement fits; `count` if there is none. The arrays are those of the units
-// and of the potential units.
+// and of the potential units. The memory for a unit of more than one cell is made at the first of them.
 pub fn first_stuck<'a>(
     h: usize,
     w: usize,
@@ -198,44 +343,35 @@ pub fn first_stuck<'a>(
         count ⌝ }
 {
     let mut near = [0u16; 1024];
-    let mut rows = [0u16; 1024];
-    let mut columns = [0u16; 1024];
-    let mut down = [0u16; 2048];
-    let mut across = [0u16; 2048];
-    let mut ys = [0u8; 2048];
-    let mut xs = [0u8; 2048];
-    let mut planes = [0u64; 192];
-    let mut mask = [0u64; 33];
-    let mut list = [0u16; 4096];
-    let mut u = 0;
-    while u < count {
-        if fits_at(
-            h,
-            w,
-            colours,
-            borders,
-            ids,
-            units,
-            unit_offs,
-            potential,
-            cells,
-            offs,
-            u,
-            &mut near,
-            &mut rows,
-            &mut columns,
-            &mut down,
-            &mut across,
-            &mut ys,
-            &mut xs,
-            &mut planes,
-            &mut mask,
-            &mut list,
-        ) {
-            u += 1;
-        } else {
-            return u;
-        }
+    let u = after_singles(
+        h,
+        w,
+        colours,
+        borders,
+        units,
+        unit_offs,
+        count,
+        potential,
+        cells,
+        offs,
+        &mut near,
+    );
+    if count <= u {
+        return count;
     }
-    count
+    stuck_from(
+        h,
+        w,
+        colours,
+        borders,
+        ids,
+        units,
+        unit_offs,
+        count,
+        potential,
+        cells,
+        offs,
+        u,
+        &mut near,
+    )
 }

@@ -1,101 +1,28 @@
--- The loop's invariant: the answer is the first from u on that does not fit.
-use mathlib.Core.Path.{_≡_, refl, sym, _∙_}
-use mathlib.Core.Bool.{Bool}
-use Prim.Native.Nat.{ℕ, _≤_, _-_}
-use native.Mathlib.Omega.{arith}
-use Rattle.rules.specs.Codes.{marksIn}
-use Rattle.search.specs.Placing.{puzzle}
-use Rattle.units.specs.Fitting.{Lent}
-use Rattle.units.specs.Held.{Nearby, Held}
-use Rattle.units.specs.HeldLaws.{nearby-none, held-start}
-use Rattle.units.specs.Stuck.{fitsUnit, firstFail, firstFrom}
-use Rattle.units.specs.StuckLaws.{fail-start, fail-done, fail-here, fail-next}
-use Rattle.units.specs.ReadyLaws.{unit-few}
+-- Units of one cell are passed first; the search goes on where they end.
+use Rattle.units.specs.HeldLaws.{nearby-none}
+use Rattle.units.specs.StuckLaws.{passed-done}
 use Rattle.units.proofs.first_stuck.Statement.{statement}
 use Rattle.units.proofs.first_stuck.Tie as tie
 
-abbrev Inv-loop : tie.InvT-loop
-Inv-loop h w colours borders ids units unit-offs count potential cells offs near₀ rows₀ columns₀ down₀ across₀ ys₀ xs₀
-    planes₀ mask₀ list₀ u₀ near rows columns down across ys xs planes mask list u =
-    (u ≤ count)
-    × (firstFail (fitsUnit (puzzle h w colours) (marksIn borders)) count
-    ≡ firstFrom (fitsUnit (puzzle h w colours) (marksIn borders)) u (count - u))
-    × Nearby h w colours borders near × Lent rows columns down across ys xs
-    × Held h w colours borders cells offs planes mask list
-
-abbrev μ-loop : tie.MeasureT-loop
-μ-loop h w colours borders ids units unit-offs count potential cells offs near₀ rows₀ columns₀ down₀ across₀ ys₀ xs₀
-    planes₀ mask₀ list₀ u₀ near rows columns down across ys xs planes mask list u = count - u
-
--- the test of a unit
-abbrev test : tie.Start Inv-loop μ-loop → ℕ → Bool
-test s = fitsUnit (puzzle (s .args .h) (s .args .w) (s .args .colours .now)) (marksIn (s .args .borders .now))
-
-loop-holds : tie.Need-loop-holds Inv-loop μ-loop
-loop-holds c = (
-  omega arith,
-  fail-start (test c) (c .args .count),
-  nearby-none (c .args .h) (c .args .w) (c .args .colours .now) (c .args .borders .now),
-  record { rows = refl; columns = refl; downs = refl; acrosses = refl; ys = refl; xs = refl },
-  held-start (c .args .h) (c .args .w) (c .args .colours .now) (c .args .borders .now) (c .args .cells .now)
-      (c .args .offs .now),
-)
-
-fits-at-requires : tie.Need-fits-at-requires Inv-loop μ-loop
-fits-at-requires c κs =
-    let t = c .before .before .before .before .before .before .before .before .before .before in
-    let i = t .before .loop .inv in
-    let s = t .before .before in
-    (s .pre .0, rw (s .pre .1) at (t .loop-test .taken), i .2, i .3, i .4)
-
-add-u : tie.Need-add-u Inv-loop μ-loop
-add-u c =
-    let t = c .before .before .before .before .before .before .before .before .before .before .before .before in
-    let s = t .before .before in omega (arith, t .loop-test .taken, s .pre .1, unit-few (s .pre .0))
-
-loop-less : tie.Need-loop-less Inv-loop μ-loop
-loop-less c =
-    let t = c .before .before .before .before .before .before .before .before .before .before .before .before in
-    omega (arith, t .loop-test .taken)
-
-loop-again : tie.Need-loop-again Inv-loop μ-loop
-loop-again c =
-    let t = c .before .before .before .before .before .before .before .before .before .before .before .before in
-    let l = t .before in
-    let s = l .before in
-    let e = c .before .fits-at .ensures in (
-      omega (arith, t .loop-test .taken),
-      fail-next (test s) (s .args .count) (l .loop .u) (l .loop .inv .1) (t .loop-test .taken)
-          (sym (e .0) ∙ c .if1 .taken),
-      e .1,
-      e .2,
-      e .3,
+after-singles-requires : tie.Need-after-singles-requires
+after-singles-requires c κs =
+    let s = c .before in (
+      rw (s .pre .0 .units-ids) at (s .pre .0),
+      s .pre .1,
+      nearby-none (s .args .h) (s .args .w) (s .args .colours .now) (s .args .borders .now),
     )
 
-returns : tie.Need-returns Inv-loop μ-loop
-returns c =
-    let t = c .before .before .before .before .before .before .before .before .before .before .before .before in
-    let l = t .before in
-    let s = l .before in
-    fail-here (test s) (s .args .count) (l .loop .u) (l .loop .inv .1) (t .loop-test .taken)
-    (sym (c .before .fits-at .ensures .0) ∙ c .if1 .left)
+returns : tie.Need-returns
+returns c = passed-done (c .before .after-singles .ensures .0) (c .if1 .taken)
 
-returns-2 : tie.Need-returns-2 Inv-loop μ-loop
-returns-2 c =
-    let l = c .before in
-    let s = l .before in
-    fail-done (test s) (s .args .count) (l .loop .u) (l .loop .inv .1) (c .loop-test .left) (l .loop .inv .0)
+stuck-from-requires : tie.Need-stuck-from-requires
+stuck-from-requires c κs =
+    let a = c .before .before in
+    let s = a .before .before in
+    (s .pre .0, s .pre .1, a .after-singles .ensures .0, a .after-singles .ensures .1)
+
+returns-2 : tie.Need-returns-2
+returns-2 c = c .stuck-from .ensures
 
 pub first-stuck-spec : {M : Type 1} → statement M
-first-stuck-spec =
-    tie.close
-    (tie.spec
-    Inv-loop
-    μ-loop
-    loop-holds
-    fits-at-requires
-    add-u
-    loop-less
-    loop-again
-    returns
-    returns-2)
+first-stuck-spec = tie.close (tie.spec after-singles-requires returns stuck-from-requires returns-2)

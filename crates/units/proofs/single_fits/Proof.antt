@@ -1,0 +1,91 @@
+-- A unit of one cell is passed where its potential unit has an adjacent one.
+use mathlib.Core.Path.{_≡_, ap, _∙_}
+use Prim.Native.Nat.{ℕ}
+use native.Mathlib.Omega.{arith}
+use borrow.Author.Tests.{ltb-true}
+use lib.ListN.{getD}
+use Rattle.rules.specs.FlatLaws.{counts}
+use Rattle.units.specs.ReadyLaws.{unit-few, unit-in, head-low, home-of, single-unit}
+use Rattle.units.proofs.single_fits.Statement.{statement}
+use Rattle.units.proofs.single_fits.Tie as tie
+
+start-at-requires : tie.Need-start-at-requires
+start-at-requires c κs = omega (arith, c .pre .1, unit-few (c .pre .0))
+
+add-start-at : tie.Need-add-start-at
+add-start-at c = let s = c .before in omega (arith, s .pre .1, unit-few (s .pre .0))
+
+start-at-requires-2 : tie.Need-start-at-requires-2
+start-at-requires-2 c κs = let s = c .before in omega (arith, s .pre .1, unit-few (s .pre .0))
+
+add-if1 : tie.Need-add-if1
+add-if1 c =
+    let s = c .before .before in
+    let u = unit-in (s .pre .0) (s .args .u) (s .pre .1) in
+    omega (arith, u .some, u .end, c .before .start-at .ensures)
+
+returns : tie.Need-returns
+returns c = (λ e. let z : _≡_ {A = ℕ} 0 1 = cc in absurd (omega arith), c .before .before .before .pre .2)
+
+number-at-requires : tie.Need-number-at-requires
+number-at-requires c κs =
+    let s = c .before .before .before in
+    let u = unit-in (s .pre .0) (s .args .u) (s .pre .1) in
+    omega (arith, u .some, u .end, c .before .before .start-at .ensures)
+
+-- the unit's first cell, and its potential unit
+cell-is : (c : tie.After-number-at) → let s = c .before .before .before .before in
+    c .number-at .result ≡ getD (s .args .units .now) (getD (s .args .unit-offs .now) (s .args .u) 0) 0
+cell-is c =
+    let s = c .before .before .before .before in
+    c .number-at .ensures ∙ ap (λ i. getD (s .args .units .now) i 0) (c .before .before .before .start-at .ensures)
+
+home-is : (c : tie.After-number-at2) → let s = c .before .before .before .before .before in
+    c .number-at2 .result
+    ≡ getD (s .args .potential .now)
+    (getD (s .args .units .now) (getD (s .args .unit-offs .now) (s .args .u) 0) 0) 0
+home-is c =
+    let s = c .before .before .before .before .before in
+    c .number-at2 .ensures ∙ ap (λ i. getD (s .args .potential .now) i 0) (cell-is (c .before))
+
+number-at-requires-2 : tie.Need-number-at-requires-2
+number-at-requires-2 c κs =
+    let s = c .before .before .before .before in
+    omega (
+      arith,
+      cell-is c,
+      head-low (s .pre .0) (s .args .u) (s .pre .1),
+      counts (s .pre .0 .drawn .sized) .cells,
+    )
+
+near-mate-requires : tie.Need-near-mate-requires
+near-mate-requires c κs =
+    let s = c .before .before .before .before .before .before in
+    (rw (home-is (c .before)) (home-of (s .pre .0) (s .args .u) (s .pre .1)), s .pre .2)
+
+returns-2 : tie.Need-returns-2
+returns-2 c =
+    let p = c .before .before in
+    let i = p .before .before in
+    let l = i .before in
+    let s = l .before .before in (
+      λ e.
+          single-unit (s .pre .0) (s .args .u) (s .pre .1)
+          (rw (l .before .start-at .ensures, l .start-at2 .ensures) at (i .if1 .left))
+          (rw (home-is p) at (c .near-mate .ensures .0 .some (ltb-true _ _ e))),
+      c .near-mate .ensures .1,
+    )
+
+pub single-fits-spec : {M : Type 1} → statement M
+single-fits-spec =
+    tie.close
+    (tie.spec
+    start-at-requires
+    add-start-at
+    start-at-requires-2
+    add-if1
+    returns
+    number-at-requires
+    number-at-requires-2
+    near-mate-requires
+    returns-2)
