@@ -10,10 +10,10 @@ use mathlib.Core.Logic.{_↔_}
 use mathlib.Core.Bool.{Bool}
 use mathlib.Core.List.{List}
 use mathlib.Core.Option.{Option}
-use Prim.Native.Nat.{ℕ, _+_, _*_, _<_, _≤_}
+use Prim.Native.Nat.{ℕ, _*_, _<_, _≤_}
 use native.Mathlib.Omega.{arith}
 use lib.ListN.{length}
-use Rattle.rules.specs.Page.{Page, Mark, Contains, Shape}
+use Rattle.rules.specs.Page.{Mark, Contains, Shape}
 use Rattle.rules.specs.Rules.{Solution}
 use Rattle.rules.specs.Flat.{Sized, flat}
 use Rattle.rules.specs.FlatLaws.{counts}

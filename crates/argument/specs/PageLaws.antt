@@ -9,12 +9,12 @@
 --   Listed G            every listed transform is the shape moved by a turn, and every turn is listed
 use mathlib.Core.Path.{_≡_}
 use mathlib.Core.Logic.{_⊎_}
-use mathlib.Core.List.{List, [], _∷_, _++_, map}
-use mathlib.Core.Option.{Option, some, none}
+use mathlib.Core.List.{List, [], _∷_}
+use mathlib.Core.Option.{some}
 use Prim.Native.Nat.{ℕ, _<_}
 use lib.IntN.{ℤ, pos, negsuc}
 use Rattle.lists.specs.Lists.{_∈_}
-use Rattle.rules.specs.Page.{Page, Hop, Point, Shape, _⊕_, opposite}
+use Rattle.rules.specs.Page.{Page, Hop, Point, Shape, _⊕_}
 use Rattle.argument.specs.Points.{origin}
 
 pub record Bordered (G : Page) : Type 0 where

@@ -237,9 +237,6 @@ module _ (b : Board) (N : Native b) (T : Typed b) (k : ℕ) (e : b .count ≡ k 
   unfolding last
   last-below = N .entry k (omega arith)
 
-  pub popped-at : popped b ≡ poppedAt b k
-  popped-at = let c : b .count - 1 ≡ k = omega arith in ap (poppedAt b) c
-
   pub popped-native : Native (poppedAt b k)
   unfolding last
   popped-native =

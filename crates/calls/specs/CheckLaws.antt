@@ -1,14 +1,13 @@
 -- What the search for a hit finds over a board's arrays is the answer of a check.
 use mathlib.Core.Path.{_≡_, refl, sym, ap, _∙_}
-use mathlib.Core.Bool.{Bool, true, false}
+use mathlib.Core.Bool.{false}
 use mathlib.Core.List.{List}
 use mathlib.Core.Option.{Option, some, none}
-use Prim.Native.Nat.{ℕ, _-_, _*_, _<_, _≤_}
+use Prim.Native.Nat.{ℕ, _-_, _*_, _≤_}
 use native.Mathlib.Decide.{decLt}
 use native.Mathlib.Omega.{arith}
-use lib.ListN.{length, getD}
-use Rattle.rules.specs.Page.{Puzzle, Mark}
-use Rattle.rules.specs.Codes.{marksIn, put}
+use lib.ListN.{length}
+use Rattle.rules.specs.Codes.{marksIn}
 use Rattle.rules.specs.Check.{Reason, hit, check, answerOf, undecidedCount}
 use Rattle.board.specs.declared.Board.{Board}
 use Rattle.board.specs.Alien.{isAlien, bordersOf}

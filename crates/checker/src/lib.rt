@@ -1,5 +1,6 @@
 // Check: the three steps of 01's Check, over the arrays of a board and its groups.
 pub mod blocks; // blocks.rt: step 1
+mod tallies; // tallies.rt: what it asks of a block's cells
 pub mod walls; // walls.rt: step 2
 pub mod write; // write.rt: their reasons
 

@@ -111,9 +111,6 @@ module _ (G : Page) (link : ℕ → Bool) (some : 1 ≤ G .cells) (few : G .cell
   start-end : startOf (G .cells) number count ≡ G .cells
   start-end = starts-end (G .cells) number count (number-lt G link some)
 
-  pub offs-end : getD (groupsOf G link .offs) count 0 ≡ G .cells
-  offs-end = offs-at count (omega arith) ∙ start-end
-
   pub listed-all : length (listed (G .cells) number count) ≡ G .cells
   listed-all = listed-length number (G .cells) count ∙ start-end
 

@@ -11,7 +11,7 @@ use Rattle.lists.specs.Lists.{orElse}
 use Rattle.rules.specs.Page.{Mark, Puzzle, Shape}
 use Rattle.rules.specs.Flat.{Sized, flat}
 use Rattle.rules.specs.FlatLaws.{counts}
-use Rattle.rules.specs.Codes.{marksIn, coloursIn, cluesIn}
+use Rattle.rules.specs.Codes.{marksIn, cluesIn}
 use Rattle.rules.specs.Groups.{unitCount}
 use Rattle.rules.specs.Check.{Reason, unitReason, hit}
 use Rattle.argument.specs.Bound.{unit-bound}

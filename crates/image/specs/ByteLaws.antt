@@ -93,9 +93,6 @@ four-of s h k l =
 pub quad-small : (s : List ℕ) → Bytes s → (k : ℕ) → quad s k < 4294967296
 quad-small s h k = omega (arith, h k, h (k + 1), h (k + 2), h (k + 2 + 1))
 
-pub pair-small : (s : List ℕ) → Bytes s → (k : ℕ) → pair s k < 65536
-pair-small s h k = omega (arith, h k, h (k + 1))
-
 -- ---- signed numbers
 pub bits-signed : (n : ℕ) → n < 4294967296 → bitsOf (signed n) ≡ n
 bits-signed n h = go (decLt n 2147483648)

@@ -8,15 +8,15 @@
 use mathlib.Core.Path.{_≡_, refl, ap, sym, _∙_}
 use mathlib.Core.Bool.{Bool, true, false, cond}
 use mathlib.Core.List.{List}
-use Prim.Native.Nat.{ℕ, _+_, _/_, _<_, _≤_}
+use Prim.Native.Nat.{ℕ, _/_}
 use native.Mathlib.Omega.{arith}
 use borrow.Author.Tests.{ne-eqb, ltb-true, ltb-false, lt-ltb, le-ltb}
-use lib.Dec.{eqb, ltb}
+use lib.Dec.{ltb}
 use lib.ListN.{length}
 use Rattle.rules.specs.declared.Call.the-variants.{Check}
-use Rattle.rules.specs.Check.{Reason, Answer as Found, pass, conflict, check}
+use Rattle.rules.specs.Check.{Answer as Found, pass, conflict, check}
 use Rattle.board.specs.declared.Board.{Board}
-use Rattle.board.specs.declared.Outcome.the-variants.{Alien, Short}
+use Rattle.board.specs.declared.Outcome.the-variants.{Alien}
 use Rattle.board.specs.Alien.{isAlien}
 use Rattle.board.specs.View.{puzzleOf, marksOf}
 use Rattle.calls.specs.declared.Answer.{Answer}

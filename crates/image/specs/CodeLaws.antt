@@ -10,13 +10,13 @@ use Prim.Native.Nat.{ℕ, zero, suc, _+_, _*_, _/_, _%_, _<_, _≤_}
 use native.Mathlib.Decide.{decLt}
 use native.Mathlib.Nat.{zero-add}
 use native.Mathlib.Omega.{arith}
-use lib.ListN.{length, drop, getD, length-map, List·getD-eq-default}
+use lib.ListN.{length, drop, length-map, List·getD-eq-default}
 use lib.Seq.{sets-eq}
 use Rattle.lists.specs.Lists.{_∈_, flatMap}
 use Rattle.rules.specs.declared.Side.{Side}
 use Rattle.rules.specs.declared.Side.the-variants.{Wall, Open}
 use Rattle.rules.specs.declared.Literal.{Literal}
-use Rattle.rules.specs.Page.{Mark, undecided, decided, Contains}
+use Rattle.rules.specs.Page.{undecided, decided, Contains}
 use Rattle.rules.specs.Codes.{markOf, marksIn, sideCode, literalCode, put}
 use Rattle.rules.specs.Check.{Reason, conflict, check}
 use Rattle.argument.specs.FlatDemand.{flat-holds}

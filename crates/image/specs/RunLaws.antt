@@ -8,7 +8,7 @@
 use mathlib.Core.Path.{_≡_, refl, ap, ap₂, sym, _∙_}
 use mathlib.Core.Bool.{Bool, true, false, cond}
 use mathlib.Core.List.{List, [], _∷_, map}
-use Prim.Native.Nat.{ℕ, _+_, _*_, _/_, _≤_}
+use Prim.Native.Nat.{ℕ, _/_, _≤_}
 use native.Mathlib.Omega.{arith}
 use borrow.Author.Tests.{ltb-false}
 use lib.Dec.{ltb}
@@ -24,19 +24,18 @@ use Rattle.board.specs.declared.Board.{Board}
 use Rattle.board.specs.declared.Outcome.{Outcome}
 use Rattle.board.specs.declared.Outcome.the-variants.{Done, Size, Ragged, Colour, Clue}
 use Rattle.board.specs.declared.Outcome.the-variants.{Alien, Border, Taken, Bare, Short}
-use Rattle.board.specs.Alien.{isAlien}
 use Rattle.board.specs.Board.{numberOf, decideOf, undoOf}
 use Rattle.board.specs.View.{puzzleIn, puzzleOf, marksOf}
 use Rattle.board.specs.StepLaws.{Kept, decide-kept, undo-kept}
 use Rattle.calls.specs.Answers.{answerNumber, written, checkAnswer, checkMemory, ended, callOf, callMemory}
 use Rattle.calls.specs.CallLaws.{reason-short}
-use Rattle.calls.specs.Runs.{Accepted, startOf, Lent, Given, givenBy, boardAfter, runFrom}
+use Rattle.calls.specs.Runs.{Accepted, startOf, Given, givenBy, boardAfter, runFrom}
 use Rattle.calls.specs.Demand3.{Demand3}
 use Rattle.calls.specs.Demand3Laws.{start-bare, demand3}
-use Rattle.image.specs.Image.{boardOf, imageOf, Proper, sideOf, literalOf, ImageCall, decide, undo, numberBy}
+use Rattle.image.specs.Image.{imageOf, Proper, sideOf, literalOf, ImageCall, decide, undo, numberBy}
 use Rattle.image.specs.Image.{boardBy, imageNumber, imageAfter, places, bytesAfter, bytesBy}
 use Rattle.image.specs.Image.{checkNumber, checkBytes}
-use Rattle.image.specs.Runs.{Sent, altering, checking, sentNumber, sentImage, sentBytes, Got, imageRun, imageFrom}
+use Rattle.image.specs.Runs.{Sent, altering, checking, sentNumber, sentImage, sentBytes, imageRun, imageFrom}
 use Rattle.image.specs.Runs.{codesIn, lentFor, Read, read, numbered}
 use Rattle.image.specs.LayoutLaws.{image-long}
 use Rattle.image.specs.RoundLaws.{board-image, long-is}

@@ -12,7 +12,7 @@
 --   Read              a number with the numbers of two bytes in the memory
 --   read g            what a call on an image gave, read so
 --   numbered g        what a call on a board gave, with the number of its answer
-use mathlib.Core.List.{List, [], _∷_, map}
+use mathlib.Core.List.{List, [], _∷_}
 use Prim.Native.Nat.{ℕ, _+_, _*_}
 use Rattle.rules.specs.declared.Call.the-variants.{Decide, Undo, Check}
 use Rattle.calls.specs.Answers.{answerNumber}

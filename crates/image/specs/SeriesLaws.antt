@@ -5,7 +5,6 @@ use mathlib.Core.List.{List, [], _∷_}
 use Prim.Native.Nat.{ℕ, suc, _+_, _-_, _*_, _<_, _≤_}
 use native.Mathlib.Omega.{arith}
 use borrow.Author.Tests.{eq-eqb, ne-eqb, eqb-false}
-use lib.Dec.{eqb}
 use lib.ListN.{length, getD, drop, drop-of-length-le}
 use lib.Seq.{drop-cons}
 use Rattle.lists.specs.Table.{getD-table}
@@ -15,11 +14,11 @@ use Rattle.rules.specs.Codes.{codeOf}
 use Rattle.board.specs.declared.Board.{Board}
 use Rattle.board.specs.declared.Returned.{Returned}
 use Rattle.board.specs.Alien.{bordersOf, isAlien}
-use Rattle.board.specs.Board.{numberOf, decideOf, undoOf}
+use Rattle.board.specs.Board.{numberOf, decideOf}
 use Rattle.board.specs.Cases.{decide-alien, undo-alien, decide-border, decide-taken, decide-done, undo-bare, undo-done}
 use Rattle.board.specs.ConditionLaws.{borders-of, borders-of-le}
 use Rattle.board.specs.NativeLaws.{native-has}
-use Rattle.image.specs.Image.{pair, boardOf, imageOf, Bytes, Proper, literalOf, ImageCall, decide, undo, numberBy}
+use Rattle.image.specs.Image.{pair, boardOf, Bytes, Proper, literalOf, ImageCall, decide, undo, numberBy}
 use Rattle.image.specs.Image.{boardBy, rightLength, imageAlien, imageNumber, imageAfter, written}
 use Rattle.image.specs.RoundLaws.{long-is, known-board, image-known}
 use Rattle.image.specs.CallLaws.{number-is, after-refused, decide-fits, decide-after, undo-fits, undo-after}

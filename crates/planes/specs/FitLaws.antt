@@ -1,8 +1,8 @@
 -- The search over the planes answers as the plain one: some origin fits.
 use mathlib.Core.Path.{_≡_, refl, ap, ap₂, sym, _∙_}
-use mathlib.Core.Bool.{Bool, true, false, _&&_}
+use mathlib.Core.Bool.{Bool, true, _&&_}
 use mathlib.Core.List.{List, [], _∷_, List·Memᴰ·head, List·Memᴰ·tail, List·Memᴰ·not-nil}
-use Prim.Native.Nat.{ℕ, zero, suc, _+_, _-_, _*_, _/_, _%_, _<_, _≤_}
+use Prim.Native.Nat.{ℕ, suc, _+_, _-_, _*_, _/_, _%_, _<_, _≤_}
 use native.Mathlib.Nat.{mod-lt, div-lt-iff-lt-mul}
 use native.Mathlib.Omega.{arith}
 use borrow.Author.Tests.{eqb-true}
@@ -12,7 +12,7 @@ use lib.Seq.{getD-take, getD-drop}
 use Rattle.lists.specs.Lists.{_∈_, any, all}
 use Rattle.lists.specs.ListLaws.{flat-find}
 use Rattle.lists.specs.Table.{getD-table}
-use Rattle.lists.specs.Tests.{allBelow, anyBelow, all-cong, and-left, and-right}
+use Rattle.lists.specs.Tests.{allBelow, all-cong, and-left, and-right}
 use Rattle.rules.specs.declared.Placement.the-variants.{Fits}
 use Rattle.rules.specs.Page.{Puzzle, Mark}
 use Rattle.rules.specs.Codes.{marksIn}

@@ -1,5 +1,7 @@
 -- Laws of the code that reads placements from the end: the border at a place, one turn of its loops, where a cell is,
 -- and what a placement gives.
+--
+--   Within p            the blocker of the placement p, if it has one, is below 1984
 use mathlib.Core.Path.{_≡_, refl, ap, sym, _∙_}
 use mathlib.Core.Bool.{Bool, true, false, cond}
 use mathlib.Core.List.{List, [], _∷_}
@@ -16,7 +18,6 @@ use Rattle.rules.specs.declared.Placement.the-variants.{Fits, Blocked, Cannot}
 use Rattle.rules.specs.Flat.{Sized, belowOf, rightOf}
 use Rattle.rules.specs.FlatLaws.{counts, spot}
 use Rattle.rules.specs.Page.{wallAt}
-use Rattle.search.specs.BlockLaws.{Within}
 use Rattle.search.specs.Placing.{readRaised}
 use Rattle.search.specs.PlacingLaws.{reads-below, reads-right}
 use Rattle.planes.specs.Extras.{eq-or-not}
@@ -24,6 +25,11 @@ use Rattle.planes.specs.Bits.{bit}
 use Rattle.planes.specs.DrawLaws.{line-in}
 use Rattle.planes.specs.MaskLaws.{place-in}
 use Rattle.planes.specs.Survivors.{On, borderAt, wallOf, Lain, Placed, backOf, placedAt, blockIn}
+
+abbrev pub Within : Placement → Type 0
+Within Fits = Unit {0}
+Within (Blocked b) = b < 1984
+Within Cannot = Unit {0}
 
 -- the border at a place of the page
 module _ {h w y x : ℕ} (o : On h w y x) where

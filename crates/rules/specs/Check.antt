@@ -22,7 +22,7 @@ use Rattle.rules.specs.declared.Side.the-variants.{Wall}
 use Rattle.rules.specs.declared.Literal.{Literal}
 use Rattle.rules.specs.declared.Placement.{Placement}
 use Rattle.rules.specs.declared.Placement.the-variants.{Fits, Blocked, Cannot}
-use Rattle.rules.specs.Page.{Puzzle, Mark, isWall, isUndecided, Hop, Point, Shape, _⊕_, wallAt}
+use Rattle.rules.specs.Page.{Puzzle, Mark, isWall, isUndecided, Hop, Shape, _⊕_, wallAt}
 use Rattle.rules.specs.Rules.{oneColour}
 use Rattle.rules.specs.Groups.{members, blockOf, blockCount, unitOf, unitCount, potentialOf, potentialCount}
 use Rattle.rules.specs.Reasons.{gather, inside, edge, path}

@@ -14,7 +14,7 @@ use Prim.Native.Nat.{ℕ}
 use lib.Dec.{eqb, ltb}
 use lib.IntN.{ℤ, pos, negsuc}
 use Rattle.lists.specs.Lists.{filter, flatMap, any}
-use Rattle.rules.specs.Page.{Page, Point, _⊕_, opposite, Shape, Hop}
+use Rattle.rules.specs.Page.{Page, Point, _⊕_, opposite, Shape}
 use Rattle.rules.specs.Turns.{apply, half, quarter, flip}
 use Rattle.rules.specs.Groups.{members}
 

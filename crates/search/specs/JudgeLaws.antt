@@ -115,17 +115,9 @@ module _ (h w : ℕ) (cs : List ℕ) (s : ℕ → Mark) (ys xs : List ℕ) (o : 
       rest : W ≡ after p (r ∷ readFrom (i + 1) (n - (i + 1)))
       rest = inv ∙ rw (read-next i n q, e)
 
-      pub turn-ends : r ≡ Ends → Cannot ≡ W
-      unfolding after
-      turn-ends t = sym (rest ∙ rw t)
-
       pub turn-clear : r ≡ Clear → W ≡ after p (readFrom (i + 1) (n - (i + 1)))
       unfolding after
       turn-clear t = rest ∙ rw t
-
-      pub turn-wall : (b : ℕ) → r ≡ Walled b → W ≡ after (Blocked b) (readFrom (i + 1) (n - (i + 1)))
-      unfolding after
-      turn-wall b t = rest ∙ rw t
 
 -- the yes or no of it
 clear-is : (r : Reading) → isClear r ≡ true → r ≡ Clear

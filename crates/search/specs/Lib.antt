@@ -3,7 +3,6 @@ pub mod PlacingLaws
 pub mod JudgeLaws
 pub mod Searching
 pub mod ListExtras
-pub mod BlockLaws
 pub mod SearchLaws
 pub mod Mates
 pub mod MateLaws

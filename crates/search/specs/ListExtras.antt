@@ -7,7 +7,7 @@ use native.Mathlib.Numerals.{add-one}
 use native.Mathlib.Omega.{arith}
 use lib.ListN.{length, getD, drop, length-append}
 use lib.Seq.{drop-cons, take-add, drop-drop}
-use Rattle.lists.specs.Lists.{any, flatMap, rangeFrom}
+use Rattle.lists.specs.Lists.{any, flatMap}
 use Rattle.rules.specs.declared.Literal.{Literal}
 use Rattle.reasons.specs.Arrays.{part}
 use Rattle.reasons.specs.Memory.{Wrote}
@@ -103,18 +103,3 @@ module _ (f : ℕ → List Literal) (l : List ℕ) {m : List ℕ} {a : ℕ} wher
           length-append (flatMap f (part l from i)) (f (getD l i 0) ++ flatMap f (part l (i + 1) to)),
           length-append (f (getD l i 0)) (flatMap f (part l (i + 1) to)),
         )
-
--- the same over the numbers below m
-module _ (f : ℕ → Bool) (j m : ℕ) {whole : Bool} (inv : whole ≡ any f (rangeFrom j (m - j))) where
-  pub upto-done : m ≤ j → false ≡ whole
-  unfolding any
-  upto-done q = let e : m - j ≡ 0 = omega arith in sym (inv ∙ rw e)
-
-  module _ (q : j < m) where
-    pub upto-found : f j ≡ true → true ≡ whole
-    unfolding any
-    upto-found h = let e : m - j ≡ suc (m - (j + 1)) = omega arith in sym (inv ∙ rw (e, h))
-
-    pub upto-next : f j ≡ false → whole ≡ any f (rangeFrom (j + 1) (m - (j + 1)))
-    unfolding any
-    upto-next h = let e : m - j ≡ suc (m - (j + 1)) = omega arith in inv ∙ rw (e, h, add-one j)

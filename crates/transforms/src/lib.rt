@@ -26,12 +26,12 @@ use groups::Kind;
 use groups::groups_of;
 use shapes::Listed;
 use shapes::Pair;
+use shapes::connections::joint;
+use shapes::connections::joints;
+use shapes::connections::places;
 use shapes::has_cell;
-use shapes::joint;
-use shapes::joints;
 use shapes::least;
 use shapes::list_rows;
-use shapes::places;
 
 // What asking for a transform returns: how many transforms the unit has, and how many cells and connections the one
 // asked for has. Each place takes two numbers of the lent memory, down and across: first the cells, sorted, with the

@@ -9,7 +9,7 @@ use Rattle.rules.specs.Page.{Puzzle, Mark}
 use Rattle.rules.specs.Flat.{flat}
 use Rattle.rules.specs.Codes.{marksIn}
 use Rattle.rules.specs.Rules.{oneColour, joinsUnit}
-use Rattle.rules.specs.Groups.{entry, joinsPotential, unitCount, potentialOf}
+use Rattle.rules.specs.Groups.{entry, joinsPotential, potentialOf}
 use Rattle.rules.specs.Shapes.{shapeOf}
 use Rattle.rules.specs.Check.{unitReason}
 use Rattle.reasons.specs.Memory.{Wrote}
@@ -30,10 +30,6 @@ use Rattle.unitreason.specs.Writing.{Arranged, Imaged, Asked, clued}
 
 -- the units and the potential unit of a unit ask no clue
 module _ (h w : ℕ) (cs : List ℕ) (c : ℕ → Option ℕ) (s : ℕ → Mark) where
-  pub count-clue : unitCount (clued h w cs c) s ≡ unitCount (puzzle h w cs) s
-  unfolding joinsUnit oneColour
-  count-clue = refl
-
   pub potential-clue : (u : ℕ) → potentialIn (clued h w cs c) s u ≡ potentialIn (puzzle h w cs) s u
   unfolding potentialIn joinsUnit joinsPotential oneColour
   potential-clue u = refl

@@ -5,4 +5,3 @@ pub mod BlockLaws
 pub mod ClueLaws
 pub mod ReasonLaws
 pub mod AskedLaws
-pub mod StepLaws

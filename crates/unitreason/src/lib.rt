@@ -22,9 +22,9 @@ use planes::survivors::draw_places;
 use planes::survivors::survivors;
 use reasons::inside;
 use shapes::Listed;
-use shapes::joints;
+use shapes::connections::joints;
+use shapes::connections::places;
 use shapes::list_rows;
-use shapes::places;
 use units::turn_row;
 
 pub mod walls; // walls.rt: the walls of a potential unit, of those adjacent to it, and to the others
@@ -37,7 +37,8 @@ fn wide(x: u16) -> usize
 }
 
 // Writes the blockers of the placements of the unit's images by the listed rows, with their origins at the cells of the
-// groups that the list of mates has from the place `from` to the place `to`; gives the next place.
+// groups that the list of mates has from the place `from` to the place `to`; gives the next place. The planes of the
+// colours, the mask of those origins and the places of the cells are drawn once; then each row's survivors are asked.
 fn block_rows<'a>(
     memory: &mut [u16],
     start: usize,

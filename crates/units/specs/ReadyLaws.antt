@@ -179,9 +179,6 @@ module _ {A : Type 0} {h w : ℕ} {cs bs ids cells offs pids pcells poffs : List
   pub units-are : entry ids ≡ unitOf Z s
   units-are = ap entry (r .units-ids) ∙ own-numbers size cs bs
 
-  pub unit-count : groupsOf (flat h w) own .count ≡ unitCount Z s
-  unit-count = own-count size cs bs
-
   pub unit-few : groupsOf (flat h w) own .count ≤ 1024
   unit-few = own-few size cs bs
 
@@ -223,9 +220,6 @@ module _ {A : Type 0} {h w : ℕ} {cs bs ids cells offs pids pcells poffs : List
 
     pub home-count : home < groupsOf (flat h w) wide .count
     home-count = rw (potential-grouped .all) (potential-known .below (getD cells (getD offs u 0) 0) head-low)
-
-    pub home-low : home < 1024
-    home-low = omega (arith, potential-known .below (getD cells (getD offs u 0) 0) head-low, potential-known .few)
 
     pub home-of : Home h w cs bs pids pcells poffs home
     home-of =

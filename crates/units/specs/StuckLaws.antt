@@ -2,7 +2,6 @@
 use mathlib.Core.Path.{_≡_, refl, sym, ap, _∙_}
 use mathlib.Core.Bool.{Bool, true, false, not, cond}
 use mathlib.Core.List.{List, [], _∷_}
-use mathlib.Core.Option.{some, none}
 use Prim.Native.Nat.{ℕ, zero, suc, _+_, _-_, _<_, _≤_}
 use native.Mathlib.Numerals.{add-one}
 use native.Mathlib.Omega.{arith}
@@ -75,12 +74,3 @@ module _ (Z : Puzzle) (s : ℕ → Mark) where
   stuck-hit n =
       let e : 0 + n ≡ n = omega arith in
       hits-from 0 n ∙ ap (λ k. stuckHit Z s k (firstFrom (fitsUnit Z s) 0 n)) e
-
-  pub stuck-none : (n : ℕ) → firstFail (fitsUnit Z s) n ≡ n → firstHit (unitHit Z s) (range n) ≡ none
-  unfolding stuckHit
-  stuck-none n e = stuck-hit n ∙ rw (e, le-ltb n n (omega arith))
-
-  pub stuck-some : (n : ℕ) {U : ℕ} → firstFail (fitsUnit Z s) n ≡ U → U < n
-      → firstHit (unitHit Z s) (range n) ≡ some (unitReason Z s U (potentialIn Z s U))
-  unfolding stuckHit
-  stuck-some n {U} e h = stuck-hit n ∙ rw (e, lt-ltb U n h)

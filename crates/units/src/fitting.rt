@@ -25,8 +25,8 @@ use planes::draw_planes;
 use search::fits_group;
 use search::mates::mates_of;
 use search::mates::some_mate;
-use shapes::joints;
-use shapes::places;
+use shapes::connections::joints;
+use shapes::connections::places;
 
 // One of the potential units adjacent to potential unit `p`; 1024 if there is none. `near` keeps it, raised by 1; it is
 // 0 where none was asked for.

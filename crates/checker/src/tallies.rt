@@ -1,0 +1,137 @@
+// What step 1 asks of a block's cells: how many there are of each colour, their potential units, and the first clue.
+ghost use mathlib.Core.Path.{_≡_};
+ghost use mathlib.Core.Bool.{true, _||_};
+ghost use Prim.Native.Nat.{_+_, _-_, _<_};
+ghost use lib.Dec.{eqb};
+ghost use Rattle.rules.specs.Codes.{clueOf, coloursIn, cluesIn};
+ghost use Rattle.rules.specs.Groups.{entry};
+ghost use Rattle.rules.specs.Check.{isSome};
+ghost use Rattle.checker.specs.Tallies.{clueIn, optionOf, firstClue, nextPart, nextTally, tallyOf};
+ghost use Rattle.reasons.specs.Arrays.{part};
+ghost use Rattle.checker.specs.Arrays.{Listed};
+use crate::Clue;
+use crate::Part;
+use crate::Tally;
+use crate::wide;
+
+// The clue that a place of a board spells.
+pub fn clue_at(k: i32) -> Clue
+    ensures { λ r. ⌜ r ≡ clueIn (clueOf k) ⌝ }
+{
+    if 0 <= k {
+        Clue::Is(k as usize)
+    } else {
+        Clue::Free
+    }
+}
+
+// Whether one of the two holds.
+fn either(a: bool, b: bool) -> bool
+    ensures { λ r. ⌜ r ≡ (a || b) ⌝ }
+{
+    if a {
+        return true;
+    }
+    b
+}
+
+// A part with one cell more.
+fn next_part(p: Part, unit: usize, clued: bool) -> Part
+    requires { ⌜ p .size < 1024 ⌝ }
+    ensures { λ r. ⌜ r ≡ nextPart p unit clued ⌝ }
+{
+    let clued = either(p.clued, clued);
+    if p.size == 0 {
+        return Part {
+            size: 1,
+            unit,
+            clued,
+        };
+    }
+    Part {
+        size: p.size + 1,
+        unit: p.unit,
+        clued,
+    }
+}
+
+// Whether a cell has a clue.
+fn is_clue(k: Clue) -> bool
+    ensures { λ r. ⌜ r ≡ isSome (optionOf k) ⌝ }
+{
+    match k {
+        Clue::Free => false,
+        Clue::Is(_) => true,
+    }
+}
+
+// The first of two clues.
+pub fn first_clue(a: Clue, b: Clue) -> Clue
+    ensures { λ r. ⌜ r ≡ firstClue a b ⌝ }
+{
+    match a {
+        Clue::Free => b,
+        Clue::Is(n) => Clue::Is(n),
+    }
+}
+
+// A tally with one cell more.
+fn next_tally(t: Tally, colour: u8, unit: usize, clue: Clue) -> Tally
+    requires { ⌜ (t .zero .size < 1024) × (t .one .size < 1024) ⌝ }
+    ensures { λ r. ⌜ r ≡ nextTally t (eqb colour 1) unit clue ⌝ }
+{
+    let zero = t.zero;
+    let one = t.one;
+    let old = t.clue;
+    let first = first_clue(old, clue);
+    let clued = is_clue(clue);
+    if colour == 1 {
+        Tally {
+            zero,
+            one: next_part(one, unit, clued),
+            clue: first,
+        }
+    } else {
+        Tally {
+            zero: next_part(zero, unit, clued),
+            one,
+            clue: first,
+        }
+    }
+}
+
+// What step 1 asks of the cells from..to of a list.
+pub fn tally<'a>(
+    colours: &'a [u8; 1024],
+    clues: &'a [i32; 1024],
+    ids: &'a [u16; 1024],
+    cells: &'a [u16; 1024],
+    from: usize,
+    to: usize,
+) -> Tally
+    requires { ⌜ Listed from to (now cells) ⌝ }
+    ensures { λ r. ⌜ r ≡ tallyOf (coloursIn (now (colours .entry))) (cluesIn (now (clues .entry)))
+        (entry (now (ids .entry)))
+        (part (now (cells .entry)) from to) ⌝ }
+{
+    let mut t = Tally {
+        zero: Part {
+            size: 0,
+            unit: 0,
+            clued: false,
+        },
+        one: Part {
+            size: 0,
+            unit: 0,
+            clued: false,
+        },
+        clue: Clue::Free,
+    };
+    let mut i = from;
+    while i < to {
+        let c = wide(cells[i]);
+        t = next_tally(t, colours[c], wide(ids[c]), clue_at(clues[c]));
+        i += 1;
+    }
+    t
+}

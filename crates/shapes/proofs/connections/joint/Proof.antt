@@ -1,0 +1,79 @@
+-- `shapes::joint` meets its contract: a doubled place is small, and so is its image.
+use mathlib.Core.Path.{_≡_, ap, ap₂, _∙_}
+use native.Mathlib.Omega.{arith}
+use Rattle.rules.specs.Page.{_⊕_, opposite}
+use Rattle.rules.specs.Turns.{apply}
+use Rattle.shapes.specs.Rows.{turnAt}
+use Rattle.shapes.specs.Pairs.{pointAt, pointOf}
+use Rattle.shapes.specs.PairLaws.{read-back}
+use Rattle.shapes.specs.Spots.{spotAt}
+use Rattle.shapes.specs.JointLaws.{turned-small}
+use borrow.Author.Needs.{needs}
+use Rattle.shapes.proofs.connections.joint.Statement.{statement}
+use Rattle.shapes.proofs.connections.joint.Tie as tie
+
+mul-signed : tie.Need-mul-signed
+mul-signed c = search needs
+
+element-copy-out-signed : tie.Need-element-copy-out-signed
+element-copy-out-signed c = search needs
+
+signed-requires : tie.Need-signed-requires
+signed-requires c κs = search needs
+
+mul-signed-2 : tie.Need-mul-signed-2
+mul-signed-2 c = search needs
+
+element-copy-out-signed-2 : tie.Need-element-copy-out-signed-2
+element-copy-out-signed-2 c = search needs
+
+signed-requires-2 : tie.Need-signed-requires-2
+signed-requires-2 c κs = search needs
+
+-- the image of the doubled place
+turned : (c : tie.After-apply) → pointOf (c .apply .result)
+    ≡ apply (turnAt (c .before .before .before .before .before .args .row))
+    (spotAt (c .before .before .before .before .before .args .down .now)
+    (c .before .before .before .before .before .args .across .now) (c .before .before .before .before .before .args .j))
+turned c =
+    let s = c .before .before .before .before .before in
+    c .apply .ensures
+    ∙ ap₂ (λ y x. apply (turnAt (s .args .row)) (pointAt y x))
+    (read-back _ (c .before .before .before .signed .ensures) (omega (arith, s .pre .1 .down)))
+    (read-back _ (c .before .signed2 .ensures) (omega (arith, s .pre .1 .across)))
+
+apply-requires : tie.Need-apply-requires
+apply-requires c κs =
+    let s = c .before .before .before .before in
+    let j = s .pre .1 in (
+      s .pre .0,
+      rw (read-back _ (c .before .before .signed .ensures) (omega (arith, j .down))) (omega (arith, j .down)),
+      rw (read-back _ (c .signed2 .ensures) (omega (arith, j .across))) (omega (arith, j .across)),
+    )
+
+back-twice-requires : tie.Need-back-twice-requires
+back-twice-requires c κs =
+    let s = c .before .before .before .before .before in (
+      turned-small (s .args .row) (c .apply .result) _ _
+          (turned c) (s .pre .1 .down) (s .pre .1 .across),
+      s .pre .2,
+    )
+
+returns : tie.Need-returns
+returns c =
+    let m = pointOf (c .before .before .before .before .before .before .args .m) in
+    c .back-twice .ensures ∙ ap (λ p. p ⊕ (opposite m ⊕ opposite m)) (turned (c .before))
+
+pub joint-spec : {M : Type 1} → statement M
+joint-spec =
+    tie.close
+    (tie.spec
+    mul-signed
+    element-copy-out-signed
+    signed-requires
+    mul-signed-2
+    element-copy-out-signed-2
+    signed-requires-2
+    apply-requires
+    back-twice-requires
+    returns)
