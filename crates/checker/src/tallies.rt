@@ -75,31 +75,6 @@ pub fn first_clue(a: Clue, b: Clue) -> Clue
     }
 }
 
-// A tally with one cell more.
-fn next_tally(t: Tally, colour: u8, unit: usize, clue: Clue) -> Tally
-    requires { ⌜ (t .zero .size < 1024) × (t .one .size < 1024) ⌝ }
-    ensures { λ r. ⌜ r ≡ nextTally t (eqb colour 1) unit clue ⌝ }
-{
-    let zero = t.zero;
-    let one = t.one;
-    let old = t.clue;
-    let first = first_clue(old, clue);
-    let clued = is_clue(clue);
-    if colour == 1 {
-        Tally {
-            zero,
-            one: next_part(one, unit, clued),
-            clue: first,
-        }
-    } else {
-        Tally {
-            zero: next_part(zero, unit, clued),
-            one,
-            clue: first,
-        }
-    }
-}
-
 // What step 1 asks of the cells from..to of a list.
 pub fn tally<'a>(
     colours: &'a [u8; 1024],
@@ -114,24 +89,34 @@ pub fn tally<'a>(
         (entry (now (ids .entry)))
         (part (now (cells .entry)) from to) ⌝ }
 {
-    let mut t = Tally {
-        zero: Part {
-            size: 0,
-            unit: 0,
-            clued: false,
-        },
-        one: Part {
-            size: 0,
-            unit: 0,
-            clued: false,
-        },
-        clue: Clue::Free,
+    let mut zero = Part {
+        size: 0,
+        unit: 0,
+        clued: false,
     };
+    let mut one = Part {
+        size: 0,
+        unit: 0,
+        clued: false,
+    };
+    let mut first = Clue::Free;
     let mut i = from;
     while i < to {
         let c = wide(cells[i]);
-        t = next_tally(t, colours[c], wide(ids[c]), clue_at(clues[c]));
+        let unit = wide(ids[c]);
+        let clue = clue_at(clues[c]);
+        let clued = is_clue(clue);
+        first = first_clue(first, clue);
+        if colours[c] == 1 {
+            one = next_part(one, unit, clued);
+        } else {
+            zero = next_part(zero, unit, clued);
+        }
         i += 1;
     }
-    t
+    Tally {
+        zero,
+        one,
+        clue: first,
+    }
 }

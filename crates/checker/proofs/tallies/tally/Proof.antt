@@ -1,24 +1,28 @@
--- `tally` meets its contract: after each turn the tally is that of the cells passed.
+-- `tally` meets its contract: after each turn the parts and the first clue are those of the cells passed.
 use Prim.Native.Nat.{_≤_, _<_, _-_}
 use mathlib.Core.Path.{_≡_, ap, _∙_}
+use mathlib.Core.Logic.{⊎-elim}
 use native.Mathlib.Omega.{arith}
+use lib.Dec.{eqb}
 use lib.ListN.{getD}
 use lib.IntN.{pos}
 use mir.Facts.{toZ-ofZ}
 use mir.Syntax.{w32}
 use borrow.Author.Needs.{needs, sfits-of}
 use Rattle.rules.specs.Codes.{clueOf}
-use Rattle.checker.specs.Tallies.{clueIn}
+use Rattle.checker.specs.declared.Tally.{Tally}
+use Rattle.checker.specs.Tallies.{clueIn, nextPart, nextTally}
 use Rattle.checker.specs.Tallied.{tallied, tallied-none, tallied-more, tallied-size}
+use Rattle.checker.specs.BlockCases.{tally-one, tally-zero}
 use Rattle.checker.proofs.tallies.tally.Statement.{statement}
 use Rattle.checker.proofs.tallies.tally.Tie as tie
 
 abbrev Inv-loop : tie.InvT-loop
-Inv-loop colours clues ids cells from to t₀ i₀ t i =
-    (from ≤ i) × (i ≤ to) × (t ≡ tallied colours clues ids cells from i)
+Inv-loop colours clues ids cells from to zero₀ one₀ first₀ i₀ zero one first i =
+    (from ≤ i) × (i ≤ to) × (record { zero = zero; one = one; clue = first } ≡ tallied colours clues ids cells from i)
 
 abbrev μ-loop : tie.MeasureT-loop
-μ-loop colours clues ids cells from to t₀ i₀ t i = to - i
+μ-loop colours clues ids cells from to zero₀ one₀ first₀ i₀ zero one first i = to - i
 
 -- a listed cell is one of 1,024
 small : (c : tie.After-wide Inv-loop μ-loop) → c .wide .result < 1024
@@ -39,56 +43,97 @@ element-copy-out-wide c = omega (arith, c .before .before .pre)
 wide-requires : tie.Need-wide-requires Inv-loop μ-loop
 wide-requires c κs = tt
 
-element-copy-out-next-tally : tie.Need-element-copy-out-next-tally Inv-loop μ-loop
-element-copy-out-next-tally c = small c
-
 mul-wide-2 : tie.Need-mul-wide-2 Inv-loop μ-loop
-mul-wide-2 c = omega (arith, small (c .before))
+mul-wide-2 c = omega (arith, small c)
 
 element-copy-out-wide-2 : tie.Need-element-copy-out-wide-2 Inv-loop μ-loop
-element-copy-out-wide-2 c = small (c .before)
+element-copy-out-wide-2 c = small c
 
 wide-requires-2 : tie.Need-wide-requires-2 Inv-loop μ-loop
 wide-requires-2 c κs = tt
 
 mul-clue-at : tie.Need-mul-clue-at Inv-loop μ-loop
-mul-clue-at c = omega (arith, small (c .before .before .before))
+mul-clue-at c = omega (arith, small (c .before .before))
 
 element-copy-out-clue-at : tie.Need-element-copy-out-clue-at Inv-loop μ-loop
-element-copy-out-clue-at c = small (c .before .before .before)
+element-copy-out-clue-at c = small (c .before .before)
 
 clue-at-requires : tie.Need-clue-at-requires Inv-loop μ-loop
 clue-at-requires c κs = tt
 
-next-tally-requires : tie.Need-next-tally-requires Inv-loop μ-loop
-next-tally-requires c κs =
-    let l = c .before .before .before .before .before .before .before .before .loop in
-    let a = c .before .before .before .before .before .before .before .before .before .args in
-    let p = c .before .before .before .before .before .before .before .before .before .pre in
+is-clue-requires : tie.Need-is-clue-requires Inv-loop μ-loop
+is-clue-requires c κs = search needs
+
+first-clue-requires : tie.Need-first-clue-requires Inv-loop μ-loop
+first-clue-requires c κs = search needs
+
+element-copy-out-if1 : tie.Need-element-copy-out-if1 Inv-loop μ-loop
+element-copy-out-if1 c = small (c .before .before .before .before .before .before)
+
+-- where the arms meet: the tally has one cell more
+abbrev was : tie.Joined1 Inv-loop μ-loop → Tally
+was c =
+    let l = c .before .before .before .before .before .before .before .before .before .before .before .loop in
+    record { zero = l .zero; one = l .one; clue = l .first }
+
+next : (c : tie.Joined1 Inv-loop μ-loop)
+    → let k = c .before .before .before .before in
+    let a = c .before .before .before .before .before .before .before .before .before .before .before .before .args in
+    record { zero = c .if1 .zero; one = c .if1 .one; clue = c .before .before .first-clue .result }
+    ≡ nextTally (was c) (eqb (getD (a .colours .now) (k .before .before .before .before .wide .result) 0) 1)
+    (k .before .before .wide2 .result) (k .clue-at .result)
+next c =
+    let k = c .before .before .before in
+    let f = c .before .before .first-clue .ensures in
+    ⊎-elim
+    (λ w.
+    rw (w .2, w .3)
+    (tally-one (was c) _ _ _ _ _ (w .0 .taken) (w .1 .ensures ∙ ap (nextPart _ _) (k .is-clue .ensures)) f))
+    (λ w.
+    rw (w .2, w .3)
+    (tally-zero (was c) _ _ _ _ _ (w .0 .left) (w .1 .ensures ∙ ap (nextPart _ _) (k .is-clue .ensures)) f))
+    (c .if1 .came)
+
+next-part-requires : tie.Need-next-part-requires Inv-loop μ-loop
+next-part-requires c κs =
+    let l = c .before .before .before .before .before .before .before .before .before .before .before .loop in
+    let a = c .before .before .before .before .before .before .before .before .before .before .before .before .args in
+    let p = c .before .before .before .before .before .before .before .before .before .before .before .before .pre in
+    let e = ap (λ (t : Tally). t .one .size) (l .inv .2) in
     let z = tallied-size (a .colours .now) (a .clues .now) (a .ids .now) (a .cells .now) (a .from) (l .i) in
-    rw (l .inv .2) (omega (arith, z, p), omega (arith, z, p))
+    omega (arith, e, z, p)
+
+next-part-requires-2 : tie.Need-next-part-requires-2 Inv-loop μ-loop
+next-part-requires-2 c κs =
+    let l = c .before .before .before .before .before .before .before .before .before .before .before .loop in
+    let a = c .before .before .before .before .before .before .before .before .before .before .before .before .args in
+    let p = c .before .before .before .before .before .before .before .before .before .before .before .before .pre in
+    let e = ap (λ (t : Tally). t .zero .size) (l .inv .2) in
+    let z = tallied-size (a .colours .now) (a .clues .now) (a .ids .now) (a .cells .now) (a .from) (l .i) in
+    omega (arith, e, z, p)
 
 add-i : tie.Need-add-i Inv-loop μ-loop
-add-i c = omega (arith, c .before .before .before .before .before .before .before .before .before .before .pre)
+add-i c =
+    let p = c .before .before .before .before .before .before .before .before .before .before .before .before .pre in
+    omega (arith, p)
 
 loop-less : tie.Need-loop-less Inv-loop μ-loop
 loop-less c = omega arith
 
 loop-again : tie.Need-loop-again Inv-loop μ-loop
 loop-again c =
-    let l = c .before .before .before .before .before .before .before .before .before .loop in
-    let a = c .before .before .before .before .before .before .before .before .before .before .args in
-    let p = c .before .before .before .before .before .before .before .before .before .before .pre in
-    let clue = getD (a .clues .now) (c .before .before .before .before .before .before .wide .result) (pos 0) in
-    let k = ap (λ z. clueIn (clueOf z))
-    (toZ-ofZ {w = w32} {z = clue} (sfits-of (c .before .before .clue-at-arg .given))) in (
+    let l = c .before .before .before .before .before .before .before .before .before .before .before .loop in
+    let a = c .before .before .before .before .before .before .before .before .before .before .before .before .args in
+    let p = c .before .before .before .before .before .before .before .before .before .before .before .before .pre in
+    let q = c .before .before .before .before in
+    let clue = getD (a .clues .now) (q .before .before .before .before .wide .result) (pos 0) in
+    let g = sfits-of (q .before .clue-at-arg .given) in
+    let k = ap (λ z. clueIn (clueOf z)) (toZ-ofZ {w = w32} {z = clue} g) in (
       omega arith,
       omega arith,
-      c .next-tally .ensures
-          ∙ rw (l .inv .2, c .before .clue-at .ensures ∙ k, c .before .before .before .wide2 .ensures)
+      next c ∙ rw (l .inv .2, q .clue-at .ensures ∙ k, q .before .before .wide2 .ensures)
           (tallied-more (a .colours .now) (a .clues .now) (a .ids .now) (a .cells .now) (a .from) (l .i) _ (l .inv .0)
-          (omega (arith, p .long, p .within))
-          (c .before .before .before .before .before .before .wide .ensures)),
+          (omega (arith, p .long, p .within)) (q .before .before .before .before .wide .ensures)),
     )
 
 returns : tie.Need-returns Inv-loop μ-loop
@@ -108,14 +153,17 @@ tally-spec =
     mul-wide
     element-copy-out-wide
     wide-requires
-    element-copy-out-next-tally
     mul-wide-2
     element-copy-out-wide-2
     wide-requires-2
     mul-clue-at
     element-copy-out-clue-at
     clue-at-requires
-    next-tally-requires
+    is-clue-requires
+    first-clue-requires
+    element-copy-out-if1
+    next-part-requires
+    next-part-requires-2
     add-i
     loop-less
     loop-again
