@@ -11,6 +11,8 @@ use native.Mathlib.Nat.{mul-le-mul-left, le-trans, mul-suc, mul-add}
 use native.Mathlib.Omega.{arith}
 use lib.Dec.{eqb, ltb, T, eqb→eq, T-not}
 use lib.ListN.{length, length-append, length-map}
+use Rattle.rules.specs.SmallLaws.{gather-le, trace-le}
+use Rattle.lists.specs.Appends.{length-filter}
 use Rattle.lists.specs.Lists.{_∈_, filter, any, flatMap, range, Distinct}
 use Rattle.lists.specs.ListLaws.{T-and-l, T-and-r, filter-test, any-find}
 use Rattle.lists.specs.Lengths.{distinct-range, distinct-filter}
@@ -18,7 +20,7 @@ use Rattle.rules.specs.declared.Side.{Side}
 use Rattle.rules.specs.declared.Literal.{Literal}
 use Rattle.rules.specs.declared.Placement.{Placement}
 use Rattle.rules.specs.declared.Placement.the-variants.{Fits, Blocked, Cannot}
-use Rattle.rules.specs.Page.{Hop, Shape, Puzzle, Mark, isWall, isOpen, wallAt, openAt}
+use Rattle.rules.specs.Page.{Hop, Shape, Puzzle, Mark, isWall, isOpen, wallAt}
 use Rattle.rules.specs.Rules.{Joined}
 use Rattle.rules.specs.Groups.{members, joinsPotential, blockOf, unitOf, unitCount, potentialOf, potentialCount}
 use Rattle.rules.specs.Reasons.{gather, insideAt, inside, edgeAt, edge, Found, Search, isFound, visitIf, trace, look}
@@ -27,7 +29,7 @@ use Rattle.rules.specs.Shapes.{shapeOf}
 use Rattle.rules.specs.Check.{Reason, conflict, insideBlock, insideUnit, edgeOf, touches, adjacent, mates, laid}
 use Rattle.rules.specs.Check.{blockers, transformsOf, placements, farWallsAt, farWalls, unitReason, hit, check}
 use Rattle.argument.specs.PageLaws.{Bordered}
-use Rattle.argument.specs.ListExtras.{length-rangeFrom, flat-le, filter-le, filter-two, flat-two}
+use Rattle.argument.specs.ListExtras.{length-rangeFrom, flat-le, filter-two, flat-two}
 use Rattle.argument.specs.Numbers.{number-joined, members-in, members-number, potentialCells}
 use Rattle.argument.specs.Marks.{eq-beq}
 use Rattle.argument.specs.Hits.{Each, each-some}
@@ -35,11 +37,6 @@ use Rattle.argument.specs.Crossings.{joined-colour}
 use Rattle.argument.specs.Forms.{Forms, each-form}
 use Rattle.argument.specs.Checks.{check-each}
 use Rattle.argument.specs.Totals.{part, total, total-le, sum-flat}
-
-gather-le : (s : Side) (p : Hop → Bool) (hs : List Hop) → length (gather s p hs) ≤ length hs
-unfolding gather
-gather-le s p hs = let a = filter-le p hs in
-    let b = length-map {B = Literal} (filter p hs) (λ (h : Hop). record { border = h .border; side = s }) in omega arith
 
 gather-two : (s u : Side) (p q : Hop → Bool) (hs : List Hop) → ((h : Hop) → T (p h) → T (q h) → ⊥)
     → length (gather s p hs) + length (gather u q hs) ≤ length hs
@@ -57,7 +54,7 @@ module _ (Z : Puzzle) (K : Bordered (Z .page)) (s : ℕ → Mark) (D A M : ℕ)
 
   members-le : (number : ℕ → ℕ) (g : ℕ) → length (members (Z .page) number g) ≤ n
   unfolding members
-  members-le number g = let a = filter-le (λ x. eqb (number x) g) (range n) in let b = length-rangeFrom 0 n in
+  members-le number g = let a = length-filter (λ x. eqb (number x) g) (range n) in let b = length-rangeFrom 0 n in
       omega arith
 
   inside-le : (number : ℕ → ℕ) (g : ℕ) → length (inside (Z .page) s number g) ≤ D * n
@@ -192,16 +189,6 @@ module _ (Z : Puzzle) (K : Bordered (Z .page)) (s : ℕ → Mark) (D A M : ℕ)
       let r = hunt-le k a (t .queue) (t .found) in
       let l = look-le a x (Z .page .around x) (record { queue = q; found = f }) in let b = arounds x in
       let e = mul-suc A k in omega arith
-
-  trace-le : (f : List Found) (x : ℕ) → length (trace f x) ≤ length f
-  unfolding trace
-  trace-le [] x = omega arith
-  trace-le (e ∷ f) x = go (eqb x (e .cell)) (trace-le f (e .from)) (trace-le f x)
-    where
-      go : (b : Bool) → length (trace f (e .from)) ≤ length f → length (trace f x) ≤ length f
-          → length (cond b (openAt (e .over) ∷ trace f (e .from)) (trace f x)) ≤ suc (length f)
-      go true h k = omega arith
-      go false h k = omega arith
 
   path-le : (a b : ℕ) → length (path (Z .page) s a b) ≤ A * n
   unfolding path

@@ -12,12 +12,13 @@ use mathlib.Core.Logic.{_⊎_, inl, inr}
 use Prim.Native.Nat.{ℕ}
 use native.Mathlib.Omega.{arith}
 use lib.Dec.{T}
+use Rattle.lists.specs.Appends.{map-append}
 use Rattle.lists.specs.Lists.{_∈_, Distinct, any, all}
 use Rattle.lists.specs.ListLaws.{any-find, any-mem, all-mem, mem-map, map-find, T-and-l, T-and-r}
 use Rattle.rules.specs.Page.{Point, _⊕_, opposite, Shape}
 use Rattle.rules.specs.Turns.{Turn, apply, compose, keep, half, quarter, halfQuarter, flip, flatTable}
 use Rattle.rules.specs.Shapes.{samePoints, sameShape, turned, withHalf, quarters, withQuarter, withFlip, flatTransforms}
-use Rattle.argument.specs.Pairs.{pairwise, distinct-pairwise, map-append}
+use Rattle.argument.specs.Pairs.{pairwise, distinct-pairwise}
 use Rattle.argument.specs.Points.{add-assoc, add-back}
 use Rattle.argument.specs.Same.{samePoints-refl}
 use Rattle.argument.specs.ShapeLaws.{turned-by}

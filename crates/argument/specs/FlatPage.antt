@@ -6,7 +6,7 @@
 --   Beside Y X e        the one or the other
 use mathlib.Core.Path.{_≡_, refl, sym, ap, _∙_, subst}
 use mathlib.Core.Logic.{_⊎_, inl, inr}
-use mathlib.Core.Bool.{Bool, true, false, not}
+use mathlib.Core.Bool.{not}
 use mathlib.Core.List.{List·Memᴰ·head, List·Memᴰ·tail, List·Memᴰ·not-nil}
 use mathlib.Core.Option.{some, none}
 use Prim.Native.Nat.{ℕ, zero, suc, _+_, _-_, _*_, _/_, _%_, _<_, _≤_}
@@ -16,12 +16,13 @@ use borrow.Author.Tests.{lt-leb}
 use lib.Dec.{T, ltb, leb, ltb→lt, nltb→le}
 use lib.IntN.{pos, negsuc}
 use lib.ListN.{length, length-append}
+use Rattle.rules.specs.SmallLaws.{hop-le}
 use Rattle.lists.specs.Lists.{_∈_}
 use Rattle.lists.specs.Tests.{and-fails}
 use Rattle.lists.specs.ListLaws.{T-dec, mem-map, map-find}
 use Rattle.rules.specs.Page.{Hop, Point, _⊕_}
 use Rattle.rules.specs.Turns.{apply, flatTable}
-use Rattle.rules.specs.Flat.{hopIf, hopAbove, hopBelow, hopLeft, hopRight, aheadAt}
+use Rattle.rules.specs.Flat.{hopAbove, hopBelow, hopLeft, hopRight, aheadAt}
 use Rattle.rules.specs.Flat.{flat, cellAt, rightOf, belowOf, aroundAt, flatPlace, flatReadsAt, flatReads}
 use Rattle.argument.specs.Points.{point-eq}
 use Rattle.argument.specs.PageLaws.{Near, steps, at3, Bordered, Placed, Listed, Moved}
@@ -277,27 +278,22 @@ unfolding flat
 flat-swaps h w = table-swaps
 
 -- a cell has at most two hops ahead, and at most four around
-hop-few : (b : Bool) (n c : ℕ) → length (hopIf b n c) ≤ 1
-unfolding hopIf
-hop-few true n c = omega arith
-hop-few false n c = omega arith
-
 module _ (h w y x : ℕ) where
   above-few : length (hopAbove h w y x) ≤ 1
   unfolding hopAbove
-  above-few = hop-few (ltb 0 y) (belowOf h w (y - 1) x) (cellAt h w (y - 1) x)
+  above-few = hop-le (ltb 0 y) (belowOf h w (y - 1) x) (cellAt h w (y - 1) x)
 
   below-few : length (hopBelow h w y x) ≤ 1
   unfolding hopBelow
-  below-few = hop-few (ltb (y + 1) h) (belowOf h w y x) (cellAt h w (y + 1) x)
+  below-few = hop-le (ltb (y + 1) h) (belowOf h w y x) (cellAt h w (y + 1) x)
 
   left-few : length (hopLeft h w y x) ≤ 1
   unfolding hopLeft
-  left-few = hop-few (ltb 0 x) (rightOf h w y (x - 1)) (cellAt h w y (x - 1))
+  left-few = hop-le (ltb 0 x) (rightOf h w y (x - 1)) (cellAt h w y (x - 1))
 
   right-few : length (hopRight h w y x) ≤ 1
   unfolding hopRight
-  right-few = hop-few (ltb (x + 1) w) (rightOf h w y x) (cellAt h w y (x + 1))
+  right-few = hop-le (ltb (x + 1) w) (rightOf h w y x) (cellAt h w y (x + 1))
 
   ahead-two : length (aheadAt h w y x) ≤ 2
   unfolding aheadAt

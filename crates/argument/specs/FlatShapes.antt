@@ -4,13 +4,14 @@ use mathlib.Core.Path.{_≡_, refl, ap}
 use mathlib.Core.Logic.{_⊎_, inl, inr}
 use mathlib.Core.Bool.{Bool, true, false, not, cond}
 use mathlib.Core.Option.{Option}
-use mathlib.Core.List.{List, [], _∷_, _++_, map, List·Memᴰ·head, List·Memᴰ·tail, List·Memᴰ·not-nil}
+use mathlib.Core.List.{List, [], _∷_, _++_, map, List·Memᴰ·head, List·Memᴰ·not-nil}
 use Prim.Native.Nat.{ℕ, zero, suc, _*_, _/_, _%_, _<_, _≤_}
 use native.Mathlib.Nat.{div-add-mod', mod-lt, mul-le-mul-right, suc-mul}
 use native.Mathlib.Omega.{arith}
 use lib.Dec.{T, eqb, ltb, ltb→lt, lt→ltb, nltb→le}
 use lib.IntN.{pos}
 use lib.ListN.{length, length-append, length-map}
+use Rattle.lists.specs.Lengths.{rangeFrom-ge}
 use Rattle.lists.specs.Lists.{_∈_, Distinct, filter, keep, any, rangeFrom}
 use Rattle.lists.specs.ListLaws.{T-dec, map-find, filter-mem}
 use Rattle.rules.specs.Page.{Puzzle, Shape, Mark}
@@ -29,14 +30,9 @@ abbrev Rising : List ℕ → Type 0
 Rising [] = Unit {0}
 Rising (x ∷ xs) = ((y : ℕ) → y ∈ xs → x < y) × Rising xs
 
-range-above : (i n : ℕ) {x : ℕ} → x ∈ rangeFrom i n → i ≤ x
-range-above i zero m = absurd (List·Memᴰ·not-nil m)
-range-above i (suc n) (List·Memᴰ·head e) = omega arith
-range-above i (suc n) (List·Memᴰ·tail m) = omega (arith, range-above (suc i) n m)
-
 rising-range : (i n : ℕ) → Rising (rangeFrom i n)
 rising-range i zero = tt
-rising-range i (suc n) = (λ y m. omega (arith, range-above (suc i) n m), rising-range (suc i) n)
+rising-range i (suc n) = (λ y m. omega (arith, rangeFrom-ge (suc i) n m), rising-range (suc i) n)
 
 rising-filter : (p : ℕ → Bool) (xs : List ℕ) → Rising xs → Rising (filter p xs)
 unfolding filter

@@ -5,7 +5,7 @@
 --   count-mono, count-grows, count-inj   a count grows at each number that passes, and there only
 --   count-find          each value below a count is the count before a number that passes
 --   flat-le, flat-two   how long a flatMap is, and two of them
---   filter-le, filter-two   how long a filter is, and two that exclude each other
+--   length-filter, filter-two   how long a filter is, and two that exclude each other
 --   inject-onto         an injection into a list that is no longer meets every element
 use mathlib.Core.Path.{_≡_, refl, ap, sym, subst}
 use mathlib.Core.Logic.{_⊎_, inl, inr, ⊎-elim}
@@ -16,6 +16,7 @@ use native.Mathlib.Nat.{not-suc-le-zero, eq-or-lt-of-le, le-of-suc-le-suc, mul-s
 use native.Mathlib.Omega.{arith}
 use lib.Dec.{ltb, T, nltb→le, ltb→lt}
 use lib.ListN.{length, length-append}
+use Rattle.lists.specs.Appends.{length-filter}
 use Rattle.lists.specs.Lists.{_∈_, keep, filter, flatMap, rangeFrom, Distinct}
 use Rattle.lists.specs.ListLaws.{T-dec}
 use Rattle.lists.specs.Lengths.{subset-full}
@@ -152,15 +153,6 @@ module _ {A B : Type 0} where
       let d = mul-suc k (length xs) in omega arith
 
 module _ {A : Type 0} where
-  pub filter-le : (p : A → Bool) (xs : List A) → length (filter p xs) ≤ length xs
-  unfolding filter
-  filter-le p [] = omega arith
-  filter-le p (x ∷ xs) = go (p x) (filter-le p xs)
-    where
-      go : (b : Bool) → length (filter p xs) ≤ length xs → length (keep b x (filter p xs)) ≤ suc (length xs)
-      go true h = omega arith
-      go false h = omega arith
-
   -- two tests that exclude each other
   pub filter-two : (p q : A → Bool) (xs : List A) → ((x : A) → T (p x) → T (q x) → ⊥)
       → length (filter p xs) + length (filter q xs) ≤ length xs

@@ -16,7 +16,7 @@ use Rattle.argument.specs.Points.{point-eq}
 use Rattle.argument.specs.Same.{sameℤ→eq, sameℤ-refl}
 
 -- the order of whole numbers
-less-trans : (a b c : ℤ) → T (lessℤ a b) → T (lessℤ b c) → T (lessℤ a c)
+pub less-trans : (a b c : ℤ) → T (lessℤ a b) → T (lessℤ b c) → T (lessℤ a c)
 less-trans (pos a) (pos b) (pos c) s t =
     let x = ltb→lt a b s in let y = ltb→lt b c t in lt→ltb a c (omega arith)
 less-trans (pos a) (pos b) (negsuc c) s t = absurd t

@@ -1,9 +1,9 @@
 -- Laws of lists that are not about the page: no repeats, from a test of every pair, or kept by an injective map.
 --
 --   pairwise r xs       each element passes the test r with every later one
-use mathlib.Core.Path.{_≡_, refl, sym, ap, subst}
+use mathlib.Core.Path.{_≡_, sym, subst}
 use mathlib.Core.Bool.{Bool, true, _&&_}
-use mathlib.Core.List.{List, [], _∷_, _++_, map}
+use mathlib.Core.List.{List, [], _∷_, map}
 use lib.Dec.{T}
 use Rattle.lists.specs.Lists.{_∈_, Distinct, all}
 use Rattle.lists.specs.ListLaws.{T-and-l, T-and-r, all-mem, map-find}
@@ -32,7 +32,3 @@ module _ {A B : Type 0} where
     λ m. let r = map-find f xs m in d .0 (subst (λ (y : A). y ∈ xs) (i (r .0) x (sym (r .2))) (r .1)),
     distinct-map f i xs (d .1),
   )
-
-  pub map-append : (f : A → B) (xs ys : List A) → map f (xs ++ ys) ≡ map f xs ++ map f ys
-  map-append f [] ys = refl
-  map-append f (x ∷ xs) ys = ap (λ zs. f x ∷ zs) (map-append f xs ys)

@@ -3,9 +3,9 @@
 --   bordersOf ls        the borders that a sequence names
 --   Clean Z ls          the sequence names borders of the page, none of them twice
 --   clean-none, clean-with, clean-without   the empty sequence is so; with a literal put last; with the last taken off
---   without-with, with-without    taking the last literal off undoes putting one last
+--   without-last, with-without    taking the last literal off undoes putting one last
 --   marks-with          what a literal put last changes
---   unnamed-undecided   a border that is not named is undecided
+--   marks-none   a border that is not named is undecided
 --   marks-exact         exactly the sequence's literals are decided
 --   undecided-left      so the undecided borders are those that the sequence leaves
 use mathlib.Core.Path.{_≡_, _∙_, refl, ap, sym, subst}
@@ -18,6 +18,7 @@ use native.Mathlib.Omega.{arith}
 use lib.Dec.{eqb, T, eqb→eq, eqb-refl}
 use lib.ListN.{length}
 use borrow.Author.Tests.{eq-eqb, ne-eqb}
+use Rattle.rules.specs.SmallLaws.{marks-none, without-last}
 use Rattle.lists.specs.Lists.{_∈_, any, Distinct}
 use Rattle.lists.specs.ListLaws.{any-mem, any-find, mem-map, map-find}
 use Rattle.lists.specs.Count.{countBelow, count-cong, count-more}
@@ -78,12 +79,6 @@ without-once (k ∷ j ∷ ls) d = (
         d .0 (subst (λ (b : ℕ). b ∈ bordersOf (j ∷ ls)) (sym (r .2))
         (mem-map (λ (l : Literal). l .border) (without-mem (j ∷ ls) (r .0) (r .1))))
 
-pub without-with : (ls : List Literal) (l : Literal) → withoutLast (withLast ls l) ≡ ls
-unfolding withoutLast
-without-with [] l = refl
-without-with (k ∷ []) l = refl
-without-with (k ∷ j ∷ ls) l = ap (λ r. k ∷ r) (without-with (j ∷ ls) l)
-
 pub with-without : (l : Literal) (ls : List Literal) → (k : Literal) × (withLast (withoutLast (l ∷ ls)) k ≡ l ∷ ls)
 unfolding withoutLast
 with-without l [] = (l, refl)
@@ -133,16 +128,6 @@ marks-with (k ∷ ls) l b n = go (eqb (k .border) (l .border)) refl n (eqb (k .b
         apart : k .border ≡ l .border → ⊥
         apart r = let z : T (eqb (k .border) (l .border)) = rw r (eqb-refl (l .border)) in rw e at z
 
-pub unnamed-undecided : (ls : List Literal) (b : ℕ) → names ls b ≡ false → marks ls b ≡ undecided
-unfolding marks names any
-unnamed-undecided [] b n = refl
-unnamed-undecided (l ∷ ls) b n = go (eqb (l .border) b) n (unnamed-undecided ls b)
-  where
-    go : (t : Bool) → t || names ls b ≡ false → (names ls b ≡ false → marks ls b ≡ undecided)
-        → markIf t (decided (l .side)) (marks ls b) ≡ undecided
-    go true f ih = let z : _≡_ {A = ℕ} 0 1 = cc in absurd (omega arith)
-    go false f ih = ih f
-
 -- a decided border has its literal in the sequence
 pub decided-mem : (ls : List Literal) (l : Literal) → Has (marks ls) l → l ∈ ls
 unfolding marks
@@ -190,7 +175,7 @@ one-decided l ls d b = go (eqb (l .border) b) refl
         → isUndecided (markIf t (decided (l .side)) (marks ls b)) || t ≡ isUndecided (marks ls b)
     go true e =
         let p : l .border ≡ b = eqb→eq (l .border) b (rw e tt) in
-        rw (← p, unnamed-undecided ls (l .border) (unnamed (names ls (l .border)) refl))
+        rw (← p, marks-none ls (l .border) (unnamed (names ls (l .border)) refl))
     go false e = or-false (isUndecided (marks ls b))
 
 left-count : (n : ℕ) (ls : List Literal) → Distinct (bordersOf ls) → ((l : Literal) → l ∈ ls → l .border < n)

@@ -1,14 +1,15 @@
--- Making a board that is done: what it says of the puzzle, and that its board is not alien; the all-zero board is.
+-- Making a board that is done: what it says of the puzzle, and that its board is not alien; the zeros board is.
 use mathlib.Core.Path.{_≡_, refl, ap, sym, _∙_}
 use mathlib.Core.Bool.{Bool, true, false}
 use mathlib.Core.List.{List}
-use Prim.Native.Nat.{ℕ, _*_, _<_}
-use native.Mathlib.Decide.{ℕ-discrete, decLt}
+use Prim.Native.Nat.{ℕ, _*_}
+use native.Mathlib.Decide.{ℕ-discrete}
 use native.Mathlib.Omega.{arith}
 use borrow.Author.Tests.{leb-true}
 use lib.Dec.{leb}
 use lib.IntN.{ℤ, pos}
-use lib.ListN.{length, getD, replicate, length-replicate, getD-replicate, List·getD-eq-default}
+use lib.ListN.{length, getD, replicate, length-replicate, List·getD-eq-default}
+use Rattle.lists.specs.Padded.{zeros}
 use Rattle.lists.specs.Tests.{all-at}
 use Rattle.rules.specs.Flat.{Sized}
 use Rattle.rules.specs.FlatLaws.{counts}
@@ -24,7 +25,7 @@ use Rattle.board.specs.Cases.{alien-size}
 use Rattle.board.specs.NativeLaws.{Native, native-of}
 use Rattle.board.specs.DecideLaws.{one-number}
 
--- "the all-zero board, itself alien"
+-- "the zeros board, itself alien"
 pub zero-alien : isAlien zeroBoard ≡ true
 unfolding sizeRight
 zero-alien = sym (alien-size zeroBoard refl)
@@ -64,13 +65,6 @@ made-is {h} {w} {cs} {ks} {d} e =
           is = ap (λ (t : Returned). t .board) (sym e ∙ sym (fresh-done h w cs ks p (h * w) refl y z q r));
         }
 
-all-zero : (n x : ℕ) → _≡_ {A = ℕ} (getD (replicate n 0) x 0) 0
-all-zero n x = go (decLt x n)
-  where
-    go : Dec (x < n) → _≡_ {A = ℕ} (getD (replicate n 0) x 0) 0
-    go (yes h) = getD-replicate {A = ℕ} n x 0 0 h
-    go (no h) = List·getD-eq-default (replicate n 0) 0 (omega (arith, length-replicate {A = ℕ} n 0))
-
 module _ {h w : ℕ} {cs : List ℕ} {ks : List ℤ} {d : Board} (M : Made h w cs ks d) where
   fresh-native : Native (freshBoard h w cs ks)
   unfolding coloursRight cluesRight
@@ -87,13 +81,13 @@ module _ {h w : ℕ} {cs : List ℕ} {ks : List ℤ} {d : Board} (M : Made h w c
         few = omega arith;
         entry = λ i l. absurd (omega arith);
         once = λ i l. absurd (omega arith);
-        code = λ x l. rw (all-zero 1984 x) (omega arith);
-        held = λ x l. rw (all-zero 1984 x, stacked-none (replicate 1984 0) x);
+        code = λ x l. rw (zeros 1984 x) (omega arith);
+        held = λ x l. rw (zeros 1984 x, stacked-none (replicate 1984 0) x);
         noColour = λ i l. let c = M .colours in getD-padded 1024 0 cs i ∙ List·getD-eq-default cs 0 (omega arith);
         noClue =
             λ i l. let c = M .clues in getD-padded 1024 (pos 0) ks i ∙ List·getD-eq-default ks (pos 0) (omega arith);
-        noBorder = λ x l. all-zero 1984 x;
-        noEntry = λ i l. all-zero 1984 i;
+        noBorder = λ x l. zeros 1984 x;
+        noEntry = λ i l. zeros 1984 i;
       }
 
   pub made-keeps : isAlien d ≡ false

@@ -1,17 +1,15 @@
 -- Laws on lists: a test of every number from one bound to another, counting one number more, tables, padded lists.
 use mathlib.Core.Path.{_≡_, refl, ap, sym, _∙_}
 use mathlib.Core.Bool.{Bool, true, false, _||_, or-true, and-true}
-use mathlib.Core.List.{List, [], _∷_, _++_, List·Memᴰ·not-nil, List·Memᴰ·append-cases, List·Memᴰ·eq-of-singleton}
-use mathlib.Core.Logic.{_⊎_, inl, inr, ⊎-elim}
+use mathlib.Core.List.{List, [], _∷_, _++_}
 use Prim.Native.Nat.{ℕ, zero, suc, _+_, _-_, _<_, _≤_}
-use native.Mathlib.Nat.{not-suc-le-zero, eq-or-lt-of-le, le-of-suc-le-suc}
+use native.Mathlib.Nat.{not-suc-le-zero, le-of-suc-le-suc}
 use native.Mathlib.Decide.{decLt}
 use native.Mathlib.Numerals.{add-one}
 use native.Mathlib.Omega.{arith}
 use borrow.Author.Tests.{lt-ltb, le-ltb}
 use lib.Dec.{ltb}
 use lib.ListN.{length, getD, replicate, length-append, length-replicate, List·getD-append, List·getD-eq-default}
-use Rattle.lists.specs.Lists.{_∈_}
 use Rattle.lists.specs.Tests.{allBelow, anyBelow, all-more, all-fails, all-at, all-every}
 use Rattle.lists.specs.Count.{countBelow}
 use Rattle.lists.specs.Padded.{padded}
@@ -80,15 +78,6 @@ module _ (i : ℕ) (f : ℕ → Bool) where
   count-no c e t = rw (add-one i, t) (omega arith)
 
 -- ---- some number passes, or none does
-pub any-some : (n : ℕ) (f : ℕ → Bool) (i : ℕ) → i < n → f i ≡ true → anyBelow n f ≡ true
-unfolding anyBelow
-any-some zero f i h e = absurd (not-suc-le-zero h)
-any-some (suc n) f i h e =
-    ⊎-elim
-    (λ (p : i ≡ n). rw (← p, e) (or-true (anyBelow i f)))
-    (λ l. rw (any-some n f i l e))
-    (eq-or-lt-of-le (le-of-suc-le-suc h))
-
 pub any-fails : (n : ℕ) (f : ℕ → Bool) → ((i : ℕ) → i < n → f i ≡ false) → anyBelow n f ≡ false
 unfolding anyBelow
 any-fails zero f h = refl
@@ -99,21 +88,6 @@ module _ {A : Type 0} where
   pub table-more : (n : ℕ) (f : ℕ → A) → table (n + 1) f ≡ table n f ++ (f n ∷ [])
   unfolding table
   table-more n f = rw add-one
-
-  pub table-cong : (n : ℕ) (f g : ℕ → A) → ((i : ℕ) → i < n → f i ≡ g i) → table n f ≡ table n g
-  unfolding table
-  table-cong zero f g h = refl
-  table-cong (suc n) f g h = rw (table-cong n f g (λ i l. h i (omega arith)), h n (omega arith))
-
-  pub table-find : (n : ℕ) (f : ℕ → A) {a : A} → a ∈ table n f → (i : ℕ) × (i < n) × (a ≡ f i)
-  unfolding table
-  table-find zero f m = absurd (List·Memᴰ·not-nil m)
-  table-find (suc n) f {a} m = go (List·Memᴰ·append-cases (table n f) m) (table-find n f)
-    where
-      go : a ∈ table n f ⊎ a ∈ (f n ∷ []) → (a ∈ table n f → (i : ℕ) × (i < n) × (a ≡ f i))
-          → (i : ℕ) × (i < suc n) × (a ≡ f i)
-      go (inl k) ih = let r = ih k in let l = r .1 in (r .0, omega arith, r .2)
-      go (inr k) ih = (n, omega arith, List·Memᴰ·eq-of-singleton k)
 
 -- ---- a padded list
 module _ {A : Type 0} where

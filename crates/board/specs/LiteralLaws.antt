@@ -7,7 +7,8 @@ use native.Mathlib.Decide.{decLt}
 use native.Mathlib.Omega.{arith}
 use lib.ListN.{length, getD, set}
 use lib.Seq.{getD-set-same, getD-set-other, ext-getD}
-use Rattle.lists.specs.Table.{table, getD-table}
+use Rattle.rules.specs.SmallLaws.{without-last}
+use Rattle.lists.specs.Table.{table, getD-table, table-cong}
 use Rattle.rules.specs.declared.Literal.{Literal}
 use Rattle.rules.specs.Page.{Mark, wallAt}
 use Rattle.rules.specs.Flat.{borderCount}
@@ -15,13 +16,12 @@ use Rattle.rules.specs.Codes.{codeOf, marksIn}
 use Rattle.rules.specs.Book.{marks, withLast, withoutLast}
 use Rattle.board.specs.declared.Board.{Board}
 use Rattle.board.specs.declared.Outcome.the-variants.{Done}
-use Rattle.board.specs.ListExtras.{table-more, table-cong}
+use Rattle.board.specs.ListExtras.{table-more}
 use Rattle.board.specs.Alien.{stacked, isAlien}
 use Rattle.board.specs.Board.{returned, pushed, decideOf, undoOf, Typed}
 use Rattle.board.specs.View.{marksOf, sideIn, literalIn, literalsOf}
 use Rattle.board.specs.NativeLaws.{Native, native-has, borders-fit, free-unstacked}
 use Rattle.board.specs.DecideLaws.{decided-is, undone-is, new-entry, old-entry, poppedAt}
-use Rattle.board.specs.SequenceLaws.{without-last}
 use Rattle.board.specs.ViewLaws.{side-in, markCode, mark-code, literals-length, stacked-at, code-small}
 use Rattle.board.specs.ViewLaws.{marks-literals}
 

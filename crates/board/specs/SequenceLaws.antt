@@ -9,8 +9,8 @@ use Rattle.lists.specs.Lists.{_∈_, any}
 use Rattle.lists.specs.Tests.{anyBelow}
 use Rattle.lists.specs.Table.{table}
 use Rattle.rules.specs.declared.Literal.{Literal}
-use Rattle.rules.specs.Page.{Mark, undecided, decided}
-use Rattle.rules.specs.Book.{markIf, marks, names, withLast, withoutLast}
+use Rattle.rules.specs.Page.{Mark, decided}
+use Rattle.rules.specs.Book.{markIf, marks, names, withLast}
 
 pub names-last : (ls : List Literal) (l : Literal) (x : ℕ)
     → names (withLast ls l) x ≡ names ls x || eqb (l .border) x
@@ -26,16 +26,6 @@ names-table zero f x = refl
 names-table (suc n) f x =
     names-last (table n f) (f n) x ∙ ap (λ (t : Bool). t || eqb (f n .border) x) (names-table n f x)
 
-pub marks-none : (ls : List Literal) (x : ℕ) → names ls x ≡ false → marks ls x ≡ undecided
-unfolding names any marks
-marks-none [] x e = refl
-marks-none (l ∷ ls) x e = go (eqb (l .border) x) e (marks-none ls x)
-  where
-    go : (t : Bool) → t || names ls x ≡ false → (names ls x ≡ false → marks ls x ≡ undecided)
-        → markIf t (decided (l .side)) (marks ls x) ≡ undecided
-    go true p ih = let z : _≡_ {A = Bool} true false = p in cc
-    go false p ih = ih p
-
 -- where each literal holds in m, the marks of the literals are those of m
 pub marks-all : (m : ℕ → Mark) (ls : List Literal) (x : ℕ)
     → ((l : Literal) → l ∈ ls → m (l .border) ≡ decided (l .side)) → names ls x ≡ true → marks ls x ≡ m x
@@ -47,9 +37,3 @@ marks-all m (l ∷ ls) x f e = go (eqb (l .border) x) refl e (marks-all m ls x (
         → markIf t (decided (l .side)) (marks ls x) ≡ m x
     go true p q ih = sym (f l (List·Memᴰ·head refl)) ∙ ap m (eqb-true (l .border) x p)
     go false p q ih = ih q
-
-pub without-last : (ls : List Literal) (l : Literal) → withoutLast (withLast ls l) ≡ ls
-unfolding withoutLast
-without-last [] l = refl
-without-last (a ∷ []) l = refl
-without-last (a ∷ b ∷ ls) l = ap (λ (t : List Literal). a ∷ t) (without-last (b ∷ ls) l)

@@ -9,9 +9,11 @@ use borrow.Author.Tests.{eq-eqb, ne-eqb, eqb-true, eqb-false, not-false}
 use lib.Dec.{eqb}
 use lib.IntN.{ℤ, pos}
 use lib.ListN.{length, getD}
+use Rattle.rules.specs.SmallLaws.{marks-none}
+use Rattle.lists.specs.Tests.{any-some}
 use Rattle.lists.specs.Lists.{_∈_}
 use Rattle.lists.specs.Count.{count-cong}
-use Rattle.lists.specs.Table.{table, length-table}
+use Rattle.lists.specs.Table.{table, length-table, table-find}
 use Rattle.rules.specs.declared.Side.{Side}
 use Rattle.rules.specs.declared.Side.the-variants.{Wall, Open}
 use Rattle.rules.specs.declared.Literal.{Literal}
@@ -22,7 +24,7 @@ use Rattle.rules.specs.Check.{undecidedCount}
 use Rattle.rules.specs.Book.{marks, names}
 use Rattle.board.specs.declared.Board.{Board}
 use Rattle.board.specs.declared.Outcome.the-variants.{Done}
-use Rattle.board.specs.ListExtras.{any-some, any-fails, table-find, getD-padded}
+use Rattle.board.specs.ListExtras.{any-fails, getD-padded}
 use Rattle.board.specs.Alien.{stacked}
 use Rattle.board.specs.Board.{freshBoard, returned, decideOf, undoOf}
 use Rattle.board.specs.View.{puzzleIn, puzzleOf, marksOf, sideIn, literalIn, literalsOf, isFree, freeIn}
@@ -30,7 +32,7 @@ use Rattle.board.specs.View.{undecidedOf}
 use Rattle.board.specs.ConditionLaws.{borders-of}
 use Rattle.board.specs.NativeLaws.{Native, free-count}
 use Rattle.board.specs.DecideLaws.{decided-is, undone-is}
-use Rattle.board.specs.SequenceLaws.{names-table, marks-none, marks-all}
+use Rattle.board.specs.SequenceLaws.{names-table, marks-all}
 
 -- ---- codes
 pub side-in : (d : Side) → sideIn (codeOf d) ≡ d

@@ -17,6 +17,7 @@ use Prim.Native.Nat.{ℕ}
 use borrow.Author.Tests.{ltb-true, eqb-true}
 use lib.Dec.{eqb, ltb}
 use lib.ListN.{length, getD}
+use Rattle.rules.specs.SmallLaws.{without-last}
 use Rattle.rules.specs.declared.Literal.{Literal}
 use Rattle.rules.specs.declared.Call.{Call}
 use Rattle.rules.specs.declared.Call.the-variants.{Decide, Undo, Check}
@@ -25,7 +26,6 @@ use Rattle.rules.specs.Flat.{flat, borderCount}
 use Rattle.rules.specs.Codes.{codeOf}
 use Rattle.rules.specs.Book.{Reply, names, withLast, withoutLast, decideAfter, replyTo, reply, afterCall}
 use Rattle.rules.specs.Book.{sequenceFrom, repliesFrom}
-use Rattle.argument.specs.Sequences.{without-with}
 use Rattle.board.specs.declared.Board.{Board}
 use Rattle.board.specs.declared.Outcome.the-variants.{Done, Border, Taken}
 use Rattle.board.specs.declared.Returned.{Returned}
@@ -118,7 +118,7 @@ module _ (start : Board) (S : Bare start) where
   built-undo none =
       rw (← (undo-bare start (S .known) (sym (literals-length start) ∙ ap length (S .empty)))) none
   built-undo (more {ls} {b} l d B e) =
-      rw (without-with ls l, undo-decide b l (built-facts B .typed) e) B
+      rw (without-last ls l, undo-decide b l (built-facts B .typed) e) B
 
   pub built-step : {ls : List Literal} {b : Board} → Built start ls b → (c : Call) (m : List ℕ)
       → Built start (afterCall (puzzleOf start) ls c) (callOf b c m .board)

@@ -12,6 +12,7 @@ use mathlib.Core.Option.{Option, some, none}
 use Prim.Native.Nat.{ℕ}
 use native.Mathlib.Omega.{arith}
 use lib.Dec.{T, eqb, eqb→eq, eqb-refl, T-not}
+use Rattle.lists.specs.Tests.{same-test}
 use Rattle.lists.specs.Lists.{_∈_, keep, filter, any, firstHit, orElse}
 use Rattle.lists.specs.ListLaws.{any-mem, any-find, T-dec, T-and, T-and-l, T-and-r, neqb→ne}
 use Rattle.rules.specs.Page.{Puzzle, Mark}
@@ -21,12 +22,6 @@ use Rattle.rules.specs.Check.{Reason, hitIf, isSome, clash, clueOf, insideBlock
 use Rattle.rules.specs.Check.{cellHit, cellHits}
 
 -- ---- tests
-
-same-test : (a b : Bool) → (T a → T b) → (T b → T a) → a ≡ b
-same-test true true f g = refl
-same-test true false f g = absurd (f tt)
-same-test false true f g = absurd (g tt)
-same-test false false f g = refl
 
 is-false : (b : Bool) → (T b → ⊥) → b ≡ false
 is-false true f = absurd (f tt)

@@ -8,14 +8,14 @@ use native.Mathlib.Decide.{ℕ-discrete}
 use borrow.Author.Tests.{le-leb, lt-leb}
 use lib.ListN.{getD, set, replicate, length-set, length-replicate}
 use lib.Seq.{getD-set-same, getD-set-other}
+use Rattle.lists.specs.Padded.{zeros}
 use Rattle.rules.specs.Groups.{entry, rename, mergeIf}
 use Rattle.groups.specs.Forests.{Forest, Rep}
 use Rattle.groups.specs.LabelLaws.{rename-hit, rename-miss, rename-same, renamed, labelled-renamed}
-use Rattle.groups.specs.ListExtras.{zeros-at}
 
 pub forest-zeros : Forest (replicate 1024 0)
 forest-zeros =
-    record { long = length-replicate {A = ℕ} 1024 0; down = λ x. omega (arith, zeros-at 1024 x) }
+    record { long = length-replicate {A = ℕ} 1024 0; down = λ x. omega (arith, zeros 1024 x) }
 
 -- a parent that is no later keeps the forest
 pub forest-set : (p : List ℕ) (u v : ℕ) → Forest p → u < 1024 → v ≤ u → Forest (set p u v)

@@ -2,7 +2,6 @@
 use mathlib.Core.Path.{_≡_, refl, sym, ap, _∙_}
 use mathlib.Core.Bool.{Bool, true, false}
 use mathlib.Core.List.{List, [], _∷_, _++_, map, append-assoc, append-nil}
-use mathlib.Core.List.{List·Memᴰ·head, List·Memᴰ·tail}
 use Prim.Native.Nat.{ℕ, zero, suc, _+_, _-_, _<_, _≤_}
 use native.Mathlib.Nat.{add-zero, add-suc}
 use native.Mathlib.Decide.{decLt}
@@ -11,9 +10,10 @@ use lib.ListN.{take, drop, length-drop, drop-of-length-le}
 use lib.ListN.{length, getD, replicate, length-append, length-replicate}
 use lib.ListN.{List·getD-append, List·getD-eq-default}
 use lib.Seq.{ext-getD, getD-append-add, take-nil, take-all}
-use Rattle.lists.specs.Lists.{_∈_, keep, filter, flatMap, rangeFrom, range}
+use Rattle.lists.specs.Lengths.{rangeFrom-more}
+use Rattle.lists.specs.Lists.{keep, filter, flatMap, rangeFrom, range}
 use Rattle.lists.specs.Count.{bit, countBelow}
-use Rattle.lists.specs.Padded.{padded}
+use Rattle.lists.specs.Padded.{padded, zeros}
 
 rangeFrom-length : (i n : ℕ) → length (rangeFrom i n) ≡ n
 rangeFrom-length i zero = refl
@@ -29,13 +29,6 @@ rangeFrom-at i (suc n) (suc k) h = rangeFrom-at (suc i) n k (omega arith) ∙ om
 
 pub range-at : (n k : ℕ) → k < n → getD (range n) k 0 ≡ k
 range-at n k h = rangeFrom-at 0 n k h ∙ omega arith
-
-rangeFrom-more : (i n : ℕ) → rangeFrom i (suc n) ≡ rangeFrom i n ++ ((i + n) ∷ [])
-rangeFrom-more i zero = let e : i ≡ i + 0 = omega arith in ap (λ (k : ℕ). k ∷ []) e
-rangeFrom-more i (suc n) =
-    let e : suc i + n ≡ i + suc n = omega arith in
-    ap (λ (l : List ℕ). i ∷ l)
-    (rangeFrom-more (suc i) n ∙ ap (λ (k : ℕ). rangeFrom (suc i) n ++ (k ∷ [])) e)
 
 -- a range grows at its end
 pub range-more : (n : ℕ) → range (suc n) ≡ range n ++ (n ∷ [])
@@ -122,17 +115,7 @@ pub count-all : (p : ℕ → Bool) (n : ℕ) → ((x : ℕ) → x < n → p x �
 count-all p zero h = count-zero p
 count-all p (suc n) h = count-yes n p (h n (omega arith)) ∙ ap suc (count-all p n (λ x l. h x (omega arith)))
 
-pub getD-mem : (l : List ℕ) (i : ℕ) → i < length l → getD l i 0 ∈ l
-getD-mem [] i h = absurd (omega arith)
-getD-mem (x ∷ l) zero h = List·Memᴰ·head refl
-getD-mem (x ∷ l) (suc i) h = List·Memᴰ·tail (getD-mem l i (omega arith))
-
 -- zeros, and lists filled up with them
-pub zeros-at : (n k : ℕ) → getD {A = ℕ} (replicate n 0) k 0 ≡ 0
-zeros-at zero k = refl
-zeros-at (suc n) zero = refl
-zeros-at (suc n) (suc k) = zeros-at n k
-
 pub padded-at : (n : ℕ) (l : List ℕ) (i : ℕ) → getD (padded n 0 l) i 0 ≡ getD l i 0
 padded-at n l i = go (decLt i (length l))
   where
@@ -143,7 +126,7 @@ padded-at n l i = go (decLt i (length l))
         let k : length l ≤ i = omega arith in
         ap (λ (j : ℕ). getD (padded n 0 l) j 0) (sym e)
         ∙ getD-append-add l (replicate (n - length l) 0) (i - length l) 0
-        ∙ zeros-at (n - length l) (i - length l) ∙ sym (List·getD-eq-default l 0 k)
+        ∙ zeros (n - length l) (i - length l) ∙ sym (List·getD-eq-default l 0 k)
 
 pub padded-length : (n : ℕ) (l : List ℕ) → length l ≤ n → length (padded n 0 l) ≡ n
 padded-length n l h =

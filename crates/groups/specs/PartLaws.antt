@@ -10,14 +10,14 @@ use lib.Dec.{eqb, eqb→eq, eqb-refl}
 use lib.ListN.{length, getD, take, drop, length-drop}
 use lib.Seq.{drop-append-le, take-append-le, getD-take, getD-drop}
 use Rattle.lists.specs.Lists.{_∈_, flatMap, range}
-use Rattle.lists.specs.ListLaws.{filter-mem, filter-test, mem-filter, mem-range, range-lt, flat-find}
+use Rattle.lists.specs.ListLaws.{filter-mem, filter-test, mem-filter, mem-range, range-lt, flat-find, getD-mem}
 use Rattle.lists.specs.Table.{length-table}
 use Rattle.lists.specs.Padded.{padded}
 use Rattle.rules.specs.Page.{Page}
 use Rattle.rules.specs.Groups.{entry, numbers, groupCount, members}
 use Rattle.groups.specs.Parts.{startOf, startsOf, cellsOf, listed, partOf, groupsOf}
 use Rattle.groups.specs.Arrays.{Blank}
-use Rattle.groups.specs.ListExtras.{padded-at, padded-length, getD-mem}
+use Rattle.groups.specs.ListExtras.{padded-at, padded-length}
 use Rattle.groups.specs.LabelLaws.{numbers-length, number-lt, groupCount-le}
 use Rattle.groups.specs.NumberLaws.{starts-at, starts-past, starts-length, starts-end, blank-padded}
 use Rattle.groups.specs.SortLaws.{cells-length, cells-none, start-suc, start-up, start-le, listed-length}

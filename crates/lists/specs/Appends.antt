@@ -1,7 +1,7 @@
 -- The functions of Lists on one list after the other.
-use mathlib.Core.Path.{_≡_, refl, ap}
+use mathlib.Core.Path.{_≡_, refl, ap, _∙_}
 use mathlib.Core.Bool.{Bool, true, false, _||_}
-use mathlib.Core.List.{List, [], _∷_, _++_, append-assoc}
+use mathlib.Core.List.{List, [], _∷_, _++_, append-assoc, map}
 use mathlib.Core.Option.{Option, some, none}
 use Prim.Native.Nat.{suc, _≤_}
 use native.Mathlib.Omega.{arith}
@@ -54,3 +54,20 @@ module _ {A B : Type 0} where
           → orElse o (firstHit f (xs ++ ys)) ≡ orElse (orElse o (firstHit f xs)) (firstHit f ys)
       go none e = e
       go (some b) e = refl
+
+module _ {A B : Type 0} where
+  pub map-append : (f : A → B) (xs ys : List A) → map f (xs ++ ys) ≡ map f xs ++ map f ys
+  map-append f [] ys = refl
+  map-append f (x ∷ xs) ys = ap (λ (l : List B). f x ∷ l) (map-append f xs ys)
+
+module _ {A B C : Type 0} where
+  pub flat-map : (f : B → List C) (g : A → B) (xs : List A) → flatMap f (map g xs) ≡ flatMap (λ x. f (g x)) xs
+  unfolding flatMap
+  flat-map f g [] = refl
+  flat-map f g (x ∷ xs) = rw (flat-map f g xs)
+
+  pub flat-flat : (f : B → List C) (g : A → List B) (xs : List A)
+      → flatMap f (flatMap g xs) ≡ flatMap (λ x. flatMap f (g x)) xs
+  unfolding flatMap
+  flat-flat f g [] = refl
+  flat-flat f g (x ∷ xs) = flat-append f (g x) (flatMap g xs) ∙ rw (flat-flat f g xs)

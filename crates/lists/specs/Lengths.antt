@@ -2,14 +2,14 @@
 use mathlib.Core.Path.{_≡_, refl, sym, ap, _∙_, subst}
 use mathlib.Core.Logic.{_⊎_, inl, inr}
 use mathlib.Core.Bool.{Bool, true, false}
-use mathlib.Core.List.{List, [], _∷_, List·Memᴰ·head, List·Memᴰ·tail, List·Memᴰ·not-nil, List·Memᴰ·cases-cons}
-use Prim.Native.Nat.{ℕ, zero, suc, _≤_}
+use mathlib.Core.List.{List, [], _∷_, List·Memᴰ·head, List·Memᴰ·tail, List·Memᴰ·not-nil, List·Memᴰ·cases-cons, _++_}
+use Prim.Native.Nat.{ℕ, zero, suc, _≤_, _+_}
 use native.Mathlib.Omega.{arith}
 use lib.ListN.{length}
 use Rattle.lists.specs.Lists.{_∈_, Distinct, filter, keep, rangeFrom}
 use Rattle.lists.specs.ListLaws.{filter-mem}
 
-rangeFrom-ge : (i n : ℕ) {x : ℕ} → x ∈ rangeFrom i n → i ≤ x
+pub rangeFrom-ge : (i n : ℕ) {x : ℕ} → x ∈ rangeFrom i n → i ≤ x
 rangeFrom-ge i zero m = absurd (List·Memᴰ·not-nil m)
 rangeFrom-ge i (suc n) (List·Memᴰ·head q) = omega arith
 rangeFrom-ge i (suc n) (List·Memᴰ·tail m) = let r = rangeFrom-ge (suc i) n m in omega arith
@@ -97,3 +97,11 @@ subset-full (x ∷ xs) ys d f h y m =
         at : (y ≡ x) ⊎ y ∈ t .0 → (y ∈ t .0 → (w : ℕ) × w ∈ xs × (w ≡ y)) → (w : ℕ) × w ∈ (x ∷ xs) × (w ≡ y)
         at (inl e) ih = (x, List·Memᴰ·head refl, sym e)
         at (inr n) ih = let r = ih n in (r .0, List·Memᴰ·tail (r .1), r .2)
+
+-- a range grows at its end
+pub rangeFrom-more : (i n : ℕ) → rangeFrom i (suc n) ≡ rangeFrom i n ++ ((i + n) ∷ [])
+rangeFrom-more i zero = let e : i ≡ i + 0 = omega arith in ap (λ (k : ℕ). k ∷ []) e
+rangeFrom-more i (suc n) =
+    let e : suc i + n ≡ i + suc n = omega arith in
+    ap (λ (l : List ℕ). i ∷ l)
+    (rangeFrom-more (suc i) n ∙ ap (λ (k : ℕ). rangeFrom (suc i) n ++ (k ∷ [])) e)

@@ -9,6 +9,7 @@ use Prim.Native.Nat.{ℕ, zero, suc, _+_, _≤_, _<_}
 use native.Mathlib.Omega.{arith}
 use lib.Dec.{T, eqb, eqb→eq, eqb-refl, T-not}
 use Rattle.lists.specs.Lists.{_∈_, keep, filter, any, all, orElse, flatMap, firstHit, rangeFrom, range}
+use lib.ListN.{length, getD}
 
 pub T-and-l : (a b : Bool) → T (a && b) → T a
 T-and-l true b t = tt
@@ -162,3 +163,8 @@ module _ {A : Type 0} where
   all-mem p [] t m = absurd (List·Memᴰ·not-nil m)
   all-mem p (y ∷ ys) t (List·Memᴰ·head q) = rw q (T-and-l (p y) _ t)
   all-mem p (y ∷ ys) t (List·Memᴰ·tail m) = all-mem p ys (T-and-r (p y) _ t) m
+
+pub getD-mem : (l : List ℕ) (i : ℕ) → i < length l → getD l i 0 ∈ l
+getD-mem [] i h = absurd (omega arith)
+getD-mem (x ∷ l) zero h = List·Memᴰ·head refl
+getD-mem (x ∷ l) (suc i) h = List·Memᴰ·tail (getD-mem l i (omega arith))

@@ -1,14 +1,15 @@
 -- The list of a function's values below a bound, and a loop that stores them one by one.
 -- Assumes nothing.
 use mathlib.Core.Path.{_≡_, refl, ap, sym, _∙_}
-use mathlib.Core.List.{List, [], _∷_, _++_}
-use mathlib.Core.Logic.{⊎-elim}
+use mathlib.Core.List.{List, [], _∷_, _++_, List·Memᴰ·not-nil, List·Memᴰ·append-cases, List·Memᴰ·eq-of-singleton}
+use mathlib.Core.Logic.{⊎-elim, _⊎_, inl, inr}
 use Prim.Native.Nat.{ℕ, zero, suc, _+_, _<_}
 use native.Mathlib.Nat.{not-suc-le-zero, eq-or-lt-of-le, le-of-suc-le-suc}
 use native.Mathlib.Decide.{ℕ-discrete}
 use native.Mathlib.Omega.{arith}
 use lib.ListN.{length, getD, set, length-append, List·getD-append}
 use lib.Seq.{getD-at, ext-getD, getD-set-same, getD-set-other}
+use Rattle.lists.specs.Lists.{_∈_}
 
 -- f 0, f 1, .. and f (n - 1)
 unfoldable pub table : {A : Type 0} → ℕ → (ℕ → A) → List A
@@ -46,3 +47,20 @@ stored-more f d v l i h e k j m = go (ℕ-discrete j i)
     go : Dec (j ≡ i) → getD (set l i v) j d ≡ f j
     go (yes p) = ap (λ t. getD (set l i v) t d) p ∙ getD-set-same l i v d h ∙ e ∙ ap f (sym p)
     go (no p) = getD-set-other l i j v d p ∙ k j (omega arith)
+
+module _ {A : Type 0} where
+  pub table-cong : (n : ℕ) (f g : ℕ → A) → ((i : ℕ) → i < n → f i ≡ g i) → table n f ≡ table n g
+  unfolding table
+  table-cong zero f g h = refl
+  table-cong (suc n) f g h = rw (table-cong n f g (λ i l. h i (omega arith)), h n (omega arith))
+
+  -- every element of a table is one of its entries
+  pub table-find : (n : ℕ) (f : ℕ → A) {a : A} → a ∈ table n f → (i : ℕ) × (i < n) × (a ≡ f i)
+  unfolding table
+  table-find zero f m = absurd (List·Memᴰ·not-nil m)
+  table-find (suc n) f {a} m = go (List·Memᴰ·append-cases (table n f) m) (table-find n f)
+    where
+      go : a ∈ table n f ⊎ a ∈ (f n ∷ []) → (a ∈ table n f → (i : ℕ) × (i < n) × (a ≡ f i))
+          → (i : ℕ) × (i < suc n) × (a ≡ f i)
+      go (inl k) ih = let r = ih k in let l = r .1 in (r .0, omega arith, r .2)
+      go (inr k) ih = (n, omega arith, List·Memᴰ·eq-of-singleton k)

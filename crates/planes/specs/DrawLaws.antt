@@ -12,10 +12,11 @@ use borrow.Author.Tests.{lt-ltb, le-ltb, le-leb, lt-leb}
 use lib.Dec.{eqb}
 use lib.ListN.{length, getD, set, replicate, length-set, length-replicate}
 use lib.Seq.{getD-set-same, getD-set-other}
-use Rattle.lists.specs.Table.{table-is}
+use Rattle.lists.specs.Padded.{zeros}
+use Rattle.lists.specs.Table.{table-is, length-table}
 use Rattle.rules.specs.Flat.{Sized}
 use Rattle.rules.specs.FlatLaws.{counts, spot}
-use Rattle.planes.specs.Extras.{le-or-lt, eq-or-not, zeros}
+use Rattle.planes.specs.Extras.{le-or-lt, eq-or-not}
 use Rattle.planes.specs.RowLaws.{row-fits}
 use Rattle.planes.specs.Planes.{clearAt, clearRow, lineWord, planeRow, planeWord, planesOf}
 
@@ -107,3 +108,7 @@ module _ (h w : ℕ) (cs bs : List ℕ) where
   draw-end n {p} l m d =
       let e : n ≡ 2 * h - 1 = omega arith in
       table-is 192 (planeWord h w cs bs) 0 p (d .size) (λ r k. d .rows r ∙ rw e)
+
+pub planes-long : (h w : ℕ) (cs bs : List ℕ) {p : List ℕ} → p ≡ planesOf h w cs bs → length p ≡ 192
+unfolding planesOf
+planes-long h w cs bs e = ap length e ∙ length-table 192 (planeWord h w cs bs)

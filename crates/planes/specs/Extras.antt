@@ -5,11 +5,12 @@ use mathlib.Core.Bool.{Bool, true, false, _&&_, _||_}
 use mathlib.Core.List.{List, [], _∷_, map, List·Memᴰ·head, List·Memᴰ·tail}
 use mathlib.Core.Logic.{_⊎_, _≢_, inl, inr, ⊎-elim}
 use Prim.Native.Nat.{ℕ, zero, suc, _+_, _-_, _<_, _≤_}
-use native.Mathlib.Nat.{not-suc-le-zero, eq-or-lt-of-le, le-of-suc-le-suc}
+use native.Mathlib.Nat.{eq-or-lt-of-le, le-of-suc-le-suc}
 use native.Mathlib.Numerals.{add-one}
 use native.Mathlib.Omega.{arith}
 use lib.ListN.{length, getD, replicate, length-replicate}
 use lib.Seq.{ext-getD}
+use Rattle.lists.specs.Padded.{zeros}
 use Rattle.lists.specs.Lists.{_∈_, any, all, rangeFrom}
 use Rattle.lists.specs.Tests.{allBelow, anyBelow, all-cong}
 
@@ -26,11 +27,6 @@ eq-or-not m n =
     ⊎-elim (λ (e : m ≡ n). inl e) (λ (k : m < n). inr (λ (e : m ≡ n). omega arith)) (eq-or-lt-of-le l))
     (λ (l : n < m). inr (λ (e : m ≡ n). omega arith))
     (le-or-lt m n)
-
-pub zeros : (n i : ℕ) → _≡_ {A = ℕ} (getD (replicate n 0) i 0) 0
-zeros zero i = refl
-zeros (suc n) zero = refl
-zeros (suc n) (suc i) = zeros n i
 
 or-found : (a b : Bool) → b ≡ true → a || b ≡ true
 or-found true b e = refl
@@ -65,15 +61,6 @@ same-test false false f g = refl
 pub any-next : (n : ℕ) (f : ℕ → Bool) → anyBelow n f ≡ false → f n ≡ false → anyBelow (n + 1) f ≡ false
 unfolding anyBelow
 any-next n f p q = rw (add-one, p, q)
-
-pub any-found : (n : ℕ) (f : ℕ → Bool) (i : ℕ) → i < n → f i ≡ true → anyBelow n f ≡ true
-unfolding anyBelow
-any-found zero f i h e = absurd (not-suc-le-zero h)
-any-found (suc n) f i h e =
-    ⊎-elim
-    (λ (p : i ≡ n). or-found (anyBelow n f) (f n) (rw (← p) e))
-    (λ l. rw (any-found n f i l e))
-    (eq-or-lt-of-le (le-of-suc-le-suc h))
 
 -- no number from i on passes either
 pub any-rest : (i n : ℕ) (f : ℕ → Bool) → anyBelow i f ≡ false → i ≤ n

@@ -13,6 +13,7 @@ use Rattle.lists.specs.Lists.{_∈_, any, all}
 use Rattle.lists.specs.ListLaws.{flat-find}
 use Rattle.lists.specs.Table.{getD-table}
 use Rattle.lists.specs.Tests.{allBelow, all-cong, and-left, and-right}
+use Rattle.lists.specs.Tests.{any-some as any-found}
 use Rattle.rules.specs.declared.Placement.the-variants.{Fits}
 use Rattle.rules.specs.Page.{Puzzle, Mark}
 use Rattle.rules.specs.Codes.{marksIn}
@@ -24,7 +25,7 @@ use Rattle.search.specs.JudgeLaws.{after, blocked-never, readAt, readFrom, laid
 use Rattle.search.specs.Placing.{Drawn, Raised, puzzle, bare, spelled, readRaised, readingOf, isClear, fitsOf}
 use Rattle.search.specs.SearchLaws.{any-flat, cells-at}
 use Rattle.search.specs.Searching.{Beside, groupIn, fitsAmong, fitsBeside}
-use Rattle.planes.specs.Extras.{same-test, any-found, any-some, any-holds, holds-any, all-range}
+use Rattle.planes.specs.Extras.{same-test, any-some, any-holds, holds-any, all-range}
 use Rattle.planes.specs.Bits.{bit}
 use Rattle.planes.specs.Planes.{planeWord, planesOf}
 use Rattle.planes.specs.PlaneLaws.{plane-clear}

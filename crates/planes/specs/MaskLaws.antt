@@ -11,12 +11,13 @@ use lib.Bits.{bitOr}
 use lib.Dec.{eqb}
 use lib.ListN.{length, getD, set, replicate, length-set, length-replicate}
 use lib.Seq.{getD-set-same, getD-set-other}
+use Rattle.lists.specs.Padded.{zeros}
 use Rattle.lists.specs.Lists.{_∈_, any, flatMap}
 use Rattle.rules.specs.Flat.{Sized}
 use Rattle.reasons.specs.Arrays.{part}
 use Rattle.search.specs.ListExtras.{any-append, or-false, part-none, part-one, part-split, flat-append}
 use Rattle.search.specs.Searching.{groupIn}
-use Rattle.planes.specs.Extras.{eq-or-not, zeros, holds-any}
+use Rattle.planes.specs.Extras.{eq-or-not, holds-any}
 use Rattle.planes.specs.Bits.{bit}
 use Rattle.planes.specs.BitLaws.{bit-zero, bit-with}
 use Rattle.planes.specs.Masks.{cellIs, Masked, originsIn}

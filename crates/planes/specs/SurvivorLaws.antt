@@ -12,6 +12,7 @@ use native.Mathlib.Nat.{eq-or-lt-of-le, div-lt-iff-lt-mul}
 use native.Mathlib.Omega.{arith}
 use lib.Dec.{eqb}
 use lib.ListN.{getD}
+use Rattle.lists.specs.Padded.{zeros}
 use Rattle.lists.specs.Lists.{flatMap, rangeFrom}
 use Rattle.lists.specs.ListLaws.{mem-flat}
 use Rattle.lists.specs.Tests.{allBelow, all-cong, all-at, and-right}
@@ -29,7 +30,7 @@ use Rattle.search.specs.JudgeLaws.{after, readAt, readFrom, laid-after}
 use Rattle.search.specs.Placing.{Drawn, Raised, puzzle, bare, spelled, readRaised, readingOf, isClear}
 use Rattle.search.specs.PlacingLaws.{mark-wall, off-above, off-left, off-below, off-right}
 use Rattle.search.specs.Searching.{Beside, groupIn, blockOf, blocksAmong, blocksBeside}
-use Rattle.planes.specs.Extras.{le-or-lt, zeros}
+use Rattle.planes.specs.Extras.{le-or-lt}
 use Rattle.planes.specs.Bits.{bit}
 use Rattle.planes.specs.FitLaws.{spot-clear, origins-on}
 use Rattle.planes.specs.Masks.{Masked, originsIn}

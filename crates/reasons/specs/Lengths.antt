@@ -10,38 +10,20 @@ use native.Mathlib.Omega.{arith}
 use lib.Dec.{eqb, ltb}
 use lib.ListN.{length, length-append, length-map}
 use borrow.Author.Tests.{eq-eqb, ltb-true}
-use Rattle.lists.specs.Lists.{_∈_, Distinct, filter, keep, flatMap, any, range, rangeFrom}
+use Rattle.rules.specs.SmallLaws.{gather-le, trace-le, hop-le}
+use Rattle.lists.specs.Lists.{_∈_, Distinct, flatMap, any, range, rangeFrom}
 use Rattle.lists.specs.ListLaws.{mem-range}
 use Rattle.lists.specs.Lengths.{subset-le}
 use Rattle.rules.specs.declared.Side.{Side}
 use Rattle.rules.specs.declared.Side.the-variants.{Wall, Open}
-use Rattle.rules.specs.declared.Literal.{Literal}
-use Rattle.rules.specs.Page.{Page, Mark, Hop, isOpen, openAt}
-use Rattle.rules.specs.Flat.{Sized, hopIf, hopAbove, hopBelow, hopLeft, hopRight, flat}
+use Rattle.rules.specs.Page.{Page, Mark, Hop, isOpen}
+use Rattle.rules.specs.Flat.{Sized, hopAbove, hopBelow, hopLeft, hopRight, flat}
 use Rattle.rules.specs.Groups.{members}
-use Rattle.rules.specs.Reasons.{gather, insideAt, inside, edgeAt, edge, Found, Search, isFound, visitIf, look, hunt}
+use Rattle.rules.specs.Reasons.{insideAt, inside, edgeAt, edge, Found, Search, isFound, visitIf, look, hunt}
 use Rattle.rules.specs.Reasons.{trace, path}
 use Rattle.reasons.specs.ListExtras.{upTo}
 use Rattle.reasons.specs.Arrays.{hopAt}
 use Rattle.reasons.specs.StepLaws.{around-is, ahead-is, around-near}
-
-filter-le : {A : Type 0} (p : A → Bool) (xs : List A) → length (filter p xs) ≤ length xs
-unfolding filter
-filter-le p [] = omega arith
-filter-le p (x ∷ xs) = go (p x) (filter-le p xs)
-  where
-    go : (v : Bool) → length (filter p xs) ≤ length xs → length (keep v x (filter p xs)) ≤ suc (length xs)
-    go true h = omega arith
-    go false h = omega arith
-
-pub gather-le : (side : Side) (p : Hop → Bool) (hs : List Hop) → length (gather side p hs) ≤ length hs
-unfolding gather
-gather-le side p hs =
-    omega (
-      arith,
-      length-map {B = Literal} (filter p hs) (λ h. record { border = h .border; side = side }),
-      filter-le p hs,
-    )
 
 pub flat-le : {A B : Type 0} (f : A → List B) (k : ℕ) → ((x : A) → length (f x) ≤ k) → (xs : List A)
     → length (flatMap f xs) ≤ k * length xs
@@ -49,11 +31,6 @@ unfolding flatMap
 flat-le f k h [] = omega (arith, mul-zero k)
 flat-le f k h (x ∷ xs) =
     omega (arith, length-append (f x) (flatMap f xs), h x, flat-le f k h xs, mul-suc k (length xs))
-
-hop-le : (v : Bool) (b t : ℕ) → length (hopIf v b t) ≤ 1
-unfolding hopIf
-hop-le true b t = omega arith
-hop-le false b t = omega arith
 
 hop-at-le : (h w y x d : ℕ) → length (hopAt h w y x d) ≤ 1
 unfolding hopAt hopAbove hopBelow hopLeft hopRight
@@ -92,17 +69,6 @@ module _ (h w : ℕ) (s : ℕ → Mark) (number : ℕ → ℕ) (g : ℕ) where
   edge-le colour =
       flat-le (edgeAt (flat h w) colour s number g) 4
       (λ c. le-trans (gather-le Wall _ (flat h w .around c)) (around-le h w c)) (members (flat h w) number g)
-
--- Path: each step back takes one entry off the found list, and each cell is found once
-pub trace-le : (f : List Found) (x : ℕ) → length (trace f x) ≤ length f
-unfolding trace
-trace-le [] x = omega arith
-trace-le (e ∷ f) x = go (eqb x (e .cell)) (trace-le f (e .from)) (trace-le f x)
-  where
-    go : (v : Bool) → length (trace f (e .from)) ≤ length f → length (trace f x) ≤ length f
-        → length (cond v (openAt (e .over) ∷ trace f (e .from)) (trace f x)) ≤ suc (length f)
-    go true p q = omega arith
-    go false p q = omega arith
 
 abbrev cellsOf : List Found → List ℕ
 cellsOf f = map (λ (e : Found). e .cell) f

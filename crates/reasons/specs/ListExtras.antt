@@ -1,7 +1,7 @@
 -- Lists one after another: f 0 ++ .. ++ f (n - 1), and laws of sets, map and flatMap.
 --
 --   upTo f n             f 0 ++ .. ++ f (n - 1): what a loop has gathered after n turns
-use mathlib.Core.Path.{_≡_, refl, sym, ap}
+use mathlib.Core.Path.{_≡_, refl, sym}
 use mathlib.Core.Bool.{Bool}
 use mathlib.Core.Logic.{_⊎_, inl, inr, ⊎-elim}
 use mathlib.Core.List.{List, [], _∷_, _++_, map, append-assoc, append-nil}
@@ -29,11 +29,6 @@ sets-append m i [] us = let e : i + 0 ≡ i = omega arith in rw e
 sets-append m i (v ∷ vs) us =
     let e : i + suc (length vs) ≡ suc i + length vs = omega arith in
     rw e (sets-append (set m i v) (suc i) vs us)
-
-module _ {A B : Type 0} where
-  pub map-append : (f : A → B) (xs ys : List A) → map f (xs ++ ys) ≡ map f xs ++ map f ys
-  map-append f [] ys = refl
-  map-append f (x ∷ xs) ys = ap (λ (l : List B). f x ∷ l) (map-append f xs ys)
 
 module _ {A : Type 0} where
   unfoldable pub upTo : (ℕ → List A) → ℕ → List A

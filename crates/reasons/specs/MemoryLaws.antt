@@ -5,10 +5,11 @@ use Prim.Native.Nat.{ℕ, _+_, _<_, _≤_}
 use native.Mathlib.Omega.{arith}
 use lib.ListN.{length, set, length-append, length-map}
 use lib.Seq.{length-sets}
+use Rattle.lists.specs.Appends.{map-append}
 use Rattle.rules.specs.declared.Literal.{Literal}
 use Rattle.rules.specs.Codes.{literalCode, put}
 use Rattle.reasons.specs.Memory.{Wrote}
-use Rattle.reasons.specs.ListExtras.{sets-append, map-append, upTo, up-none, up-more, up-fits}
+use Rattle.reasons.specs.ListExtras.{sets-append, upTo, up-none, up-more, up-fits}
 
 pub wrote-none : (m : List ℕ) (i : ℕ) → Wrote m i [] m i
 unfolding put

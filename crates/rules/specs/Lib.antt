@@ -9,3 +9,4 @@ pub mod Shapes
 pub mod Check
 pub mod Book
 pub mod FlatLaws
+pub mod SmallLaws

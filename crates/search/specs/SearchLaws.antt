@@ -2,12 +2,13 @@
 use mathlib.Core.Path.{_≡_, refl, sym, ap, _∙_}
 use mathlib.Core.Bool.{Bool}
 use mathlib.Core.List.{List, [], _∷_, map, List·Memᴰ·head, List·Memᴰ·tail}
-use Prim.Native.Nat.{ℕ, zero, suc, _+_, _-_, _*_, _≤_, _<_}
+use Prim.Native.Nat.{ℕ, _+_, _-_, _*_, _≤_, _<_}
 use native.Mathlib.Omega.{arith}
 use lib.ListN.{length, getD, drop, length-drop}
 use lib.Seq.{getD-take, getD-drop, length-take-le}
+use Rattle.lists.specs.Appends.{flat-map, flat-flat}
 use Rattle.lists.specs.Lists.{_∈_, any, flatMap}
-use Rattle.lists.specs.ListLaws.{filter-mem, range-lt}
+use Rattle.lists.specs.ListLaws.{filter-mem, range-lt, getD-mem}
 use Rattle.rules.specs.Page.{Puzzle, Shape, Mark}
 use Rattle.rules.specs.Codes.{marksIn}
 use Rattle.rules.specs.Flat.{flat}
@@ -15,7 +16,7 @@ use Rattle.rules.specs.Groups.{members, potentialOf}
 use Rattle.rules.specs.Check.{laid, isFit, blockers, mates}
 use Rattle.reasons.specs.Arrays.{Cells, part}
 use Rattle.search.specs.Placing.{puzzle, fitsOf}
-use Rattle.search.specs.ListExtras.{any-append, flat-append}
+use Rattle.search.specs.ListExtras.{any-append}
 use Rattle.search.specs.Mates.{Grouped, Known, Listed, Leading}
 use Rattle.search.specs.GatherLaws.{listed-part, up-mono}
 use Rattle.search.specs.Searching.{Beside, groupIn, fitsAmong, fitsBeside, blockOf, blocksAmong, blocksBeside}
@@ -43,18 +44,6 @@ module _ {A B : Type 0} where
   unfolding any flatMap
   any-flat p f [] = refl
   any-flat p f (x ∷ xs) = any-append p (f x) (flatMap f xs) ∙ rw (any-flat p f xs)
-
-module _ {A B C : Type 0} where
-  flat-map : (f : B → List C) (g : A → B) (xs : List A) → flatMap f (map g xs) ≡ flatMap (λ x. f (g x)) xs
-  unfolding flatMap
-  flat-map f g [] = refl
-  flat-map f g (x ∷ xs) = rw (flat-map f g xs)
-
-  flat-flat : (f : B → List C) (g : A → List B) (xs : List A)
-      → flatMap f (flatMap g xs) ≡ flatMap (λ x. flatMap f (g x)) xs
-  unfolding flatMap
-  flat-flat f g [] = refl
-  flat-flat f g (x ∷ xs) = flat-append f (g x) (flatMap g xs) ∙ rw (flat-flat f g xs)
 
 any-same : (f g : ℕ → Bool) (xs : List ℕ) → ((x : ℕ) → x ∈ xs → f x ≡ g x) → any f xs ≡ any g xs
 unfolding any
@@ -97,11 +86,6 @@ module _ {h w : ℕ} {cs bs cells offs : List ℕ} {count : ℕ} (g : Grouped h 
       ∙ ap (flatMap (λ o. blockers Z s (laid Z s t o))) (sym (g .group q (low q m))))
 
 -- the mates of p stand in the list
-mem-getD : (xs : List ℕ) (i : ℕ) → i < length xs → getD xs i 0 ∈ xs
-mem-getD [] i h = absurd (omega arith)
-mem-getD (x ∷ xs) zero h = List·Memᴰ·head refl
-mem-getD (x ∷ xs) (suc i) h = List·Memᴰ·tail (mem-getD xs i (omega arith))
-
 pub mates-low : {h w : ℕ} {cs bs cells offs : List ℕ} {count : ℕ} → Grouped h w cs bs cells offs count
     → (p q : ℕ) → q ∈ mates (puzzle h w cs) (marksIn bs) p → q < count
 unfolding mates
@@ -126,7 +110,7 @@ module _ {h w : ℕ} {cs bs ids cells offs : List ℕ} {count : ℕ} (g : Groupe
           getD-drop from list (i - from) 0,
           j,
         ) in
-        rw v at (mates-low g p _ (mem-getD (f p) (i - from) (omega arith)))
+        rw v at (mates-low g p _ (getD-mem (f p) (i - from) (omega arith)))
 
     beside-part : Beside h w cells offs list from to
     beside-part =

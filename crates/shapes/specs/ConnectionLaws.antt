@@ -10,6 +10,7 @@ use lib.Arith.{digits-div, digits-mod}
 use lib.Dec.{eqb, ltb}
 use lib.IntN.{pos, natAbs}
 use lib.ListN.{getD}
+use Rattle.lists.specs.Appends.{map-append, filter-append}
 use Rattle.lists.specs.Lists.{keep, filter}
 use Rattle.lists.specs.Table.{table}
 use Rattle.rules.specs.Page.{Point, _⊕_, Hop}
@@ -19,7 +20,7 @@ use Rattle.rules.specs.Shapes.{connectionsAt}
 use Rattle.argument.specs.Points.{point-eq}
 use Rattle.shapes.specs.Spots.{placeAt, spotAt, spots, places, UnitAt}
 use Rattle.shapes.specs.Joints.{jointIf}
-use Rattle.shapes.specs.ListExtras.{map-table, filter-append, map-append}
+use Rattle.shapes.specs.ListExtras.{map-table}
 
 -- one neighbour
 hop-joint : (p : ℕ → Bool) (f : ℕ → Point) (b : Bool) (B C Y X : ℕ) → (b ≡ true → f C ≡ placeAt Y X)

@@ -5,6 +5,9 @@ use mathlib.Core.List.{List, [], _∷_, map, Memᴰ·cast}
 use Prim.Native.Nat.{ℕ, zero, suc}
 use lib.Dec.{T}
 use lib.ListN.{length}
+use Rattle.argument.specs.Same.{samePoint→eq, samePoint-refl, samePoints→eq}
+use Rattle.argument.specs.Pairs.{distinct-map}
+use Rattle.lists.specs.Tests.{same-test}
 use Rattle.lists.specs.Lists.{_∈_, any, all}
 use Rattle.lists.specs.ListLaws.{mem-map, map-find, any-mem, any-find, all-mem}
 use Rattle.rules.specs.Page.{Point, _⊕_, opposite}
@@ -12,15 +15,15 @@ use Rattle.rules.specs.Turns.{Turn, apply, compose, keep, half, quarter, halfQu
 use Rattle.rules.specs.Turns.{flipHalf, flipQuarter, flipHalfQuarter}
 use Rattle.rules.specs.Shapes.{normal, shiftBy, sort, samePoint, samePoints, before}
 use Rattle.argument.specs.Points.{add-assoc, add-comm, add-origin, add-opposite, add-back}
-use Rattle.shapes.specs.OrderLaws.{point-same, same-point, before-shift}
+use Rattle.shapes.specs.OrderLaws.{before-shift}
 use Rattle.shapes.specs.SortLaws.{sort-least, sort-sorted, sorted-distinct, sorted-count}
 use Rattle.shapes.specs.SortLaws.{mem-sort, sort-mem, length-sort}
 use Rattle.argument.specs.TurnLaws.{apply-compose, apply-keep}
 use Rattle.shapes.specs.TurnedLaws.{turned-normal, shift-shift}
-use Rattle.shapes.specs.RowLaws.{points-same, same-when}
+use Rattle.shapes.specs.RowLaws.{same-when}
 use Rattle.shapes.specs.Rows.{turnAt, image, fixes}
 use Rattle.shapes.specs.Spots.{leastImage, onto}
-use Rattle.shapes.specs.ListExtras.{both-ways, map-distinct, length-map, all-every}
+use Rattle.shapes.specs.ListExtras.{length-map, all-every}
 use Rattle.shapes.specs.Order.{Sorted}
 
 -- every row is undone by a row
@@ -119,7 +122,7 @@ module _ (r : ℕ) (p : Point) (ps js : List Point) (s : Sorted (p ∷ ps)) wher
   own-cells = refl
 
   sorted-images : Sorted (sort (map g L))
-  sorted-images = sort-sorted (map g L) (map-distinct g (row-inj r) L (sorted-distinct L s))
+  sorted-images = sort-sorted (map g L) (distinct-map g (row-inj r) L (sorted-distinct L s))
 
   there : shiftBy (opposite p) L ≡ shiftBy (opposite m) (sort (map g L)) → (q : Point) → q ∈ L
       → T (any (samePoint (laid q)) L)
@@ -128,7 +131,7 @@ module _ (r : ℕ) (p : Point) (ps js : List Point) (s : Sorted (p ∷ ps)) wher
       let b = shift-find (opposite p) L (subst (λ (l : List Point). (g q ⊕ opposite m) ∈ l) (sym e) a) in
       let k : laid q ≡ b .0 =
       sym (onto-is q) ∙ (sym (land (g q) m p) ∙ (ap (λ z. z ⊕ p) (b .2) ∙ off (b .0) p)) in
-      any-mem (samePoint (laid q)) L (b .1) (rw k (same-point (b .0)))
+      any-mem (samePoint (laid q)) L (b .1) (rw k (samePoint-refl (b .0)))
 
   back : ((q : Point) → q ∈ L → T (any (samePoint (laid q)) L))
       → shiftBy (opposite p) L ≡ shiftBy (opposite m) (sort (map g L))
@@ -147,16 +150,16 @@ module _ (r : ℕ) (p : Point) (ps js : List Point) (s : Sorted (p ∷ ps)) wher
           let c = any-find (samePoint (laid (b .0))) L (f (b .0) (b .1)) in
           let k : z ≡ c .0 =
           a .2 ∙ (ap (λ q. q ⊕ (opposite m ⊕ p)) (b .2)
-          ∙ (onto-is (b .0) ∙ point-same (laid (b .0)) (c .0) (c .2))) in
+          ∙ (onto-is (b .0) ∙ samePoint→eq (laid (b .0)) (c .0) (c .2))) in
           Memᴰ·cast k (c .1)
 
   pub fixes-within : fixes (normal L js) r ≡ all (λ q. any (samePoint (apply (turnAt r) q ⊕ onto r L)) L) L
   unfolding fixes
   fixes-within =
-      both-ways (samePoints (normal L js .cells) (image r (normal L js) .cells))
+      same-test (samePoints (normal L js .cells) (image r (normal L js) .cells))
       (all (λ q. any (samePoint (laid q)) L) L)
       (λ t. all-every (λ q. any (samePoint (laid q)) L) L
-      (there (sym own-cells ∙ (points-same (normal L js .cells) (image r (normal L js) .cells) t ∙ image-cells))))
+      (there (sym own-cells ∙ (samePoints→eq (normal L js .cells) (image r (normal L js) .cells) t ∙ image-cells))))
       (λ t. same-when (normal L js .cells) (image r (normal L js) .cells)
       (own-cells
       ∙ (back (λ q n. all-mem (λ q. any (samePoint (laid q)) L) L t n) ∙ sym image-cells)))

@@ -7,11 +7,12 @@ use native.Mathlib.Omega.{arith}
 use borrow.Author.Tests.{lt-ltb, le-ltb}
 use lib.Dec.{T, ltb, leb·suc-suc, eqb→eq, eqb-refl, ltb→lt, nltb→le, not-T, T-not}
 use lib.IntN.{ℤ, pos, negsuc, negℤ, _+ℤ_, subℕ, +ℤ-assoc, +ℤ-comm, +ℤ-invr, +ℤ-invl, +ℤ-idl, +ℤ-idr, negℤ-+ℤ, negℤ-negℤ}
+use Rattle.argument.specs.Order.{less-trans}
+use Rattle.lists.specs.Tests.{same-test}
 use Rattle.lists.specs.ListLaws.{T-and, T-and-l, T-and-r, T-or, T-or-l, T-or-r, T-dec}
 use Rattle.rules.specs.Page.{Point, _⊕_}
-use Rattle.rules.specs.Shapes.{lessℤ, sameℤ, before, samePoint}
+use Rattle.rules.specs.Shapes.{lessℤ, sameℤ, before}
 use Rattle.argument.specs.Points.{point-eq}
-use Rattle.shapes.specs.ListExtras.{both-ways}
 
 -- a difference is above 0
 abbrev above : ℤ → Bool
@@ -60,11 +61,6 @@ between a b c =
     ∙ ap (λ x. c +ℤ x)
     (sym (+ℤ-assoc (negℤ b) b (negℤ a)) ∙ (ap (λ x. x +ℤ negℤ a) (+ℤ-invl b) ∙ +ℤ-idl (negℤ a)))
 
-pub less-trans : (a b c : ℤ) → T (lessℤ a b) → T (lessℤ b c) → T (lessℤ a c)
-less-trans a b c s t =
-    rw (less-is a c, ← between a b c)
-    (above-add (c +ℤ negℤ b) (b +ℤ negℤ a) (rw (less-is b c) at t) (rw (less-is a b) at s))
-
 pub same-eq : (a b : ℤ) → T (sameℤ a b) → a ≡ b
 same-eq (pos a) (pos b) t = ap pos (eqb→eq a b t)
 same-eq (pos a) (negsuc b) t = absurd t
@@ -102,7 +98,7 @@ less-shift a b v = less-is (a +ℤ v) (b +ℤ v) ∙ (ap above (shifted a b v) �
 
 same-shift : (a b v : ℤ) → sameℤ (a +ℤ v) (b +ℤ v) ≡ sameℤ a b
 same-shift a b v =
-    both-ways (sameℤ (a +ℤ v) (b +ℤ v)) (sameℤ a b)
+    same-test (sameℤ (a +ℤ v) (b +ℤ v)) (sameℤ a b)
     (λ t. rw (undo (same-eq (a +ℤ v) (b +ℤ v) t)) (same-refl b))
     (λ t. rw (same-eq a b t) (same-refl (b +ℤ v)))
   where
@@ -173,19 +169,3 @@ before-shift p q v =
       same-shift (p .row) (q .row) (v .row),
       less-shift (p .column) (q .column) (v .column),
     )
-
-pub point-same : (p q : Point) → T (samePoint p q) → p ≡ q
-point-same p q t =
-    let l : Bool = sameℤ (p .layer) (q .layer) in
-    let r : Bool = sameℤ (p .row) (q .row) in
-    let c : Bool = sameℤ (p .column) (q .column) in
-    point-eq (same-eq (p .layer) (q .layer) (T-and-l l r (T-and-l (l && r) c t)))
-    (same-eq (p .row) (q .row) (T-and-r l r (T-and-l (l && r) c t)))
-    (same-eq (p .column) (q .column) (T-and-r (l && r) c t))
-
-pub same-point : (p : Point) → T (samePoint p p)
-same-point p =
-    let l : Bool = sameℤ (p .layer) (p .layer) in
-    let r : Bool = sameℤ (p .row) (p .row) in
-    T-and (l && r) (sameℤ (p .column) (p .column)) (T-and l r (same-refl (p .layer)) (same-refl (p .row)))
-    (same-refl (p .column))

@@ -5,6 +5,7 @@ use mathlib.Core.Bool.{Bool, true, false, not, cond}
 use Prim.Native.Nat.{ℕ, zero, suc, _+_, _*_, _<_, _≤_}
 use native.Mathlib.Omega.{arith}
 use lib.IntN.{ℤ, pos, negsuc, negℤ, subℕ, _+ℤ_, _-ℤ_, _*ℤ_, negℤ-+ℤ}
+use Rattle.lists.specs.Tests.{same-test}
 use Rattle.lists.specs.ListLaws.{T-dec}
 use borrow.Author.Tests.{lt-ltb, le-ltb}
 use lib.Dec.{T, ltb, ltb→lt, nltb→le}
@@ -20,7 +21,6 @@ use Rattle.argument.specs.Points.{point-eq}
 use Rattle.shapes.specs.OrderLaws.{less-irrefl, less-total, same-eq, same-refl}
 use Rattle.shapes.specs.declared.Pair.{Pair}
 use Rattle.shapes.specs.Pairs.{pointAt, pointOf, Small, Sign, turnBy}
-use Rattle.shapes.specs.ListExtras.{both-ways}
 
 pub one-times : (z : ℤ) → pos 1 *ℤ z ≡ z
 one-times (pos n) = ap pos (let e : 1 * n ≡ n = omega arith in e)
@@ -110,7 +110,7 @@ pub before-no : (y x b a : ℤ) → lessℤ y b ≡ false → lessℤ b y ≡ tr
 before-no y x b a e f = rw (e, different)
   where
     different : sameℤ y b ≡ false
-    different = both-ways (sameℤ y b) false
+    different = same-test (sameℤ y b) false
         (λ t. let c : T (lessℤ b b) = subst (λ (z : ℤ). T (lessℤ b z)) (same-eq y b t) (rw f tt) in
         rw (less-irrefl b) at c) (λ t. absurd t)
 
@@ -123,7 +123,7 @@ before-even y x b a e f =
     same : sameℤ y b ≡ true
     same =
         let k : y ≡ b = less-total y b (rw e tt) (rw f tt) in
-        both-ways (sameℤ y b) true (λ t. tt) (λ t. rw k (same-refl b))
+        same-test (sameℤ y b) true (λ t. tt) (λ t. rw k (same-refl b))
 
 -- a test of the code, on numbers read back from their bits
 pub less-known : {y b : ℤ} {t : Bool} → SFits w32 y → SFits w32 b

@@ -10,7 +10,7 @@ use lib.ListN.{length, getD, length-take, length-drop}
 use lib.Seq.{getD-take, getD-drop}
 use Rattle.lists.specs.Lists.{_∈_, filter, range}
 use Rattle.lists.specs.ListLaws.{filter-mem, range-lt, map-find}
-use Rattle.lists.specs.Table.{table, table-is, getD-table}
+use Rattle.lists.specs.Table.{table, table-is, getD-table, table-cong}
 use Rattle.rules.specs.Page.{Point}
 use Rattle.rules.specs.Flat.{Sized, flat, flatPlace}
 use Rattle.rules.specs.Groups.{entry, members}
@@ -18,7 +18,7 @@ use Rattle.argument.specs.Points.{origin}
 use Rattle.shapes.specs.Spots.{placeAt, spotAt, spots, places, UnitAt}
 use Rattle.shapes.specs.SpotLaws.{length-spots}
 use Rattle.shapes.specs.Parts.{part, Part, placeOf, Placed}
-use Rattle.shapes.specs.ListExtras.{table-cong, map-table, getD-map, mem-getD, length-map}
+use Rattle.shapes.specs.ListExtras.{map-table, getD-map, mem-getD, length-map}
 
 pub part-table : (L : List ℕ) (from to : ℕ) → from ≤ to → to ≤ length L
     → part L from to ≡ table (to - from) (λ j. getD L (from + j) 0)

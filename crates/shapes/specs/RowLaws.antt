@@ -4,34 +4,19 @@ use mathlib.Core.Bool.{Bool, true, false, _||_, cond, xor}
 use mathlib.Core.List.{List, [], _∷_, _++_, map}
 use Prim.Native.Nat.{ℕ, _+_}
 use lib.Dec.{T}
+use Rattle.argument.specs.Same.{samePoints→eq, samePoints-refl}
+use Rattle.lists.specs.Appends.{map-append}
+use Rattle.lists.specs.Tests.{same-test}
 use Rattle.lists.specs.Lists.{any}
-use Rattle.lists.specs.ListLaws.{T-and, T-and-l, T-and-r}
 use Rattle.rules.specs.Page.{Point, Shape}
 use Rattle.rules.specs.Turns.{Turn, apply, compose, keep, half, quarter, halfQuarter, flip}
-use Rattle.rules.specs.Shapes.{turned, normal, sort, sameShape, samePoint, samePoints}
+use Rattle.rules.specs.Shapes.{turned, normal, sort, sameShape, samePoints}
 use Rattle.rules.specs.Shapes.{withHalf, quarters, withQuarter, withFlip, flatTransforms}
-use Rattle.shapes.specs.OrderLaws.{point-same, same-point}
 use Rattle.shapes.specs.TurnedLaws.{turned-compose}
 use Rattle.shapes.specs.Rows.{turnAt, image, fixes, flipListed, rotationRows, rowsBy, rowsOf}
-use Rattle.shapes.specs.ListExtras.{both-ways, map-append}
-
--- equal lists of places
-pub points-same : (ps qs : List Point) → T (samePoints ps qs) → ps ≡ qs
-unfolding samePoints
-points-same [] [] t = refl
-points-same [] (q ∷ qs) t = absurd t
-points-same (p ∷ ps) [] t = absurd t
-points-same (p ∷ ps) (q ∷ qs) t =
-    ap₂ (λ x xs. x ∷ xs) (point-same p q (T-and-l (samePoint p q) (samePoints ps qs) t))
-    (points-same ps qs (T-and-r (samePoint p q) (samePoints ps qs) t))
-
-pub same-points : (ps : List Point) → T (samePoints ps ps)
-unfolding samePoints
-same-points [] = tt
-same-points (p ∷ ps) = T-and (samePoint p p) (samePoints ps ps) (same-point p) (same-points ps)
 
 pub same-when : (ps qs : List Point) → ps ≡ qs → T (samePoints ps qs)
-same-when ps qs e = subst (λ (l : List Point). T (samePoints ps l)) e (same-points ps)
+same-when ps qs e = subst (λ (l : List Point). T (samePoints ps l)) e (samePoints-refl ps)
 
 -- the cells of a turned shape depend on its cells alone
 normal-cells : (ps js ks : List Point) → normal ps js .cells ≡ normal ps ks .cells
@@ -60,7 +45,7 @@ module _ (t : Shape) (settled : turned (apply keep) t ≡ t) where
 
   fixed : (r : ℕ) → T (fixes t r) → C keep ≡ C (turnAt r)
   unfolding fixes image
-  fixed r e = kept ∙ points-same (t .cells) (C (turnAt r)) e
+  fixed r e = kept ∙ samePoints→eq (t .cells) (C (turnAt r)) e
 
   fixing : (r : ℕ) → C keep ≡ C (turnAt r) → T (fixes t r)
   unfolding fixes image
@@ -77,9 +62,9 @@ module _ (t : Shape) (settled : turned (apply keep) t ≡ t) where
       → sameShape (image r t) (turned (apply flip) t) ≡ fixes t (r + 4)
   unfolding image
   flip-same r a i j k l =
-      both-ways (sameShape (turned (apply (turnAt r)) t) (turned (apply flip) t)) (fixes t (r + 4))
+      same-test (sameShape (turned (apply (turnAt r)) t) (turned (apply flip) t)) (fixes t (r + 4))
       (λ e. fixing (r + 4)
-      (ap C (sym i) ∙ (act a (turnAt r) flip (points-same (C (turnAt r)) (C flip) e) ∙ ap C j)))
+      (ap C (sym i) ∙ (act a (turnAt r) flip (samePoints→eq (C (turnAt r)) (C flip) e) ∙ ap C j)))
       (λ e. same-when (C (turnAt r)) (C flip)
       (ap C (sym k) ∙ (act (turnAt r) keep (turnAt (r + 4)) (fixed (r + 4) e) ∙ ap C l)))
 
@@ -104,7 +89,7 @@ module _ (t : Shape) (settled : turned (apply keep) t ≡ t) where
       → fixes t r ≡ fixes t s
   moved r s a i j e =
       let k : C (turnAt r) ≡ C (turnAt s) = ap C (sym i) ∙ (act (turnAt r) keep a e ∙ ap C j) in
-      both-ways (fixes t r) (fixes t s) (λ u. fixing s (fixed r u ∙ k)) (λ u. fixing r (fixed s u ∙ sym k))
+      same-test (fixes t r) (fixes t s) (λ u. fixing s (fixed r u ∙ k)) (λ u. fixing r (fixed s u ∙ sym k))
 
   half-flip : T (fixes t 1) → fixes t 4 ≡ fixes t 5
   unfolding xor

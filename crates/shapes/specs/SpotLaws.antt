@@ -7,9 +7,10 @@ use native.Mathlib.Numerals.{add-one}
 use native.Mathlib.Omega.{arith}
 use lib.IntN.{pos, negℤ, _+ℤ_}
 use lib.ListN.{length, getD}
+use Rattle.lists.specs.Appends.{map-append}
 use Rattle.lists.specs.Lists.{_∈_, all}
 use Rattle.lists.specs.ListLaws.{map-find}
-use Rattle.lists.specs.Table.{table, length-table}
+use Rattle.lists.specs.Table.{table, length-table, table-find}
 use Rattle.lists.specs.Tests.{allBelow}
 use Rattle.rules.specs.Page.{Point, _⊕_, opposite}
 use Rattle.rules.specs.Turns.{apply}
@@ -21,7 +22,6 @@ use Rattle.shapes.specs.Rows.{turnAt}
 use Rattle.shapes.specs.Spots.{placeAt, spotAt, spots, leastImage, firstOf}
 use Rattle.shapes.specs.Spots.{Near, SpotIn, Spotted}
 use Rattle.shapes.specs.Order.{least}
-use Rattle.shapes.specs.ListExtras.{map-append, table-find}
 
 pub spots-more : (R C : List ℕ) (i : ℕ) → spots R C (i + 1) ≡ spots R C i ++ (spotAt R C i ∷ [])
 unfolding spots table

@@ -2,7 +2,7 @@
 use mathlib.Core.Path.{_≡_, refl, sym, ap, _∙_, subst}
 use mathlib.Core.Logic.{_⊎_, inl, inr, ⊎-elim}
 use mathlib.Core.Bool.{Bool, true, false, not, _&&_, _||_}
-use mathlib.Core.List.{List, [], _∷_, map, List·Memᴰ·head, List·Memᴰ·tail, List·Memᴰ·not-nil}
+use mathlib.Core.List.{List, [], _∷_, map}
 use Prim.Native.Nat.{ℕ, zero, suc, _+_, _*_, _/_, _%_, _<_, _≤_}
 use native.Mathlib.Nat.{add-mul, eq-or-lt-of-le, mul-le-mul-right, div-add-mod', mod-lt, div-lt-iff-lt-mul}
 use native.Mathlib.Omega.{arith}
@@ -12,10 +12,12 @@ use lib.Dec.{T, eqb, ltb, ltb→lt, nltb→le, lt→ltb, eqb-refl}
 use lib.IntN.{ℤ, pos, negsuc, natAbs}
 use lib.Signed.{nonNeg}
 use lib.ListN.{length}
+use Rattle.argument.specs.Same.{samePoint→eq, samePoint-refl}
+use Rattle.lists.specs.Lengths.{rangeFrom-ge}
 use Rattle.lists.specs.Lists.{_∈_, keep, filter, any, all, range, rangeFrom}
 use Rattle.lists.specs.ListLaws.{T-dec, T-and, T-and-l, T-and-r, T-or-l, T-or-r, mem-map, map-find, any-mem, any-find}
 use Rattle.lists.specs.ListLaws.{mem-filter, filter-mem, filter-test, mem-range, range-lt}
-use Rattle.lists.specs.Tests.{allBelow, all-fails}
+use Rattle.lists.specs.Tests.{allBelow, all-fails, same-test}
 use Rattle.rules.specs.Page.{Point, _⊕_, opposite, Shape}
 use Rattle.rules.specs.Flat.{flat, flatPlace, cellAt}
 use Rattle.rules.specs.Groups.{entry, members}
@@ -23,7 +25,6 @@ use Rattle.rules.specs.Turns as Turns
 use Rattle.rules.specs.Turns.{apply}
 use Rattle.rules.specs.Shapes.{sort, before, lessℤ, normal, turned, samePoint, shapeOf, shiftBy, flatTransforms}
 use Rattle.argument.specs.Points.{point-eq}
-use Rattle.shapes.specs.OrderLaws.{point-same, same-point}
 use Rattle.shapes.specs.TurnedLaws.{turned-keep}
 use Rattle.shapes.specs.RowLaws.{transforms-rows}
 use Rattle.shapes.specs.FixLaws.{fixes-within, image-normal}
@@ -33,13 +34,7 @@ use Rattle.shapes.specs.Spots.{places, joints}
 use Rattle.shapes.specs.Spots.{UnitAt}
 use Rattle.shapes.specs.SpotLaws.{first-spot, length-spots, all-spots}
 use Rattle.shapes.specs.Pairs.{pointAt}
-use Rattle.shapes.specs.ListExtras.{both-ways}
 use Rattle.shapes.specs.Order.{Sorted}
-
-rangeFrom-ge : (i n : ℕ) {x : ℕ} → x ∈ rangeFrom i n → i ≤ x
-rangeFrom-ge i zero m = absurd (List·Memᴰ·not-nil m)
-rangeFrom-ge i (suc n) (List·Memᴰ·head q) = omega arith
-rangeFrom-ge i (suc n) (List·Memᴰ·tail m) = let r = rangeFrom-ge (suc i) n m in omega arith
 
 -- an earlier cell number stands before a later one
 rows-rise : (w i x : ℕ) → 0 < w → i < x → T (ltb (i / w) (x / w) || eqb (i / w) (x / w) && ltb (i % w) (x % w))
@@ -164,16 +159,16 @@ module _ (h w : ℕ) (number : ℕ → ℕ) (g : ℕ) (wide : 1 ≤ w) where
   pub among-places : (z : Point) → any (samePoint z) (places h w number g) ≡ hasCell h w number g z
   unfolding places flat
   among-places z =
-      both-ways (any (samePoint z) ps) (hasCell h w number g z)
+      same-test (any (samePoint z) ps) (hasCell h w number g z)
       (λ t.
       let r = any-find (samePoint z) ps t in
       let c = map-find (flatPlace h w) (members (flat h w) number g) (r .1) in
-      subst (λ (q : Point). T (hasCell h w number g q)) (sym (point-same z (r .0) (r .2) ∙ c .2))
+      subst (λ (q : Point). T (hasCell h w number g q)) (sym (samePoint→eq z (r .0) (r .2) ∙ c .2))
       (has-place (c .0) (cell-in (c .0) (c .1)) (cell-own (c .0) (c .1))))
       (λ t.
       let c = place-has z t in
       any-mem (samePoint z) ps (mem-map (flatPlace h w) (c .1))
-      (subst (λ (q : Point). T (samePoint z q)) (c .2) (same-point z)))
+      (subst (λ (q : Point). T (samePoint z q)) (c .2) (samePoint-refl z)))
     where
       ps : List Point
       ps = map (flatPlace h w) (members (flat h w) number g)

@@ -10,6 +10,9 @@ use lib.Dec.{T}
 use lib.IntN.{ℤ, pos, negsuc, _+ℤ_, +ℤ-negℤ-cancel}
 use lib.Signed.{mag}
 use lib.ListN.{getD}
+use Rattle.argument.specs.Same.{samePoint→eq, samePoint-refl}
+use Rattle.argument.specs.Pairs.{distinct-map}
+use Rattle.lists.specs.Table.{table-find}
 use Rattle.lists.specs.Lists.{_∈_, filter, any, range}
 use Rattle.lists.specs.ListLaws.{mem-map, map-find, any-mem, any-find, mem-filter, filter-test, mem-range}
 use Rattle.rules.specs.Page.{Point, _⊕_, opposite}
@@ -19,11 +22,10 @@ use Rattle.rules.specs.Turns.{apply, compose, keep, plus, layerward}
 use Rattle.rules.specs.Shapes.{sort, shiftBy, samePoint}
 use Rattle.argument.specs.Points.{point-eq}
 use Rattle.argument.specs.TurnLaws.{apply-compose, apply-keep}
-use Rattle.shapes.specs.OrderLaws.{point-same, same-point}
 use Rattle.shapes.specs.Order.{Sorted}
 use Rattle.shapes.specs.SortLaws.{mem-sort, sort-mem, sort-sorted, sorted-distinct, sorted-unique}
 use Rattle.shapes.specs.FixLaws.{row-inj, shift-sorted}
-use Rattle.shapes.specs.ListExtras.{map-map, map-distinct, table-find}
+use Rattle.shapes.specs.ListExtras.{map-map}
 use Rattle.shapes.specs.Rows.{turnAt}
 use Rattle.shapes.specs.Spots.{hasCell, places, spotAt, spots, Near, UnitAt}
 use Rattle.shapes.specs.SpotLaws.{near-image}
@@ -107,7 +109,7 @@ module _ {h w : ℕ} {ids : List ℕ} {g : ℕ} {R C : List ℕ} {n : ℕ} (u : 
   images-sorted : Sorted (sort (map turn P))
   images-sorted =
       sort-sorted (map turn P)
-      (map-distinct turn (row-inj r) P
+      (distinct-map turn (row-inj r) P
       (sorted-distinct P (subst Sorted (sym (u .here)) (places-sorted h w (entry ids) g (u .sized .columns)))))
 
   -- a cell of the unit, on the page and among its places
@@ -121,7 +123,7 @@ module _ {h w : ℕ} {ids : List ℕ} {g : ℕ} {R C : List ℕ} {n : ℕ} (u : 
       let t = filter-test there (range boxSize) (i .1) in
       let q = apply (turnAt (undone r)) (boxAt (i .0)) in
       let k = any-find (samePoint q) P (subst T (sym (own q)) t) in
-      let e : z ≡ turn (k .0) = i .2 ∙ (sym (turn-undo r (boxAt (i .0))) ∙ ap turn (point-same q (k .0) (k .2))) in
+      let e : z ≡ turn (k .0) = i .2 ∙ (sym (turn-undo r (boxAt (i .0))) ∙ ap turn (samePoint→eq q (k .0) (k .2))) in
       mem-sort (map turn P) (Memᴰ·cast e (mem-map turn (k .1)))
 
   image-found : (z : Point) → z ∈ sort (map turn P) → z ∈ found
@@ -136,7 +138,7 @@ module _ {h w : ℕ} {ids : List ℕ} {g : ℕ} {R C : List ℕ} {n : ℕ} (u : 
       let back : apply (turnAt (undone r)) (boxAt (b .0)) ≡ q .0 =
       ap (apply (turnAt (undone r))) (b .2 ∙ ap turn (sym (j .2))) ∙ undo-turn r (q .0) in
       let has : T (hasCell h w (entry ids) g (q .0)) =
-      subst T (own (q .0)) (any-mem (samePoint (q .0)) P (q .1) (same-point (q .0))) in
+      subst T (own (q .0)) (any-mem (samePoint (q .0)) P (q .1) (samePoint-refl (q .0))) in
       Memᴰ·cast (e ∙ sym (b .2))
       (mem-map boxAt (mem-filter there (range boxSize) (mem-range boxSize (b .1))
       (subst (λ (p : Point). T (hasCell h w (entry ids) g p)) (sym back) has)))

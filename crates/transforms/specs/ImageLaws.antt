@@ -9,7 +9,7 @@ use lib.IntN.{ℤ}
 use lib.ListN.{length, set, length-append}
 use lib.Seq.{sets, length-sets}
 use Rattle.lists.specs.Lists.{flatMap}
-use Rattle.lists.specs.Appends.{flat-append}
+use Rattle.lists.specs.Appends.{flat-append, map-append}
 use Rattle.lists.specs.Table.{table}
 use Rattle.rules.specs.Page.{Point, _⊕_, opposite, Shape}
 use Rattle.rules.specs.Flat.{flat}
@@ -18,7 +18,7 @@ use Rattle.rules.specs.Turns.{apply}
 use Rattle.rules.specs.Shapes.{sort, shiftBy, shapeOf}
 use Rattle.reasons.specs.ListExtras.{sets-append, up-none, up-more, up-fits}
 use Rattle.shapes.specs.FixLaws.{length-shift}
-use Rattle.shapes.specs.ListExtras.{length-map, map-append}
+use Rattle.shapes.specs.ListExtras.{length-map}
 use Rattle.shapes.specs.Rows.{turnAt, image}
 use Rattle.shapes.specs.SortLaws.{length-sort}
 use Rattle.shapes.specs.Spots.{spotAt, spots, leastImage, UnitAt}

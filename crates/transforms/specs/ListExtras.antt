@@ -3,10 +3,10 @@ use mathlib.Core.Path.{_≡_, refl, ap, sym, _∙_}
 use mathlib.Core.Bool.{Bool}
 use mathlib.Core.List.{[], _++_, map}
 use Prim.Native.Nat.{ℕ, zero, suc}
+use Rattle.lists.specs.Appends.{map-append}
 use Rattle.lists.specs.Lists.{keep, filter, range}
 use Rattle.groups.specs.ListExtras.{filter-more}
 use Rattle.reasons.specs.ListExtras.{upTo}
-use Rattle.shapes.specs.ListExtras.{map-append}
 
 module _ {A : Type 0} where
   -- what a loop gathers that looks at one number after the other

@@ -1,23 +1,17 @@
 -- The blockers of one image: those of its survivors are those of all its placements.
-use mathlib.Core.Path.{_≡_, ap, _∙_}
+use mathlib.Core.Path.{_≡_}
 use mathlib.Core.List.{List}
 use Prim.Native.Nat.{ℕ}
-use lib.ListN.{length}
 use Rattle.lists.specs.Lists.{flatMap}
-use Rattle.lists.specs.Table.{length-table}
 use Rattle.rules.specs.Codes.{marksIn}
 use Rattle.rules.specs.Page.{Point}
 use Rattle.reasons.specs.Arrays.{part}
 use Rattle.search.specs.Placing.{Drawn, Raised, puzzle, bare, spelled}
 use Rattle.search.specs.Searching.{Beside, groupIn, blocksBeside}
 use Rattle.planes.specs.Masks.{Masked, originsIn}
-use Rattle.planes.specs.Planes.{planeWord, planesOf}
+use Rattle.planes.specs.Planes.{planesOf}
 use Rattle.planes.specs.Survivors.{Survived, Lain, noWalls, blockIn}
 use Rattle.planes.specs.SurvivorLaws.{lain, blocks-same}
-
-pub planes-long : (h w : ℕ) (cs bs : List ℕ) {p : List ℕ} → p ≡ planesOf h w cs bs → length p ≡ 192
-unfolding planesOf
-planes-long h w cs bs e = ap length e ∙ length-table 192 (planeWord h w cs bs)
 
 -- q are the planes of the colours, m is the mask of the origins
 module _ {h w : ℕ} {cs : List ℕ} (d : Drawn h w cs) (bs ys xs : List ℕ) (n : ℕ) (r : Raised ys xs n)

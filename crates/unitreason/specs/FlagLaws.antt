@@ -4,12 +4,14 @@
 use mathlib.Core.Path.{_≡_, refl, _∙_}
 use mathlib.Core.Bool.{Bool, true, false, _||_}
 use mathlib.Core.List.{List, [], _∷_}
-use Prim.Native.Nat.{ℕ, zero, suc, _+_, _<_, _≤_}
+use Prim.Native.Nat.{ℕ, _+_, _<_, _≤_}
 use native.Mathlib.Omega.{arith}
 use borrow.Author.Tests.{eq-eqb, ne-eqb}
-use lib.Dec.{T, eqb, eqb→eq, eqb-refl}
+use lib.Dec.{eqb, eqb→eq, eqb-refl}
 use lib.ListN.{length, getD, set, replicate, length-set, length-replicate}
 use lib.Seq.{getD-set-same, getD-set-other}
+use Rattle.lists.specs.Tests.{same-test}
+use Rattle.lists.specs.Padded.{zeros}
 use Rattle.lists.specs.Lists.{any, filter, range}
 use Rattle.lists.specs.ListLaws.{mem-filter, filter-test, any-mem, any-find, mem-range}
 use Rattle.lists.specs.Table.{getD-table, table-is}
@@ -21,11 +23,6 @@ use Rattle.unitreason.specs.Writing.{flag, flagsOf}
 pub record Flagged (xs F : List ℕ) : Type 0 where
   pub long : length F ≡ 1024
   pub each : (q : ℕ) → getD F q 0 ≡ flag (any (eqb q) xs)
-
-zeros : (n i : ℕ) → _≡_ {A = ℕ} (getD (replicate n 0) i 0) 0
-zeros zero i = refl
-zeros (suc n) zero = refl
-zeros (suc n) (suc i) = zeros n i
 
 pub flagged-none : (l : List ℕ) (from : ℕ) → Flagged (part l from from) (replicate 1024 0)
 unfolding any
@@ -68,15 +65,9 @@ unfolding flagsOf
 flagged-all {xs} {F} f = table-is 1024 (λ q. flag (any (eqb q) xs)) 0 F (f .long) (λ i l. f .each i)
 
 -- a number is among those that pass a test exactly if it passes
-same : (a b : Bool) → (T a → T b) → (T b → T a) → a ≡ b
-same true true p q = refl
-same true false p q = absurd (p tt)
-same false true p q = absurd (q tt)
-same false false p q = refl
-
 any-filter : (f : ℕ → Bool) (n q : ℕ) → q < n → any (eqb q) (filter f (range n)) ≡ f q
 any-filter f n q h =
-    same (any (eqb q) (filter f (range n))) (f q)
+    same-test (any (eqb q) (filter f (range n))) (f q)
     (λ t.
     let r = any-find (eqb q) (filter f (range n)) t in
     let e : q ≡ r .0 = eqb→eq q (r .0) (r .2) in

@@ -1,5 +1,5 @@
 -- Lists: three lists written one after another into memory that has room for them; flatMap over flatMap and map.
-use mathlib.Core.Path.{_≡_, refl, _∙_}
+use mathlib.Core.Path.{_≡_, refl}
 use mathlib.Core.List.{List, [], _∷_, _++_, map, List·Memᴰ·head, Memᴰ·append-right}
 use Prim.Native.Nat.{ℕ, _+_, _<_, _≤_}
 use native.Mathlib.Omega.{arith}
@@ -9,7 +9,7 @@ use Rattle.rules.specs.declared.Literal.{Literal}
 use Rattle.reasons.specs.Arrays.{part}
 use Rattle.reasons.specs.Memory.{Wrote}
 use Rattle.reasons.specs.MemoryLaws.{wrote-length}
-use Rattle.search.specs.ListExtras.{flat-append, part-next, part-split}
+use Rattle.search.specs.ListExtras.{part-next, part-split}
 
 -- three lists, one after another: the memory has room for each of them
 module _ (xs ys zs : List Literal) where
@@ -45,15 +45,3 @@ module _ {A B : Type 0} where
   unfolding flatMap
   flat-all f g [] h = refl
   flat-all f g (x ∷ xs) h = rw (h x, flat-all f g xs h)
-
-module _ {A B C : Type 0} where
-  pub flat-map : (f : B → List C) (g : A → B) (xs : List A) → flatMap f (map g xs) ≡ flatMap (λ x. f (g x)) xs
-  unfolding flatMap
-  flat-map f g [] = refl
-  flat-map f g (x ∷ xs) = rw (flat-map f g xs)
-
-  pub flat-flat : (f : B → List C) (g : A → List B) (xs : List A)
-      → flatMap f (flatMap g xs) ≡ flatMap (λ x. flatMap f (g x)) xs
-  unfolding flatMap
-  flat-flat f g [] = refl
-  flat-flat f g (x ∷ xs) = flat-append f (g x) (flatMap g xs) ∙ rw (flat-flat f g xs)

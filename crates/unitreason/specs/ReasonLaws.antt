@@ -7,6 +7,7 @@ use mathlib.Core.Option.{Option, none}
 use Prim.Native.Nat.{ℕ, _+_, _*_, _<_, _≤_}
 use native.Mathlib.Omega.{arith}
 use lib.ListN.{length, getD, List·getD-append}
+use Rattle.lists.specs.Appends.{flat-map, flat-flat}
 use Rattle.lists.specs.Lists.{flatMap}
 use Rattle.rules.specs.declared.Literal.{Literal}
 use Rattle.rules.specs.Page.{Puzzle, Point, Shape, Mark}
@@ -35,7 +36,7 @@ use Rattle.units.specs.ImageLaws.{image-is}
 use Rattle.unitreason.specs.Writing.{Numbered, Mated, flagsOf, edgesIn, farIn, wallsIn, clued, Arranged}
 use Rattle.unitreason.specs.Writing.{blocksBy, blocksListed, Imaged}
 use Rattle.unitreason.specs.FlagLaws.{marked-is}
-use Rattle.unitreason.specs.ListExtras.{mem-part, flat-all, flat-map, flat-flat}
+use Rattle.unitreason.specs.ListExtras.{mem-part, flat-all}
 use Rattle.unitreason.specs.ListExtras.{room-first, room-second, room-third}
 use Rattle.unitreason.specs.ClueLaws.{reason-clue}
 

@@ -1,14 +1,14 @@
 -- Laws of the memory of the search: adjacent units, planes and mask.
-use mathlib.Core.Path.{_≡_, refl, sym, ap, _∙_}
+use mathlib.Core.Path.{_≡_, refl, sym, _∙_}
 use mathlib.Core.List.{List}
 use Prim.Native.Nat.{ℕ, zero, suc, _+_, _-_, _<_, _≤_}
 use native.Mathlib.Omega.{arith}
 use lib.ListN.{length, getD, set, replicate, length-append, length-set, length-replicate}
 use lib.Seq.{getD-set-same, getD-set-other, take-append-le, take-length}
+use Rattle.planes.specs.DrawLaws.{planes-long}
 use Rattle.lists.specs.Lists.{_∈_, range}
 use Rattle.lists.specs.Appends.{length-filter}
-use Rattle.lists.specs.Padded.{padded}
-use Rattle.lists.specs.Table.{length-table}
+use Rattle.lists.specs.Padded.{padded, zeros}
 use Rattle.rules.specs.Check.{adjacent, mates}
 use Rattle.rules.specs.Codes.{marksIn}
 use Rattle.rules.specs.Groups.{potentialCount}
@@ -19,15 +19,10 @@ use Rattle.search.specs.Mates.{OneOf, Leading}
 use Rattle.search.specs.Placing.{puzzle, bare}
 use Rattle.search.specs.Searching.{fitsBeside}
 use Rattle.search.specs.SearchLaws.{mates-low, beside-leading}
-use Rattle.planes.specs.Planes.{planeWord, planesOf}
+use Rattle.planes.specs.Planes.{planesOf}
 use Rattle.planes.specs.Masks.{Sizes, Answers}
 use Rattle.planes.specs.FitLaws.{beside-answers}
 use Rattle.units.specs.Held.{Home, Nearby, HeldOf, Held}
-
-zeros : (n i : ℕ) → _≡_ {A = ℕ} (getD (replicate n 0) i 0) 0
-zeros zero i = refl
-zeros (suc n) zero = refl
-zeros (suc n) (suc i) = zeros n i
 
 -- adjacent units are kept as they are asked for
 module _ (h w : ℕ) (cs bs : List ℕ) where
@@ -106,10 +101,6 @@ module _ (h w : ℕ) (cs bs cells offs : List ℕ) where
     where
       never : (q : ℕ) → _≡_ {A = ℕ} (getD (replicate 33 0) 32 0) (q + 1) → ⊥
       never q e = let z : _≡_ {A = ℕ} 0 (q + 1) = e in omega arith
-
-planes-long : (h w : ℕ) (cs bs : List ℕ) {p : List ℕ} → p ≡ planesOf h w cs bs → length p ≡ 192
-unfolding planesOf
-planes-long h w cs bs e = ap length e ∙ length-table 192 (planeWord h w cs bs)
 
 module _ {h w : ℕ} {cs bs cells offs p m list : List ℕ} where
   -- planes that are drawn stay

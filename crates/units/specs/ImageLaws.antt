@@ -8,6 +8,7 @@ use borrow.Author.Tests.{le-ltb}
 use lib.IntN.{ℤ, pos, negsuc, negℤ, _+ℤ_, _-ℤ_, +ℤ-comm, +ℤ-negℤ-cancel}
 use lib.Signed.{mag}
 use lib.ListN.{length, getD}
+use Rattle.lists.specs.Table.{table-find}
 use Rattle.lists.specs.Lists.{_∈_}
 use Rattle.lists.specs.ListLaws.{map-find}
 use Rattle.rules.specs.Page.{Point, _⊕_, opposite}
@@ -26,7 +27,7 @@ use Rattle.shapes.specs.FixLaws.{least-image}
 use Rattle.shapes.specs.UnitLaws.{image-joints}
 use Rattle.shapes.specs.Joints.{Joined}
 use Rattle.shapes.specs.JointLaws.{joint-in}
-use Rattle.shapes.specs.ListExtras.{map-map, table-find}
+use Rattle.shapes.specs.ListExtras.{map-map}
 use Rattle.search.specs.Placing.{lowered, raised}
 use Rattle.search.specs.Raising.{turnOf, pointsOf, movedBy, Lifts, Turnable}
 use Rattle.units.specs.ListExtras.{map-range}

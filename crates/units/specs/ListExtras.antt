@@ -4,9 +4,10 @@ use mathlib.Core.Bool.{Bool, false}
 use mathlib.Core.List.{List, [], _∷_, _++_, map}
 use Prim.Native.Nat.{ℕ, zero, suc, _+_}
 use native.Mathlib.Omega.{arith}
-use Rattle.lists.specs.Lists.{any, range, rangeFrom}
+use Rattle.lists.specs.Lengths.{rangeFrom-more}
+use Rattle.lists.specs.Appends.{map-append}
+use Rattle.lists.specs.Lists.{any, range}
 use Rattle.lists.specs.Table.{table}
-use Rattle.shapes.specs.ListExtras.{map-append}
 
 module _ {A : Type 0} where
   pub any-cong : (f g : A → Bool) → ((x : A) → f x ≡ g x) → (xs : List A) → any f xs ≡ any g xs
@@ -19,15 +20,9 @@ module _ {A : Type 0} where
   any-none f e [] = refl
   any-none f e (x ∷ xs) = rw (e x, any-none f e xs)
 
-range-more : (i n : ℕ) → rangeFrom i (suc n) ≡ rangeFrom i n ++ ((i + n) ∷ [])
-range-more i zero = let e : i + 0 ≡ i = omega arith in rw e
-range-more i (suc n) =
-    let e : suc i + n ≡ i + suc n = omega arith in
-    ap (λ (l : List ℕ). i ∷ l) (range-more (suc i) n ∙ ap (λ (k : ℕ). rangeFrom (suc i) n ++ (k ∷ [])) e)
-
 pub map-range : {A : Type 0} (f : ℕ → A) (n : ℕ) → map f (range n) ≡ table n f
 unfolding table
 map-range f zero = refl
 map-range f (suc n) =
-    ap (map f) (range-more 0 n ∙ (let e : 0 + n ≡ n = omega arith in ap (λ (k : ℕ). range n ++ (k ∷ [])) e))
+    ap (map f) (rangeFrom-more 0 n ∙ (let e : 0 + n ≡ n = omega arith in ap (λ (k : ℕ). range n ++ (k ∷ [])) e))
     ∙ (map-append f (range n) (n ∷ []) ∙ ap (λ l. l ++ (f n ∷ [])) (map-range f n))

@@ -4,8 +4,8 @@ use mathlib.Core.Bool.{Bool, false}
 use Prim.Native.Nat.{ℕ, _-_, _≤_}
 use native.Mathlib.Omega.{arith}
 use lib.ListN.{getD}
-use Rattle.lists.specs.Tests.{anyBelow, any-none}
-use Rattle.planes.specs.Extras.{any-next, any-found, any-rest}
+use Rattle.lists.specs.Tests.{anyBelow, any-none, any-some}
+use Rattle.planes.specs.Extras.{any-next, any-rest}
 use Rattle.planes.specs.Masks.{lineFits, maskFits}
 use Rattle.planes.specs.WordLaws.{fits-empty}
 use Rattle.planes.proofs.mask_fits.Statement.{statement}
@@ -49,7 +49,7 @@ unfolding maskFits
 returns c =
     let i = c .before .before .before in
     let s = i .before .before in
-    sym (any-found (s .args .h) (test s) (i .before .loop .y) (omega (arith, i .loop-test .taken, s .pre .1 .low .1))
+    sym (any-some (s .args .h) (test s) (i .before .loop .y) (omega (arith, i .loop-test .taken, s .pre .1 .low .1))
     (sym (c .before .line-fits .ensures) ∙ c .if1 .taken))
 
 add-y : tie.Need-add-y Inv-loop μ-loop

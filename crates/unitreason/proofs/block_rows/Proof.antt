@@ -4,6 +4,7 @@ use mathlib.Core.List.{List}
 use Prim.Native.Nat.{ℕ, zero, _≤_, _-_}
 use native.Mathlib.Omega.{arith}
 use lib.ListN.{length, getD, length-replicate}
+use Rattle.planes.specs.DrawLaws.{planes-long}
 use Rattle.rules.specs.Codes.{marksIn}
 use Rattle.rules.specs.declared.Literal.{Literal}
 use Rattle.reasons.specs.Arrays.{part}
@@ -13,7 +14,7 @@ use Rattle.reasons.specs.MemoryLaws.{wrote-length, loop-none, loop-more, loop-f
 use Rattle.search.specs.Placing.{puzzle}
 use Rattle.planes.specs.Survivors.{noWalls}
 use Rattle.shapes.specs.Spots.{spots}
-use Rattle.unitreason.specs.BlockLaws.{planes-long, lain-rows, blocks-row}
+use Rattle.unitreason.specs.BlockLaws.{lain-rows, blocks-row}
 use Rattle.unitreason.specs.Writing.{blocksBy, blocksListed}
 use Rattle.unitreason.proofs.block_rows.Statement.{statement}
 use Rattle.unitreason.proofs.block_rows.Tie as tie
