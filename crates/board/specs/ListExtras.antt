@@ -8,9 +8,10 @@ use native.Mathlib.Decide.{decLt}
 use native.Mathlib.Numerals.{add-one}
 use native.Mathlib.Omega.{arith}
 use borrow.Author.Tests.{lt-ltb, le-ltb}
-use lib.Dec.{ltb}
+use lib.Bits.{bitOr}
+use lib.Dec.{ltb, eqb}
 use lib.ListN.{length, getD, replicate, length-append, length-replicate, List·getD-append, List·getD-eq-default}
-use Rattle.lists.specs.Tests.{allBelow, anyBelow, all-more, all-fails, all-at, all-every}
+use Rattle.lists.specs.Tests.{allBelow, anyBelow, all-more, all-fails, all-at, all-every, or-none}
 use Rattle.lists.specs.Count.{countBelow}
 use Rattle.lists.specs.Padded.{padded}
 use Rattle.lists.specs.Table.{table}
@@ -51,6 +52,12 @@ from-end a i n f h e = from-every a n f (λ j p q. from-at a i f j e p (omega ar
 pub all-yes : (i : ℕ) (f : ℕ → Bool) (z : Bool) → z ≡ allBelow i f → f i ≡ true → z ≡ allBelow (i + 1) f
 unfolding allBelow
 all-yes i f z p q = p ∙ rw (add-one i, q, and-true (allBelow i f))
+
+-- the same, of a loop that gathers numbers: 0 for a test that holds
+pub all-or : (i : ℕ) (f : ℕ → Bool) (w x : ℕ)
+    → eqb w 0 ≡ allBelow i f → eqb x 0 ≡ f i → eqb (bitOr w x) 0 ≡ allBelow (i + 1) f
+unfolding allBelow
+all-or i f w x p q = or-none w x ∙ rw (add-one i, p, q)
 
 pub all-stop : (i n : ℕ) (f : ℕ → Bool) (z : Bool) → z ≡ allBelow i f → i ≤ n → n ≤ i → z ≡ allBelow n f
 all-stop i n f z p h k = let e : i ≡ n = omega arith in rw e at p

@@ -2,6 +2,7 @@
 ghost use mathlib.Core.Path.{_≡_};
 ghost use mathlib.Core.Bool.{false};
 ghost use Prim.Native.Nat.{_≤_};
+ghost use lib.Dec.{eqb};
 ghost use lib.ListN.{length, replicate};
 ghost use Rattle.board.specs.Alien.{sizeRight, coloursRight, clueRight, cluesRight, entryRight, Marks};
 ghost use Rattle.board.specs.Alien.{borderRight, bordersBy, zerosFrom, clueZero, zeroCluesFrom};
@@ -113,7 +114,15 @@ fn border_right(v: u8, on: bool) -> bool
     if v <= 2 { on } else { false }
 }
 
+// 1 for a border that is not right, else 0.
+fn fault(v: u8, on: bool) -> u8
+    ensures { λ r. ⌜ eqb r 0 ≡ borderRight v on ⌝ }
+{
+    if border_right(v, on) { 0 } else { 1 }
+}
+
 // Whether the first n borders are right, by the marks of those on the stack.
+// It gathers faults as numbers, so that the loop takes 16 borders at a time.
 pub fn borders_right<'a>(
     borders: &'a [u8; Board::BORDER_LIMIT],
     seen: &'a [bool; Board::BORDER_LIMIT],
@@ -122,15 +131,13 @@ pub fn borders_right<'a>(
     requires { ⌜ n ≤ 1984 ⌝ }
     ensures { λ r. ⌜ r ≡ bordersBy (now (borders .entry)) (now (seen .entry)) n ⌝ }
 {
-    let mut right = true;
+    let mut wrong: u8 = 0;
     let mut i: usize = 0;
     while i < n {
-        if !border_right(borders[i], seen[i]) {
-            right = false;
-        }
+        wrong = wrong | fault(borders[i], seen[i]);
         i += 1;
     }
-    right
+    wrong == 0
 }
 
 // Whether the bytes from a place on are 0.
