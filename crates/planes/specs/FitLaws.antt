@@ -33,7 +33,7 @@ use Rattle.planes.specs.Masks.{cellIs, Masked, Answers, originsIn, spot,
 use Rattle.planes.specs.MaskLaws.{masked-here}
 
 -- a placement fits exactly if every connection is clear
-after-clear : (Z : Puzzle) (s : ℕ → Mark) (rs : List Reading) → isFit Z s (after Fits rs) ≡ all isClear rs
+pub after-clear : (Z : Puzzle) (s : ℕ → Mark) (rs : List Reading) → isFit Z s (after Fits rs) ≡ all isClear rs
 unfolding after all
 after-clear Z s [] = refl
 after-clear Z s (Ends ∷ rs) = refl

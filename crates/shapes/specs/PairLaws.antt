@@ -20,7 +20,8 @@ use Rattle.rules.specs.Shapes.{before, lessℤ, sameℤ}
 use Rattle.argument.specs.Points.{point-eq}
 use Rattle.shapes.specs.OrderLaws.{less-irrefl, less-total, same-eq, same-refl}
 use Rattle.shapes.specs.declared.Pair.{Pair}
-use Rattle.shapes.specs.Pairs.{pointAt, pointOf, Small, Sign, turnBy}
+use Rattle.shapes.specs.Pairs.{pointAt, pointOf, Small, Sign, turnBy, Reads}
+use Rattle.shapes.specs.Rows.{turnAt}
 
 pub one-times : (z : ℤ) → pos 1 *ℤ z ≡ z
 one-times (pos n) = ap pos (let e : 1 * n ≡ n = omega arith in e)
@@ -39,9 +40,6 @@ pub times-small : (s z : ℤ) → Sign s → Small z → mag (s *ℤ z) < 4097
 times-small s z (inl e) h = rw (e, one-times z) (omega arith)
 times-small s z (inr e) h = rw (e, minus-times z) (omega (arith, mag-neg z))
 
-pub times-fits : (s z : ℤ) → Sign s → Small z → SFits w32 (s *ℤ z)
-times-fits s z e h = record { sfits = omega (arith, times-small s z e h) }
-
 -- a turn makes no coordinate much larger
 mag-signed : (b : Bool) (z : ℤ) → mag (signed b z) ≤ mag z + 1
 mag-signed true z = mag-neg z
@@ -59,25 +57,32 @@ read-small r p n a b c =
     go rowward = b
     go columnward = c
 
--- a small number read back from its 32 bits
+-- a small number read back from its 32 bits, and a sign times one
 pub small-back : (z : ℤ) → Small z → toZ w32 (ofZ w32 z) ≡ z
 small-back z h = toZ-ofZ {w = w32} {z = z} (record { sfits = omega arith })
 
-pub times-back : (s z : ℤ) → Sign s → Small z → toZ w32 (ofZ w32 (s *ℤ z)) ≡ s *ℤ z
-times-back s z e h = toZ-ofZ {w = w32} {z = s *ℤ z} (times-fits s z e h)
+sign-small : (s : ℤ) → Sign s → Small s
+sign-small s (inl e) = rw e (omega arith)
+sign-small s (inr e) = rw e (omega arith)
+
+pub times-fits : (s z : ℤ) → Sign s → Small z → SFits w32 (toZ w32 (ofZ w32 s) *ℤ toZ w32 (ofZ w32 z))
+times-fits s z e h =
+    rw (small-back s (sign-small s e), small-back z h) (record { sfits = omega (arith, times-small s z e h) })
+
+pub times-back : (s z : ℤ) → Sign s → Small z
+    → toZ w32 (ofZ w32 (toZ w32 (ofZ w32 s) *ℤ toZ w32 (ofZ w32 z))) ≡ s *ℤ z
+times-back s z e h =
+    toZ-ofZ {w = w32} {z = toZ w32 (ofZ w32 s) *ℤ toZ w32 (ofZ w32 z)} (times-fits s z e h)
+    ∙ ap₂ (λ x y. x *ℤ y) (small-back s (sign-small s e)) (small-back z h)
 
 -- a sign as the code has it
 abbrev pub signOf : Bool → ℤ
 signOf true = negsuc 0
 signOf false = pos 1
 
-pub sign-is : (b : Bool) → Sign (signOf b)
+sign-is : (b : Bool) → Sign (signOf b)
 sign-is true = inr refl
 sign-is false = inl refl
-
-pub sign-back : (b : Bool) → toZ w32 (ofZ w32 (signOf b)) ≡ signOf b
-sign-back true = small-back (negsuc 0) (omega arith)
-sign-back false = small-back (pos 1) (omega arith)
 
 sign-times : (b : Bool) (z : ℤ) → signOf b *ℤ z ≡ signed b z
 sign-times true z = minus-times z
@@ -90,11 +95,20 @@ rowFor true down across =
 rowFor false down across =
     flatTurn (record { axis = rowward; minus = down }) (record { axis = columnward; minus = across })
 
-pub turn-row : (swap down across : Bool) (y x : ℤ)
-    → pointOf (turnBy swap (signOf down) (signOf across) y x) ≡ apply (rowFor swap down across) (pointAt y x)
-unfolding apply
+turn-row : (swap down across : Bool) (y x : ℤ)
+    → pointOf (turnBy (record { swap = swap; down = signOf down; across = signOf across }) y x)
+    ≡ apply (rowFor swap down across) (pointAt y x)
+unfolding apply turnBy
 turn-row true d a y x = point-eq refl (sign-times d x) (sign-times a y)
 turn-row false d a y x = point-eq refl (sign-times d y) (sign-times a x)
+
+pub row-reads : (r : ℕ) (swap down across : Bool) → turnAt r ≡ rowFor swap down across
+    → Reads r (record { swap = swap; down = signOf down; across = signOf across })
+row-reads r swap down across e =
+    record {
+      signs = record { down = sign-is down; across = sign-is across };
+      turns = λ y x. turn-row swap down across y x ∙ ap (λ t. apply t (pointAt y x)) (sym e);
+    }
 
 -- the order of two places, by the tests of the code
 pub less-test : (a b : ℤ) → ltZ a b ≡ lessℤ a b

@@ -2,7 +2,7 @@
 ghost use mathlib.Core.Path.{_≡_};
 ghost use mathlib.Core.Bool.{true, cond};
 ghost use Prim.Native.Nat.{_+_, _-_, _*_, _<_};
-ghost use lib.ListN.{length};
+ghost use lib.ListN.{length, getD};
 ghost use lib.IntN.{pos};
 ghost use Rattle.rules.specs.Page.{_⊕_, opposite};
 ghost use Rattle.rules.specs.Flat.{Sized, flat};
@@ -11,8 +11,8 @@ ghost use Rattle.rules.specs.Turns.{apply};
 ghost use Rattle.rules.specs.Shapes.{before, shapeOf};
 ghost use Rattle.shapes.specs.Rows.{turnAt, fixes, flipListed, rowsBy, rowsOf};
 ghost use Rattle.shapes.specs.Listing.{listing};
-ghost use Rattle.shapes.specs.Pairs.{pointAt, pointOf, Small, SmallPair, Sign, turnBy};
-ghost use Rattle.shapes.specs.Spots.{placeAt, spotAt, spots, leastImage, cellIn, hasCell, within};
+ghost use Rattle.shapes.specs.Pairs.{pointAt, pointOf, Small, SmallPair, BothSigns, turnBy, Reads};
+ghost use Rattle.shapes.specs.Spots.{placeAt, spots, leastImage, cellIn, hasCell, within};
 ghost use Rattle.shapes.specs.Spots.{SpotIn, Spotted, UnitAt};
 
 pub mod connections; // connections.rt: a unit's cells and connections, and those of its images
@@ -30,20 +30,39 @@ const DOWN: [i32; 8] = [1, -1, -1, 1, -1, 1, 1, -1];
 
 const ACROSS: [i32; 8] = [1, -1, 1, -1, 1, -1, 1, -1];
 
-// The place (y,x), its coordinates swapped or not, the new ones times a sign.
-fn turn(swap: bool, down: i32, across: i32, y: i32, x: i32) -> Pair
-    requires { ⌜ Sign down × Sign across × Small y × Small x ⌝ }
-    ensures { λ r. ⌜ r ≡ turnBy swap down across y x ⌝ }
+// A row of the table.
+struct Signs {
+    swap: bool,
+    down: i32,
+    across: i32,
+}
+
+// Reads a row of the table. All three constants are laid out for it, so a loop reads its row once, before it begins.
+fn signs_at(row: usize) -> Signs
+    requires { ⌜ row < 8 ⌝ }
+    ensures { λ r. ⌜ Reads row r ⌝ }
 {
-    if swap {
+    Signs {
+        swap: SWAP[row],
+        down: DOWN[row],
+        across: ACROSS[row],
+    }
+}
+
+// The place (y,x), its coordinates swapped or not, the new ones times a sign.
+fn turn(s: Signs, y: i32, x: i32) -> Pair
+    requires { ⌜ BothSigns s × Small y × Small x ⌝ }
+    ensures { λ r. ⌜ r ≡ turnBy s y x ⌝ }
+{
+    if s.swap {
         Pair {
-            y: down * x,
-            x: across * y,
+            y: s.down * x,
+            x: s.across * y,
         }
     } else {
         Pair {
-            y: down * y,
-            x: across * x,
+            y: s.down * y,
+            x: s.across * x,
         }
     }
 }
@@ -53,7 +72,7 @@ pub fn apply(row: usize, y: i32, x: i32) -> Pair
     requires { ⌜ (row < 8) × Small y × Small x ⌝ }
     ensures { λ r. ⌜ pointOf r ≡ apply (turnAt row) (pointAt y x) ⌝ }
 {
-    turn(SWAP[row], DOWN[row], ACROSS[row], y, x)
+    turn(signs_at(row), y, x)
 }
 
 // The number with a sign.
@@ -90,12 +109,12 @@ fn earlier(p: Pair, q: Pair) -> Pair
     if before(p.y, p.x, q.y, q.x) { p } else { q }
 }
 
-// The image of the unit's cell `i` by a row of the table.
-pub fn image<'a>(row: usize, rows: &'a [u16; 1024], columns: &'a [u16; 1024], i: usize) -> Pair
-    requires { ⌜ (row < 8) × SpotIn (now rows) (now columns) i ⌝ }
-    ensures { λ r. ⌜ pointOf r ≡ apply (turnAt row) (spotAt (now (rows .entry)) (now (columns .entry)) i) ⌝ }
+// The image of the unit's cell `i` by the row `s` of the table.
+fn moved<'a>(s: Signs, rows: &'a [u16; 1024], columns: &'a [u16; 1024], i: usize) -> Pair
+    requires { ⌜ BothSigns s × SpotIn (now rows) (now columns) i ⌝ }
+    ensures { λ r. ⌜ r ≡ turnBy s (pos (getD (now (rows .entry)) i 0)) (pos (getD (now (columns .entry)) i 0)) ⌝ }
 {
-    apply(row, signed(rows[i]), signed(columns[i]))
+    turn(s, signed(rows[i]), signed(columns[i]))
 }
 
 // The first in order of the images of the unit's `n` cells by a row of the table.
@@ -103,10 +122,11 @@ pub fn least<'a>(row: usize, rows: &'a [u16; 1024], columns: &'a [u16; 1024], n:
     requires { ⌜ (row < 8) × Spotted (now rows) (now columns) n ⌝ }
     ensures { λ r. ⌜ pointOf r ≡ leastImage row (spots (now (rows .entry)) (now (columns .entry)) n) ⌝ }
 {
-    let mut best = image(row, rows, columns, 0);
+    let s = signs_at(row);
+    let mut best = moved(s, rows, columns, 0);
     let mut i: usize = 1;
     while i < n {
-        best = earlier(image(row, rows, columns, i), best);
+        best = earlier(moved(s, rows, columns, i), best);
         i += 1;
     }
     best
@@ -175,9 +195,10 @@ fn within<'a>(
     ensures { λ r. ⌜ r ≡ within h w (entry (now (ids .entry))) g (now (rows .entry)) (now (columns .entry)) n row
         (pointOf v) ⌝ }
 {
+    let s = signs_at(row);
     let mut i: usize = 0;
     while i < n {
-        let p = image(row, rows, columns, i);
+        let p = moved(s, rows, columns, i);
         if lands(ids, h, w, g, p, v) {
             i += 1;
         } else {

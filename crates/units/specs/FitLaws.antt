@@ -1,16 +1,18 @@
--- A unit fits exactly if one of the listed rows makes it fit; row 0 is the first of them.
+-- A unit fits exactly if one of the eight rows makes it fit: each gives the cells of a listed one.
 use mathlib.Core.Path.{_≡_, refl, sym, ap, _∙_, subst}
-use mathlib.Core.Bool.{Bool, true, false, _||_}
-use mathlib.Core.List.{List, [], _∷_}
+use mathlib.Core.Bool.{Bool, true, false}
+use mathlib.Core.List.{List, [], _∷_, Memᴰ·append-left}
 use mathlib.Core.Logic.{⊎-elim}
 use Prim.Native.Nat.{ℕ, _+_, _-_, _≤_, _<_}
 use native.Mathlib.Omega.{arith}
 use borrow.Author.Tests.{lt-ltb, le-ltb}
 use lib.Dec.{T, ltb, ltb→lt}
-use lib.ListN.{length, getD}
+use lib.ListN.{length, getD, replicate}
 use Rattle.lists.specs.Lists.{_∈_, any, all}
 use Rattle.lists.specs.ListLaws.{all-mem}
 use Rattle.lists.specs.Padded.{padded}
+use Rattle.lists.specs.Tests.{anyBelow}
+use Rattle.lists.specs.Tests.{any-some as any-found}
 use Rattle.rules.specs.Page.{Mark, Point, Puzzle, Shape}
 use Rattle.rules.specs.Flat.{Sized, flat}
 use Rattle.rules.specs.Groups.{entry}
@@ -21,20 +23,22 @@ use Rattle.search.specs.Placing.{bare, fitsOf}
 use Rattle.search.specs.ListExtras.{any-append, part-split}
 use Rattle.search.specs.SearchLaws.{any-map}
 use Rattle.search.specs.Searching.{groupIn, fitsAmong, fitsBeside}
-use Rattle.planes.specs.Extras.{le-or-lt, holds-any}
+use Rattle.planes.specs.Extras.{le-or-lt, same-test, any-some, any-holds, holds-any}
 use Rattle.shapes.specs.declared.Listed.{Listed}
 use Rattle.shapes.specs.ListExtras.{mem-getD}
 use Rattle.shapes.specs.Listing.{listing}
 use Rattle.shapes.specs.Rows.{image, fixes, flipListed, rowsBy, rowsOf}
 use Rattle.shapes.specs.Parts.{Part, Placed}
 use Rattle.shapes.specs.PartLaws.{unit-at}
-use Rattle.shapes.specs.Spots.{spots, UnitAt}
+use Rattle.shapes.specs.Spots.{spots, places, UnitAt}
+use Rattle.shapes.specs.SpotLaws.{length-spots}
 use Rattle.shapes.specs.Joints.{Joined}
 use Rattle.shapes.specs.UnitLaws.{transforms-flat}
 use Rattle.units.specs.ListExtras.{any-cong, any-none}
 use Rattle.units.specs.Images.{imageJoints}
 use Rattle.units.specs.ImageLaws.{image-is}
-use Rattle.units.specs.Fitting.{UnitIn, Rows, soonEnd, soonIn, fitsListed, fitsTurned}
+use Rattle.units.specs.SameCells.{same-connections, row-listed, beside-same}
+use Rattle.units.specs.Fitting.{UnitIn, Rows, soonEnd, soonIn, fitsTurned, fitsRows}
 
 -- the listed rows: row 0, and the others
 row-first : (a b c : Bool) → rowsBy a b c ≡ 0 ∷ part (padded 8 0 (rowsBy a b c)) 1 (length (rowsBy a b c))
@@ -59,6 +63,13 @@ row-low true false true = tt
 row-low true false false = tt
 row-low false b true = tt
 row-low false b false = tt
+
+row-in : (t : Shape) {r : ℕ} → r ∈ rowsOf t → r < 8
+unfolding rowsOf
+row-in t {r} m =
+    ltb→lt r 8
+    (all-mem (λ r. ltb r 8) (padded 8 0 (rowsOf t)) (row-low (fixes t 1) (fixes t 3) (flipListed t))
+    (Memᴰ·append-left (replicate (8 - length (rowsOf t)) 0) m))
 
 row-few : (a b c : Bool) → (1 ≤ length (rowsBy a b c)) × (length (rowsBy a b c) ≤ 8)
 row-few true true true = (omega arith, omega arith)
@@ -95,34 +106,6 @@ rows-listed t e = subst Rows (sym e) (facts (fixes t 1) (fixes t 3) (flipListed 
               (mem-getD (padded 8 0 (rowsBy a b c)) j 0 (omega (arith, f .1))));
         }
 
--- row 0, then the other listed rows
-module _ (F : List Point → Bool) {h w g n k : ℕ} {ids R C D A : List ℕ} (u : UnitAt h w ids g R C n)
-    (j : Joined h w (entry ids) g D A k) where
-  abbrev shape : Shape
-  shape = shapeOf (flat h w) (entry ids) g
-
-  abbrev fit : ℕ → Bool
-  fit r = F (imageJoints r (spots R C n) (spots D A k))
-
-  listed-rows : fitsListed F shape ≡ any fit (rowsOf shape)
-  unfolding fitsListed
-  listed-rows =
-      ap (any (λ t. F (t .connections))) (transforms-flat h w (entry ids) g (u .sized .columns))
-      ∙ (any-map (λ t. F (t .connections)) (λ r. image r shape) (rowsOf shape)
-      ∙ any-cong (λ r. F (image r shape .connections)) fit (λ r. ap F (image-is u j r)) (rowsOf shape))
-
-  split : fitsListed F shape
-      ≡ fit 0 || any fit (part (listing (rowsOf shape) .rows) 1 (listing (rowsOf shape) .count))
-  unfolding any
-  split = listed-rows ∙ ap (any fit) (rows-first shape)
-
-  pub fits-first : fit 0 ≡ true → fitsListed F shape ≡ true
-  fits-first e = split ∙ rw e
-
-  pub fits-others : {r : Listed} {b : Bool} → fit 0 ≡ false → r ≡ listing (rowsOf shape)
-      → b ≡ any fit (part (r .rows) 1 (r .count)) → b ≡ fitsListed F shape
-  fits-others {r} e d c = c ∙ (ap (λ (l : Listed). any fit (part (l .rows) 1 (l .count))) d ∙ sym (split ∙ rw e))
-
 pub soon-end : (first last : ℕ) → first ≤ last → (first ≤ soonEnd first last) × (soonEnd first last ≤ last)
 soon-end first last l =
     ⊎-elim
@@ -131,11 +114,47 @@ soon-end first last l =
     (le-or-lt (first + 8) last)
 
 module _ (Z : Puzzle) (s : ℕ → Mark) (cells offs : List ℕ) where
-  -- a placement looks at the connections only
-  pub turned-listed : (gs : List ℕ) (t : Shape)
-      → fitsListed (λ js. fitsBeside Z s (bare js) cells offs gs) t ≡ fitsTurned Z s cells offs gs t
-  unfolding fitsListed fitsTurned fitsBeside fitsAmong fitsOf laid
-  turned-listed gs t = refl
+  module _ (gs : List ℕ) {h w g n k : ℕ} {ids R C D A : List ℕ} (u : UnitAt h w ids g R C n)
+      (j : Joined h w (entry ids) g D A k) where
+    abbrev shape : Shape
+    shape = shapeOf (flat h w) (entry ids) g
+
+    abbrev fit : ℕ → Bool
+    fit r = fitsBeside Z s (bare (imageJoints r (spots R C n) (spots D A k))) cells offs gs
+
+    -- a placement looks at the connections only
+    turned-listed : fitsTurned Z s cells offs gs shape ≡ any fit (rowsOf shape)
+    unfolding fitsTurned fitsBeside fitsAmong fitsOf laid
+    turned-listed =
+        ap (any (λ t. fitsBeside Z s t cells offs gs)) (transforms-flat h w (entry ids) g (u .sized .columns))
+        ∙ (any-map (λ t. fitsBeside Z s t cells offs gs) (λ r. image r shape) (rowsOf shape)
+        ∙ any-cong (λ r. fitsBeside Z s (image r shape) cells offs gs) fit
+        (λ r. ap (λ js. fitsBeside Z s (bare js) cells offs gs) (image-is u j r)) (rowsOf shape))
+
+    full : 1 ≤ length (places h w (entry ids) g)
+    full = omega (arith, u .spotted .some, length-spots R C n, ap length (u .here))
+
+    same-fit : (r q : ℕ) → r < 8 → q < 8 → image r shape .cells ≡ image q shape .cells → fit r ≡ fit q
+    same-fit r q a b e =
+        let same = same-connections h w (entry ids) g (u .sized .columns) full in
+        rw (← image-is u j r, ← image-is u j q)
+        (beside-same Z s (image r shape .connections) (image q shape .connections) (same r q a b e)
+        (same q r b a (sym e)) cells offs gs)
+
+    -- a row that is not listed gives the cells of one that is
+    pub rows-turned : fitsRows Z s cells offs gs (spots R C n) (spots D A k)
+        ≡ fitsTurned Z s cells offs gs (shapeOf (flat h w) (entry ids) g)
+    unfolding fitsRows
+    rows-turned =
+        same-test (anyBelow 8 fit) (any fit (rowsOf shape))
+        (λ e.
+        let r = any-some 8 fit e in
+        let q = row-listed h w (entry ids) g (u .sized .columns) full (r .0) (r .1) in
+        holds-any fit (q .1) (same-fit (q .0) (r .0) (row-in shape (q .1)) (r .1) (q .2) ∙ r .2))
+        (λ e.
+        let q = any-holds fit (rowsOf shape) e in
+        any-found 8 fit (q .0) (row-in shape (q .1)) (q .2))
+        ∙ sym turned-listed
 
   -- no adjacent unit
   fits-none : (t : Shape) → fitsBeside Z s t cells offs [] ≡ false
@@ -164,13 +183,10 @@ module _ (Z : Puzzle) (s : ℕ → Mark) (cells offs : List ℕ) where
   soon-beside t {Q = Q} m l e = holds-any (λ q. fitsAmong Z s t (groupIn cells offs q)) m (soon-group t Q l e)
 
   -- row 0 fits at once
-  pub soon-turned : {h w g n k : ℕ} {ids R C D A : List ℕ} → UnitAt h w ids g R C n → Joined h w (entry ids) g D A k
-      → (gs : List ℕ) {js : List Point} → js ≡ imageJoints 0 (spots R C n) (spots D A k)
-      → fitsBeside Z s (bare js) cells offs gs ≡ true
-      → fitsTurned Z s cells offs gs (shapeOf (flat h w) (entry ids) g) ≡ true
-  soon-turned {h} {w} {g} {ids = ids} u j gs e b =
-      sym (turned-listed gs (shapeOf (flat h w) (entry ids) g))
-      ∙ fits-first (λ js. fitsBeside Z s (bare js) cells offs gs) u j (rw (← e) b)
+  pub soon-rows : (gs : List ℕ) {js : List Point} (ps ks : List Point) → js ≡ imageJoints 0 ps ks
+      → fitsBeside Z s (bare js) cells offs gs ≡ true → fitsRows Z s cells offs gs ps ks ≡ true
+  unfolding fitsRows
+  soon-rows gs ps ks e b = any-found 8 _ 0 (omega arith) (rw (← e) b)
 
 pub soon-cells : {h w first last : ℕ} {cells : List ℕ} → Cells h w cells first last
     → Cells h w cells first (soonEnd first last)

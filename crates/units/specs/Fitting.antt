@@ -5,8 +5,8 @@
 --   Rows r              a list of at most eight rows of the table, at least one
 --   soonEnd first last  where the first eight of the places first to last end
 --   soonIn cells offs Q the first eight cells of group Q
---   fitsListed F t      F holds of the connections of one of the shape's listed transforms
---   fitsTurned          one of them fits at a cell of one of the groups
+--   fitsTurned          one of the shape's listed transforms fits at a cell of one of the groups
+--   fitsRows            the image by one of the eight rows does, of the connections js of the cells ps
 use mathlib.Core.Path.{_≡_}
 use mathlib.Core.Bool.{Bool, cond}
 use mathlib.Core.List.{List}
@@ -14,13 +14,16 @@ use Prim.Native.Nat.{ℕ, _+_, _<_, _≤_}
 use lib.Dec.{ltb}
 use lib.ListN.{length, getD}
 use Rattle.lists.specs.Lists.{any}
+use Rattle.lists.specs.Tests.{anyBelow}
 use Rattle.rules.specs.Page.{Mark, Point, Puzzle, Shape}
 use Rattle.rules.specs.Flat.{flat}
 use Rattle.rules.specs.Groups.{entry, members}
 use Rattle.rules.specs.Shapes.{flatTransforms}
 use Rattle.reasons.specs.Arrays.{part}
+use Rattle.search.specs.Placing.{bare}
 use Rattle.search.specs.Searching.{fitsBeside}
 use Rattle.shapes.specs.declared.Listed.{Listed}
+use Rattle.units.specs.Images.{imageJoints}
 
 pub record Lent (R C D A Y X : List ℕ) : Type 0 where
   pub rows : length R ≡ 1024
@@ -49,8 +52,9 @@ soonEnd first last = cond (ltb last (first + 8)) last (first + 8)
 unfoldable pub soonIn : List ℕ → List ℕ → ℕ → List ℕ
 soonIn cells offs Q = part cells (getD offs Q 0) (soonEnd (getD offs Q 0) (getD offs (Q + 1) 0))
 
-unfoldable pub fitsListed : (List Point → Bool) → Shape → Bool
-fitsListed F t = any (λ u. F (u .connections)) (flatTransforms t)
-
 unfoldable pub fitsTurned : Puzzle → (ℕ → Mark) → List ℕ → List ℕ → List ℕ → Shape → Bool
 fitsTurned Z s cells offs mates t = any (λ u. fitsBeside Z s u cells offs mates) (flatTransforms t)
+
+unfoldable pub fitsRows : Puzzle → (ℕ → Mark) → List ℕ → List ℕ → List ℕ → List Point → List Point → Bool
+fitsRows Z s cells offs mates ps js =
+    anyBelow 8 (λ r. fitsBeside Z s (bare (imageJoints r ps js)) cells offs mates)

@@ -1,4 +1,5 @@
 pub mod ListExtras
+pub mod SameCells
 pub mod Images
 pub mod ImageLaws
 pub mod Fitting

@@ -12,11 +12,11 @@ ghost use Rattle.reasons.specs.Arrays.{Cells};
 ghost use Rattle.search.specs.Mates.{OneOf};
 ghost use Rattle.search.specs.Placing.{Drawn, Raised, puzzle, bare, spelled};
 ghost use Rattle.search.specs.Searching.{fitsAmong};
-ghost use Rattle.shapes.specs.Joints.{Joined};
-ghost use Rattle.shapes.specs.Spots.{UnitAt};
-ghost use Rattle.units.specs.Fitting.{Lent, UnitIn, soonEnd, soonIn, fitsTurned};
+ghost use Rattle.shapes.specs.Spots.{spots, Spotted};
+ghost use Rattle.units.specs.Images.{Jointed};
+ghost use Rattle.units.specs.Fitting.{Lent, UnitIn, soonEnd, soonIn, fitsTurned, fitsRows};
 ghost use Rattle.units.specs.Held.{Home, Nearby, Held, HeldOf};
-use crate::listed::listed_fit;
+use crate::listed::some_row_fits;
 use crate::number_at;
 use crate::start_at;
 use crate::turn_row;
@@ -148,15 +148,13 @@ fn prepare<'a>(
     draw_mask(h, w, cells, offs, list, 0, n, p as u64 + 1, mask);
 }
 
-// Whether a listed transform of unit `g` fits at a cell of one of the potential units adjacent to potential unit `p`;
-// `q` is one of them. The unit's `n` cells stand in rows and columns, its `k` connections in down and across.
+// Whether one of a unit's eight images fits at a cell of one of the potential units adjacent to potential unit `p`; `q`
+// is one of them. The unit's `n` cells stand in rows and columns, its `k` connections in down and across.
 fn written_fits<'a>(
     h: usize,
     w: usize,
     colours: &'a [u8; 1024],
     borders: &'a [u8; 1984],
-    ids: &'a [u16; 1024],
-    g: usize,
     potential: &'a [u16; 1024],
     cells: &'a [u16; 1024],
     offs: &'a [u16; 1025],
@@ -176,14 +174,13 @@ fn written_fits<'a>(
 ) -> bool
     requires { ⌜ Home h w (now colours) (now borders) (now potential) (now cells) (now offs) p
         × (q ∈ mates (puzzle h w (now colours)) (marksIn (now borders)) p)
-        × UnitAt h w (now ids) g (now rows) (now columns) n
-        × Joined h w (entry (now ids)) g (now down) (now across) k
+        × Spotted (now rows) (now columns) n × Jointed (now down) (now across) k
         × Held h w (now colours) (now borders) (now cells) (now offs) (now planes) (now mask) (now list)
         × (length (now ys) ≡ 2048) × (length (now xs) ≡ 2048) ⌝ }
-    ensures { λ r. ⌜ (r ≡ fitsTurned (puzzle h w (now (colours .entry))) (marksIn (now (borders .entry)))
+    ensures { λ r. ⌜ (r ≡ fitsRows (puzzle h w (now (colours .entry))) (marksIn (now (borders .entry)))
         (now (cells .entry)) (now (offs .entry))
         (mates (puzzle h w (now (colours .entry))) (marksIn (now (borders .entry))) p)
-        (shapeOf (flat h w) (entry (now (ids .entry))) g))
+        (spots (now (rows .entry)) (now (columns .entry)) n) (spots (now (down .entry)) (now (across .entry)) k))
         × Held h w (now (colours .entry)) (now (borders .entry)) (now (cells .entry)) (now (offs .entry))
         (now (planes .exit)) (now (mask .exit)) (now (list .exit))
         × (length (now (ys .exit)) ≡ 2048) × (length (now (xs .exit)) ≡ 2048) ⌝ }
@@ -205,26 +202,12 @@ fn written_fits<'a>(
         mask,
         list,
     );
-    listed_fit(
-        h,
-        w,
-        planes,
-        mask,
-        ids,
-        g,
-        rows,
-        columns,
-        n,
-        down,
-        across,
-        k,
-        ys,
-        xs,
-    )
+    some_row_fits(h, planes, mask, rows, columns, n, down, across, k, ys, xs)
 }
 
 // Whether a listed transform of unit `g` fits at a cell of one of the potential units adjacent to potential unit `p`;
-// `q` is one of them. The unit's cells stand from the place `first` of the list of units to the place `last`.
+// `q` is one of them. The unit's cells stand from the place `first` of the list of units to the place `last`. All eight
+// rows of the table are tried: one that is not listed gives the cells and connections of one that is.
 pub fn unit_fits<'a>(
     h: usize,
     w: usize,
@@ -271,8 +254,6 @@ pub fn unit_fits<'a>(
         w,
         colours,
         borders,
-        ids,
-        g,
         potential,
         cells,
         offs,

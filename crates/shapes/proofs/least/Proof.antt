@@ -1,5 +1,5 @@
 -- `shapes::least` meets its contract. The loop's invariant: the best is the first in order of the images passed.
-use mathlib.Core.Path.{_≡_, sym, _∙_}
+use mathlib.Core.Path.{_≡_, sym, ap, _∙_}
 use Prim.Native.Nat.{_-_, _≤_}
 use native.Mathlib.Omega.{arith}
 use borrow.Author.Needs.{needs}
@@ -10,21 +10,30 @@ use Rattle.shapes.proofs.least.Statement.{statement}
 use Rattle.shapes.proofs.least.Tie as tie
 
 abbrev Inv-loop : tie.InvT-loop
-Inv-loop row rows columns n best₀ i₀ best i =
+Inv-loop row rows columns n s best₀ i₀ best i =
     (1 ≤ i) × (i ≤ n) × (pointOf best ≡ leastImage row (spots rows columns i))
 
 abbrev μ-loop : tie.MeasureT-loop
-μ-loop row rows columns n best₀ i₀ best i = n - i
+μ-loop row rows columns n s best₀ i₀ best i = n - i
 
-image-requires : tie.Need-image-requires Inv-loop μ-loop
-image-requires c κs = (c .pre .0, spot-in (c .pre .1) (c .pre .1 .some))
+signs-at-requires : tie.Need-signs-at-requires Inv-loop μ-loop
+signs-at-requires c κs = search needs
+
+moved-requires : tie.Need-moved-requires Inv-loop μ-loop
+moved-requires c κs = (c .signs-at .ensures .signs, spot-in (c .before .pre .1) (c .before .pre .1 .some))
 
 loop-holds : tie.Need-loop-holds Inv-loop μ-loop
-loop-holds c = (omega arith, c .before .pre .1 .some, c .image .ensures ∙ sym (least-one _ _ _))
+loop-holds c = (
+  omega arith,
+  c .before .before .pre .1 .some,
+  ap pointOf (c .moved .ensures) ∙ (c .before .signs-at .ensures .turns _ _ ∙ sym (least-one _ _ _)),
+)
 
-image-requires-2 : tie.Need-image-requires-2 Inv-loop μ-loop
-image-requires-2 c κs =
-    (c .before .before .before .pre .0, spot-in (c .before .before .before .pre .1) (search needs))
+moved-requires-2 : tie.Need-moved-requires-2 Inv-loop μ-loop
+moved-requires-2 c κs = (
+  c .before .before .before .signs-at .ensures .signs,
+  spot-in (c .before .before .before .before .pre .1) (search needs),
+)
 
 earlier-requires : tie.Need-earlier-requires Inv-loop μ-loop
 earlier-requires c κs = search needs
@@ -37,17 +46,18 @@ loop-less c = omega arith
 
 loop-again : tie.Need-loop-again Inv-loop μ-loop
 loop-again c =
-    let v = c .before .before .before .loop .inv in (
+    let m = c .before .moved2 in
+    let l = c .before .before .before .loop in (
       omega arith,
       omega arith,
-      earlier-more _ _ _ (c .before .before .before .loop .i) (c .before .image2 .result)
-          (c .before .before .before .loop .best)
-          (c .earlier .result) (v .0) (c .before .image2 .ensures) (v .2) (c .earlier .ensures),
+      earlier-more _ _ _ (l .i) (m .result) (l .best) (c .earlier .result) (l .inv .0)
+          (ap pointOf (m .ensures) ∙ c .before .before .before .before .before .signs-at .ensures .turns _ _)
+          (l .inv .2) (c .earlier .ensures),
     )
 
 returns : tie.Need-returns Inv-loop μ-loop
 returns c =
-    let e : c .before .loop .i ≡ c .before .before .before .args .n = omega arith in
+    let e : c .before .loop .i ≡ c .before .before .before .before .args .n = omega arith in
     rw e at (c .before .loop .inv .2)
 
 pub least-spec : {M : Type 1} → statement M
@@ -56,9 +66,10 @@ least-spec =
     (tie.spec
     Inv-loop
     μ-loop
-    image-requires
+    signs-at-requires
+    moved-requires
     loop-holds
-    image-requires-2
+    moved-requires-2
     earlier-requires
     add-i
     loop-less

@@ -1,5 +1,5 @@
 -- `shapes::within` meets its contract. The loop's invariant: every image passed is a cell of the unit.
-use mathlib.Core.Path.{_≡_, sym}
+use mathlib.Core.Path.{_≡_, sym, ap, _∙_}
 use mathlib.Core.Bool.{true}
 use Prim.Native.Nat.{_-_, _≤_}
 use native.Mathlib.Omega.{arith}
@@ -17,27 +17,40 @@ use Rattle.shapes.proofs.within.Statement.{statement}
 use Rattle.shapes.proofs.within.Tie as tie
 
 abbrev Inv-loop : tie.InvT-loop
-Inv-loop ids h w g rows columns n row v i₀ i =
+Inv-loop ids h w g rows columns n row v s i₀ i =
     (i ≤ n)
     × (allBelow i (λ j. hasCell h w (entry ids) g (apply (turnAt row) (spotAt rows columns j) ⊕ pointOf v)) ≡ true)
 
 abbrev μ-loop : tie.MeasureT-loop
-μ-loop ids h w g rows columns n row v i₀ i = n - i
+μ-loop ids h w g rows columns n row v s i₀ i = n - i
+
+signs-at-requires : tie.Need-signs-at-requires Inv-loop μ-loop
+signs-at-requires c κs = search needs
 
 loop-holds : tie.Need-loop-holds Inv-loop μ-loop
 loop-holds c = (omega arith, all-none _)
 
-image-requires : tie.Need-image-requires Inv-loop μ-loop
-image-requires c κs = (c .before .before .pre .0, spot-in (c .before .before .pre .2 .spotted) (search needs))
+moved-requires : tie.Need-moved-requires Inv-loop μ-loop
+moved-requires c κs = (
+  c .before .before .signs-at .ensures .signs,
+  spot-in (c .before .before .before .pre .2 .spotted) (search needs),
+)
+
+-- the image of the cell
+image-is : (c : tie.After-moved Inv-loop μ-loop) → pointOf (c .moved .result)
+    ≡ apply (turnAt (c .before .before .before .before .args .row))
+    (spotAt (c .before .before .before .before .args .rows .now) (c .before .before .before .before .args .columns .now)
+    (c .before .before .loop .i))
+image-is c = ap pointOf (c .moved .ensures) ∙ c .before .before .before .signs-at .ensures .turns _ _
 
 lands-requires : tie.Need-lands-requires Inv-loop μ-loop
 lands-requires c κs =
-    let s = c .before .before .before in
+    let s = c .before .before .before .before in
     let i = c .before .before .loop .i in
     let u = s .pre .2 .spotted in (
       s .pre .2 .sized,
       s .pre .2 .long,
-      near-small (c .image .result) (c .image .ensures)
+      near-small (c .moved .result) (image-is c)
           (near-image (s .args .row) _ _ (u .down i (search needs)) (u .across i (search needs))),
       s .pre .1,
     )
@@ -49,24 +62,25 @@ loop-less : tie.Need-loop-less Inv-loop μ-loop
 loop-less c = omega arith
 
 loop-again : tie.Need-loop-again Inv-loop μ-loop
-loop-again c = (
-  omega arith,
-  all-more (c .before .before .before .before .loop .i) _ (c .before .before .before .before .loop .inv .1)
-      (landed _ _ _ _ (pointOf (c .before .before .image .result)) _ _ (c .before .lands .ensures)
-      (c .before .before .image .ensures) (c .if1 .taken)),
-)
+loop-again c =
+    let l = c .before .before .before .before .loop in (
+      omega arith,
+      all-more (l .i) _ (l .inv .1)
+          (landed _ _ _ _ (pointOf (c .before .before .moved .result)) _ _ (c .before .lands .ensures)
+          (image-is (c .before .before)) (c .if1 .taken)),
+    )
 
 returns : tie.Need-returns Inv-loop μ-loop
 returns c =
-    let s = c .before .before .before .before .before in
+    let s = c .before .before .before .before .before .before in
     sym (within-fails _ _ (s .args .ids .now) _ (s .args .rows .now) (s .args .columns .now) _ _ _
     (c .before .before .before .before .loop .i) (search needs)
-    (landed _ _ _ _ (pointOf (c .before .before .image .result)) _ _ (c .before .lands .ensures)
-    (c .before .before .image .ensures) (c .if1 .left)))
+    (landed _ _ _ _ (pointOf (c .before .before .moved .result)) _ _ (c .before .lands .ensures)
+    (image-is (c .before .before)) (c .if1 .left)))
 
 returns-2 : tie.Need-returns-2 Inv-loop μ-loop
 returns-2 c =
-    let s = c .before .before in
+    let s = c .before .before .before in
     sym (within-all _ _ (s .args .ids .now) _ (s .args .rows .now) (s .args .columns .now) _ _ _
     (all-end (c .before .loop .i) _ _ (omega arith) (omega arith) (c .before .loop .inv .1)))
 
@@ -76,8 +90,9 @@ within-spec =
     (tie.spec
     Inv-loop
     μ-loop
+    signs-at-requires
     loop-holds
-    image-requires
+    moved-requires
     lands-requires
     add-i
     loop-less

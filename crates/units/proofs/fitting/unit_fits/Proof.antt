@@ -1,5 +1,10 @@
--- The unit's cells and connections are written, and tried.
-use Rattle.units.specs.FitLaws.{unit-part, unit-placed}
+-- The unit's cells and connections are written, and tried; the eight rows answer for the listed transforms.
+use mathlib.Core.Path.{_∙_}
+use Rattle.rules.specs.Check.{mates}
+use Rattle.rules.specs.Codes.{marksIn}
+use Rattle.search.specs.Placing.{puzzle}
+use Rattle.units.specs.ImageLaws.{jointed}
+use Rattle.units.specs.FitLaws.{rows-turned, unit-part, unit-placed}
 use Rattle.units.proofs.fitting.unit_fits.Statement.{statement}
 use Rattle.units.proofs.fitting.unit_fits.Tie as tie
 
@@ -20,11 +25,12 @@ written-fits-requires c κs =
     let b = c .before .before .before .before .before .before .before .before .before in
     let a = b .before .before .before .before .before in
     let s = a .before .before .before in
-    let p = a .places .ensures in (
+    let p = a .places .ensures in
+    let u = unit-placed (s .pre .0 .drawn .sized) (s .pre .2) (p .0) (p .1) in (
       s .pre .0,
       s .pre .1,
-      unit-placed (s .pre .0 .drawn .sized) (s .pre .2) (p .0) (p .1),
-      b .joints .ensures,
+      u .spotted,
+      jointed u (b .joints .ensures),
       s .pre .4,
       s .pre .3 .ys,
       s .pre .3 .xs,
@@ -34,11 +40,17 @@ returns : tie.Need-returns
 returns c =
     let b = c .before .before .before .before .before .before .before .before .before .before in
     let a = b .before .before .before .before .before in
+    let s = a .before .before .before in
+    let p = a .places .ensures in
+    let page = puzzle (s .args .h) (s .args .w) (s .args .colours .now) in
+    let marks = marksIn (s .args .borders .now) in
     let e = c .written-fits .ensures in (
-      e .0,
+      e .0
+          ∙ rows-turned page marks (s .args .cells .now) (s .args .offs .now) (mates page marks (s .args .p))
+          (unit-placed (s .pre .0 .drawn .sized) (s .pre .2) (p .0) (p .1)) (b .joints .ensures),
       record {
-        rows = a .places .ensures .1 .rows;
-        columns = a .places .ensures .1 .columns;
+        rows = p .1 .rows;
+        columns = p .1 .columns;
         downs = b .joints .ensures .downs;
         acrosses = b .joints .ensures .acrosses;
         ys = e .2;

@@ -1,35 +1,36 @@
 -- The first cells of one adjacent unit are tried by themselves; then planes and mask answer for all.
 use mathlib.Core.Path.{sym, _∙_}
+use mathlib.Core.Bool.{Bool}
 use mathlib.Core.List.{List}
 use Prim.Native.Nat.{ℕ}
 use native.Mathlib.Omega.{arith}
 use Rattle.rules.specs.Check.{mates}
 use Rattle.rules.specs.Codes.{marksIn}
-use Rattle.rules.specs.Flat.{flat}
-use Rattle.rules.specs.Groups.{entry}
-use Rattle.rules.specs.Page.{Puzzle, Shape}
-use Rattle.rules.specs.Shapes.{shapeOf}
-use Rattle.search.specs.Placing.{puzzle}
+use Rattle.rules.specs.Page.{Point, Puzzle}
+use Rattle.search.specs.Placing.{puzzle, bare}
+use Rattle.search.specs.Searching.{fitsBeside}
 use Rattle.units.specs.HeldLaws.{held-of, held-sizes, held-answers, mate-few, mate-cells}
-use Rattle.units.specs.ImageLaws.{jointed}
-use Rattle.units.specs.FitLaws.{soon-beside, soon-turned, turned-listed}
+use Rattle.units.specs.Fitting.{fitsRows}
+use Rattle.units.specs.FitLaws.{soon-beside, soon-rows}
 use Rattle.units.proofs.fitting.written_fits.Statement.{statement}
 use Rattle.units.proofs.fitting.written_fits.Tie as tie
 
--- the puzzle, the adjacent units, and the unit's shape
+-- the puzzle, and the adjacent units
 abbrev page : tie.Start → Puzzle
 page s = puzzle (s .args .h) (s .args .w) (s .args .colours .now)
 
 abbrev beside : tie.Start → List ℕ
 beside s = mates (page s) (marksIn (s .args .borders .now)) (s .args .p)
 
-abbrev shape : tie.Start → Shape
-shape s = shapeOf (flat (s .args .h) (s .args .w)) (entry (s .args .ids .now)) (s .args .g)
+-- whether some connections fit at a cell of one of them
+abbrev fits : tie.Start → List Point → Bool
+fits s js = fitsBeside (page s) (marksIn (s .args .borders .now)) (bare js) (s .args .cells .now) (s .args .offs .now)
+    (beside s)
 
 turn-row-requires : tie.Need-turn-row-requires
 turn-row-requires c κs =
     let s = c .before .before in
-    (omega arith, s .pre .2 .spotted, jointed (s .pre .2) (s .pre .3), s .pre .5, s .pre .6)
+    (omega arith, s .pre .2, s .pre .3, s .pre .5, s .pre .6)
 
 fits-soon-requires : tie.Need-fits-soon-requires
 fits-soon-requires c κs =
@@ -47,8 +48,8 @@ returns c =
     let t = i .before .before .before in
     let s = t .before .before .before in
     let e = t .turn-row .ensures in (
-      sym (soon-turned (page s) (marksIn (s .args .borders .now)) (s .args .cells .now) (s .args .offs .now) (s .pre .2)
-          (s .pre .3) (beside s) (e .1)
+      sym (soon-rows (page s) (marksIn (s .args .borders .now)) (s .args .cells .now) (s .args .offs .now) (beside s)
+          _ _ (e .1)
           (soon-beside (page s) (marksIn (s .args .borders .now)) (s .args .cells .now) (s .args .offs .now) _
           (s .pre .1) (mate-cells (s .pre .0) (s .pre .1) .order) (sym (i .fits-soon .ensures) ∙ c .if1 .taken))),
       s .pre .4,
@@ -62,24 +63,30 @@ prepare-requires c κs =
     let s = i .before .before .before .before .before .before .before in
     (s .pre .0, s .pre .4)
 
-listed-fit-requires : tie.Need-listed-fit-requires
-listed-fit-requires c κs =
+some-row-fits-requires : tie.Need-some-row-fits-requires
+some-row-fits-requires c κs =
     let q = c .before .before .before .before in
     let t = q .before .before .before .before .before .before .before .before in
     let s = t .before .before .before in
-    let e = t .turn-row .ensures in
-    (held-sizes (q .prepare .ensures .0) (s .pre .0), s .pre .2, s .pre .3, e .2, e .3)
+    let e = t .turn-row .ensures in (
+      held-sizes (q .prepare .ensures .0) (s .pre .0),
+      s .pre .2,
+      s .pre .3,
+      e .0,
+      e .1,
+      e .2,
+      e .3,
+    )
 
 returns-2 : tie.Need-returns-2
+unfolding fitsRows
 returns-2 c =
     let q = c .before .before .before .before .before in
     let t = q .before .before .before .before .before .before .before .before in
     let s = t .before .before .before in
     let k = q .prepare .ensures in
-    let e = c .listed-fit .ensures in (
-      e .0 _ (held-answers (k .0) (s .pre .0))
-          ∙ turned-listed (page s) (marksIn (s .args .borders .now)) (s .args .cells .now) (s .args .offs .now)
-          (beside s) (shape s),
+    let e = c .some-row-fits .ensures in (
+      e .0 (fits s) (held-answers (k .0) (s .pre .0)),
       held-of (k .0) (k .1),
       e .1,
       e .2,
@@ -93,5 +100,5 @@ written-fits-spec =
     fits-soon-requires
     returns
     prepare-requires
-    listed-fit-requires
+    some-row-fits-requires
     returns-2)

@@ -1,13 +1,11 @@
--- `shapes::image` meets its contract: the two coordinates are small numbers, read back as they were.
+-- `shapes::moved` meets its contract: the two coordinates are small numbers, read back as they were.
 use mathlib.Core.Path.{ap₂, _∙_}
 use native.Mathlib.Omega.{arith}
-use Rattle.rules.specs.Turns.{apply}
-use Rattle.shapes.specs.Rows.{turnAt}
-use Rattle.shapes.specs.Pairs.{pointAt}
-use Rattle.shapes.specs.PairLaws.{read-back}
 use borrow.Author.Needs.{needs}
-use Rattle.shapes.proofs.image.Statement.{statement}
-use Rattle.shapes.proofs.image.Tie as tie
+use Rattle.shapes.specs.Pairs.{turnBy}
+use Rattle.shapes.specs.PairLaws.{read-back}
+use Rattle.shapes.proofs.moved.Statement.{statement}
+use Rattle.shapes.proofs.moved.Tie as tie
 
 mul-signed : tie.Need-mul-signed
 mul-signed c = search needs
@@ -27,8 +25,8 @@ element-copy-out-signed-2 c = search needs
 signed-requires-2 : tie.Need-signed-requires-2
 signed-requires-2 c κs = search needs
 
-apply-requires : tie.Need-apply-requires
-apply-requires c κs =
+turn-requires : tie.Need-turn-requires
+turn-requires c κs =
     let s = c .before .before .before .before in (
       s .pre .0,
       rw (read-back _ (c .before .before .signed .ensures) (omega (arith, s .pre .1 .down)))
@@ -39,13 +37,13 @@ apply-requires c κs =
 returns : tie.Need-returns
 returns c =
     let s = c .before .before .before .before .before in
-    c .apply .ensures
-    ∙ ap₂ (λ y x. apply (turnAt (s .args .row)) (pointAt y x))
+    c .turn .ensures
+    ∙ ap₂ (turnBy (s .args .s))
     (read-back _ (c .before .before .before .signed .ensures) (omega (arith, s .pre .1 .down)))
     (read-back _ (c .before .signed2 .ensures) (omega (arith, s .pre .1 .across)))
 
-pub image-spec : {M : Type 1} → statement M
-image-spec =
+pub moved-spec : {M : Type 1} → statement M
+moved-spec =
     tie.close
     (tie.spec
     mul-signed
@@ -54,5 +52,5 @@ image-spec =
     mul-signed-2
     element-copy-out-signed-2
     signed-requires-2
-    apply-requires
+    turn-requires
     returns)
