@@ -6,7 +6,7 @@ use Prim.Native.Nat.{ℕ, zero, suc, _+_, _<_, _≤_}
 use native.Mathlib.Numerals.{add-one}
 use native.Mathlib.Omega.{arith}
 use native.Mathlib.Decide.{ℕ-discrete, decLt}
-use borrow.Author.Tests.{eq-eqb, ne-eqb, leb-true, leb-false}
+use borrow.Author.Tests.{eqb-true, eq-eqb, ne-eqb, leb-true, leb-false}
 use lib.Dec.{leb}
 use lib.ListN.{length, getD, length-map, List·getD-eq-default}
 use Rattle.lists.specs.Lists.{range}
@@ -15,6 +15,7 @@ use Rattle.rules.specs.Page.{Page}
 use Rattle.rules.specs.Groups.{entry, rename, merge, mergeIf, mergeAll, labels, isFirst, numbers, groupCount}
 use Rattle.groups.specs.Forests.{after, Labelled}
 use Rattle.groups.specs.ListExtras.{range-length, range-at, range-more, getD-map, count-under}
+use Rattle.groups.specs.ListExtras.{count-all, count-full}
 
 pub rename-hit : (lo hi l : ℕ) → l ≡ hi → rename lo hi l ≡ lo
 rename-hit lo hi l e = rw (eq-eqb l hi e)
@@ -146,6 +147,14 @@ module _ (G : Page) (link : ℕ → Bool) where
         rw (number-at i h)
         (count-under (isFirst (labels G link)) (getD (labels G link) i 0) (G .cells)
         (omega (arith, labelled .least i h)) (eq-eqb _ _ (labelled .twice i h)))
+
+    -- where there are as many groups as cells, a cell's number is its place
+    pub number-alone : groupCount G link ≡ G .cells → (i : ℕ) → i < G .cells → entry (numbers G link) i ≡ i
+    unfolding groupCount isFirst entry
+    number-alone e i h =
+        let first = count-full (isFirst (labels G link)) (G .cells) e in
+        rw (number-at i h, eqb-true (getD (labels G link) i 0) i (first i h))
+        (count-all (isFirst (labels G link)) i (λ x l. first x (omega arith)))
 
   pub groupCount-le : groupCount G link ≤ G .cells
   unfolding groupCount

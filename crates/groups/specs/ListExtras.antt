@@ -12,7 +12,7 @@ use lib.ListN.{List·getD-append, List·getD-eq-default}
 use lib.Seq.{ext-getD, getD-append-add, take-nil, take-all}
 use Rattle.lists.specs.Lengths.{rangeFrom-more}
 use Rattle.lists.specs.Lists.{keep, filter, flatMap, rangeFrom, range}
-use Rattle.lists.specs.Count.{bit, countBelow}
+use Rattle.lists.specs.Count.{bit, countBelow, count-lt}
 use Rattle.lists.specs.Padded.{padded, zeros}
 
 rangeFrom-length : (i n : ℕ) → length (rangeFrom i n) ≡ n
@@ -114,6 +114,14 @@ count-under p j k h e = omega (arith, count-yes j p e, count-mono p (suc j) k h)
 pub count-all : (p : ℕ → Bool) (n : ℕ) → ((x : ℕ) → x < n → p x ≡ true) → countBelow n p ≡ n
 count-all p zero h = count-zero p
 count-all p (suc n) h = count-yes n p (h n (omega arith)) ∙ ap suc (count-all p n (λ x l. h x (omega arith)))
+
+-- all are counted
+pub count-full : (p : ℕ → Bool) (n : ℕ) → countBelow n p ≡ n → (x : ℕ) → x < n → p x ≡ true
+count-full p n e x h = go (p x) refl
+  where
+    go : (b : Bool) → p x ≡ b → p x ≡ true
+    go true q = q
+    go false q = absurd (omega (arith, count-lt n p x h q))
 
 -- zeros, and lists filled up with them
 pub padded-at : (n : ℕ) (l : List ℕ) (i : ℕ) → getD (padded n 0 l) i 0 ≡ getD l i 0
