@@ -121,7 +121,7 @@ any-holds p (x ∷ xs) e =
     (λ (q : any p xs ≡ true). let r = any-holds p xs q in (r .0, List·Memᴰ·tail (r .1), r .2))
     (or-cases (p x) (any p xs) e)
 
-pub holds-any : (p : ℕ → Bool) {xs : List ℕ} {x : ℕ} → x ∈ xs → p x ≡ true → any p xs ≡ true
+pub holds-any : {A : Type 0} (p : A → Bool) {xs : List A} {x : A} → x ∈ xs → p x ≡ true → any p xs ≡ true
 unfolding any
 holds-any p (List·Memᴰ·head q) e = rw (← q, e)
 holds-any p {xs = y ∷ ys} (List·Memᴰ·tail m) e = or-found (p y) (any p ys) (holds-any p m e)

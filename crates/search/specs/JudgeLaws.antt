@@ -3,8 +3,7 @@ use mathlib.Core.Path.{_≡_, refl, sym, ap, ap₂, _∙_}
 use mathlib.Core.Bool.{Bool, true, false, cond}
 use mathlib.Core.List.{List, [], _∷_, map}
 use mathlib.Core.Option.{Option, some, none}
-use Prim.Native.Nat.{ℕ, zero, suc, _+_, _-_, _*_, _/_, _%_, _<_, _≤_}
-use native.Mathlib.Numerals.{add-one}
+use Prim.Native.Nat.{ℕ, zero, suc, _+_, _-_, _*_, _/_, _%_}
 use native.Mathlib.Omega.{arith}
 use lib.IntN.{pos, negsuc, +ℤ-assoc}
 use lib.ListN.{getD}
@@ -18,7 +17,7 @@ use Rattle.rules.specs.Flat.{flat, flatPlace, flatReads}
 use Rattle.rules.specs.Check.{judge, ended, laid, isFit}
 use Rattle.search.specs.declared.Reading.{Reading}
 use Rattle.search.specs.declared.Reading.the-variants.{Ends, Clear, Walled}
-use Rattle.search.specs.Placing.{puzzle, raised, pointAt, spelled, bare, readRaised, readingOf, isClear, fitsOf}
+use Rattle.search.specs.Placing.{puzzle, raised, pointAt, spelled, bare, readRaised, readingOf}
 
 -- what readings make of a placement
 unfoldable pub after : Placement → List Reading → Placement
@@ -72,17 +71,6 @@ module _ (h w : ℕ) (cs : List ℕ) (s : ℕ → Mark) (ys xs : List ℕ) (o : 
   unfoldable pub readFrom : ℕ → ℕ → List Reading
   readFrom i m = map readAt (rangeFrom i m)
 
-  from-none : (i : ℕ) → readFrom i 0 ≡ []
-  unfolding readFrom
-  from-none i = refl
-
-  pub read-next : (i n : ℕ) → i < n → readFrom i (n - i) ≡ readAt i ∷ readFrom (i + 1) (n - (i + 1))
-  unfolding readFrom
-  read-next i n q = let e : n - i ≡ suc (n - (i + 1)) = omega arith in rw (e, add-one i)
-
-  pub read-none : (i n : ℕ) → n ≤ i → readFrom i (n - i) ≡ []
-  read-none i n q = let e : n - i ≡ 0 = omega arith in rw e (from-none i)
-
   -- what is read with the origin added twice
   abbrev shifted : Point → Option ℕ
   shifted d = flat h w .reads (flat h w .place o ⊕ flat h w .place o ⊕ d)
@@ -104,52 +92,6 @@ module _ (h w : ℕ) (cs : List ℕ) (s : ℕ → Mark) (ys xs : List ℕ) (o : 
   laid-after n =
       let e : n - 0 ≡ n = omega arith in
       judge-after (puzzle h w cs) s none _ ∙ rw (e, reads-from 0 n)
-
-  -- a loop that has read the connections before i, of n, and has the placement p so far; W is the whole
-  module _ (i n : ℕ) (p : Placement) {W : Placement} (inv : W ≡ after p (readFrom i (n - i))) where
-    pub turn-done : n ≤ i → p ≡ W
-    unfolding after
-    turn-done q = sym (inv ∙ ap (after p) (read-none i n q))
-
-    module _ (q : i < n) {r : Reading} (e : r ≡ readAt i) where
-      rest : W ≡ after p (r ∷ readFrom (i + 1) (n - (i + 1)))
-      rest = inv ∙ rw (read-next i n q, e)
-
-      pub turn-clear : r ≡ Clear → W ≡ after p (readFrom (i + 1) (n - (i + 1)))
-      unfolding after
-      turn-clear t = rest ∙ rw t
-
--- the yes or no of it
-clear-is : (r : Reading) → isClear r ≡ true → r ≡ Clear
-clear-is Ends e = let z : _≡_ {A = ℕ} 0 1 = cc in absurd (omega arith)
-clear-is Clear e = refl
-clear-is (Walled b) e = let z : _≡_ {A = ℕ} 0 1 = cc in absurd (omega arith)
-
-unclear-never : (Z : Puzzle) (s : ℕ → Mark) (r : Reading) (rs : List Reading) → isClear r ≡ false
-    → isFit Z s (after Fits (r ∷ rs)) ≡ false
-unfolding after
-unclear-never Z s Ends rs e = refl
-unclear-never Z s Clear rs e = let z : _≡_ {A = ℕ} 0 1 = cc in absurd (omega arith)
-unclear-never Z s (Walled b) rs e = blocked-never Z s b rs
-
-module _ (h w : ℕ) (cs : List ℕ) (s : ℕ → Mark) (ys xs : List ℕ) (o : ℕ) where
-  abbrev whole : ℕ → Placement
-  whole n = laid (puzzle h w cs) s (bare (spelled ys xs n)) o
-
-  module _ (i n : ℕ) (inv : whole n ≡ after Fits (readFrom h w cs s ys xs o i (n - i))) where
-    pub fit-done : n ≤ i → true ≡ fitsOf (puzzle h w cs) s (bare (spelled ys xs n)) o
-    unfolding fitsOf
-    fit-done q = ap (isFit (puzzle h w cs) s) (turn-done h w cs s ys xs o i n Fits inv q)
-
-    module _ (q : i < n) {r : Reading} (e : r ≡ readAt h w cs s ys xs o i) where
-      pub fit-more : isClear r ≡ true → whole n ≡ after Fits (readFrom h w cs s ys xs o (i + 1) (n - (i + 1)))
-      fit-more t = turn-clear h w cs s ys xs o i n Fits inv q e (clear-is r t)
-
-      pub fit-ends : isClear r ≡ false → false ≡ fitsOf (puzzle h w cs) s (bare (spelled ys xs n)) o
-      unfolding fitsOf
-      fit-ends t =
-          sym (ap (isFit (puzzle h w cs) s) (rest h w cs s ys xs o i n Fits inv q e)
-          ∙ unclear-never (puzzle h w cs) s r _ t)
 
 -- clues change no placement
 module _ (h w : ℕ) (cs : List ℕ) (k : ℕ → Option ℕ) (s : ℕ → Mark) where

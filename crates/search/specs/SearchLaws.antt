@@ -5,7 +5,7 @@ use mathlib.Core.List.{List, [], _∷_, map, List·Memᴰ·head, List·Memᴰ·t
 use Prim.Native.Nat.{ℕ, _+_, _-_, _*_, _≤_, _<_}
 use native.Mathlib.Omega.{arith}
 use lib.ListN.{length, getD, drop, length-drop}
-use lib.Seq.{getD-take, getD-drop, length-take-le}
+use lib.Seq.{getD-take, length-take-le}
 use Rattle.lists.specs.Appends.{flat-map, flat-flat}
 use Rattle.lists.specs.Lists.{_∈_, any, flatMap}
 use Rattle.lists.specs.ListLaws.{filter-mem, range-lt, getD-mem}
@@ -14,11 +14,10 @@ use Rattle.rules.specs.Codes.{marksIn}
 use Rattle.rules.specs.Flat.{flat}
 use Rattle.rules.specs.Groups.{members, potentialOf}
 use Rattle.rules.specs.Check.{laid, isFit, blockers, mates}
-use Rattle.reasons.specs.Arrays.{Cells, part}
+use Rattle.reasons.specs.Arrays.{Cells}
 use Rattle.search.specs.Placing.{puzzle, fitsOf}
 use Rattle.search.specs.ListExtras.{any-append}
-use Rattle.search.specs.Mates.{Grouped, Known, Listed, Leading}
-use Rattle.search.specs.GatherLaws.{listed-part, up-mono}
+use Rattle.search.specs.Mates.{Grouped, Known, Leading}
 use Rattle.search.specs.Searching.{Beside, groupIn, fitsAmong, fitsBeside, blockOf, blocksAmong, blocksBeside}
 
 module _ {h w : ℕ} {cells : List ℕ} {from to : ℕ} (p : Cells h w cells from to) where
@@ -93,50 +92,25 @@ mates-low g p q m = rw (g .all) (range-lt _ (filter-mem _ _ m))
 
 module _ {h w : ℕ} {cs bs ids cells offs : List ℕ} {count : ℕ} (g : Grouped h w cs bs cells offs count)
     (k : Known h w cs bs ids) where
-  -- the mates of p stand in a part of a list
-  module _ (list : List ℕ) (p from to : ℕ) (is : part list from to ≡ mates (puzzle h w cs) (marksIn bs) p)
-      (long : length list ≡ 4096) (order : from ≤ to) (end : to ≤ 4096) where
-    entry-low : (i : ℕ) → from ≤ i → i < to → getD list i 0 < count
-    entry-low i a b =
-        let f = mates (puzzle h w cs) (marksIn bs) in
-        let j : from + (i - from) ≡ i = omega arith in
-        let n : length (f p) ≡ to - from =
-        sym (ap length is)
-        ∙ length-take-le (to - from) (drop from list) (omega (arith, length-drop from list)) in
-        let v : getD (f p) (i - from) 0 ≡ getD list i 0 =
-        rw (
-          ← is,
-          getD-take (to - from) (drop from list) (i - from) 0 (omega arith),
-          getD-drop from list (i - from) 0,
-          j,
-        ) in
-        rw v at (mates-low g p _ (getD-mem (f p) (i - from) (omega arith)))
+  -- the mates of p stand from the start of a list
+  module _ {list : List ℕ} (p : ℕ) {n : ℕ} (l : Leading (mates (puzzle h w cs) (marksIn bs) p) list n) where
+    entry-low : (i : ℕ) → i < n → getD list i 0 < count
+    entry-low i b =
+        let f = mates (puzzle h w cs) (marksIn bs) p in
+        let m : length f ≡ n - 0 =
+        sym (ap length (l .first))
+        ∙ length-take-le (n - 0) (drop 0 list) (omega (arith, length-drop 0 list, l .long, l .few)) in
+        let v : getD f i 0 ≡ getD list i 0 =
+        rw (← l .first, getD-take (n - 0) (drop 0 list) i 0 (omega arith)) in
+        rw v at (mates-low g p _ (getD-mem f i (omega arith)))
 
-    beside-part : Beside h w cells offs list from to
-    beside-part =
+    pub beside-leading : Beside h w cells offs list 0 n
+    beside-leading =
         let c : count ≤ 1024 = rw (g .all) (k .few) in
         record {
-          long = long;
-          order = order;
-          end = end;
-          low = λ i a b. omega (arith, entry-low i a b);
-          each = λ i a b. g .each (getD list i 0) (entry-low i a b);
+          long = l .long;
+          order = omega arith;
+          end = l .few;
+          low = λ i a b. omega (arith, entry-low i b);
+          each = λ i a b. g .each (getD list i 0) (entry-low i b);
         }
-
-  pub beside-leading : {list : List ℕ} (p : ℕ) {n : ℕ} → Leading (mates (puzzle h w cs) (marksIn bs) p) list n
-      → Beside h w cells offs list 0 n
-  beside-leading {list} p {n} l = beside-part list p 0 n (l .first) (l .long) (omega arith) (l .few)
-
-  -- the mates of all
-  pub beside-of : {list starts : List ℕ} → Listed (mates (puzzle h w cs) (marksIn bs)) list starts count
-      → (p : ℕ) → p < count → Beside h w cells offs list (getD starts p 0) (getD starts (p + 1) 0)
-  beside-of {list} {starts} l p hp =
-      let f = mates (puzzle h w cs) (marksIn bs) in
-      beside-part list p (getD starts p 0) (getD starts (p + 1) 0) (listed-part l p hp) (l .long)
-      (omega (
-        arith,
-        l .starts p (omega arith),
-        l .starts (p + 1) (omega arith),
-        up-mono f p (p + 1) (omega arith),
-      ))
-      (omega (arith, l .starts (p + 1) (omega arith), up-mono f (p + 1) count (omega arith), l .room))

@@ -11,11 +11,12 @@ use Rattle.rules.specs.Codes.{marksIn}
 use Rattle.rules.specs.Rules.{oneColour, joinsUnit}
 use Rattle.rules.specs.Groups.{entry, joinsPotential, potentialOf}
 use Rattle.rules.specs.Shapes.{shapeOf}
-use Rattle.rules.specs.Check.{unitReason}
+use Rattle.rules.specs.Check.{mates, unitReason}
 use Rattle.reasons.specs.Memory.{Wrote}
 use Rattle.groups.specs.declared.Kind.the-variants.{Potential}
 use Rattle.groups.specs.Kinds.{joinsIn}
 use Rattle.groups.specs.PartLaws.{ids-length}
+use Rattle.search.specs.Mates.{Leading}
 use Rattle.search.specs.Placing.{puzzle}
 use Rattle.shapes.specs.declared.Listed.{Listed as RowList}
 use Rattle.shapes.specs.Listing.{listing}
@@ -23,9 +24,9 @@ use Rattle.shapes.specs.Rows.{rowsOf}
 use Rattle.shapes.specs.Spots.{UnitAt}
 use Rattle.shapes.specs.Joints.{Joined}
 use Rattle.units.specs.Fitting.{UnitIn}
+use Rattle.units.specs.Held.{Home}
 use Rattle.units.specs.Stuck.{potentialIn}
-use Rattle.units.specs.ReadyLaws.{some, few, units-are, unit-few, potential-known, potential-grouped, unit-in}
-use Rattle.units.specs.ReadyLaws.{home-is, home-count, head-of, transforms-are}
+use Rattle.units.specs.ReadyLaws.{some, few, units-are, unit-few, unit-in, home-is, home-of, head-of, transforms-are}
 use Rattle.unitreason.specs.Writing.{Arranged, Imaged, Asked, clued}
 
 -- the units and the potential unit of a unit ask no clue
@@ -34,8 +35,8 @@ module _ (h w : ℕ) (cs : List ℕ) (c : ℕ → Option ℕ) (s : ℕ → Mark)
   unfolding potentialIn joinsUnit joinsPotential oneColour
   potential-clue u = refl
 
-module _ {h w : ℕ} {cs bs ids cells offs pids pcells poffs list starts : List ℕ} {u : ℕ}
-    (q : Asked h w cs bs ids cells offs pids pcells poffs list starts u) where
+module _ {h w : ℕ} {cs bs ids cells offs pids pcells poffs : List ℕ} {u : ℕ}
+    (q : Asked h w cs bs ids cells offs pids pcells poffs u) where
   abbrev Z : Puzzle
   Z = puzzle h w cs
 
@@ -52,16 +53,20 @@ module _ {h w : ℕ} {cs bs ids cells offs pids pcells poffs list starts : List 
   abbrev pub home : ℕ
   home = getD pids (getD cells (getD offs u 0) 0) 0
 
+  pub at-home : {p : ℕ} → p ≡ home → Home h w cs bs pids pcells poffs p
+  at-home e = rw e (home-of (q .ready) u (q .low))
+
   potential-long : length pids ≡ 1024
   potential-long =
       let z = q .ready .drawn .sized in
       let link = joinsIn Potential h w cs bs in
       rw (q .ready .potential-ids) (ids-length (flat h w) link (some z link) (few z link))
 
-  pub arranged : Arranged h w cs bs ids cells offs pids pcells poffs list starts u home
+  pub arranged : {list : List ℕ} {count p : ℕ} → p ≡ home → Leading (mates Z s p) list count
+      → Arranged h w cs bs ids cells offs pids pcells poffs list count u p
   unfolding entry
-  arranged =
-      let g = potential-grouped (q .ready) in
+  arranged e l =
+      let k = at-home e in
       record {
         drawn = q .ready .drawn;
         colours = q .colours;
@@ -79,10 +84,10 @@ module _ {h w : ℕ} {cs bs ids cells offs pids pcells poffs list starts : List 
                   };
             };
         number = λ c l. ap (λ (f : ℕ → ℕ). f c) (units-are (q .ready));
-        known = potential-known (q .ready);
-        grouped = rw (g .all) at g;
-        mates = rw (g .all) at (q .ready .adjacent);
-        one = rw (g .all) at (home-count (q .ready) u (q .low));
+        known = k .known;
+        grouped = k .grouped;
+        one = k .low;
+        mates = l;
       }
 
   pub imaged : {R C D A : List ℕ} {n k : ℕ} {t : RowList} → UnitAt h w ids u R C n

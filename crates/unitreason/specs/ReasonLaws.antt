@@ -1,6 +1,6 @@
 -- What the arrays give is the reason of the unit: its blockers, its Inside, and the walls of its potential unit.
 --
---   partAt list starts p   the mates or the cells of the potential unit p, from the arrays
+--   partAt cells offs p   the cells of the potential unit p, from the arrays
 use mathlib.Core.Path.{_≡_, refl, sym, ap, _∙_}
 use mathlib.Core.List.{List, _++_, map}
 use mathlib.Core.Option.{Option, none}
@@ -24,9 +24,8 @@ use Rattle.reasons.specs.Memory.{Wrote}
 use Rattle.reasons.specs.MemoryLaws.{wrote-more}
 use Rattle.reasons.specs.NumberLaws.{members-same, inside-same, edge-same}
 use Rattle.search.specs.Placing.{puzzle, bare}
-use Rattle.search.specs.GatherLaws.{listed-part}
 use Rattle.search.specs.Searching.{Beside, blockOf, blocksAmong, blocksBeside}
-use Rattle.search.specs.SearchLaws.{placed-blocks, mates-low, beside-of}
+use Rattle.search.specs.SearchLaws.{placed-blocks, mates-low, beside-leading}
 use Rattle.shapes.specs.declared.Listed.{Listed as RowList}
 use Rattle.shapes.specs.Listing.{listing}
 use Rattle.shapes.specs.Rows.{image, rowsOf}
@@ -41,10 +40,10 @@ use Rattle.unitreason.specs.ListExtras.{room-first, room-second, room-th
 use Rattle.unitreason.specs.ClueLaws.{reason-clue}
 
 abbrev pub partAt : List ℕ → List ℕ → ℕ → List ℕ
-partAt list starts p = part list (getD starts p 0) (getD starts (p + 1) 0)
+partAt cells offs p = part cells (getD offs p 0) (getD offs (p + 1) 0)
 
-module _ {h w : ℕ} {cs bs ids cells offs pids pcells poffs list starts : List ℕ} {u p : ℕ}
-    (a : Arranged h w cs bs ids cells offs pids pcells poffs list starts u p) where
+module _ {h w : ℕ} {cs bs ids cells offs pids pcells poffs list : List ℕ} {count u p : ℕ}
+    (a : Arranged h w cs bs ids cells offs pids pcells poffs list count u p) where
   abbrev Z : Puzzle
   Z = puzzle h w cs
 
@@ -67,8 +66,8 @@ module _ {h w : ℕ} {cs bs ids cells offs pids pcells poffs list starts : List 
   unfolding insideIn insideUnit
   inside-is = inside-same (a .drawn .sized) (entry ids) (unitOf Z s) unit-same u s
 
-  mates-are : partAt list starts p ≡ mates Z s p
-  mates-are = listed-part (a .mates) p (a .one)
+  mates-are : part list 0 count ≡ mates Z s p
+  mates-are = a .mates .first
 
   cells-are : partAt pcells poffs p ≡ members (flat h w) (potentialOf Z s) p
   cells-are = a .grouped .group p (a .one)
@@ -98,20 +97,15 @@ module _ {h w : ℕ} {cs bs ids cells offs pids pcells poffs list starts : List 
   pub own-cells : Cells h w pcells (getD poffs p 0) (getD poffs (p + 1) 0)
   own-cells = a .grouped .each p (a .one)
 
-  pub beside : Beside h w pcells poffs list (getD starts p 0)
-      (getD starts (p + 1) 0)
-  beside = beside-of (a .grouped) (a .known) (a .mates) p (a .one)
+  pub beside : Beside h w pcells poffs list 0 count
+  beside = beside-leading (a .grouped) (a .known) p (a .mates)
 
-  low-at : (i : ℕ) → getD starts p 0 ≤ i → i < getD starts (p + 1) 0
-      → getD list i 0 < potentialCount Z s
+  low-at : (i : ℕ) → 0 ≤ i → i < count → getD list i 0 < potentialCount Z s
   low-at i x y =
       mates-low (a .grouped) p (getD list i 0)
-      (rw mates-are at
-      (mem-part list (getD starts p 0) i (getD starts (p + 1) 0) x y
-      (omega (arith, beside .end, beside .long))))
+      (rw mates-are at (mem-part list 0 i count x y (omega (arith, beside .end, beside .long))))
 
-  pub mated : Mated h w pids pcells poffs list
-      (getD starts p 0) (getD starts (p + 1) 0)
+  pub mated : Mated h w pids pcells poffs list 0 count
   mated =
       record {
         low = record { long = beside .long; order = beside .order; end = beside .end; each = beside .low };
@@ -126,19 +120,19 @@ module _ {h w : ℕ} {cs bs ids cells offs pids pcells poffs list starts : List 
       marked-is (isAdjacent Z s p) (potentialCount Z s) (getD pids x 0) (a .known .few)
       (a .known .below x l)
 
-  far-is : farIn h w cs bs pids (partAt list starts p) (partAt pcells poffs p) ≡ farWalls Z s p
+  far-is : farIn h w cs bs pids (part list 0 count) (partAt pcells poffs p) ≡ farWalls Z s p
   unfolding farIn
   far-is =
       rw (mates-are, cells-are)
       (sym (far-walls (a .drawn .sized) cs bs pids (λ c. none) p (flagsOf (mates Z s p)) number-same mark))
 
-  edges-are : edgesIn h w cs bs pids (partAt list starts p) ≡ flatMap (edgeOf Z s) (mates Z s p)
+  edges-are : edgesIn h w cs bs pids (part list 0 count) ≡ flatMap (edgeOf Z s) (mates Z s p)
   unfolding edgesIn
   edges-are =
-      flat-same (edgeIn h w cs bs pids) (edgeOf Z s) (partAt list starts p) (λ q m. edge-is q)
+      flat-same (edgeIn h w cs bs pids) (edgeOf Z s) (part list 0 count) (λ q m. edge-is q)
       ∙ ap (flatMap (edgeOf Z s)) mates-are
 
-  walls-are : wallsIn h w cs bs pids p (partAt list starts p) (partAt pcells poffs p)
+  walls-are : wallsIn h w cs bs pids p (part list 0 count) (partAt pcells poffs p)
       ≡ edgeOf Z s p ++ (flatMap (edgeOf Z s) (mates Z s p) ++ farWalls Z s p)
   unfolding wallsIn
   walls-are = rw (edge-is p, edges-are, far-is)
@@ -149,16 +143,16 @@ module _ {h w : ℕ} {cs bs ids cells offs pids pcells poffs list starts : List 
 
     -- a placement looks at the connections only
     abbrev blocksOf : List Point → List Literal
-    blocksOf js = blocksBeside Z s (bare js) pcells poffs (partAt list starts p)
+    blocksOf js = blocksBeside Z s (bare js) pcells poffs (part list 0 count)
 
     abbrev blocksRow : ℕ → List Literal
-    blocksRow r = blocksBy Z s pcells poffs (partAt list starts p) (spots R C n) (spots D A k) r
+    blocksRow r = blocksBy Z s pcells poffs (part list 0 count) (spots R C n) (spots D A k) r
 
     abbrev joints : Shape → List Point
     joints x = x .connections
 
     by-joints : (x : Shape)
-        → blocksBeside Z s x pcells poffs (partAt list starts p) ≡ blocksOf (joints x)
+        → blocksBeside Z s x pcells poffs (part list 0 count) ≡ blocksOf (joints x)
     unfolding blocksBeside blocksAmong blockOf laid
     by-joints x = refl
 
@@ -177,7 +171,7 @@ module _ {h w : ℕ} {cs bs ids cells offs pids pcells poffs list starts : List 
 
     -- the listed rows, as the code reads them
     rows-are : flatMap blocksRow (rowsOf shape)
-        ≡ blocksListed Z s pcells poffs (partAt list starts p) (spots R C n) (spots D A k)
+        ≡ blocksListed Z s pcells poffs (part list 0 count) (spots R C n) (spots D A k)
         (listing (rowsOf shape))
     unfolding blocksListed
     rows-are =
@@ -186,7 +180,7 @@ module _ {h w : ℕ} {cs bs ids cells offs pids pcells poffs list starts : List 
         (λ i h. ap blocksRow (sym (List·getD-append (rowsOf shape) _ 0 i h)))
 
     blocks-are : flatMap (blockers Z s) (placements Z s u p)
-        ≡ blocksListed Z s pcells poffs (partAt list starts p) (spots R C n) (spots D A k) t
+        ≡ blocksListed Z s pcells poffs (part list 0 count) (spots R C n) (spots D A k) t
     unfolding placements
     blocks-are =
         flat-flat (blockers Z s)
@@ -198,17 +192,17 @@ module _ {h w : ℕ} {cs bs ids cells offs pids pcells poffs list starts : List 
         ∙ flat-map (λ x. blocksOf (joints x)) (λ r. image r shape) (rowsOf shape)
         ∙ flat-all _ blocksRow (rowsOf shape) row-is
         ∙ rows-are
-        ∙ ap (blocksListed Z s pcells poffs (partAt list starts p) (spots R C n) (spots D A k))
+        ∙ ap (blocksListed Z s pcells poffs (part list 0 count) (spots R C n) (spots D A k))
         (sym (b .rows))
 
     abbrev inner : List Literal
     inner = insideIn h w bs ids u
 
     abbrev walls : List Literal
-    walls = wallsIn h w cs bs pids p (partAt list starts p) (partAt pcells poffs p)
+    walls = wallsIn h w cs bs pids p (part list 0 count) (partAt pcells poffs p)
 
     abbrev blocked : List Literal
-    blocked = blocksListed Z s pcells poffs (partAt list starts p) (spots R C n) (spots D A k) t
+    blocked = blocksListed Z s pcells poffs (part list 0 count) (spots R C n) (spots D A k) t
 
     reason-is : unitReason Z s u p ≡ blocked ++ (inner ++ walls)
     unfolding unitReason

@@ -6,10 +6,10 @@
 --   flag, flagsOf xs     1 for yes, 0 for no; for each number below 1024 whether it is one of xs
 --   edgesIn gs           Edge of each of the groups gs, over the arrays
 --   wallsIn              Edge(P), Edge of each adjacent unit, then the walls to units that are not adjacent
---   Arranged             the arrays of the units, the potential units and the mates
+--   Arranged             the arrays of the units and the potential units, and the list of P's mates
 --   blocksBy r           the blockers of the placements of the unit's image by row r of the table
 --   blocksListed l       those of its images by the listed rows
---   Asked                what a caller gives for unit U: the groups of the page, and their mates
+--   Asked                what a caller gives for unit U: the groups of the page
 --   Imaged               the places, the connections and the listed rows of unit U
 use mathlib.Core.Path.{_≡_}
 use mathlib.Core.Bool.{Bool, true, false}
@@ -28,13 +28,13 @@ use Rattle.rules.specs.Codes.{marksIn, coloursIn}
 use Rattle.rules.specs.Groups.{entry, unitOf, potentialCount}
 use Rattle.rules.specs.Shapes.{shapeOf, flatTransforms}
 use Rattle.rules.specs.Check.{mates, transformsOf}
-use Rattle.reasons.specs.Arrays.{Part, part, edgeIn, scanOf}
+use Rattle.reasons.specs.Arrays.{Part, edgeIn, scanOf}
 use Rattle.reasons.specs.ListExtras.{upTo}
 use Rattle.groups.specs.declared.Kind.the-variants.{Units}
 use Rattle.groups.specs.Kinds.{joinsIn}
 use Rattle.groups.specs.Parts.{groupsOf}
 use Rattle.search.specs.Placing.{Drawn, puzzle, bare}
-use Rattle.search.specs.Mates.{Known, Grouped, Listed}
+use Rattle.search.specs.Mates.{Known, Grouped, Leading}
 use Rattle.search.specs.Searching.{blocksBeside}
 use Rattle.shapes.specs.declared.Listed.{Listed as RowList}
 use Rattle.shapes.specs.Listing.{listing}
@@ -42,7 +42,7 @@ use Rattle.shapes.specs.Rows.{rowsOf}
 use Rattle.shapes.specs.Spots.{UnitAt}
 use Rattle.shapes.specs.Joints.{Joined}
 use Rattle.units.specs.Images.{imageJoints}
-use Rattle.units.specs.Stuck.{Ready}
+use Rattle.units.specs.Stuck.{Sorted}
 
 pub record Numbered (h w : ℕ) (ids cells offs : List ℕ) (g : ℕ) : Type 0 where
   pub few : g < 1024
@@ -82,7 +82,7 @@ module _ (h w : ℕ) (cs bs ids : List ℕ) where
 abbrev pub clued : ℕ → ℕ → List ℕ → (ℕ → Option ℕ) → Puzzle
 clued h w cs k = record { page = flat h w; colour = coloursIn cs; clue = k }
 
-pub record Arranged (h w : ℕ) (cs bs ids cells offs pids pcells poffs list starts : List ℕ) (u p : ℕ) : Type 0 where
+pub record Arranged (h w : ℕ) (cs bs ids cells offs pids pcells poffs list : List ℕ) (count u p : ℕ) : Type 0 where
   pub drawn : Drawn h w cs
   pub colours : length cs ≡ 1024
   pub borders : length bs ≡ 1984
@@ -93,8 +93,8 @@ pub record Arranged (h w : ℕ) (cs bs ids cells offs pids pcells poffs list sta
   -- the potential units, among them P
   pub known : Known h w cs bs pids
   pub grouped : Grouped h w cs bs pcells poffs (potentialCount (puzzle h w cs) (marksIn bs))
-  pub mates : Listed (mates (puzzle h w cs) (marksIn bs)) list starts (potentialCount (puzzle h w cs) (marksIn bs))
   pub one : p < potentialCount (puzzle h w cs) (marksIn bs)
+  pub mates : Leading (mates (puzzle h w cs) (marksIn bs) p) list count
 
 module _ (Z : Puzzle) (s : ℕ → Mark) (cells offs mates : List ℕ) where
   -- places, connections, row
@@ -110,8 +110,8 @@ pub record Imaged (h w : ℕ) (cs bs ids R C : List ℕ) (n : ℕ) (D A : List �
   pub rows : l ≡ listing (rowsOf (shapeOf (flat h w) (entry ids) u))
   pub transforms : transformsOf (puzzle h w cs) (marksIn bs) u ≡ flatTransforms (shapeOf (flat h w) (entry ids) u)
 
-pub record Asked (h w : ℕ) (cs bs ids cells offs pids pcells poffs list starts : List ℕ) (u : ℕ) : Type 0 where
-  pub ready : Ready h w cs bs ids cells offs pids pcells poffs list starts
+pub record Asked (h w : ℕ) (cs bs ids cells offs pids pcells poffs : List ℕ) (u : ℕ) : Type 0 where
+  pub ready : Sorted h w cs bs ids cells offs pids pcells poffs
   pub colours : length cs ≡ 1024
   pub borders : length bs ≡ 1984
   pub low : u < groupsOf (flat h w) (joinsIn Units h w cs bs) .count

@@ -21,6 +21,7 @@ use planes::survivors::draw_colours;
 use planes::survivors::draw_places;
 use planes::survivors::survivors;
 use reasons::inside;
+use search::mates::mates_of;
 use shapes::Listed;
 use shapes::connections::joints;
 use shapes::connections::places;
@@ -109,9 +110,9 @@ fn block_rows<'a>(
 }
 
 // Writes the reason of the unit u in the potential unit p from the start of the memory: the blockers of its placements,
-// its Inside, and the walls of p. Gives the number of literals. The arrays are those of the units, of the potential
-// units, and of the potential units adjacent to each. The unit's n cells stand in `rows` and `columns`, its k
-// connections in `down` and `across`; `listed` has the rows of its transforms.
+// its Inside, and the walls of p. Gives the number of literals. The arrays are those of the units and of the potential
+// units; the list of mates begins with the `count` potential units adjacent to p. The unit's n cells stand in `rows`
+// and `columns`, its k connections in `down` and `across`; `listed` has the rows of its transforms.
 pub fn write_unit<'a>(
     memory: &mut [u16],
     h: usize,
@@ -125,7 +126,7 @@ pub fn write_unit<'a>(
     cells: &'a [u16; 1024],
     offs: &'a [u16; 1025],
     mates: &'a [u16; 4096],
-    starts: &'a [u16; 1025],
+    count: usize,
     listed: Listed,
     rows: &'a [u16; 1024],
     columns: &'a [u16; 1024],
@@ -139,7 +140,7 @@ pub fn write_unit<'a>(
     p: usize,
 ) -> usize
     requires { ⌜ Arranged h w (now colours) (now borders) (now ids) (now units) (now «unit_offs») (now potential)
-        (now cells) (now offs) (now mates) (now starts) u p
+        (now cells) (now offs) (now mates) count u p
         × Imaged h w (now colours) (now borders) (now ids) (now rows) (now columns) n (now down) (now across) k
         listed u
         × (length (now ys) ≡ 2048) × (length (now xs) ≡ 2048)
@@ -148,8 +149,6 @@ pub fn write_unit<'a>(
         (unitReason (clued h w (now (colours .entry)) c) (marksIn (now (borders .entry))) u p)
         (now (memory .exit)) r) ⌝ }
 {
-    let from = wide(starts[p]);
-    let to = wide(starts[p + 1]);
     let blocked = block_rows(
         memory,
         0,
@@ -169,8 +168,8 @@ pub fn write_unit<'a>(
         cells,
         offs,
         mates,
-        from,
-        to,
+        0,
+        count,
     );
     let first = wide(unit_offs[u]);
     let last = wide(unit_offs[u + 1]);
@@ -186,15 +185,14 @@ pub fn write_unit<'a>(
         cells,
         offs,
         mates,
-        from,
-        to,
+        0,
+        count,
         p,
     )
 }
 
 // Writes the reason of the unit u in its potential unit from the start of the memory; gives the number of literals. The
-// arrays are those of the units, of the potential units, and of the potential units adjacent to each; the rest is lent
-// memory.
+// arrays are those of the units and of the potential units; the rest is lent memory.
 pub fn write_stuck<'a>(
     memory: &mut [u16],
     h: usize,
@@ -207,9 +205,8 @@ pub fn write_stuck<'a>(
     potential: &'a [u16; 1024],
     cells: &'a [u16; 1024],
     offs: &'a [u16; 1025],
-    mates: &'a [u16; 4096],
-    starts: &'a [u16; 1025],
     u: usize,
+    mates: &mut [u16; 4096],
     rows: &mut [u16; 1024],
     columns: &mut [u16; 1024],
     down: &mut [u16; 2048],
@@ -218,7 +215,7 @@ pub fn write_stuck<'a>(
     xs: &mut [u8; 2048],
 ) -> usize
     requires { ⌜ Asked h w (now colours) (now borders) (now ids) (now units) (now «unit_offs») (now potential)
-        (now cells) (now offs) (now mates) (now starts) u
+        (now cells) (now offs) u × (length (now mates) ≡ 4096)
         × Lent (now rows) (now columns) (now down) (now across) (now ys) (now xs)
         × (length (unitReason (puzzle h w (now colours)) (marksIn (now borders)) u
         (potentialIn (puzzle h w (now colours)) (marksIn (now borders)) u)) ≤ length (now memory)) ⌝ }
@@ -231,6 +228,9 @@ pub fn write_stuck<'a>(
     let last = wide(unit_offs[u + 1]);
     let c = wide(units[first]);
     let p = wide(potential[c]);
+    let from = wide(offs[p]);
+    let to = wide(offs[p + 1]);
+    let count = mates_of(h, w, colours, borders, potential, cells, from, to, p, mates);
     let n = places(units, first, last, w, rows, columns);
     let k = joints(ids, h, w, u, rows, columns, n, down, across);
     let listed = list_rows(ids, h, w, u, rows, columns, n);
@@ -247,7 +247,7 @@ pub fn write_stuck<'a>(
         cells,
         offs,
         mates,
-        starts,
+        count,
         listed,
         rows,
         columns,

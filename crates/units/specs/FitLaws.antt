@@ -1,11 +1,9 @@
 -- A unit fits exactly if one of the eight rows makes it fit: each gives the cells of a listed one.
 use mathlib.Core.Path.{_≡_, refl, sym, ap, _∙_, subst}
-use mathlib.Core.Bool.{Bool, true, false}
-use mathlib.Core.List.{List, [], _∷_, Memᴰ·append-left}
-use mathlib.Core.Logic.{⊎-elim}
-use Prim.Native.Nat.{ℕ, _+_, _-_, _≤_, _<_}
+use mathlib.Core.Bool.{Bool, true, false, cond}
+use mathlib.Core.List.{List, [], _∷_, _++_, Memᴰ·append-left, List·Memᴰ·head}
+use Prim.Native.Nat.{ℕ, _-_, _≤_, _<_}
 use native.Mathlib.Omega.{arith}
-use borrow.Author.Tests.{lt-ltb, le-ltb}
 use lib.Dec.{T, ltb, ltb→lt}
 use lib.ListN.{length, getD, replicate}
 use Rattle.lists.specs.Lists.{_∈_, any, all}
@@ -13,17 +11,17 @@ use Rattle.lists.specs.ListLaws.{all-mem}
 use Rattle.lists.specs.Padded.{padded}
 use Rattle.lists.specs.Tests.{anyBelow}
 use Rattle.lists.specs.Tests.{any-some as any-found}
-use Rattle.rules.specs.Page.{Mark, Point, Puzzle, Shape}
+use Rattle.rules.specs.Page.{Mark, Puzzle, Shape}
 use Rattle.rules.specs.Flat.{Sized, flat}
 use Rattle.rules.specs.Groups.{entry}
 use Rattle.rules.specs.Check.{laid}
-use Rattle.rules.specs.Shapes.{shapeOf, flatTransforms}
-use Rattle.reasons.specs.Arrays.{Cells, part}
+use Rattle.rules.specs.Turns.{apply, half, quarter, flip}
+use Rattle.rules.specs.Shapes.{turned, sameShape, shapeOf, withHalf, withQuarter, withFlip, flatTransforms}
+use Rattle.reasons.specs.Arrays.{part}
 use Rattle.search.specs.Placing.{bare, fitsOf}
-use Rattle.search.specs.ListExtras.{any-append, part-split}
 use Rattle.search.specs.SearchLaws.{any-map}
-use Rattle.search.specs.Searching.{groupIn, fitsAmong, fitsBeside}
-use Rattle.planes.specs.Extras.{le-or-lt, same-test, any-some, any-holds, holds-any}
+use Rattle.search.specs.Searching.{fitsAmong, fitsBeside}
+use Rattle.planes.specs.Extras.{same-test, any-some, any-holds, holds-any}
 use Rattle.shapes.specs.declared.Listed.{Listed}
 use Rattle.shapes.specs.ListExtras.{mem-getD}
 use Rattle.shapes.specs.Listing.{listing}
@@ -38,23 +36,24 @@ use Rattle.units.specs.ListExtras.{any-cong, any-none}
 use Rattle.units.specs.Images.{imageJoints}
 use Rattle.units.specs.ImageLaws.{image-is}
 use Rattle.units.specs.SameCells.{same-connections, row-listed, beside-same}
-use Rattle.units.specs.Fitting.{UnitIn, Rows, soonEnd, soonIn, fitsTurned, fitsRows}
+use Rattle.units.specs.Fitting.{UnitIn, Rows, fitsTurned, fitsRows}
 
--- the listed rows: row 0, and the others
-row-first : (a b c : Bool) → rowsBy a b c ≡ 0 ∷ part (padded 8 0 (rowsBy a b c)) 1 (length (rowsBy a b c))
-row-first true true true = refl
-row-first true true false = refl
-row-first true false true = refl
-row-first true false false = refl
-row-first false true true = refl
-row-first false true false = refl
-row-first false false true = refl
-row-first false false false = refl
+-- the shape is the first of its listed transforms
+own-listed : (t : Shape) → t ∈ flatTransforms t
+unfolding flatTransforms withFlip withQuarter withHalf
+own-listed t =
+    kept (any (λ u. sameShape u (turned (apply flip) t)) (withQuarter t (withHalf t))) _
+    (kept (sameShape t (turned (apply quarter) t)) _ (first (sameShape t (turned (apply half) t))))
+  where
+    first : (b : Bool) → t ∈ cond b (t ∷ []) (t ∷ turned (apply half) t ∷ [])
+    first true = List·Memᴰ·head refl
+    first false = List·Memᴰ·head refl
 
-pub rows-first : (t : Shape) → rowsOf t ≡ 0 ∷ part (listing (rowsOf t) .rows) 1 (listing (rowsOf t) .count)
-unfolding rowsOf
-rows-first t = row-first (fixes t 1) (fixes t 3) (flipListed t)
+    kept : (b : Bool) {ts : List Shape} (us : List Shape) → t ∈ ts → t ∈ cond b ts (ts ++ us)
+    kept true us m = m
+    kept false us m = Memᴰ·append-left us m
 
+-- the listed rows
 row-low : (a b c : Bool) → T (all (λ r. ltb r 8) (padded 8 0 (rowsBy a b c)))
 unfolding all
 row-low true true true = tt
@@ -105,13 +104,6 @@ rows-listed t e = subst Rows (sym e) (facts (fixes t 1) (fixes t 3) (flipListed 
               (all-mem (λ r. ltb r 8) (padded 8 0 (rowsBy a b c)) (row-low a b c)
               (mem-getD (padded 8 0 (rowsBy a b c)) j 0 (omega (arith, f .1))));
         }
-
-pub soon-end : (first last : ℕ) → first ≤ last → (first ≤ soonEnd first last) × (soonEnd first last ≤ last)
-soon-end first last l =
-    ⊎-elim
-    (λ (k : first + 8 ≤ last). rw (le-ltb last (first + 8) k) (omega arith, k))
-    (λ (k : last < first + 8). rw (lt-ltb last (first + 8) k) (l, omega arith))
-    (le-or-lt (first + 8) last)
 
 module _ (Z : Puzzle) (s : ℕ → Mark) (cells offs : List ℕ) where
   module _ (gs : List ℕ) {h w g n k : ℕ} {ids R C D A : List ℕ} (u : UnitAt h w ids g R C n)
@@ -165,39 +157,11 @@ module _ (Z : Puzzle) (s : ℕ → Mark) (cells offs : List ℕ) where
   unfolding fitsTurned
   turned-none t e = rw e (any-none _ fits-none (flatTransforms t))
 
-  -- the first cells of a group
-  soon-group : (t : Shape) (Q : ℕ) → getD offs Q 0 ≤ getD offs (Q + 1) 0
-      → fitsAmong Z s t (soonIn cells offs Q) ≡ true → fitsAmong Z s t (groupIn cells offs Q) ≡ true
-  unfolding fitsAmong soonIn groupIn
-  soon-group t Q l e =
-      let first = getD offs Q 0 in
-      let last = getD offs (Q + 1) 0 in
-      let end = soonEnd first last in
-      let b = soon-end first last l in
-      ap (any (fitsOf Z s t)) (part-split cells first end last (b .0) (b .1))
-      ∙ (any-append (fitsOf Z s t) (part cells first end) (part cells end last) ∙ rw e)
-
-  pub soon-beside : (t : Shape) {gs : List ℕ} {Q : ℕ} → Q ∈ gs → getD offs Q 0 ≤ getD offs (Q + 1) 0
-      → fitsAmong Z s t (soonIn cells offs Q) ≡ true → fitsBeside Z s t cells offs gs ≡ true
-  unfolding fitsBeside
-  soon-beside t {Q = Q} m l e = holds-any (λ q. fitsAmong Z s t (groupIn cells offs q)) m (soon-group t Q l e)
-
-  -- row 0 fits at once
-  pub soon-rows : (gs : List ℕ) {js : List Point} (ps ks : List Point) → js ≡ imageJoints 0 ps ks
-      → fitsBeside Z s (bare js) cells offs gs ≡ true → fitsRows Z s cells offs gs ps ks ≡ true
-  unfolding fitsRows
-  soon-rows gs ps ks e b = any-found 8 _ 0 (omega arith) (rw (← e) b)
-
-pub soon-cells : {h w first last : ℕ} {cells : List ℕ} → Cells h w cells first last
-    → Cells h w cells first (soonEnd first last)
-soon-cells {first = first} {last = last} c =
-    let b = soon-end first last (c .order) in
-    record {
-      long = c .long;
-      order = b .0;
-      end = omega (arith, b .1, c .end);
-      each = λ i l. c .each i (omega (arith, b .1));
-    }
+  -- the shape itself is listed
+  pub turned-own : (t : Shape) (gs : List ℕ) → fitsBeside Z s t cells offs gs ≡ true
+      → fitsTurned Z s cells offs gs t ≡ true
+  unfolding fitsTurned
+  turned-own t gs e = holds-any (λ u. fitsBeside Z s u cells offs gs) (own-listed t) e
 
 -- what the unit's part gives to its places
 module _ {h w : ℕ} {ids : List ℕ} {g : ℕ} {cells : List ℕ} {first last : ℕ} (z : Sized h w)

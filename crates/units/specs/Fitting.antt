@@ -3,15 +3,12 @@
 --   Lent R C D A Y X    the lengths of the lent memory: rows and columns, doubled places, raised doubled places
 --   UnitIn h w ids g cells first last   the places first to last of the list are the cells of unit g, at least one
 --   Rows r              a list of at most eight rows of the table, at least one
---   soonEnd first last  where the first eight of the places first to last end
---   soonIn cells offs Q the first eight cells of group Q
 --   fitsTurned          one of the shape's listed transforms fits at a cell of one of the groups
 --   fitsRows            the image by one of the eight rows does, of the connections js of the cells ps
 use mathlib.Core.Path.{_≡_}
-use mathlib.Core.Bool.{Bool, cond}
+use mathlib.Core.Bool.{Bool}
 use mathlib.Core.List.{List}
-use Prim.Native.Nat.{ℕ, _+_, _<_, _≤_}
-use lib.Dec.{ltb}
+use Prim.Native.Nat.{ℕ, _<_, _≤_}
 use lib.ListN.{length, getD}
 use Rattle.lists.specs.Lists.{any}
 use Rattle.lists.specs.Tests.{anyBelow}
@@ -45,12 +42,6 @@ pub record Rows (r : Listed) : Type 0 where
   pub some : 1 ≤ r .count
   pub few : r .count ≤ 8
   pub low : (j : ℕ) → j < r .count → getD (r .rows) j 0 < 8
-
-abbrev pub soonEnd : ℕ → ℕ → ℕ
-soonEnd first last = cond (ltb last (first + 8)) last (first + 8)
-
-unfoldable pub soonIn : List ℕ → List ℕ → ℕ → List ℕ
-soonIn cells offs Q = part cells (getD offs Q 0) (soonEnd (getD offs Q 0) (getD offs (Q + 1) 0))
 
 unfoldable pub fitsTurned : Puzzle → (ℕ → Mark) → List ℕ → List ℕ → List ℕ → Shape → Bool
 fitsTurned Z s cells offs mates t = any (λ u. fitsBeside Z s u cells offs mates) (flatTransforms t)

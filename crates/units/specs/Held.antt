@@ -2,6 +2,7 @@
 --
 --   Home .. p           p is one of the potential units, whose numbers, cells and starts stand in arrays
 --   Nearby near         where the list has not 0 at p, it has a potential unit adjacent to p, raised by 1
+--   Adjoined n          each of the first n potential units has an adjacent one
 --   HeldOf .. q p m     the planes of the page, and the mask of the cells of the potential units adjacent to q; the
 --                       last place of the mask is q + 1
 --   Held .. p m list    nothing yet, and the last place of the mask is 0; or what is held of the potential unit there;
@@ -28,6 +29,9 @@ pub record Home (h w : ℕ) (cs bs ids cells offs : List ℕ) (p : ℕ) : Type 0
 pub record Nearby (h w : ℕ) (cs bs near : List ℕ) : Type 0 where
   pub long : length near ≡ 1024
   pub some : (p q : ℕ) → getD near p 0 ≡ q + 1 → q ∈ mates (puzzle h w cs) (marksIn bs) p
+
+pub record Adjoined (h w : ℕ) (cs bs : List ℕ) (n : ℕ) : Type 0 where
+  pub each : (p : ℕ) → p < n → (q : ℕ) × (q ∈ mates (puzzle h w cs) (marksIn bs) p)
 
 module _ (h w : ℕ) (cs bs cells offs : List ℕ) where
   pub record HeldOf (q : ℕ) (p m : List ℕ) : Type 0 where

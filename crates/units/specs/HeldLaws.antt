@@ -22,7 +22,7 @@ use Rattle.search.specs.SearchLaws.{mates-low, beside-leading}
 use Rattle.planes.specs.Planes.{planesOf}
 use Rattle.planes.specs.Masks.{Sizes, Answers}
 use Rattle.planes.specs.FitLaws.{beside-answers}
-use Rattle.units.specs.Held.{Home, Nearby, HeldOf, Held}
+use Rattle.units.specs.Held.{Home, Nearby, Adjoined, HeldOf, Held}
 
 -- adjacent units are kept as they are asked for
 module _ (h w : ℕ) (cs bs : List ℕ) where
@@ -45,6 +45,15 @@ nearby-more {h} {w} {cs} {bs} {near} k p q l m =
           rw (z, ← d) m)
           (λ z. k .some p′ q′ (sym (getD-set-other near p p′ (q + 1) 0 z) ∙ e));
     }
+
+-- the potential units are asked for an adjacent one in turn
+pub adjoined-none : (h w : ℕ) (cs bs : List ℕ) → Adjoined h w cs bs 0
+adjoined-none h w cs bs = record { each = λ p l. absurd (omega arith) }
+
+pub adjoined-more : {h w : ℕ} {cs bs : List ℕ} {n : ℕ} → Adjoined h w cs bs n → {q : ℕ}
+    → q ∈ mates (puzzle h w cs) (marksIn bs) n → Adjoined h w cs bs (n + 1)
+adjoined-more {n = n} k {q} m =
+    record { each = λ p l. if-same p n (λ e. rw e (q, m)) (λ d. k .each p (omega arith)) }
 
 -- a potential unit that the arrays have
 module _ {h w : ℕ} {cs bs ids cells offs : List ℕ} {p : ℕ} (k : Home h w cs bs ids cells offs p) where

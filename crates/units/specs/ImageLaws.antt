@@ -45,7 +45,7 @@ pub raise-small : (v : ℤ) → mag v < 33 → raiseOf v < 256
 raise-small (pos a) h = omega arith
 raise-small (negsuc a) h = omega arith
 
-lower-raise : (v : ℤ) → mag v < 33 → lowered (raiseOf v) ≡ negℤ v +ℤ negℤ v
+pub lower-raise : (v : ℤ) → mag v < 33 → lowered (raiseOf v) ≡ negℤ v +ℤ negℤ v
 lower-raise v h =
     ap (λ (z : ℤ). z -ℤ pos 64) (sym (raise-sum v h) ∙ +ℤ-comm (pos 64) (negℤ v +ℤ negℤ v))
     ∙ +ℤ-negℤ-cancel (negℤ v +ℤ negℤ v) (pos 64)

@@ -4,6 +4,8 @@ pub mod Images
 pub mod ImageLaws
 pub mod Fitting
 pub mod FitLaws
+pub mod Copies
+pub mod CopyLaws
 pub mod SingleLaws
 pub mod Held
 pub mod HeldLaws

@@ -1,8 +1,8 @@
--- What the arrays of the units, of the potential units and of their mates give to the search.
+-- What the arrays of the units and of the potential units give to the search.
 use mathlib.Core.Path.{_≡_, refl, sym, ap, _∙_}
 use mathlib.Core.Bool.{Bool, true, false}
 use mathlib.Core.List.{List, [], _∷_, map, List·Memᴰ·head, List·Memᴰ·not-nil}
-use Prim.Native.Nat.{ℕ, _+_, _-_, _*_, _<_, _≤_}
+use Prim.Native.Nat.{ℕ, _+_, _*_, _<_, _≤_}
 use native.Mathlib.Omega.{arith}
 use borrow.Author.Tests.{lt-ltb}
 use lib.ListN.{length, getD}
@@ -22,8 +22,7 @@ use Rattle.groups.specs.declared.Kind.the-variants.{Units, Potential}
 use Rattle.groups.specs.declared.Groups.{Groups}
 use Rattle.groups.specs.Kinds.{linkOf, coloured, joinsIn}
 use Rattle.groups.specs.Parts.{groupsOf, partOf}
-use Rattle.groups.specs.SortLaws.{start-zero}
-use Rattle.groups.specs.PartLaws.{ids-entry, ids-length, ids-lt, count-le, offs-at, offs-next, offs-le, cells-long}
+use Rattle.groups.specs.PartLaws.{ids-entry, ids-length, ids-lt, count-le, offs-next, offs-le, cells-long}
 use Rattle.groups.specs.PartLaws.{cells-lt, part-members, cell-at}
 use Rattle.search.specs.Placing.{puzzle}
 use Rattle.search.specs.ListExtras.{part-next}
@@ -31,15 +30,11 @@ use Rattle.search.specs.Searching.{groupIn, fitsBeside}
 use Rattle.search.specs.SearchLaws.{any-flat, cells-reach, placed-fits, mates-low}
 use Rattle.search.specs.Mates.{Known, Grouped}
 use Rattle.units.specs.ListExtras.{any-cong}
-use Rattle.units.specs.Held.{Home}
+use Rattle.units.specs.Held.{Home, Adjoined}
 use Rattle.units.specs.Fitting.{UnitIn, fitsTurned}
 use Rattle.units.specs.FitLaws.{turned-none}
 use Rattle.units.specs.SingleLaws.{single-fits}
-use Rattle.units.specs.Stuck.{ReadyFor, headOf, fitsOn, fitsUnit}
-
-head-is : (xs : List ℕ) → 1 ≤ length xs → (rest : List ℕ) × (xs ≡ headOf xs ∷ rest)
-head-is [] h = absurd (omega arith)
-head-is (x ∷ xs) h = (xs, refl)
+use Rattle.units.specs.Stuck.{Sorted, headOf, fitsOn, fitsUnit}
 
 some-length : {x : ℕ} (xs : List ℕ) → x ∈ xs → 1 ≤ length xs
 some-length [] m = absurd (List·Memᴰ·not-nil m)
@@ -126,9 +121,6 @@ module _ {h w : ℕ} (z : Sized h w) (cs bs : List ℕ) where
   grouped-of =
       record {
         all = refl;
-        first =
-            offs-at (flat h w) joins (some z joins) (few z joins) 0 (omega arith)
-            ∙ start-zero (entry (numbers (flat h w) joins)) (flat h w .cells);
         each = lies z joins;
         group = λ p l. group z joins p;
       }
@@ -159,8 +151,8 @@ module _ {h w : ℕ} (z : Sized h w) (cs bs : List ℕ) where
       (ap (λ f. flatTransforms (shapeOf (flat h w) f u)) (sym own-numbers))
 
 -- the arrays together
-module _ {A : Type 0} {h w : ℕ} {cs bs ids cells offs pids pcells poffs : List ℕ}
-    (r : ReadyFor A h w cs bs ids cells offs pids pcells poffs) where
+module _ {h w : ℕ} {cs bs ids cells offs pids pcells poffs : List ℕ}
+    (r : Sorted h w cs bs ids cells offs pids pcells poffs) where
   abbrev Z : Puzzle
   Z = puzzle h w cs
 
@@ -182,11 +174,21 @@ module _ {A : Type 0} {h w : ℕ} {cs bs ids cells offs pids pcells poffs : List
   pub unit-few : groupsOf (flat h w) own .count ≤ 1024
   unit-few = own-few size cs bs
 
-  pub potential-known : Known h w cs bs pids
+  potential-known : Known h w cs bs pids
   potential-known = rw (r .potential-ids) (known-of size cs bs)
 
-  pub potential-grouped : Grouped h w cs bs pcells poffs (groupsOf (flat h w) wide .count)
+  potential-grouped : Grouped h w cs bs pcells poffs (groupsOf (flat h w) wide .count)
   potential-grouped = rw (r .potential-cells, r .potential-offs) (grouped-of size cs bs)
+
+  -- each of the potential units is in the arrays
+  pub home-at : (p : ℕ) → p < groupsOf (flat h w) wide .count → Home h w cs bs pids pcells poffs p
+  home-at p l =
+      record {
+        drawn = r .drawn;
+        known = potential-known;
+        grouped = rw (potential-grouped .all) at potential-grouped;
+        low = rw (potential-grouped .all) at l;
+      }
 
   -- a potential unit has a first cell
   potential-first : (q : ℕ) → q < groupsOf (flat h w) wide .count
@@ -218,17 +220,11 @@ module _ {A : Type 0} {h w : ℕ} {cs bs ids cells offs pids pcells poffs : List
     pub home-is : home ≡ potentialOf Z s (getD cells (getD offs u 0) 0)
     home-is = potential-known .number (getD cells (getD offs u 0) 0) head-low
 
-    pub home-count : home < groupsOf (flat h w) wide .count
+    home-count : home < groupsOf (flat h w) wide .count
     home-count = rw (potential-grouped .all) (potential-known .below (getD cells (getD offs u 0) 0) head-low)
 
     pub home-of : Home h w cs bs pids pcells poffs home
-    home-of =
-        record {
-          drawn = r .drawn;
-          known = potential-known;
-          grouped = rw (potential-grouped .all) at potential-grouped;
-          low = rw (potential-grouped .all) at home-count;
-        }
+    home-of = home-at home home-count
 
     pub transforms-are : transformsOf Z s u ≡ flatTransforms (shapeOf (flat h w) (entry ids) u)
     transforms-are =
@@ -277,4 +273,9 @@ module _ {A : Type 0} {h w : ℕ} {cs bs ids cells offs pids pcells poffs : List
     pub single-unit : getD offs (u + 1) 0 ≡ getD offs u 0 + 1 → {q : ℕ} → q ∈ mates Z s home → fitsUnit Z s u ≡ true
     single-unit one {q} m =
         let l : q < groupsOf (flat h w) wide .count = mates-low potential-grouped home q m in
-        sym fits-home ∙ single-fits Z s pcells poffs (size .columns) unit-in one m (potential-first q l)
+        sym fits-home ∙ single-fits Z s pcells poffs unit-in one m (potential-first q l)
+
+    -- so it does where every potential unit has one
+    pub sure-unit : getD offs (u + 1) 0 ≡ getD offs u 0 + 1 → Adjoined h w cs bs (groupsOf (flat h w) wide .count)
+        → fitsUnit Z s u ≡ true
+    sure-unit one k = single-unit one (k .each home home-count .1)

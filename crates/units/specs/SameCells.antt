@@ -4,6 +4,7 @@
 --   Sums ps js          the connections js are the sums of the near ones of the cells ps
 --   same-connections    images with the same cells have the same connections
 --   row-listed          every row gives the cells of a listed row
+--   fits-clear          a placement fits exactly if every connection is clear
 --   beside-same         the same connections, in any order, fit at the same cells
 use mathlib.Core.Path.{_≡_, refl, sym, ap, ap₂, _∙_, subst}
 use mathlib.Core.Logic.{_⊎_, inl, inr}
@@ -224,12 +225,14 @@ module _ (Z : Puzzle) (s : ℕ → Mark) where
   abbrev read : ℕ → Point → Option ℕ
   read o d = Z .page .reads (Z .page .place o ⊕ Z .page .place o ⊕ d)
 
-  fits-clear : (js : List Point) (o : ℕ)
-      → fitsOf Z s (bare js) o ≡ all isClear (map (readingOf Z s) (map (read o) js))
+  pub fits-clear : (t : Shape) (o : ℕ)
+      → fitsOf Z s t o
+      ≡ all isClear (map (readingOf Z s)
+      (map (λ d. Z .page .reads (Z .page .place o ⊕ Z .page .place o ⊕ d)) (t .connections)))
   unfolding fitsOf laid
-  fits-clear js o =
-      ap (isFit Z s) (judge-after Z s none (map (read o) js))
-      ∙ after-clear Z s (map (readingOf Z s) (map (read o) js))
+  fits-clear t o =
+      ap (isFit Z s) (judge-after Z s none (map (read o) (t .connections)))
+      ∙ after-clear Z s (map (readingOf Z s) (map (read o) (t .connections)))
 
   map-within : {A B : Type 0} (f : A → B) (xs ys : List A) → ((x : A) → x ∈ xs → x ∈ ys)
       → (z : B) → z ∈ map f xs → z ∈ map f ys
@@ -238,9 +241,9 @@ module _ (Z : Puzzle) (s : ℕ → Mark) where
   fits-within : (js ks : List Point) → ((d : Point) → d ∈ ks → d ∈ js) → (o : ℕ) → T (fitsOf Z s (bare js) o)
       → T (fitsOf Z s (bare ks) o)
   fits-within js ks i o t =
-      subst T (sym (fits-clear ks o))
+      subst T (sym (fits-clear (bare ks) o))
       (all-every isClear (map (readingOf Z s) (map (read o) ks))
-      (λ x m. all-mem isClear (map (readingOf Z s) (map (read o) js)) (subst T (fits-clear js o) t)
+      (λ x m. all-mem isClear (map (readingOf Z s) (map (read o) js)) (subst T (fits-clear (bare js) o) t)
       (map-within (readingOf Z s) (map (read o) ks) (map (read o) js) (map-within (read o) ks js i) x m)))
 
   pub beside-same : (js ks : List Point) → ((d : Point) → d ∈ js → d ∈ ks) → ((d : Point) → d ∈ ks → d ∈ js)

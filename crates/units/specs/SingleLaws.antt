@@ -1,8 +1,8 @@
 -- A unit of one cell has no connections: it fits at any cell of any adjacent unit.
-use mathlib.Core.Path.{_≡_, refl, sym, ap, _∙_}
+use mathlib.Core.Path.{_≡_, refl, sym, _∙_}
 use mathlib.Core.Bool.{Bool, true, false}
-use mathlib.Core.List.{List, [], _∷_, _++_, map, List·Memᴰ·head, List·Memᴰ·eq-of-singleton}
-use Prim.Native.Nat.{ℕ, _+_, _*_, _/_, _%_, _<_, _≤_}
+use mathlib.Core.List.{List, [], _∷_, _++_, List·Memᴰ·head, List·Memᴰ·eq-of-singleton}
+use Prim.Native.Nat.{ℕ, _+_, _*_, _/_, _%_, _<_}
 use native.Mathlib.Omega.{arith}
 use borrow.Author.Tests.{ne-eqb, ltb-true}
 use lib.Dec.{eqb}
@@ -13,7 +13,7 @@ use Rattle.rules.specs.Flat.{flat, hopIf, hopBelow, hopRight, aheadAt, cellAt}
 use Rattle.rules.specs.FlatLaws.{spot}
 use Rattle.rules.specs.Groups.{entry, members}
 use Rattle.rules.specs.Check.{laid, judge}
-use Rattle.rules.specs.Shapes.{shapeOf, normal, shiftBy, turned, connectionsAt}
+use Rattle.rules.specs.Shapes.{shapeOf, normal, shiftBy, connectionsAt}
 use Rattle.argument.specs.Numbers.{mem-members, members-in}
 use Rattle.reasons.specs.ListExtras.{if-same}
 use Rattle.reasons.specs.StepLaws.{row-of}
@@ -21,10 +21,8 @@ use Rattle.search.specs.ListExtras.{part-one}
 use Rattle.search.specs.Placing.{fitsOf}
 use Rattle.search.specs.Searching.{groupIn, fitsAmong, fitsBeside}
 use Rattle.planes.specs.Extras.{holds-any}
-use Rattle.shapes.specs.Rows.{image}
-use Rattle.shapes.specs.UnitLaws.{transforms-flat}
 use Rattle.units.specs.Fitting.{UnitIn, fitsTurned}
-use Rattle.units.specs.FitLaws.{rows-first}
+use Rattle.units.specs.FitLaws.{turned-own}
 
 -- a neighbour that fails the test is not kept
 module _ (p : Hop → Bool) where
@@ -79,10 +77,6 @@ module _ (h w : ℕ) (number : ℕ → ℕ) (g c : ℕ) (alone : members (flat h
   unfolding shapeOf
   connections-none = rw joints-none (normal-none _)
 
-image-none : (r : ℕ) (t : Shape) → t .connections ≡ [] → image r t .connections ≡ []
-unfolding image turned
-image-none r t e = rw e (normal-none _)
-
 -- a transform without connections fits at any cell
 module _ (Z : Puzzle) (s : ℕ → Mark) (cells offs : List ℕ) where
   bare-fits : (t : Shape) → t .connections ≡ [] → (o : ℕ) → fitsOf Z s t o ≡ true
@@ -95,15 +89,11 @@ module _ (Z : Puzzle) (s : ℕ → Mark) (cells offs : List ℕ) where
   bare-beside t e {q = q} {x = x} m n =
       holds-any (λ Q. any (fitsOf Z s t) (groupIn cells offs Q)) m (holds-any (fitsOf Z s t) n (bare-fits t e x))
 
-  pub single-fits : {h w g first last : ℕ} {ids units : List ℕ} → 1 ≤ w → UnitIn h w ids g units first last
+  pub single-fits : {h w g first last : ℕ} {ids units : List ℕ} → UnitIn h w ids g units first last
       → last ≡ first + 1 → {gs : List ℕ} {q x : ℕ} → q ∈ gs → x ∈ groupIn cells offs q
       → fitsTurned Z s cells offs gs (shapeOf (flat h w) (entry ids) g) ≡ true
-  unfolding fitsTurned any
-  single-fits {h} {w} {g} {first} {last} {ids} {units} l u e {gs} m n =
+  single-fits {h} {w} {g} {first} {last} {ids} {units} u e {gs} m n =
       let shape = shapeOf (flat h w) (entry ids) g in
       let alone : members (flat h w) (entry ids) g ≡ getD units first 0 ∷ [] =
       sym (u .group) ∙ rw e (part-one units first (omega (arith, u .some, u .end, u .long))) in
-      let none : shape .connections ≡ [] = connections-none h w (entry ids) g _ alone in
-      ap (any (λ t. fitsBeside Z s t cells offs gs))
-      (transforms-flat h w (entry ids) g l ∙ ap (map (λ r. image r shape)) (rows-first shape))
-      ∙ rw (bare-beside (image 0 shape) (image-none 0 shape none) m n)
+      turned-own Z s cells offs shape gs (bare-beside shape (connections-none h w (entry ids) g _ alone) m n)

@@ -7,9 +7,7 @@
 --   headOf xs           the first of some cells
 --   potentialIn U       the potential unit of unit U: that of its first cell
 --   stuckHit n U        step 3's hit, where U is the first of n units that does not fit, or n
---   ReadyFor A          the arrays of the units and of the potential units, with a proof of A
---   Sorted              these arrays alone
---   Ready               with the potential units adjacent to each of them, in one list
+--   Sorted              the arrays of the units and of the potential units
 use mathlib.Core.Path.{_≡_}
 use mathlib.Core.Bool.{Bool, true, cond}
 use mathlib.Core.List.{List, [], _∷_}
@@ -20,14 +18,12 @@ use lib.ListN.{getD}
 use Rattle.lists.specs.Lists.{any}
 use Rattle.rules.specs.Page.{Mark, Puzzle}
 use Rattle.rules.specs.Flat.{flat}
-use Rattle.rules.specs.Codes.{marksIn}
 use Rattle.rules.specs.Groups.{members, unitOf, potentialOf}
-use Rattle.rules.specs.Check.{Reason, isFit, placements, mates, unitReason}
+use Rattle.rules.specs.Check.{Reason, isFit, placements, unitReason}
 use Rattle.groups.specs.declared.Kind.the-variants.{Units, Potential}
 use Rattle.groups.specs.Kinds.{joinsIn}
 use Rattle.groups.specs.Parts.{groupsOf}
-use Rattle.search.specs.Placing.{puzzle, Drawn}
-use Rattle.search.specs.Mates.{Listed}
+use Rattle.search.specs.Placing.{Drawn}
 
 -- the first number from i on that fails the test, among n; i + n if none does
 unfoldable pub firstFrom : (ℕ → Bool) → ℕ → ℕ → ℕ
@@ -61,7 +57,7 @@ module _ (Z : Puzzle) (s : ℕ → Mark) where
   unfoldable pub stuckHit : ℕ → ℕ → Option Reason
   stuckHit n U = cond (ltb U n) (some (unitReason Z s U (potentialIn U))) none
 
-pub record ReadyFor (A : Type 0) (h w : ℕ) (cs bs ids cells offs pids pcells poffs : List ℕ) : Type 0 where
+pub record Sorted (h w : ℕ) (cs bs ids cells offs pids pcells poffs : List ℕ) : Type 0 where
   pub drawn : Drawn h w cs
   pub units-ids : ids ≡ groupsOf (flat h w) (joinsIn Units h w cs bs) .ids
   pub units-cells : cells ≡ groupsOf (flat h w) (joinsIn Units h w cs bs) .cells
@@ -69,15 +65,3 @@ pub record ReadyFor (A : Type 0) (h w : ℕ) (cs bs ids cells offs pids pcells p
   pub potential-ids : pids ≡ groupsOf (flat h w) (joinsIn Potential h w cs bs) .ids
   pub potential-cells : pcells ≡ groupsOf (flat h w) (joinsIn Potential h w cs bs) .cells
   pub potential-offs : poffs ≡ groupsOf (flat h w) (joinsIn Potential h w cs bs) .offs
-  pub adjacent : A
-
-abbrev pub Sorted : ℕ → ℕ → List ℕ → List ℕ → List ℕ → List ℕ → List ℕ → List ℕ → List ℕ → List ℕ → Type 0
-Sorted h w cs bs ids cells offs pids pcells poffs = ReadyFor (Unit {0}) h w cs bs ids cells offs pids pcells poffs
-
-abbrev pub Ready : ℕ → ℕ → List ℕ → List ℕ → List ℕ → List ℕ → List ℕ → List ℕ → List ℕ → List ℕ → List ℕ → List ℕ
-    → Type 0
-Ready h w cs bs ids cells offs pids pcells poffs list starts =
-    ReadyFor
-    (Listed (mates (puzzle h w cs) (marksIn bs)) list starts
-    (groupsOf (flat h w) (joinsIn Potential h w cs bs) .count))
-    h w cs bs ids cells offs pids pcells poffs

@@ -1,28 +1,25 @@
 // Whether a unit fits beside its potential unit.
 ghost use mathlib.Core.Path.{_≡_};
-ghost use Prim.Native.Nat.{_+_, _<_};
-ghost use lib.ListN.{length, getD};
-ghost use Rattle.lists.specs.Lists.{_∈_};
+ghost use mathlib.Core.Bool.{true};
+ghost use Prim.Native.Nat.{ℕ, _<_};
+ghost use lib.ListN.{length};
 ghost use Rattle.rules.specs.Check.{mates};
 ghost use Rattle.rules.specs.Codes.{marksIn};
 ghost use Rattle.rules.specs.Flat.{flat};
 ghost use Rattle.rules.specs.Groups.{entry};
 ghost use Rattle.rules.specs.Shapes.{shapeOf};
-ghost use Rattle.reasons.specs.Arrays.{Cells};
 ghost use Rattle.search.specs.Mates.{OneOf};
-ghost use Rattle.search.specs.Placing.{Drawn, Raised, puzzle, bare, spelled};
-ghost use Rattle.search.specs.Searching.{fitsAmong};
+ghost use Rattle.search.specs.Placing.{puzzle};
 ghost use Rattle.shapes.specs.Spots.{spots, Spotted};
 ghost use Rattle.units.specs.Images.{Jointed};
-ghost use Rattle.units.specs.Fitting.{Lent, UnitIn, soonEnd, soonIn, fitsTurned, fitsRows};
-ghost use Rattle.units.specs.Held.{Home, Nearby, Held, HeldOf};
+ghost use Rattle.units.specs.Fitting.{Lent, UnitIn, fitsTurned, fitsRows};
+ghost use Rattle.units.specs.Held.{Home, Nearby, Adjoined, Held, HeldOf};
 use crate::listed::some_row_fits;
 use crate::number_at;
 use crate::start_at;
 use crate::turn_row;
 use planes::draw_mask;
 use planes::draw_planes;
-use search::fits_group;
 use search::mates::mates_of;
 use search::mates::some_mate;
 use shapes::connections::joints;
@@ -60,49 +57,32 @@ pub fn near_mate<'a>(
     q
 }
 
-// Where the first eight cells of a group end, which stand from `first` to `last`.
-fn soon_end(first: usize, last: usize) -> usize
-    requires { ⌜ first < 65536 ⌝ }
-    ensures { λ r. ⌜ r ≡ soonEnd first last ⌝ }
-{
-    if last < first + 8 {
-        return last;
-    }
-    first + 8
-}
-
-// Whether a transform fits at one of the first eight cells of potential unit `q`.
-fn fits_soon<'a>(
+// Whether each of the `total` potential units has an adjacent one. `near` keeps those that were found.
+pub fn all_near<'a>(
     h: usize,
     w: usize,
     colours: &'a [u8; 1024],
     borders: &'a [u8; 1984],
-    ys: &'a [u8; 2048],
-    xs: &'a [u8; 2048],
-    k: usize,
+    potential: &'a [u16; 1024],
     cells: &'a [u16; 1024],
     offs: &'a [u16; 1025],
-    q: usize,
+    total: usize,
+    near: &mut [u16; 1024],
 ) -> bool
-    requires { ⌜ Drawn h w (now colours) × Raised (now ys) (now xs) k × (q < 1024)
-        × Cells h w (now cells) (getD (now offs) q 0) (getD (now offs) (q + 1) 0) ⌝ }
-    ensures { λ r. ⌜ r ≡ fitsAmong (puzzle h w (now (colours .entry))) (marksIn (now (borders .entry)))
-        (bare (spelled (now (ys .entry)) (now (xs .entry)) k)) (soonIn (now (cells .entry)) (now (offs .entry)) q) ⌝ }
+    requires { ⌜ ((p : ℕ) → p < total → Home h w (now colours) (now borders) (now potential) (now cells) (now offs) p)
+        × Nearby h w (now colours) (now borders) (now near) ⌝ }
+    ensures { λ r. ⌜ (r ≡ true → Adjoined h w (now (colours .entry)) (now (borders .entry)) total)
+        × Nearby h w (now (colours .entry)) (now (borders .entry)) (now (near .exit)) ⌝ }
 {
-    let first = start_at(offs, q);
-    let last = start_at(offs, q + 1);
-    fits_group(
-        h,
-        w,
-        colours,
-        borders,
-        ys,
-        xs,
-        k,
-        cells,
-        first,
-        soon_end(first, last),
-    )
+    let mut p = 0;
+    while p < total {
+        let q = near_mate(h, w, colours, borders, potential, cells, offs, p, near);
+        if 1024 <= q {
+            return false;
+        }
+        p += 1;
+    }
+    true
 }
 
 // Makes planes and mask those of the page and of the potential unit `p`; the list is lent for those adjacent to it.
@@ -148,8 +128,8 @@ fn prepare<'a>(
     draw_mask(h, w, cells, offs, list, 0, n, p as u64 + 1, mask);
 }
 
-// Whether one of a unit's eight images fits at a cell of one of the potential units adjacent to potential unit `p`; `q`
-// is one of them. The unit's `n` cells stand in rows and columns, its `k` connections in down and across.
+// Whether one of a unit's eight images fits at a cell of one of the potential units adjacent to potential unit `p`. The
+// unit's `n` cells stand in rows and columns, its `k` connections in down and across.
 fn written_fits<'a>(
     h: usize,
     w: usize,
@@ -159,7 +139,6 @@ fn written_fits<'a>(
     cells: &'a [u16; 1024],
     offs: &'a [u16; 1025],
     p: usize,
-    q: usize,
     rows: &'a [u16; 1024],
     columns: &'a [u16; 1024],
     n: usize,
@@ -173,7 +152,6 @@ fn written_fits<'a>(
     list: &mut [u16; 4096],
 ) -> bool
     requires { ⌜ Home h w (now colours) (now borders) (now potential) (now cells) (now offs) p
-        × (q ∈ mates (puzzle h w (now colours)) (marksIn (now borders)) p)
         × Spotted (now rows) (now columns) n × Jointed (now down) (now across) k
         × Held h w (now colours) (now borders) (now cells) (now offs) (now planes) (now mask) (now list)
         × (length (now ys) ≡ 2048) × (length (now xs) ≡ 2048) ⌝ }
@@ -186,9 +164,6 @@ fn written_fits<'a>(
         × (length (now (ys .exit)) ≡ 2048) × (length (now (xs .exit)) ≡ 2048) ⌝ }
 {
     turn_row(0, rows, columns, n, down, across, k, ys, xs);
-    if fits_soon(h, w, colours, borders, ys, xs, k, cells, offs, q) {
-        return true;
-    }
     prepare(
         h,
         w,
@@ -205,9 +180,9 @@ fn written_fits<'a>(
     some_row_fits(h, planes, mask, rows, columns, n, down, across, k, ys, xs)
 }
 
-// Whether a listed transform of unit `g` fits at a cell of one of the potential units adjacent to potential unit `p`;
-// `q` is one of them. The unit's cells stand from the place `first` of the list of units to the place `last`. All eight
-// rows of the table are tried: one that is not listed gives the cells and connections of one that is.
+// Whether a listed transform of unit `g` fits at a cell of one of the potential units adjacent to potential unit `p`.
+// The unit's cells stand from the place `first` of the list of units to the place `last`. All eight rows of the table
+// are tried: one that is not listed gives the cells and connections of one that is.
 pub fn unit_fits<'a>(
     h: usize,
     w: usize,
@@ -222,7 +197,6 @@ pub fn unit_fits<'a>(
     cells: &'a [u16; 1024],
     offs: &'a [u16; 1025],
     p: usize,
-    q: usize,
     rows: &mut [u16; 1024],
     columns: &mut [u16; 1024],
     down: &mut [u16; 2048],
@@ -234,7 +208,6 @@ pub fn unit_fits<'a>(
     list: &mut [u16; 4096],
 ) -> bool
     requires { ⌜ Home h w (now colours) (now borders) (now potential) (now cells) (now offs) p
-        × (q ∈ mates (puzzle h w (now colours)) (marksIn (now borders)) p)
         × UnitIn h w (now ids) g (now units) first last
         × Lent (now rows) (now columns) (now down) (now across) (now ys) (now xs)
         × Held h w (now colours) (now borders) (now cells) (now offs) (now planes) (now mask) (now list) ⌝ }
@@ -258,7 +231,6 @@ pub fn unit_fits<'a>(
         cells,
         offs,
         p,
-        q,
         rows,
         columns,
         n,

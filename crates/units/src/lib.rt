@@ -1,6 +1,8 @@
 // Step 3 of the check: the first unit for which no placement fits.
+mod copies; // copies.rt: whether the unit itself, shifted, fits at one of the first cells of a potential unit
 mod fitting; // fitting.rt: whether a unit fits beside its potential unit
-mod listed; // listed.rt: the listed transforms of a unit, at the origins of a mask
+mod listed; // listed.rt: the eight images of a unit, at the origins of a mask
+mod singles; // singles.rt: units of one cell
 
 ghost use mathlib.Core.Path.{_≡_};
 ghost use mathlib.Core.Bool.{true};
@@ -9,7 +11,6 @@ ghost use lib.ListN.{length, getD};
 ghost use lib.Signed.{mag};
 ghost use Rattle.rules.specs.Codes.{marksIn};
 ghost use Rattle.rules.specs.Flat.{flat};
-ghost use Rattle.rules.specs.Groups.{entry};
 ghost use Rattle.search.specs.Placing.{Raised, puzzle, spelled};
 ghost use Rattle.shapes.specs.Spots.{spots, Spotted};
 ghost use Rattle.units.specs.Images.{raiseOf, imageJoints, Jointed};
@@ -18,9 +19,11 @@ ghost use Rattle.units.specs.Held.{Nearby, Held};
 ghost use Rattle.units.specs.Stuck.{Sorted, Passed, fitsUnit, firstFail};
 ghost use Rattle.groups.specs.Kinds.{joinsIn};
 ghost use Rattle.groups.specs.Parts.{groupsOf};
-ghost use Rattle.groups.specs.declared.Kind.the-variants.{Units};
+ghost use Rattle.groups.specs.declared.Kind.the-variants.{Units, Potential};
+use crate::copies::copy_fits_soon;
 use crate::fitting::near_mate;
 use crate::fitting::unit_fits;
+use crate::singles::after_singles;
 use search::turn;
 use shapes::least;
 
@@ -101,8 +104,9 @@ fn start_at(offs: &[u16; 1025], i: usize) -> usize
 }
 
 // Whether a placement of unit `u` fits: none does where its potential unit has no adjacent one; with one, a unit of one
-// cell fits, which has no connections. The units' cells stand in `units` and start at `unit_offs`, those of the
-// potential units in `cells` and `offs`; `near`, planes, mask and list are memory that is kept from unit to unit.
+// cell fits, which has no connections. On most boards the unit itself, shifted, fits at one of the first cells of that
+// one. The units' cells stand in `units` and start at `unit_offs`, those of the potential units in `cells` and `offs`;
+// `near`, planes, mask and list are memory that is kept from unit to unit.
 fn fits_at<'a>(
     h: usize,
     w: usize,
@@ -150,6 +154,22 @@ fn fits_at<'a>(
     if last == first + 1 {
         return true;
     }
+    if copy_fits_soon(
+        h,
+        w,
+        colours,
+        borders,
+        ids,
+        u,
+        units,
+        first,
+        last,
+        cells,
+        offs,
+        q,
+    ) {
+        return true;
+    }
     unit_fits(
         h,
         w,
@@ -164,7 +184,6 @@ fn fits_at<'a>(
         cells,
         offs,
         p,
-        q,
         rows,
         columns,
         down,
@@ -175,84 +194,6 @@ fn fits_at<'a>(
         mask,
         list,
     )
-}
-
-// Whether unit `u` has one cell, and its potential unit an adjacent one: then it fits.
-fn single_fits<'a>(
-    h: usize,
-    w: usize,
-    colours: &'a [u8; 1024],
-    borders: &'a [u8; 1984],
-    units: &'a [u16; 1024],
-    unit_offs: &'a [u16; 1025],
-    potential: &'a [u16; 1024],
-    cells: &'a [u16; 1024],
-    offs: &'a [u16; 1025],
-    u: usize,
-    near: &mut [u16; 1024],
-) -> bool
-    requires { ⌜ Sorted h w (now colours) (now borders)
-        (groupsOf (flat h w) (joinsIn Units h w (now colours) (now borders)) .ids) (now units) (now «unit_offs»)
-        (now potential) (now cells) (now offs)
-        × (u < groupsOf (flat h w) (joinsIn Units h w (now colours) (now borders)) .count)
-        × Nearby h w (now colours) (now borders) (now near) ⌝ }
-    ensures { λ r. ⌜ (r ≡ true → fitsUnit (puzzle h w (now (colours .entry))) (marksIn (now (borders .entry))) u ≡ true)
-        × Nearby h w (now (colours .entry)) (now (borders .entry)) (now (near .exit)) ⌝ }
-{
-    let first = start_at(unit_offs, u);
-    let last = start_at(unit_offs, u + 1);
-    if last != first + 1 {
-        return false;
-    }
-    let c = number_at(units, first);
-    let p = number_at(potential, c);
-    near_mate(h, w, colours, borders, potential, cells, offs, p, near) < 1024
-}
-
-// How many of the `count` units are passed at once: they stand before the first that has more than one cell or whose
-// potential unit has no adjacent one.
-fn after_singles<'a>(
-    h: usize,
-    w: usize,
-    colours: &'a [u8; 1024],
-    borders: &'a [u8; 1984],
-    units: &'a [u16; 1024],
-    unit_offs: &'a [u16; 1025],
-    count: usize,
-    potential: &'a [u16; 1024],
-    cells: &'a [u16; 1024],
-    offs: &'a [u16; 1025],
-    near: &mut [u16; 1024],
-) -> usize
-    requires { ⌜ Sorted h w (now colours) (now borders)
-        (groupsOf (flat h w) (joinsIn Units h w (now colours) (now borders)) .ids) (now units) (now «unit_offs»)
-        (now potential) (now cells) (now offs)
-        × (count ≡ groupsOf (flat h w) (joinsIn Units h w (now colours) (now borders)) .count)
-        × Nearby h w (now colours) (now borders) (now near) ⌝ }
-    ensures { λ r. ⌜ Passed (fitsUnit (puzzle h w (now (colours .entry))) (marksIn (now (borders .entry)))) count r
-        × Nearby h w (now (colours .entry)) (now (borders .entry)) (now (near .exit)) ⌝ }
-{
-    let mut u = 0;
-    while u < count {
-        if single_fits(
-            h,
-            w,
-            colours,
-            borders,
-            units,
-            unit_offs,
-            potential,
-            cells,
-            offs,
-            u,
-            near,
-        ) {
-            u += 1;
-        } else {
-            return u;
-        }
-    }
-    count
 }
 
 // The first of `count` units for which no placement fits, if none is before `from`; `count` if there is none.
@@ -322,7 +263,8 @@ fn stuck_from<'a>(
 }
 
 // The first of `count` units for which no placement fits; `count` if there is none. The arrays are those of the units
-// and of the potential units. The memory for a unit of more than one cell is made at the first of them.
+// and of the potential units, of which there are `total`. The memory for a unit of more than one cell is made at the
+// first of them.
 pub fn first_stuck<'a>(
     h: usize,
     w: usize,
@@ -335,10 +277,12 @@ pub fn first_stuck<'a>(
     potential: &'a [u16; 1024],
     cells: &'a [u16; 1024],
     offs: &'a [u16; 1025],
+    total: usize,
 ) -> usize
     requires { ⌜ Sorted h w (now colours) (now borders) (now ids) (now units) (now «unit_offs») (now potential)
         (now cells) (now offs)
-        × (count ≡ groupsOf (flat h w) (joinsIn Units h w (now colours) (now borders)) .count) ⌝ }
+        × (count ≡ groupsOf (flat h w) (joinsIn Units h w (now colours) (now borders)) .count)
+        × (total ≡ groupsOf (flat h w) (joinsIn Potential h w (now colours) (now borders)) .count) ⌝ }
     ensures { λ r. ⌜ r ≡ firstFail (fitsUnit (puzzle h w (now (colours .entry))) (marksIn (now (borders .entry))))
         count ⌝ }
 {
@@ -354,6 +298,7 @@ pub fn first_stuck<'a>(
         potential,
         cells,
         offs,
+        total,
         &mut near,
     );
     if count <= u {

@@ -19,7 +19,6 @@ stuck-hit-requires c κs =
         potential-ids = p .2 .ids-are;
         potential-cells = p .2 .cells-are;
         potential-offs = p .2 .offs-are;
-        adjacent = tt;
       },
       f .1,
       p .3,

@@ -20,7 +20,7 @@ found : (c : tie.After-first-stuck) → let a = c .before .before .args in
 found c = rw (c .before .before .pre .1) at (c .first-stuck .ensures)
 
 first-stuck-requires : tie.Need-first-stuck-requires
-first-stuck-requires c κs = let p = c .before .pre in (p .0, p .1)
+first-stuck-requires c κs = let p = c .before .pre in (p .0, p .1, p .2)
 
 returns : tie.Need-returns
 returns c =
@@ -32,7 +32,7 @@ stuck-reason-requires : tie.Need-stuck-reason-requires
 stuck-reason-requires c κs =
     let p = c .before .before .before .before .pre in
     let k = p .1 in
-    (p .0, p .2, omega (arith, c .before .if1 .left), p .3)
+    (p .0, omega (arith, c .before .if1 .left), p .3)
 
 same-length : tie.Need-same-length
 same-length c = search needs

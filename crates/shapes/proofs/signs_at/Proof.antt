@@ -1,4 +1,4 @@
--- `shapes::signs_at` meets its contract: row by row, the constants are the swap and the signs of the definition's table.
+-- `shapes::signs_at` meets its contract: row by row, the constants are swap and signs of the definition's table.
 use mathlib.Core.Path.{refl}
 use mathlib.Core.Bool.{Bool, true, false}
 use mathlib.Core.List.{List, [], _∷_}

@@ -10,6 +10,21 @@ use Rattle.unitreason.specs.ReasonLaws.{room-blocks, room-inside, room-w
 use Rattle.unitreason.proofs.write_unit.Statement.{statement}
 use Rattle.unitreason.proofs.write_unit.Tie as tie
 
+block-rows-requires : tie.Need-block-rows-requires
+block-rows-requires c κs =
+    let s = c .before .before .before .before in
+    let a = s .pre .0 in
+    let b = s .pre .1 in (
+      rows-listed (shapeOf (flat (s .args .h) (s .args .w)) (entry (s .args .ids .now)) (s .args .u)) (b .rows),
+      a .drawn,
+      b .cells .spotted,
+      jointed (b .cells) (b .connections),
+      beside a,
+      s .pre .2,
+      s .pre .3,
+      room-blocks a b _ (s .pre .4),
+    )
+
 mul-wide : tie.Need-mul-wide
 mul-wide c = search needs
 
@@ -31,74 +46,32 @@ element-copy-out-wide-2 c = search needs
 wide-requires-2 : tie.Need-wide-requires-2
 wide-requires-2 c κs = search needs
 
-block-rows-requires : tie.Need-block-rows-requires
-block-rows-requires c κs =
-    let v = c .before .before .before in
-    let s = v .before .before .before .before .before in
-    let a = s .pre .0 in
-    let b = s .pre .1 in (
-      rows-listed (shapeOf (flat (s .args .h) (s .args .w)) (entry (s .args .ids .now)) (s .args .u)) (b .rows),
-      a .drawn,
-      b .cells .spotted,
-      jointed (b .cells) (b .connections),
-      rw (v .wide2 .ensures, v .before .before .wide .ensures) (beside a),
-      s .pre .2,
-      s .pre .3,
-      rw (v .wide2 .ensures, v .before .before .wide .ensures) (room-blocks a b _ (s .pre .4)),
-    )
-
-mul-wide-3 : tie.Need-mul-wide-3
-mul-wide-3 c = search needs
-
-element-copy-out-wide-3 : tie.Need-element-copy-out-wide-3
-element-copy-out-wide-3 c = search needs
-
-wide-requires-3 : tie.Need-wide-requires-3
-wide-requires-3 c κs = search needs
-
-add-wide-2 : tie.Need-add-wide-2
-add-wide-2 c = search needs
-
-mul-wide-4 : tie.Need-mul-wide-4
-mul-wide-4 c = search needs
-
-element-copy-out-wide-4 : tie.Need-element-copy-out-wide-4
-element-copy-out-wide-4 c = search needs
-
-wide-requires-4 : tie.Need-wide-requires-4
-wide-requires-4 c κs = search needs
-
 inside-requires : tie.Need-inside-requires
 inside-requires c κs =
     let q = c .before in
     let t = q .before .before .before .before .before .before in
-    let v = t .before .before .before .before in
-    let s = v .before .before .before .before .before in
-    let a = s .pre .0 in
-    let l = rw (v .wide2 .ensures, v .before .before .wide .ensures) at (t .block-rows .ensures) in (
+    let s = t .before .before .before .before .before in
+    let a = s .pre .0 in (
       a .drawn .sized,
       record { borders = a .borders; numbers = a .lengths .0 },
       a .unit .few,
-      rw (q .wide4 .ensures, q .before .before .wide3 .ensures) (a .unit .is),
-      room-inside a (s .pre .1) (s .pre .4) l,
+      rw (q .wide2 .ensures, q .before .before .wide .ensures) (a .unit .is),
+      room-inside a (s .pre .1) (s .pre .4) (t .block-rows .ensures),
     )
 
 walls-of-requires : tie.Need-walls-of-requires
 walls-of-requires c κs =
     let i = c .before .before .before in
     let t = i .before .before .before .before .before .before .before .before in
-    let v = t .before .before .before .before in
-    let s = v .before .before .before .before .before in
-    let a = s .pre .0 in
-    let l = rw (v .wide2 .ensures, v .before .before .wide .ensures) at (t .block-rows .ensures) in (
+    let s = t .before .before .before .before .before in
+    let a = s .pre .0 in (
       a .drawn .sized,
       record { borders = a .borders; numbers = a .lengths .1 },
       a .colours,
-      rw (v .wide2 .ensures, v .before .before .wide .ensures) (mated a),
+      mated a,
       own a,
       own-cells a,
-      rw (v .wide2 .ensures, v .before .before .wide .ensures)
-          (room-walls a (s .pre .1) (s .pre .4) l (i .inside .ensures)),
+      room-walls a (s .pre .1) (s .pre .4) (t .block-rows .ensures) (i .inside .ensures),
     )
 
 same-length : tie.Need-same-length
@@ -109,17 +82,15 @@ returns c =
     let e = c .before .before in
     let i = e .before .before .before .before in
     let t = i .before .before .before .before .before .before .before .before in
-    let v = t .before .before .before .before in
-    let s = v .before .before .before .before .before in
+    let s = t .before .before .before .before .before in
     λ k.
-    reason-written (s .pre .0) (s .pre .1) k
-    (rw (v .wide2 .ensures, v .before .before .wide .ensures) at (t .block-rows .ensures)) (i .inside .ensures)
-    (rw (v .wide2 .ensures, v .before .before .wide .ensures) at (e .walls-of .ensures))
+    reason-written (s .pre .0) (s .pre .1) k (t .block-rows .ensures) (i .inside .ensures) (e .walls-of .ensures)
 
 pub write-unit-spec : {M : Type 1} → statement M
 write-unit-spec =
     tie.close
     (tie.spec
+    block-rows-requires
     mul-wide
     element-copy-out-wide
     wide-requires
@@ -127,14 +98,6 @@ write-unit-spec =
     mul-wide-2
     element-copy-out-wide-2
     wide-requires-2
-    block-rows-requires
-    mul-wide-3
-    element-copy-out-wide-3
-    wide-requires-3
-    add-wide-2
-    mul-wide-4
-    element-copy-out-wide-4
-    wide-requires-4
     inside-requires
     walls-of-requires
     same-length

@@ -9,6 +9,7 @@ after-singles-requires c κs =
     let s = c .before in (
       rw (s .pre .0 .units-ids) at (s .pre .0),
       s .pre .1,
+      s .pre .2,
       nearby-none (s .args .h) (s .args .w) (s .args .colours .now) (s .args .borders .now),
     )
 

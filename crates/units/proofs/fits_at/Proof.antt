@@ -10,7 +10,9 @@ use Rattle.rules.specs.Groups.{entry}
 use Rattle.rules.specs.Shapes.{shapeOf}
 use Rattle.search.specs.Mates.{OneOf}
 use Rattle.search.specs.Placing.{puzzle}
+use Rattle.units.specs.CopyLaws.{soon-turned}
 use Rattle.units.specs.Fitting.{fitsTurned}
+use Rattle.units.specs.HeldLaws.{mate-few, mate-cells}
 use Rattle.units.specs.ReadyLaws.{unit-few, unit-in, head-low, home-of, fits-home, fits-nowhere, single-unit}
 use Rattle.units.proofs.fits_at.Statement.{statement}
 use Rattle.units.proofs.fits_at.Tie as tie
@@ -97,23 +99,54 @@ returns-2 c =
       s .pre .4,
     )
 
+copy-fits-soon-requires : tie.Need-copy-fits-soon-requires
+copy-fits-soon-requires c κs =
+    let i = c .before in
+    let m = i .before in
+    let l = m .before .before .before .before in
+    let s = l .before .before in
+    let k = home-of (s .pre .0) (s .args .u) (s .pre .1) in
+    let q = one m .some (i .if1 .left) in (
+      s .pre .0 .drawn,
+      rw (l .before .start-at .ensures, l .start-at2 .ensures) (unit-in (s .pre .0) (s .args .u) (s .pre .1)),
+      mate-few k q,
+      mate-cells k q,
+    )
+
+-- the unit itself is the first of its transforms
+returns-3 : tie.Need-returns-3
+returns-3 c =
+    let i = c .before .before .before in
+    let m = i .before in
+    let s = m .before .before .before .before .before .before in
+    let q = one m .some (i .if1 .left) in (
+      sym (sym (fits-home (s .pre .0) (s .args .u) (s .pre .1))
+          ∙ soon-turned (puzzle (s .args .h) (s .args .w) (s .args .colours .now)) (marksIn (s .args .borders .now))
+          (s .args .cells .now) (s .args .offs .now)
+          (shapeOf (flat (s .args .h) (s .args .w)) (entry (s .args .ids .now)) (s .args .u)) q
+          (mate-cells (home-of (s .pre .0) (s .args .u) (s .pre .1)) q .order)
+          (sym (c .before .copy-fits-soon .ensures) ∙ c .if3 .taken)),
+      m .near-mate .ensures .1,
+      s .pre .3,
+      s .pre .4,
+    )
+
 unit-fits-requires : tie.Need-unit-fits-requires
 unit-fits-requires c κs =
-    let i = c .before .before .before .before .before .before .before .before .before .before in
-    let m = i .before in
-    let p = m .before .before in
+    let i = c .before .before .before .before .before .before .before .before .before in
+    let p = i .before .before .before .before .before .before in
     let l = p .before .before in
     let s = l .before .before in (
       rw (home-is p) (home-of (s .pre .0) (s .args .u) (s .pre .1)),
-      m .near-mate .ensures .0 .some (i .if1 .left),
       rw (l .before .start-at .ensures, l .start-at2 .ensures) (unit-in (s .pre .0) (s .args .u) (s .pre .1)),
       s .pre .3,
       s .pre .4,
     )
 
-returns-3 : tie.Need-returns-3
-returns-3 c =
-    let m = c .before .before .before .before .before .before .before .before .before .before .before .before in
+returns-4 : tie.Need-returns-4
+returns-4 c =
+    let i = c .before .before .before .before .before .before .before .before .before .before in
+    let m = i .before .before .before .before in
     let p = m .before .before in
     let s = p .before .before .before .before in
     let e = c .unit-fits .ensures in (
@@ -141,5 +174,7 @@ fits-at-spec =
     returns
     add-if2
     returns-2
+    copy-fits-soon-requires
+    returns-3
     unit-fits-requires
-    returns-3)
+    returns-4)

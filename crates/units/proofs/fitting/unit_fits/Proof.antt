@@ -11,14 +11,14 @@ use Rattle.units.proofs.fitting.unit_fits.Tie as tie
 places-requires : tie.Need-places-requires
 places-requires c κs =
     let s = c .before .before in
-    (unit-part (s .pre .0 .drawn .sized) (s .pre .2), s .pre .3 .rows, s .pre .3 .columns)
+    (unit-part (s .pre .0 .drawn .sized) (s .pre .1), s .pre .2 .rows, s .pre .2 .columns)
 
 joints-requires : tie.Need-joints-requires
 joints-requires c κs =
     let a = c .before .before .before .before in
     let s = a .before .before .before in
     let p = a .places .ensures in
-    (unit-placed (s .pre .0 .drawn .sized) (s .pre .2) (p .0) (p .1), s .pre .3 .downs, s .pre .3 .acrosses)
+    (unit-placed (s .pre .0 .drawn .sized) (s .pre .1) (p .0) (p .1), s .pre .2 .downs, s .pre .2 .acrosses)
 
 written-fits-requires : tie.Need-written-fits-requires
 written-fits-requires c κs =
@@ -26,14 +26,13 @@ written-fits-requires c κs =
     let a = b .before .before .before .before .before in
     let s = a .before .before .before in
     let p = a .places .ensures in
-    let u = unit-placed (s .pre .0 .drawn .sized) (s .pre .2) (p .0) (p .1) in (
+    let u = unit-placed (s .pre .0 .drawn .sized) (s .pre .1) (p .0) (p .1) in (
       s .pre .0,
-      s .pre .1,
       u .spotted,
       jointed u (b .joints .ensures),
-      s .pre .4,
-      s .pre .3 .ys,
-      s .pre .3 .xs,
+      s .pre .3,
+      s .pre .2 .ys,
+      s .pre .2 .xs,
     )
 
 returns : tie.Need-returns
@@ -47,7 +46,7 @@ returns c =
     let e = c .written-fits .ensures in (
       e .0
           ∙ rows-turned page marks (s .args .cells .now) (s .args .offs .now) (mates page marks (s .args .p))
-          (unit-placed (s .pre .0 .drawn .sized) (s .pre .2) (p .0) (p .1)) (b .joints .ensures),
+          (unit-placed (s .pre .0 .drawn .sized) (s .pre .1) (p .0) (p .1)) (b .joints .ensures),
       record {
         rows = p .1 .rows;
         columns = p .1 .columns;

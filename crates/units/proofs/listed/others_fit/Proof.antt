@@ -44,7 +44,8 @@ returns c =
     let t = c .before .before .before .before in
     let s = t .before .before in
     let e = c .before .row-fits .ensures in (
-      λ F a z. sym (any-some 8 (test s F) (t .before .loop .row) (t .loop-test .taken) (sym (e .0 F a) ∙ c .if1 .taken)),
+      λ F a z.
+          sym (any-some 8 (test s F) (t .before .loop .row) (t .loop-test .taken) (sym (e .0 F a) ∙ c .if1 .taken)),
       e .1,
       e .2,
     )

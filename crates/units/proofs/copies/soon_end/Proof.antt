@@ -3,8 +3,8 @@ use mathlib.Core.Path.{sym}
 use Prim.Native.Nat.{_+_}
 use borrow.Author.Needs.{needs}
 use borrow.Author.Tests.{lt-ltb, le-ltb}
-use Rattle.units.proofs.fitting.soon_end.Statement.{statement}
-use Rattle.units.proofs.fitting.soon_end.Tie as tie
+use Rattle.units.proofs.copies.soon_end.Statement.{statement}
+use Rattle.units.proofs.copies.soon_end.Tie as tie
 
 add-if1 : tie.Need-add-if1
 add-if1 c = search needs

@@ -1,13 +1,13 @@
--- A unit of one cell is passed where its potential unit has an adjacent one.
+-- A unit of one cell is passed where its potential unit has an adjacent one, or where every potential unit has one.
 use mathlib.Core.Path.{_≡_, ap, _∙_}
-use Prim.Native.Nat.{ℕ}
+use Prim.Native.Nat.{ℕ, _+_}
 use native.Mathlib.Omega.{arith}
 use borrow.Author.Tests.{ltb-true}
 use lib.ListN.{getD}
 use Rattle.rules.specs.FlatLaws.{counts}
-use Rattle.units.specs.ReadyLaws.{unit-few, unit-in, head-low, home-of, single-unit}
-use Rattle.units.proofs.single_fits.Statement.{statement}
-use Rattle.units.proofs.single_fits.Tie as tie
+use Rattle.units.specs.ReadyLaws.{unit-few, unit-in, head-low, home-of, single-unit, sure-unit}
+use Rattle.units.proofs.singles.single_fits.Statement.{statement}
+use Rattle.units.proofs.singles.single_fits.Tie as tie
 
 start-at-requires : tie.Need-start-at-requires
 start-at-requires c κs = omega (arith, c .pre .1, unit-few (c .pre .0))
@@ -25,32 +25,45 @@ add-if1 c =
     omega (arith, u .some, u .end, c .before .start-at .ensures)
 
 returns : tie.Need-returns
-returns c = (λ e. let z : _≡_ {A = ℕ} 0 1 = cc in absurd (omega arith), c .before .before .before .pre .2)
+returns c = (λ e. let z : _≡_ {A = ℕ} 0 1 = cc in absurd (omega arith), c .before .before .before .pre .3)
+
+-- the unit has one cell
+one-is : (c : tie.Else1) → let s = c .before .before .before in
+    getD (s .args .unit-offs .now) (s .args .u + 1) 0 ≡ getD (s .args .unit-offs .now) (s .args .u) 0 + 1
+one-is c = let l = c .before in rw (l .before .start-at .ensures, l .start-at2 .ensures) at (c .if1 .left)
+
+returns-2 : tie.Need-returns-2
+returns-2 c =
+    let s = c .before .before .before .before in (
+      λ e. sure-unit (s .pre .0) (s .args .u) (s .pre .1) (one-is (c .before)) (s .pre .2 (c .if2 .taken)),
+      s .pre .3,
+    )
 
 number-at-requires : tie.Need-number-at-requires
 number-at-requires c κs =
-    let s = c .before .before .before in
+    let s = c .before .before .before .before in
     let u = unit-in (s .pre .0) (s .args .u) (s .pre .1) in
-    omega (arith, u .some, u .end, c .before .before .start-at .ensures)
+    omega (arith, u .some, u .end, c .before .before .before .start-at .ensures)
 
 -- the unit's first cell, and its potential unit
-cell-is : (c : tie.After-number-at) → let s = c .before .before .before .before in
+cell-is : (c : tie.After-number-at) → let s = c .before .before .before .before .before in
     c .number-at .result ≡ getD (s .args .units .now) (getD (s .args .unit-offs .now) (s .args .u) 0) 0
 cell-is c =
-    let s = c .before .before .before .before in
-    c .number-at .ensures ∙ ap (λ i. getD (s .args .units .now) i 0) (c .before .before .before .start-at .ensures)
+    let f = c .before .before .before .before in
+    let s = f .before in
+    c .number-at .ensures ∙ ap (λ i. getD (s .args .units .now) i 0) (f .start-at .ensures)
 
-home-is : (c : tie.After-number-at2) → let s = c .before .before .before .before .before in
+home-is : (c : tie.After-number-at2) → let s = c .before .before .before .before .before .before in
     c .number-at2 .result
     ≡ getD (s .args .potential .now)
     (getD (s .args .units .now) (getD (s .args .unit-offs .now) (s .args .u) 0) 0) 0
 home-is c =
-    let s = c .before .before .before .before .before in
+    let s = c .before .before .before .before .before .before in
     c .number-at2 .ensures ∙ ap (λ i. getD (s .args .potential .now) i 0) (cell-is (c .before))
 
 number-at-requires-2 : tie.Need-number-at-requires-2
 number-at-requires-2 c κs =
-    let s = c .before .before .before .before in
+    let s = c .before .before .before .before .before in
     omega (
       arith,
       cell-is c,
@@ -60,18 +73,16 @@ number-at-requires-2 c κs =
 
 near-mate-requires : tie.Need-near-mate-requires
 near-mate-requires c κs =
-    let s = c .before .before .before .before .before .before in
-    (rw (home-is (c .before)) (home-of (s .pre .0) (s .args .u) (s .pre .1)), s .pre .2)
+    let s = c .before .before .before .before .before .before .before in
+    (rw (home-is (c .before)) (home-of (s .pre .0) (s .args .u) (s .pre .1)), s .pre .3)
 
-returns-2 : tie.Need-returns-2
-returns-2 c =
+returns-3 : tie.Need-returns-3
+returns-3 c =
     let p = c .before .before in
-    let i = p .before .before in
-    let l = i .before in
-    let s = l .before .before in (
+    let i = p .before .before .before in
+    let s = i .before .before .before in (
       λ e.
-          single-unit (s .pre .0) (s .args .u) (s .pre .1)
-          (rw (l .before .start-at .ensures, l .start-at2 .ensures) at (i .if1 .left))
+          single-unit (s .pre .0) (s .args .u) (s .pre .1) (one-is i)
           (rw (home-is p) at (c .near-mate .ensures .0 .some (ltb-true _ _ e))),
       c .near-mate .ensures .1,
     )
@@ -85,7 +96,8 @@ single-fits-spec =
     start-at-requires-2
     add-if1
     returns
+    returns-2
     number-at-requires
     number-at-requires-2
     near-mate-requires
-    returns-2)
+    returns-3)

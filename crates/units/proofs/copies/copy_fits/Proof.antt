@@ -1,0 +1,181 @@
+-- The loop's invariant: the unit fits exactly if the cells from i on have clear connections.
+use mathlib.Core.Path.{_≡_, sym, _∙_}
+use Prim.Native.Nat.{ℕ, _+_, _-_, _*_, _/_, _%_, _≤_, _<_}
+use native.Mathlib.Omega.{arith}
+use lib.ListN.{getD}
+use Rattle.lists.specs.Lists.{all}
+use Rattle.rules.specs.Codes.{marksIn}
+use Rattle.rules.specs.Flat.{flat}
+use Rattle.rules.specs.Groups.{entry}
+use Rattle.rules.specs.Shapes.{shapeOf}
+use Rattle.reasons.specs.Arrays.{part}
+use Rattle.reasons.specs.StepLaws.{row-of}
+use Rattle.search.specs.Placing.{puzzle, fitsOf}
+use Rattle.units.specs.ListExtras.{all-done, all-ends, all-next}
+use Rattle.units.specs.Copies.{cellClear}
+use Rattle.units.specs.CopyLaws.{unit-low, shift-of, copy-cells}
+use Rattle.units.proofs.copies.copy_fits.Statement.{statement}
+use Rattle.units.proofs.copies.copy_fits.Tie as tie
+
+abbrev Inv-loop : tie.InvT-loop
+Inv-loop h w colours borders ids g units first last o f y x i₀ i =
+    (first ≤ i) × (i ≤ last) × (fitsOf (puzzle h w colours) (marksIn borders) (shapeOf (flat h w) (entry ids) g) o
+    ≡ all (cellClear h w colours (marksIn borders) (entry ids) g y x) (part units i last))
+
+abbrev μ-loop : tie.MeasureT-loop
+μ-loop h w colours borders ids g units first last o f y x i₀ i = last - i
+
+-- the rows and columns of the origin and of the unit's first cell
+record Low (w o f : ℕ) : Type 0 where
+  wide : 1 ≤ w
+  row : o / w < 32
+  column : o % w < 32
+  first-row : f / w < 32
+  first-column : f % w < 32
+
+low : (c : tie.After-number-at Inv-loop μ-loop) → let a = c .before .args in Low (a .w) (a .o) (c .number-at .result)
+low c =
+    let s = c .before in
+    let z = s .pre .0 .sized in
+    let k = row-of (s .args .h) (s .args .w) (s .args .o) (s .pre .2) in
+    let e = c .number-at .ensures in
+    let r = row-of (s .args .h) (s .args .w) (c .number-at .result)
+    (rw e (unit-low z (s .pre .1) (s .args .first) (omega arith) (s .pre .1 .some))) in
+    record {
+      wide = z .columns;
+      row = omega (arith, k .row, z .tall);
+      column = omega (arith, k .column, z .wide);
+      first-row = omega (arith, r .row, z .tall);
+      first-column = omega (arith, r .column, z .wide);
+    }
+
+number-at-requires : tie.Need-number-at-requires Inv-loop μ-loop
+number-at-requires c κs = omega (arith, c .pre .1 .some, c .pre .1 .end)
+
+div-y : tie.Need-div-y Inv-loop μ-loop
+div-y c = low c .wide
+
+mul-y : tie.Need-mul-y Inv-loop μ-loop
+mul-y c = omega (arith, low c .row)
+
+div-y-2 : tie.Need-div-y-2 Inv-loop μ-loop
+div-y-2 c = low c .wide
+
+mul-y-2 : tie.Need-mul-y-2 Inv-loop μ-loop
+mul-y-2 c = omega (arith, low c .first-row)
+
+sub-y : tie.Need-sub-y Inv-loop μ-loop
+sub-y c = omega (arith, low c .first-row)
+
+add-y : tie.Need-add-y Inv-loop μ-loop
+add-y c = omega (arith, low c .row)
+
+rem-x : tie.Need-rem-x Inv-loop μ-loop
+rem-x c = low c .wide
+
+mul-x : tie.Need-mul-x Inv-loop μ-loop
+mul-x c = omega (arith, low c .column)
+
+rem-x-2 : tie.Need-rem-x-2 Inv-loop μ-loop
+rem-x-2 c = low c .wide
+
+mul-x-2 : tie.Need-mul-x-2 Inv-loop μ-loop
+mul-x-2 c = omega (arith, low c .first-column)
+
+sub-x : tie.Need-sub-x Inv-loop μ-loop
+sub-x c = omega (arith, low c .first-column)
+
+add-x : tie.Need-add-x Inv-loop μ-loop
+add-x c = omega (arith, low c .column)
+
+loop-holds : tie.Need-loop-holds Inv-loop μ-loop
+loop-holds c =
+    let s = c .before in (
+      omega arith,
+      omega (arith, s .pre .1 .some),
+      rw (c .number-at .ensures)
+          (copy-cells (s .pre .0 .sized) (s .pre .1) (s .args .o) (s .args .colours .now)
+          (marksIn (s .args .borders .now))),
+    )
+
+number-at-requires-2 : tie.Need-number-at-requires-2 Inv-loop μ-loop
+number-at-requires-2 c κs = let s = c .before .before .before in omega (arith, s .pre .1 .end)
+
+cell-clear-requires : tie.Need-cell-clear-requires Inv-loop μ-loop
+cell-clear-requires c κs =
+    let l = c .before .before in
+    let n = l .before in
+    let s = n .before in (
+      s .pre .0,
+      rw (c .number-at2 .ensures)
+          (unit-low (s .pre .0 .sized) (s .pre .1) (l .loop .i) (l .loop .inv .0) (c .before .loop-test .taken)),
+      rw (n .number-at .ensures) (shift-of (s .pre .0 .sized) (s .pre .1) (s .args .o) (s .pre .2)),
+    )
+
+add-i : tie.Need-add-i Inv-loop μ-loop
+add-i c = omega arith
+
+loop-less : tie.Need-loop-less Inv-loop μ-loop
+loop-less c = omega arith
+
+-- the test of the cell at i
+cell-is : (c : tie.After-cell-clear Inv-loop μ-loop) → let l = c .before .before .before in
+    let n = l .before in let s = n .before in let a = s .args in
+    c .cell-clear .result
+    ≡ cellClear (a .h) (a .w) (a .colours .now) (marksIn (a .borders .now)) (entry (a .ids .now)) (a .g)
+    (2 * (a .o / a .w) + (64 - 2 * (n .number-at .result / a .w)))
+    (2 * (a .o % a .w) + (64 - 2 * (n .number-at .result % a .w))) (getD (a .units .now) (l .loop .i) 0)
+cell-is c = rw (c .before .number-at2 .ensures) at (c .cell-clear .ensures)
+
+loop-again : tie.Need-loop-again Inv-loop μ-loop
+loop-again c =
+    let l = c .before .before .before .before in
+    let s = l .before .before in
+    let t = c .before .before .before .loop-test .taken in (
+      omega (arith, l .loop .inv .0),
+      omega arith,
+      all-next _ (s .args .units .now) (l .loop .i) (s .args .last) (l .loop .inv .2) t
+          (omega (arith, s .pre .1 .end, s .pre .1 .long)) (sym (cell-is (c .before)) ∙ c .if1 .taken),
+    )
+
+returns : tie.Need-returns Inv-loop μ-loop
+returns c =
+    let l = c .before .before .before .before in
+    let s = l .before .before in
+    let t = c .before .before .before .loop-test .taken in
+    all-ends _ (s .args .units .now) (l .loop .i) (s .args .last) (l .loop .inv .2) t
+    (omega (arith, s .pre .1 .end, s .pre .1 .long)) (sym (cell-is (c .before)) ∙ c .if1 .left)
+
+returns-2 : tie.Need-returns-2 Inv-loop μ-loop
+returns-2 c =
+    let l = c .before in
+    let s = l .before .before in
+    all-done _ (s .args .units .now) (l .loop .i) (s .args .last) (l .loop .inv .2) (c .loop-test .left)
+
+pub copy-fits-spec : {M : Type 1} → statement M
+copy-fits-spec =
+    tie.close
+    (tie.spec
+    Inv-loop
+    μ-loop
+    number-at-requires
+    div-y
+    mul-y
+    div-y-2
+    mul-y-2
+    sub-y
+    add-y
+    rem-x
+    mul-x
+    rem-x-2
+    mul-x-2
+    sub-x
+    add-x
+    loop-holds
+    number-at-requires-2
+    cell-clear-requires
+    add-i
+    loop-less
+    loop-again
+    returns
+    returns-2)
