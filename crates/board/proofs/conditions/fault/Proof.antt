@@ -1,5 +1,4 @@
 -- `fault` meets its contract: the result is 0 where `border_right` says true, and 1 where it says false.
-use mathlib.Core.Path.{sym, _∙_}
 use Rattle.board.proofs.conditions.fault.Statement.{statement}
 use Rattle.board.proofs.conditions.fault.Tie as tie
 
