@@ -7,12 +7,12 @@
 --   clueRight k             k is a clue, or none
 --   cluesRight ks n         the first n clues are right
 --   stacked s n x           border x is among the first n entries of the stack s
---   entryRight e m seen     the entry e is one of m borders, and no earlier entry
---   stackRight s m n        the first n entries are right on a page of m borders
+--   entriesRight s m n      the first n entries are numbers of m borders
+--   onceEach s n            none of the first n entries is an earlier one
 --   borderRight v on        the border place v is right, where `on` says that its border is on the stack
 --   bordersRight bs s n m   the first m borders are right beside the first n entries of s
 --   bordersBy bs seen m     the same, where a list says which borders are on the stack
---   Marks s m n right seen  what a run over the stack finds: whether it is right, and then the borders on it
+--   Marks s n once seen     what a run over n entries finds: whether none is an earlier one, and which borders they are
 --   zerosFrom l from        the places of l from `from` on are 0
 --   clueZero k              k is 0
 --   zeroCluesFrom ks from   the clues from `from` on are 0
@@ -58,11 +58,11 @@ cluesRight ks n = allBelow n (λ i. clueRight (getD ks i (pos 0)))
 unfoldable pub stacked : List ℕ → ℕ → ℕ → Bool
 stacked s n x = anyBelow n (λ j. eqb (getD s j 0) x)
 
-abbrev pub entryRight : ℕ → ℕ → Bool → Bool
-entryRight e m seen = ltb e m && not seen
+unfoldable pub entriesRight : List ℕ → ℕ → ℕ → Bool
+entriesRight s m n = allBelow n (λ i. ltb (getD s i 0) m)
 
-unfoldable pub stackRight : List ℕ → ℕ → ℕ → Bool
-stackRight s m n = allBelow n (λ i. entryRight (getD s i 0) m (stacked s i (getD s i 0)))
+unfoldable pub onceEach : List ℕ → ℕ → Bool
+onceEach s n = allBelow n (λ i. not (stacked s i (getD s i 0)))
 
 -- 0 is undecided, 1 wall, 2 open; decided exactly where it is on the stack
 abbrev pub borderRight : ℕ → Bool → Bool
@@ -74,9 +74,9 @@ bordersRight bs s n m = allBelow m (λ x. borderRight (getD bs x 0) (stacked s n
 unfoldable pub bordersBy : List ℕ → List Bool → ℕ → Bool
 bordersBy bs seen m = allBelow m (λ x. borderRight (getD bs x 0) (getD seen x false))
 
-pub record Marks (s : List ℕ) (m n : ℕ) (right : Bool) (seen : List Bool) : Type 0 where
-  pub tells : right ≡ stackRight s m n
-  pub marked : right ≡ true → (x : ℕ) → x < 1984 → getD seen x false ≡ stacked s n x
+pub record Marks (s : List ℕ) (n : ℕ) (once : Bool) (seen : List Bool) : Type 0 where
+  pub tells : once ≡ onceEach s n
+  pub marked : (x : ℕ) → x < 1984 → getD seen x false ≡ stacked s n x
 
 unfoldable pub zerosFrom : List ℕ → ℕ → Bool
 zerosFrom l from = allFrom from (length l) (λ i. eqb (getD l i 0) 0)
@@ -98,7 +98,7 @@ cellsRight b = cellsIn (b .height) (b .width) (b .colours) (b .clues)
 unfoldable pub decisionsIn : ℕ → ℕ → List ℕ → List ℕ → ℕ → Bool
 decisionsIn h w bs s n =
     let m = borderCount h w in
-    leb n m && stackRight s m n && bordersRight bs s n m
+    leb n m && entriesRight s m n && onceEach s n && bordersRight bs s n m
 
 abbrev pub decisionsRight : Board → Bool
 decisionsRight b = decisionsIn (b .height) (b .width) (b .borders) (b .stack) (b .count)

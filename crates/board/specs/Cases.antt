@@ -14,9 +14,9 @@ use Rattle.rules.specs.Codes.{codeOf}
 use Rattle.board.specs.declared.Board.{Board}
 use Rattle.board.specs.declared.Outcome.the-variants.{Done, Size, Ragged, Colour, Clue}
 use Rattle.board.specs.declared.Outcome.the-variants.{Alien, Border, Taken, Bare}
-use Rattle.board.specs.Alien.{sizeRight, coloursRight, cluesRight, stackRight, borderRight, bordersRight}
-use Rattle.board.specs.Alien.{bordersBy, Marks, zerosFrom, zeroCluesFrom, cellsIn, cellsRight, decisionsIn}
-use Rattle.board.specs.Alien.{decisionsRight, unusedIn, unusedZero, isAlien}
+use Rattle.board.specs.Alien.{sizeRight, coloursRight, cluesRight, entriesRight, onceEach, borderRight}
+use Rattle.board.specs.Alien.{bordersRight, bordersBy, Marks, zerosFrom, zeroCluesFrom, cellsIn, cellsRight}
+use Rattle.board.specs.Alien.{decisionsIn, decisionsRight, unusedIn, unusedZero, isAlien}
 use Rattle.board.specs.Board.{zeroBoard, freshBoard, returned, freshOf, pushed, popped, decideOf, undoOf}
 
 -- ---- the alien test
@@ -53,17 +53,22 @@ module _ (h w : ℕ) (bs st : List ℕ) (count m : ℕ) (p : m ≡ borderCount h
   unfolding decisionsIn
   decisions-many t = rw (← p, lt-leb count m t)
 
-  pub decisions-stack : count ≤ m → stackRight st m count ≡ false → false ≡ decisionsIn h w bs st count
+  pub decisions-entries : count ≤ m → entriesRight st m count ≡ false → false ≡ decisionsIn h w bs st count
   unfolding decisionsIn
-  decisions-stack t u = rw (← p, le-leb count m t, u)
+  decisions-entries t u = rw (← p, le-leb count m t, u)
 
-  pub decisions-borders : (vs : List Bool) (a : Bool) → count ≤ m → m ≤ 1984 → Marks st m count true vs
-      → a ≡ bordersBy bs vs m → a ≡ decisionsIn h w bs st count
+  pub decisions-twice : count ≤ m → entriesRight st m count ≡ true → onceEach st count ≡ false
+      → false ≡ decisionsIn h w bs st count
+  unfolding decisionsIn
+  decisions-twice t u v = rw (← p, le-leb count m t, u, v)
+
+  pub decisions-borders : (vs : List Bool) (a : Bool) → count ≤ m → m ≤ 1984 → entriesRight st m count ≡ true
+      → Marks st count true vs → a ≡ bordersBy bs vs m → a ≡ decisionsIn h w bs st count
   unfolding decisionsIn bordersBy bordersRight
-  decisions-borders vs a t l u e =
+  decisions-borders vs a t l r u e =
       e
-      ∙ all-cong m _ _ (λ x k. ap (λ (v : Bool). borderRight (getD bs x 0) v) (u .marked refl x (omega arith)))
-      ∙ rw (← p, le-leb count m t, ← (u .tells))
+      ∙ all-cong m _ _ (λ x k. ap (λ (v : Bool). borderRight (getD bs x 0) v) (u .marked x (omega arith)))
+      ∙ rw (← p, le-leb count m t, r, ← (u .tells))
 
 module _ (b : Board) where
   pub alien-size : sizeRight (b .height) (b .width) ≡ false → true ≡ isAlien b

@@ -1,20 +1,20 @@
 -- Laws of the conditions: a page's size and its counts, and what a run over the stack finds.
 use mathlib.Core.Path.{_≡_, refl, ap, sym, _∙_}
-use mathlib.Core.Bool.{Bool, true, false, cond, not, _&&_, _||_, false≢true, or-true, or-false}
+use mathlib.Core.Bool.{Bool, true, false, cond, not, _&&_, _||_, or-true, or-false}
 use mathlib.Core.List.{List}
 use Prim.Native.Nat.{ℕ, _+_, _*_, _<_, _≤_}
 use native.Mathlib.Decide.{ℕ-discrete}
 use native.Mathlib.Omega.{arith}
-use borrow.Author.Tests.{leb-true, le-leb, lt-leb, le-ltb, eq-eqb, ne-eqb}
-use lib.Dec.{leb, eqb}
+use borrow.Author.Tests.{leb-true, le-leb, lt-leb, ltb-true, eq-eqb, ne-eqb}
+use lib.Dec.{leb, ltb, eqb}
 use lib.ListN.{length, getD, set}
 use lib.Seq.{getD-set-same, getD-set-other}
-use Rattle.lists.specs.Tests.{and-left, and-right, allBelow, any-none, any-more, all-fails, all-end}
+use Rattle.lists.specs.Tests.{and-left, and-right, any-none, any-more, all-at}
 use Rattle.rules.specs.declared.Side.the-variants.{Open}
 use Rattle.rules.specs.Page.{undecided, decided, isUndecided}
 use Rattle.rules.specs.Flat.{Sized, borderCount}
 use Rattle.rules.specs.FlatLaws.{borders-le}
-use Rattle.board.specs.Alien.{sizeRight, cellsOf, bordersOf, entryRight, stacked, stackRight, borderRight, Marks}
+use Rattle.board.specs.Alien.{sizeRight, cellsOf, bordersOf, stacked, entriesRight, borderRight}
 use Rattle.board.specs.View.{isFree}
 
 pub sized : {h w : ℕ} → sizeRight h w ≡ true → Sized h w
@@ -76,27 +76,10 @@ marks-more s vs i e p k l v x h = go (ℕ-discrete x e) ∙ sym (stacked-more s 
         (ap (λ (t : Bool). stacked s i x || t) (ne-eqb (getD s i 0) x (λ z. d (sym (p ∙ z))))
         ∙ or-false (stacked s i x))
 
--- the test of entry i by its mark is that of `stackRight`
-pub entry-is : (s : List ℕ) (m i e : ℕ) (v a : Bool) → e ≡ getD s i 0 → v ≡ stacked s i e → a ≡ entryRight e m v
-    → entryRight (getD s i 0) m (stacked s i (getD s i 0)) ≡ a
-entry-is s m i e v a p q r =
-    sym (r ∙ ap (λ t. entryRight e m t) q ∙ ap (λ t. entryRight t m (stacked s i t)) p)
-
-pub marks-wrong : (s : List ℕ) (vs : List Bool) (m n i : ℕ) → i < n
-    → entryRight (getD s i 0) m (stacked s i (getD s i 0)) ≡ false → Marks s m n false vs
-unfolding stackRight
-marks-wrong s vs m n i l e = record { tells = sym (all-fails n _ i l e); marked = λ z. absurd (false≢true z) }
-
-pub marks-far : (s : List ℕ) (vs : List Bool) (m n i : ℕ) → i < n → m ≤ 1984 → 1984 ≤ getD s i 0 → Marks s m n false vs
-marks-far s vs m n i l k h = marks-wrong s vs m n i l (rw (le-ltb (getD s i 0) m (omega arith)))
-
-pub marks-done : (s : List ℕ) (vs : List Bool) (m n i : ℕ) → i ≤ n → n ≤ i
-    → allBelow i (λ j. entryRight (getD s j 0) m (stacked s j (getD s j 0))) ≡ true
-    → ((x : ℕ) → x < 1984 → getD vs x false ≡ stacked s i x) → Marks s m n true vs
-unfolding stackRight
-marks-done s vs m n i l k e v =
-    let q : i ≡ n = omega arith in
-    record { tells = sym (all-end i n _ l k e); marked = λ _ x w. v x w ∙ ap (λ t. stacked s t x) q }
+-- entries that are right are places of the marks
+pub entries-low : (s : List ℕ) (m n : ℕ) → entriesRight s m n ≡ true → m ≤ 1984 → (i : ℕ) → i < n → getD s i 0 < 1984
+unfolding entriesRight
+entries-low s m n e h i l = omega (arith, ltb-true (getD s i 0) m (all-at n (λ j. ltb (getD s j 0) m) i e l))
 
 -- ---- a border place
 pub border-undecided : (v : ℕ) (on : Bool) → v ≡ 0 → not on ≡ borderRight v on

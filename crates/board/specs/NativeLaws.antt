@@ -16,8 +16,8 @@ use Rattle.rules.specs.Flat.{Sized, borderCount}
 use Rattle.rules.specs.FlatLaws.{borders-le}
 use Rattle.board.specs.declared.Board.{Board}
 use Rattle.board.specs.ListExtras.{from-at, from-every}
-use Rattle.board.specs.Alien.{sizeRight, coloursRight, clueRight, cluesRight, stacked, stackRight, bordersRight}
-use Rattle.board.specs.Alien.{entryRight, borderRight, zerosFrom, clueZero, zeroCluesFrom, cellsIn}
+use Rattle.board.specs.Alien.{sizeRight, coloursRight, clueRight, cluesRight, stacked, entriesRight, onceEach}
+use Rattle.board.specs.Alien.{borderRight, bordersRight, zerosFrom, clueZero, zeroCluesFrom, cellsIn}
 use Rattle.board.specs.Alien.{cellsRight, decisionsIn, decisionsRight, unusedIn, unusedZero, isAlien}
 use Rattle.board.specs.ConditionLaws.{sized, size-is, stacked-none, stacked-more}
 
@@ -89,27 +89,24 @@ module _ (b : Board) where
 
   has-cells : sizeRight (b .height) (b .width) ≡ true → cellsRight b ≡ true → decisionsRight b ≡ true
       → unusedZero b ≡ true → Native b
-  unfolding cellsIn decisionsIn unusedIn coloursRight cluesRight stackRight bordersRight cells m
+  unfolding cellsIn decisionsIn unusedIn coloursRight cluesRight entriesRight onceEach bordersRight cells m
   has-cells s c d u =
       let few : Bool = leb (b .count) m in
-      let stack : Bool = stackRight (b .stack) m (b .count) in
+      let entries : Bool = entriesRight (b .stack) m (b .count) in
+      let once : Bool = onceEach (b .stack) (b .count) in
       let borders : Bool = bordersRight (b .borders) (b .stack) (b .count) m in
       let zc : Bool = zerosFrom (b .colours) cells in
       let zk : Bool = zeroCluesFrom (b .clues) cells in
       let zb : Bool = zerosFrom (b .borders) m in
       let zs : Bool = zerosFrom (b .stack) (b .count) in
-      let d₂ = and-left (few && stack) borders d in
+      let d₃ = and-left (few && entries && once) borders d in
+      let d₂ = and-left (few && entries) once d₃ in
       let u₃ = and-left (zc && zk && zb) zs u in
       let u₂ = and-left (zc && zk) zb u₃ in
-      let entry : (i : ℕ) → i < b .count
-      → ltb (getD (b .stack) i 0) m && not (stacked (b .stack) i (getD (b .stack) i 0)) ≡ true =
-      λ i h.
-      all-at (b .count) (λ j. entryRight (getD (b .stack) j 0) m (stacked (b .stack) j (getD (b .stack) j 0))) i
-      (and-right few stack d₂) h in
       let border : (x : ℕ) → x < m → leb (getD (b .borders) x 0) 2
       && Bool·beq (eqb (getD (b .borders) x 0) 0) (not (stacked (b .stack) (b .count) x)) ≡ true =
       λ x h. all-at m (λ y. borderRight (getD (b .borders) y 0) (stacked (b .stack) (b .count) y)) x
-      (and-right (few && stack) borders d) h in
+      (and-right (few && entries && once) borders d) h in
       record {
         size = sized s;
         colour =
@@ -119,12 +116,14 @@ module _ (b : Board) where
         clue =
             λ i h. all-at cells (λ j. clueRight (getD (b .clues) j (pos 0))) i
             (and-right (coloursRight (b .colours) cells) (cluesRight (b .clues) cells) c) h;
-        few = leb-true (b .count) m (and-left few stack d₂);
-        entry = λ i h. ltb-true (getD (b .stack) i 0) m (and-left _ _ (entry i h));
+        few = leb-true (b .count) m (and-left few entries d₂);
+        entry =
+            λ i h. ltb-true (getD (b .stack) i 0) m
+            (all-at (b .count) (λ j. ltb (getD (b .stack) j 0) m) i (and-right few entries d₂) h);
         once =
-            λ i h.
-            not-true (stacked (b .stack) i (getD (b .stack) i 0))
-            (and-right (ltb (getD (b .stack) i 0) m) _ (entry i h));
+            λ i h. not-true (stacked (b .stack) i (getD (b .stack) i 0))
+            (all-at (b .count) (λ j. not (stacked (b .stack) j (getD (b .stack) j 0))) i
+            (and-right (few && entries) once d₃) h);
         code = λ x h. leb-true (getD (b .borders) x 0) 2 (and-left _ _ (border x h));
         held =
             λ x h. beq-true (eqb (getD (b .borders) x 0) 0) (not (stacked (b .stack) (b .count) x))
@@ -158,12 +157,13 @@ module _ (b : Board) where
         )
 
     decisions-hold : decisionsRight b ≡ true
-    unfolding decisionsIn stackRight bordersRight m
+    unfolding decisionsIn entriesRight onceEach bordersRight m
     decisions-hold =
         rw (
           le-leb (b .count) m (N .few),
-          all-every (b .count) (λ i. entryRight (getD (b .stack) i 0) m (stacked (b .stack) i (getD (b .stack) i 0)))
-              (λ i h. rw (lt-ltb (getD (b .stack) i 0) m (N .entry i h), N .once i h)),
+          all-every (b .count) (λ i. ltb (getD (b .stack) i 0) m)
+              (λ i h. lt-ltb (getD (b .stack) i 0) m (N .entry i h)),
+          all-every (b .count) (λ i. not (stacked (b .stack) i (getD (b .stack) i 0))) (λ i h. rw (N .once i h)),
           all-every m (λ x. borderRight (getD (b .borders) x 0) (stacked (b .stack) (b .count) x))
               (λ x h.
               rw (le-leb (getD (b .borders) x 0) 2 (N .code x h), N .held x h)

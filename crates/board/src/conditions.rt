@@ -1,10 +1,10 @@
 // The conditions that a board's places are tested by.
 ghost use mathlib.Core.Path.{_≡_};
 ghost use mathlib.Core.Bool.{false};
-ghost use Prim.Native.Nat.{_≤_};
+ghost use Prim.Native.Nat.{ℕ, _<_, _≤_};
 ghost use lib.Dec.{eqb};
-ghost use lib.ListN.{length, replicate};
-ghost use Rattle.board.specs.Alien.{sizeRight, coloursRight, clueRight, cluesRight, entryRight, Marks};
+ghost use lib.ListN.{length, getD, replicate};
+ghost use Rattle.board.specs.Alien.{sizeRight, coloursRight, clueRight, cluesRight, entriesRight, Marks};
 ghost use Rattle.board.specs.Alien.{borderRight, bordersBy, zerosFrom, clueZero, zeroCluesFrom};
 use crate::Board;
 
@@ -33,9 +33,7 @@ pub fn colours_right(colours: &[u8], n: usize) -> bool
     let mut right = true;
     let mut i: usize = 0;
     while i < n {
-        if colours[i] > 1 {
-            right = false;
-        }
+        right = right & (colours[i] <= 1);
         i += 1;
     }
     right
@@ -56,9 +54,7 @@ pub fn clues_right(clues: &[i32], n: usize) -> bool
     let mut right = true;
     let mut i: usize = 0;
     while i < n {
-        if !clue_right(clues[i]) {
-            right = false;
-        }
+        right = right & clue_right(clues[i]);
         i += 1;
     }
     right
@@ -71,37 +67,41 @@ pub fn wide(x: u16) -> usize
     x as usize
 }
 
-// Whether e is one of so many borders, and no earlier entry is the same.
-fn entry_right(e: usize, borders: usize, seen: bool) -> bool
-    ensures { λ r. ⌜ r ≡ entryRight e borders seen ⌝ }
+// Whether the first count entries are numbers of so many borders. They are compared as numbers of 16 bits, of which the
+// loop takes many at a time.
+pub fn entries_right(stack: &[u16; Board::BORDER_LIMIT], borders: usize, count: usize) -> bool
+    requires { ⌜ (borders ≤ 1984) × (count ≤ 1984) ⌝ }
+    ensures { λ r. ⌜ r ≡ entriesRight (now (stack .entry)) borders count ⌝ }
 {
-    if e < borders { !seen } else { false }
+    let end = borders as u16;
+    let mut right = true;
+    let mut i: usize = 0;
+    while i < count {
+        right = right & (stack[i] < end);
+        i += 1;
+    }
+    right
 }
 
-// Whether the first count entries are right; marks which borders they are.
+// Whether none of the first count entries is an earlier one; marks which borders they are.
 pub fn mark_stack(
     stack: &[u16; Board::BORDER_LIMIT],
-    borders: usize,
     count: usize,
     seen: &mut [bool; Board::BORDER_LIMIT],
 ) -> bool
-    requires { ⌜ (borders ≤ 1984) × (count ≤ borders) × (now seen ≡ replicate 1984 false) ⌝ }
-    ensures { λ r. ⌜ Marks (now (stack .entry)) borders count r (now (seen .exit)) ⌝ }
+    requires { ⌜ (count ≤ 1984) × ((i : ℕ) → i < count → getD (now stack) i 0 < 1984)
+        × (now seen ≡ replicate 1984 false) ⌝ }
+    ensures { λ r. ⌜ Marks (now (stack .entry)) count r (now (seen .exit)) ⌝ }
 {
+    let mut once = true;
     let mut i: usize = 0;
     while i < count {
         let e = wide(stack[i]);
-        if e >= Board::BORDER_LIMIT {
-            return false;
-        }
-        if entry_right(e, borders, seen[e]) {
-            seen[e] = true;
-            i += 1;
-        } else {
-            return false;
-        }
+        once = once & !seen[e];
+        seen[e] = true;
+        i += 1;
     }
-    true
+    once
 }
 
 // Whether v is undecided, wall or open, and decided exactly if on the stack.
@@ -144,30 +144,26 @@ pub fn borders_right<'a>(
 pub fn zeros_from(places: &[u8], from: usize) -> bool
     ensures { λ r. ⌜ r ≡ zerosFrom (now (places .entry)) from ⌝ }
 {
-    let mut zero = true;
+    let mut any: u8 = 0;
     let mut i = from;
     while i < places.len() {
-        if places[i] != 0 {
-            zero = false;
-        }
+        any = any | places[i];
         i += 1;
     }
-    zero
+    any == 0
 }
 
 // Whether the stack entries from a place on are 0.
 pub fn zero_entries_from(places: &[u16], from: usize) -> bool
     ensures { λ r. ⌜ r ≡ zerosFrom (now (places .entry)) from ⌝ }
 {
-    let mut zero = true;
+    let mut any: u16 = 0;
     let mut i = from;
     while i < places.len() {
-        if places[i] != 0 {
-            zero = false;
-        }
+        any = any | places[i];
         i += 1;
     }
-    zero
+    any == 0
 }
 
 // Whether k is 0.
@@ -184,9 +180,7 @@ pub fn zero_clues_from(places: &[i32], from: usize) -> bool
     let mut zero = true;
     let mut i = from;
     while i < places.len() {
-        if !clue_zero(places[i]) {
-            zero = false;
-        }
+        zero = zero & clue_zero(places[i]);
         i += 1;
     }
     zero

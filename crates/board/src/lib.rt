@@ -134,16 +134,16 @@ fn decisions_right<'a>(
     ensures { λ r. ⌜ r ≡ decisionsIn h w (now (borders .entry)) (now (stack .entry)) count ⌝ }
 {
     let total = border_count(h, w);
-    if count <= total {
-        let mut seen = [false; Board::BORDER_LIMIT];
-        if conditions::mark_stack(stack, total, count, &mut seen) {
-            conditions::borders_right(borders, &seen, total)
-        } else {
-            false
-        }
-    } else {
-        false
+    if total < count {
+        return false;
     }
+    if conditions::entries_right(stack, total, count) {
+        let mut seen = [false; Board::BORDER_LIMIT];
+        if conditions::mark_stack(stack, count, &mut seen) {
+            return conditions::borders_right(borders, &seen, total);
+        }
+    }
+    false
 }
 
 // Whether every unused place is 0.

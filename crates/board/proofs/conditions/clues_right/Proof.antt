@@ -1,17 +1,15 @@
 -- `clues_right` meets its contract. The loop's invariant: `right` says whether the clues before i are right.
-use mathlib.Core.Logic.{⊎-elim}
-use mathlib.Core.Path.{_≡_, sym, _∙_}
-use Prim.Native.Nat.{_+_, _-_, _≤_}
+use mathlib.Core.Path.{_≡_, sym}
+use Prim.Native.Nat.{_-_, _≤_}
 use native.Mathlib.Omega.{arith}
 use borrow.Author.Needs.{needs, sfits-of}
-use borrow.Author.Tests.{not-true, not-false}
 use lib.IntN.{pos}
 use lib.ListN.{getD}
 use mir.Facts.{toZ-ofZ}
 use mir.Syntax.{w32}
-use Rattle.lists.specs.Tests.{all-fails, all-none, allBelow}
+use Rattle.lists.specs.Tests.{all-none, allBelow}
 use Rattle.board.specs.Alien.{clueRight, cluesRight}
-use Rattle.board.specs.ListExtras.{all-yes, all-stop}
+use Rattle.board.specs.ListExtras.{all-and, all-stop}
 use Rattle.board.proofs.conditions.clues_right.Statement.{statement}
 use Rattle.board.proofs.conditions.clues_right.Tie as tie
 
@@ -41,23 +39,10 @@ loop-less c = omega arith
 
 loop-again : tie.Need-loop-again Inv-loop μ-loop
 loop-again c =
-    let c₁ = c .before .before .before .before in
-    let r = c₁ .loop in
-    let k = c .before .clue-right in
-    let z = getD (c₁ .before .args .clues .now) (r .i) (pos 0) in
-    let e = toZ-ofZ {w = w32} {z = z} (sfits-of (c .before .before .clue-right-arg .given)) in (
-      omega arith,
-      ⊎-elim
-          (λ w.
-          w .1
-          ∙ sym
-          (all-fails (r .i + 1) _ (r .i) (omega arith)
-          (simp e at (sym (k .ensures) ∙ not-true (k .result) (w .0 .taken)))))
-          (λ w.
-          w .1
-          ∙ all-yes (r .i) _ _ (r .inv .1) (simp e at (sym (k .ensures) ∙ not-false (k .result) (w .0 .left))))
-          (c .if1 .came),
-    )
+    let r = c .before .before .before .loop in
+    let z = getD (c .before .before .before .before .args .clues .now) (r .i) (pos 0) in
+    let e = toZ-ofZ {w = w32} {z = z} (sfits-of (c .before .clue-right-arg .given)) in
+    (omega arith, all-and (r .i) _ (r .right) _ (r .inv .1) (simp e at (c .clue-right .ensures)))
 
 returns : tie.Need-returns Inv-loop μ-loop
 unfolding cluesRight

@@ -1,15 +1,13 @@
 -- `colours_right` meets its contract. The loop's invariant: `right` says whether the colours before i are right.
-use mathlib.Core.Logic.{⊎-elim}
-use mathlib.Core.Path.{_≡_, sym, _∙_}
-use Prim.Native.Nat.{_+_, _-_, _≤_}
+use mathlib.Core.Path.{_≡_, refl, sym}
+use Prim.Native.Nat.{_-_, _≤_}
 use native.Mathlib.Omega.{arith}
 use borrow.Author.Needs.{needs}
-use borrow.Author.Tests.{le-leb, lt-leb}
 use lib.Dec.{leb}
 use lib.ListN.{getD}
-use Rattle.lists.specs.Tests.{all-fails, all-none, allBelow}
+use Rattle.lists.specs.Tests.{all-none, allBelow}
 use Rattle.board.specs.Alien.{coloursRight}
-use Rattle.board.specs.ListExtras.{all-yes, all-stop}
+use Rattle.board.specs.ListExtras.{all-and, all-stop}
 use Rattle.board.proofs.conditions.colours_right.Statement.{statement}
 use Rattle.board.proofs.conditions.colours_right.Tie as tie
 
@@ -22,8 +20,8 @@ abbrev μ-loop : tie.MeasureT-loop
 loop-holds : tie.Need-loop-holds Inv-loop μ-loop
 loop-holds c = (search needs, sym (all-none _))
 
-shared-slice-read-if1 : tie.Need-shared-slice-read-if1 Inv-loop μ-loop
-shared-slice-read-if1 c = search needs
+shared-slice-read-right : tie.Need-shared-slice-read-right Inv-loop μ-loop
+shared-slice-read-right c = search needs
 
 add-i : tie.Need-add-i Inv-loop μ-loop
 add-i c = omega arith
@@ -32,14 +30,7 @@ loop-less : tie.Need-loop-less Inv-loop μ-loop
 loop-less c = omega arith
 
 loop-again : tie.Need-loop-again Inv-loop μ-loop
-loop-again c =
-    let r = c .before .before .before .loop in (
-      omega arith,
-      ⊎-elim
-          (λ w. w .1 ∙ sym (all-fails (r .i + 1) _ (r .i) (omega arith) (lt-leb _ _ (w .0 .taken))))
-          (λ w. w .1 ∙ all-yes (r .i) _ _ (r .inv .1) (le-leb _ _ (w .0 .left)))
-          (c .if1 .came),
-    )
+loop-again c = let r = c .before .before .loop in (omega arith, all-and (r .i) _ (r .right) _ (r .inv .1) refl)
 
 returns : tie.Need-returns Inv-loop μ-loop
 unfolding coloursRight
@@ -48,4 +39,4 @@ returns c = let r = c .before .loop in all-stop (r .i) _ _ _ (r .inv .1) (omega 
 pub colours-right-spec : {M : Type 1} → statement M
 colours-right-spec =
     tie.close
-    (tie.spec Inv-loop μ-loop loop-holds shared-slice-read-if1 add-i loop-less loop-again returns)
+    (tie.spec Inv-loop μ-loop loop-holds shared-slice-read-right add-i loop-less loop-again returns)

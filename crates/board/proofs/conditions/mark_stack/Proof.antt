@@ -1,31 +1,34 @@
--- `mark_stack` meets its contract. The loop's invariant: the entries before i are right, and exactly they are marked.
-use mathlib.Core.Bool.{Bool, false, true}
-use mathlib.Core.Path.{_∙_, _≡_, sym}
+-- `mark_stack` meets its contract. The loop's invariant: `once` says whether none of the entries before i is an earlier
+-- one, and exactly they are marked.
+use mathlib.Core.Bool.{Bool, false, not}
+use mathlib.Core.Path.{_∙_, _≡_, sym, ap}
 use Prim.Native.Nat.{_-_, _<_, _≤_, ℕ}
 use native.Mathlib.Omega.{arith}
 use borrow.Author.Needs.{needs}
 use lib.ListN.{getD, getD-replicate, length, length-replicate, length-set}
-use Rattle.lists.specs.Tests.{all-more, all-none, allBelow}
-use Rattle.board.specs.Alien.{entryRight, stacked}
-use Rattle.board.specs.ConditionLaws.{entry-is, marks-done, marks-far, marks-more, marks-wrong, stacked-none}
+use Rattle.lists.specs.Tests.{all-none}
+use Rattle.board.specs.Alien.{stacked, onceEach}
+use Rattle.board.specs.ListExtras.{all-and}
+use Rattle.board.specs.ConditionLaws.{marks-more, stacked-none}
 use Rattle.board.proofs.conditions.mark_stack.Statement.{statement}
 use Rattle.board.proofs.conditions.mark_stack.Tie as tie
 
 abbrev Inv-loop : tie.InvT-loop
-Inv-loop stack borders count seen₀ i₀ seen i =
+Inv-loop stack count seen₀ once₀ i₀ seen once i =
     (i ≤ count)
-    × (allBelow i (λ j. entryRight (getD stack j 0) borders (stacked stack j (getD stack j 0))) ≡ true)
+    × (once ≡ onceEach stack i)
     × (length seen ≡ 1984)
     × ((x : ℕ) → x < 1984 → getD seen x false ≡ stacked stack i x)
 
 abbrev μ-loop : tie.MeasureT-loop
-μ-loop stack borders count seen₀ i₀ seen i = count - i
+μ-loop stack count seen₀ once₀ i₀ seen once i = count - i
 
 loop-holds : tie.Need-loop-holds Inv-loop μ-loop
+unfolding onceEach
 loop-holds c =
     let e = c .pre .2 in (
       search needs,
-      all-none _,
+      sym (all-none _),
       rw e (length-replicate {A = Bool} 1984 false),
       λ x l. rw e (getD-replicate 1984 x false false l ∙ sym (stacked-none _ x)),
     )
@@ -39,19 +42,17 @@ element-copy-out-wide c = search needs
 wide-requires : tie.Need-wide-requires Inv-loop μ-loop
 wide-requires c κs = tt
 
-returns : tie.Need-returns Inv-loop μ-loop
-returns c =
-    let e = c .before .wide .ensures in
-    marks-far _ _ _ _ (c .before .before .before .before .loop .i) (omega arith) (omega arith) (omega arith)
+-- an entry is a border's number
+small : (c : tie.After-wide Inv-loop μ-loop) → c .wide .result < 1984
+small c =
+    let d = c .before .before .before in
+    omega (arith, c .wide .ensures, d .before .pre .1 (d .loop .i) (c .before .before .loop-test .taken))
 
-element-copy-out-entry-right : tie.Need-element-copy-out-entry-right Inv-loop μ-loop
-element-copy-out-entry-right c = search needs
-
-entry-right-requires : tie.Need-entry-right-requires Inv-loop μ-loop
-entry-right-requires c κs = tt
+element-copy-out-once : tie.Need-element-copy-out-once Inv-loop μ-loop
+element-copy-out-once c = small c
 
 element-write-seen : tie.Need-element-write-seen Inv-loop μ-loop
-element-write-seen c = search needs
+element-write-seen c = small (c .before)
 
 add-i : tie.Need-add-i Inv-loop μ-loop
 add-i c = omega arith
@@ -60,29 +61,28 @@ loop-less : tie.Need-loop-less Inv-loop μ-loop
 loop-less c = omega arith
 
 loop-again : tie.Need-loop-again Inv-loop μ-loop
+unfolding onceEach
 loop-again c =
-    let r = c .before .before .before .before .before .before .before .loop in
-    let w = c .before .before .before .before .wide in
+    let r = c .before .before .before .before .loop in
+    let s = c .before .before .before .before .before .args .stack .now in
+    let w = c .before .wide in
     let e = w .ensures in (
       omega arith,
-      all-more (r .i) _ (r .inv .1)
-          (entry-is _ _ (r .i) (w .result) _ true e (r .inv .3 _ (omega arith))
-          (sym (c .if2 .taken) ∙ c .before .entry-right .ensures)),
+      all-and (r .i) _ (r .once) _ (r .inv .1)
+          (ap not (r .inv .3 (w .result) (small (c .before)) ∙ ap (stacked s (r .i)) e)),
       simp length-set (r .inv .2),
-      marks-more _ (r .seen) (r .i) _ e (omega arith) (r .inv .2) (r .inv .3),
+      marks-more _ (r .seen) (r .i) _ e (small (c .before)) (r .inv .2) (r .inv .3),
     )
 
-returns-2 : tie.Need-returns-2 Inv-loop μ-loop
-returns-2 c =
-    let r = c .before .before .before .before .before .before .before .loop in
-    let w = c .before .before .before .before .wide in
-    marks-wrong _ _ _ _ (r .i) (omega arith)
-    (entry-is _ _ (r .i) (w .result) _ false (w .ensures) (r .inv .3 _ (omega arith))
-    (sym (c .if2 .left) ∙ c .before .entry-right .ensures))
-
-returns-3 : tie.Need-returns-3 Inv-loop μ-loop
-returns-3 c = marks-done _ _ _ _ (c .before .loop .i) (omega arith) (omega arith) (c .before .loop .inv .1)
-    (c .before .loop .inv .3)
+returns : tie.Need-returns Inv-loop μ-loop
+returns c =
+    let r = c .before .loop in
+    let s = c .before .before .args .stack .now in
+    let q : r .i ≡ c .before .before .args .count = omega arith in
+    record {
+      tells = r .inv .1 ∙ ap (onceEach s) q;
+      marked = λ x l. r .inv .3 x l ∙ ap (λ n. stacked s n x) q;
+    }
 
 pub mark-stack-spec : {M : Type 1} → statement M
 mark-stack-spec =
@@ -94,12 +94,9 @@ mark-stack-spec =
     mul-wide
     element-copy-out-wide
     wide-requires
-    returns
-    element-copy-out-entry-right
-    entry-right-requires
+    element-copy-out-once
     element-write-seen
     add-i
     loop-less
     loop-again
-    returns-2
-    returns-3)
+    returns)

@@ -1,8 +1,6 @@
 -- `zero_clues_from` meets its contract. The loop's invariant: `zero` says whether the clues from the first to i are 0.
-use borrow.Author.Tests.{not-true, not-false}
-use mathlib.Core.Logic.{⊎-elim}
 use mathlib.Core.Path.{_≡_, sym, _∙_}
-use Prim.Native.Nat.{_+_, _-_, _≤_}
+use Prim.Native.Nat.{_-_, _≤_}
 use native.Mathlib.Omega.{arith}
 use borrow.Author.Needs.{needs, sfits-of}
 use lib.IntN.{pos}
@@ -10,7 +8,7 @@ use lib.ListN.{getD, length}
 use mir.Facts.{toZ-ofZ}
 use mir.Syntax.{w32}
 use Rattle.board.specs.Alien.{clueZero, zeroCluesFrom}
-use Rattle.board.specs.ListExtras.{allFrom, from-none, from-yes, from-fails, from-stop}
+use Rattle.board.specs.ListExtras.{allFrom, from-none, from-and, from-stop}
 use Rattle.board.proofs.conditions.zero_clues_from.Statement.{statement}
 use Rattle.board.proofs.conditions.zero_clues_from.Tie as tie
 
@@ -41,22 +39,12 @@ loop-less c = omega arith
 
 loop-again : tie.Need-loop-again Inv-loop μ-loop
 loop-again c =
-    let c₁ = c .before .before .before .before in
-    let z = getD (c₁ .before .args .places .now) (c₁ .loop .i) (pos 0) in
-    let e = toZ-ofZ {w = w32} {z = z} (sfits-of (c .before .before .clue-zero-arg .given)) in (
+    let r = c .before .before .before .loop in
+    let z = getD (c .before .before .before .before .args .places .now) (r .i) (pos 0) in
+    let e = toZ-ofZ {w = w32} {z = z} (sfits-of (c .before .clue-zero-arg .given)) in (
       omega arith,
       omega arith,
-      ⊎-elim
-          (λ w.
-          w .1
-          ∙ sym
-          (from-fails _ (c₁ .loop .i + 1) _ (c₁ .loop .i) (omega arith) (omega arith)
-          (simp e at (sym (c .before .clue-zero .ensures) ∙ not-true (c .before .clue-zero .result) (w .0 .taken)))))
-          (λ w.
-          w .1
-          ∙ from-yes _ (c₁ .loop .i) _ _ (c₁ .loop .inv .2)
-          (simp e at (sym (c .before .clue-zero .ensures) ∙ not-false (c .before .clue-zero .result) (w .0 .left))))
-          (c .if1 .came),
+      from-and _ (r .i) _ (r .zero) _ (r .inv .2) (simp e at (c .clue-zero .ensures)) (r .inv .0),
     )
 
 returns : tie.Need-returns Inv-loop μ-loop

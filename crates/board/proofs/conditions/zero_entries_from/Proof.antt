@@ -1,32 +1,30 @@
--- `zero_entries_from` meets its contract. The loop's invariant: `zero` says whether those before i are 0.
-use mathlib.Core.Logic.{⊎-elim}
-use mathlib.Core.Path.{_≡_, sym, _∙_}
-use Prim.Native.Nat.{_+_, _-_, _≤_}
+-- `zero_entries_from` meets its contract. The invariant: `any` is 0 exactly if the places from the first to i are.
+use mathlib.Core.Path.{_≡_, refl, sym, _∙_}
+use Prim.Native.Nat.{_-_, _≤_}
 use native.Mathlib.Omega.{arith}
 use borrow.Author.Needs.{needs}
-use borrow.Author.Tests.{eq-eqb, ne-eqb}
 use lib.Dec.{eqb}
 use lib.ListN.{getD, length}
 use Rattle.board.specs.Alien.{zerosFrom}
-use Rattle.board.specs.ListExtras.{allFrom, from-none, from-yes, from-fails, from-stop}
+use Rattle.board.specs.ListExtras.{allFrom, from-none, from-or, from-stop}
 use Rattle.board.proofs.conditions.zero_entries_from.Statement.{statement}
 use Rattle.board.proofs.conditions.zero_entries_from.Tie as tie
 
 abbrev Inv-loop : tie.InvT-loop
-Inv-loop places from zero₀ i₀ zero i =
-    (from ≤ i) × (i - from ≤ length places - from) × (zero ≡ allFrom from i (λ x. eqb (getD places x 0) 0))
+Inv-loop places from any₀ i₀ any i =
+    (from ≤ i) × (i - from ≤ length places - from) × (eqb any 0 ≡ allFrom from i (λ x. eqb (getD places x 0) 0))
 
 abbrev μ-loop : tie.MeasureT-loop
-μ-loop places from zero₀ i₀ zero i = length places - i
+μ-loop places from any₀ i₀ any i = length places - i
 
 loop-holds : tie.Need-loop-holds Inv-loop μ-loop
 loop-holds c = (search needs, omega arith, sym (from-none _ _ _ (omega arith)))
 
-mul-if1 : tie.Need-mul-if1 Inv-loop μ-loop
-mul-if1 c = omega arith
+mul-any : tie.Need-mul-any Inv-loop μ-loop
+mul-any c = omega arith
 
-shared-slice-read-if1 : tie.Need-shared-slice-read-if1 Inv-loop μ-loop
-shared-slice-read-if1 c = search needs
+shared-slice-read-any : tie.Need-shared-slice-read-any Inv-loop μ-loop
+shared-slice-read-any c = search needs
 
 add-i : tie.Need-add-i Inv-loop μ-loop
 add-i c = omega arith
@@ -36,14 +34,8 @@ loop-less c = omega arith
 
 loop-again : tie.Need-loop-again Inv-loop μ-loop
 loop-again c =
-    let r = c .before .before .before .loop in (
-      omega arith,
-      omega arith,
-      ⊎-elim
-          (λ w. w .1 ∙ sym (from-fails _ (r .i + 1) _ (r .i) (omega arith) (omega arith) (ne-eqb _ _ (w .0 .taken))))
-          (λ w. w .1 ∙ from-yes _ (r .i) _ _ (r .inv .2) (eq-eqb _ _ (w .0 .left)))
-          (c .if1 .came),
-    )
+    let r = c .before .before .loop in
+    (omega arith, omega arith, from-or _ (r .i) _ (r .any) _ (r .inv .2) refl (r .inv .0))
 
 returns : tie.Need-returns Inv-loop μ-loop
 unfolding zerosFrom
@@ -52,13 +44,4 @@ returns c = let r = c .before .loop in r .inv .2 ∙ from-stop _ (r .i) _ _ (ome
 pub zero-entries-from-spec : {M : Type 1} → statement M
 zero-entries-from-spec =
     tie.close
-    (tie.spec
-    Inv-loop
-    μ-loop
-    loop-holds
-    mul-if1
-    shared-slice-read-if1
-    add-i
-    loop-less
-    loop-again
-    returns)
+    (tie.spec Inv-loop μ-loop loop-holds mul-any shared-slice-read-any add-i loop-less loop-again returns)
