@@ -1,16 +1,17 @@
 -- Board: what making a board, a decide and an undo return, refused ones too.
 --
---   numberOf o     the number of a refusal; 0 where the call is done
---   zeroBoard      the all-zero board
---   freshBoard     the board of a puzzle, every border undecided
---   returned o b   an outcome with a board
---   freshOf        what making a board returns
---   pushed b n v   the board with border n set to v and put on the stack
---   popped b       the board with the last border taken off the stack and made undecided
---   decideOf b l   what a decide returns
---   undoOf b       what an undo returns
---   Small ks       the clues fit 32 bits
---   Typed b        what every value of the code's type Board has
+--   numberOf o       the number of a refusal; 0 where the call is done
+--   zeroBoard        the all-zero board
+--   freshBoard       the board of a puzzle, every border undecided
+--   returned o b     an outcome with a board
+--   freshOf          what making a board returns
+--   pushed b n v     the board with border n set to v and put on the stack
+--   popped b         the board with the last border taken off the stack and made undecided
+--   decideOf b l     what a decide returns
+--   countAfter o n   the count of a board after a decide with the outcome o, where it was n
+--   undoOf b         what an undo returns
+--   Small ks         the clues fit 32 bits
+--   Typed b          what every value of the code's type Board has
 use mathlib.Core.Path.{_≡_}
 use mathlib.Core.Bool.{true, cond, _&&_}
 use mathlib.Core.List.{List}
@@ -118,6 +119,10 @@ decideOf b l =
     (returned Done (pushed b (l .border) (codeOf (l .side))))
     (returned Taken b))
     (returned Border b))
+
+-- one more where the decide is done
+abbrev pub countAfter : Outcome → ℕ → ℕ
+countAfter o n = cond (eqb (numberOf o) 0) (n + 1) n
 
 unfoldable pub undoOf : Board → Returned
 undoOf b = cond (isAlien b) (returned Alien b) (cond (eqb (b .count) 0) (returned Bare b) (returned Done (popped b)))

@@ -18,7 +18,8 @@ use Rattle.rules.specs.Flat.{borderCount}
 use Rattle.rules.specs.Codes.{codeOf}
 use Rattle.board.specs.declared.Board.{Board}
 use Rattle.board.specs.declared.Outcome.{Outcome}
-use Rattle.board.specs.declared.Outcome.the-variants.{Done}
+use Rattle.board.specs.declared.Outcome.the-variants.{Done, Size, Ragged, Colour, Clue}
+use Rattle.board.specs.declared.Outcome.the-variants.{Alien, Border, Taken, Bare, Short}
 use Rattle.board.specs.declared.Returned.{Returned}
 use Rattle.board.specs.Alien.{stacked, isAlien}
 use Rattle.board.specs.Board.{numberOf, returned, pushed, popped, decideOf, undoOf, Typed}
@@ -44,6 +45,22 @@ pub record Undone (b d : Board) : Type 0 where
   pub known : isAlien b ≡ false
   pub some : 0 < b .count
   pub is : d ≡ popped b
+
+-- a call whose number is 0 is done
+done-is : (o : Outcome) → numberOf o ≡ 0 → o ≡ Done
+done-is Done e = refl
+done-is Size e = absurd (let z : 1 ≡ 0 = e in omega arith)
+done-is Ragged e = absurd (let z : 2 ≡ 0 = e in omega arith)
+done-is Colour e = absurd (let z : 3 ≡ 0 = e in omega arith)
+done-is Clue e = absurd (let z : 4 ≡ 0 = e in omega arith)
+done-is Alien e = absurd (let z : 5 ≡ 0 = e in omega arith)
+done-is Border e = absurd (let z : 6 ≡ 0 = e in omega arith)
+done-is Taken e = absurd (let z : 7 ≡ 0 = e in omega arith)
+done-is Bare e = absurd (let z : 8 ≡ 0 = e in omega arith)
+done-is Short e = absurd (let z : 9 ≡ 0 = e in omega arith)
+
+pub done-returned : (r : Returned) → numberOf (r .outcome) ≡ 0 → r ≡ returned Done (r .board)
+done-returned r e = let p = done-is (r .outcome) e in λ i. record { outcome = p i; board = r .board }
 
 -- two returns that are equal have one number
 pub one-number : {o p : Outcome} {b d : Board} → returned o b ≡ returned p d → numberOf o ≡ numberOf p

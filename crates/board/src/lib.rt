@@ -5,7 +5,7 @@ ghost use lib.ListN.{getD};
 ghost use Rattle.rules.specs.Codes.{codeOf};
 ghost use Rattle.rules.specs.Flat.{Sized};
 ghost use Rattle.board.specs.Board.{numberOf, zeroBoard, returned, freshOf};
-ghost use Rattle.board.specs.Board.{pushed, popped, decideOf, undoOf};
+ghost use Rattle.board.specs.Board.{pushed, popped, decideOf, undoOf, countAfter};
 ghost use Rattle.board.specs.Alien.{cellsOf, bordersOf, cellsIn, decisionsIn, unusedIn, boardOf, isAlien};
 ghost use Rattle.board.specs.View.{undecidedOf};
 use rules::Literal;
@@ -203,6 +203,39 @@ pub fn is_alien<'a>(
     } else {
         true
     }
+}
+
+// Decide on a board whose arrays are lent: borders and stack become those of the board after it, and a decide that is
+// done makes the count one more. No board is copied.
+pub fn decide_lent<'a>(
+    h: usize,
+    w: usize,
+    colours: &'a [u8; Board::CELL_LIMIT],
+    clues: &'a [i32; Board::CELL_LIMIT],
+    borders: &mut [u8; Board::BORDER_LIMIT],
+    stack: &mut [u16; Board::BORDER_LIMIT],
+    count: usize,
+    l: Literal,
+) -> Outcome
+    ensures { λ r. ⌜ returned r (boardOf h w (now (colours .entry)) (now (clues .entry)) (now (borders .exit))
+        (now (stack .exit)) (countAfter r count))
+        ≡ decideOf (boardOf h w (now (colours .entry)) (now (clues .entry)) (now (borders .entry))
+        (now (stack .entry)) count) l ⌝ }
+{
+    if is_alien(h, w, colours, clues, borders, stack, count) {
+        return Outcome::Alien;
+    }
+    let n = l.border;
+    if border_count(h, w) <= n {
+        return Outcome::Border;
+    }
+    if borders[n] != 0 {
+        return Outcome::Taken;
+    }
+    let side = l.side;
+    borders[n] = code(side);
+    stack[count] = n as u16;
+    Outcome::Done
 }
 
 impl Board {

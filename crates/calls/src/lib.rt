@@ -1,6 +1,7 @@
 // The three calls on a board: what they answer, and what a call returns.
 ghost use mathlib.Core.Path.{_≡_};
 ghost use lib.ListN.{length};
+ghost use Rattle.board.specs.Alien.{boardOf};
 ghost use Rattle.calls.specs.Answers.{ended, steppedBy, checkAnswer, checkMemory, callOf, callMemory};
 use board::Board;
 use board::Outcome;
@@ -46,14 +47,47 @@ fn step(r: Returned) -> Stepped
     }
 }
 
-// What a check answers; a reason's literals stand from the start of the memory. On a board that is not alien the stack
-// has every decided border once, so the others are undecided.
+// What a check of a board answers whose arrays are lent; a reason's literals stand from the start of the memory. No
+// board is copied. On a board that is not alien the stack has every decided border once, so the others are undecided.
+pub fn check_lent<'a>(
+    h: usize,
+    w: usize,
+    colours: &'a [u8; Board::CELL_LIMIT],
+    clues: &'a [i32; Board::CELL_LIMIT],
+    borders: &'a [u8; Board::BORDER_LIMIT],
+    stack: &'a [u16; Board::BORDER_LIMIT],
+    count: usize,
+    memory: &mut [u16],
+) -> Answer
+    ensures { λ r.
+        ⌜ (r ≡ checkAnswer (boardOf h w (now (colours .entry)) (now (clues .entry)) (now (borders .entry))
+        (now (stack .entry)) count) (length (now (memory .entry))))
+        × (now (memory .exit) ≡ checkMemory (boardOf h w (now (colours .entry)) (now (clues .entry))
+        (now (borders .entry)) (now (stack .entry)) count) (now (memory .entry))) ⌝ }
+{
+    if board::is_alien(h, w, colours, clues, borders, stack, count) {
+        return Answer::Refused(Outcome::Alien);
+    }
+    if memory.len() < 16384 {
+        return Answer::Refused(Outcome::Short);
+    }
+    // as slices, so that the proof knows their lengths
+    let cells: &[u8] = colours;
+    let marks: &[u8] = borders;
+    let found = hits::find(h, w, colours, clues, borders, memory);
+    match found {
+        Found::Nothing => Answer::Pass(board::border_count(h, w) - count),
+        Found::Reason(n) => Answer::Conflict(n),
+    }
+}
+
+// What a check of a board answers.
 pub fn check(board: Board, memory: &mut [u16]) -> Answer
     ensures { λ r.
         ⌜ (r ≡ checkAnswer board (length (now (memory .entry))))
         × (now (memory .exit) ≡ checkMemory board (now (memory .entry))) ⌝ }
 {
-    if board::is_alien(
+    check_lent(
         board.height,
         board.width,
         &board.colours,
@@ -61,26 +95,8 @@ pub fn check(board: Board, memory: &mut [u16]) -> Answer
         &board.borders,
         &board.stack,
         board.count,
-    ) {
-        return Answer::Refused(Outcome::Alien);
-    }
-    if memory.len() < 16384 {
-        return Answer::Refused(Outcome::Short);
-    }
-    let found = hits::find(
-        board.height,
-        board.width,
-        &board.colours,
-        &board.clues,
-        &board.borders,
         memory,
-    );
-    match found {
-        Found::Nothing => Answer::Pass(
-            board::border_count(board.height, board.width) - board.count,
-        ),
-        Found::Reason(n) => Answer::Conflict(n),
-    }
+    )
 }
 
 // One call on a board: the board afterwards, and the answer.

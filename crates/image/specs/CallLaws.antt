@@ -11,35 +11,18 @@ use Rattle.rules.specs.Flat.{borderCount}
 use Rattle.rules.specs.Codes.{codeOf}
 use Rattle.board.specs.declared.Board.{Board}
 use Rattle.rules.specs.declared.Literal.{Literal}
-use Rattle.board.specs.declared.Outcome.{Outcome}
 use Rattle.board.specs.declared.Outcome.the-variants.{Done, Alien, Border, Taken, Bare}
-use Rattle.board.specs.declared.Outcome.the-variants.{Size, Ragged, Colour, Clue, Short}
 use Rattle.board.specs.declared.Returned.{Returned}
 use Rattle.board.specs.Alien.{isAlien}
 use Rattle.board.specs.Board.{numberOf, returned, pushed, popped, decideOf, undoOf, Typed}
 use Rattle.board.specs.NativeLaws.{native-has, borders-fit, room}
-use Rattle.board.specs.DecideLaws.{Decided, decided-is, Undone, undone-is}
+use Rattle.board.specs.DecideLaws.{Decided, decided-is, done-returned, Undone, undone-is}
 use Rattle.image.specs.Image.{boardOf, imageOf, rightLength, Bytes, sideOf, literalOf, ImageCall, decide, undo}
 use Rattle.image.specs.Image.{imageAlien, numberBy, boardBy, imageNumber, imageAfter, written}
 use Rattle.image.specs.LayoutLaws.{written-image}
 use Rattle.image.specs.RoundLaws.{image-board, board-typed, long-is}
 
 -- ---- what a number says of the board
-done-is : (o : Outcome) → numberOf o ≡ 0 → o ≡ Done
-done-is Done e = refl
-done-is Size e = absurd (let z : 1 ≡ 0 = e in omega arith)
-done-is Ragged e = absurd (let z : 2 ≡ 0 = e in omega arith)
-done-is Colour e = absurd (let z : 3 ≡ 0 = e in omega arith)
-done-is Clue e = absurd (let z : 4 ≡ 0 = e in omega arith)
-done-is Alien e = absurd (let z : 5 ≡ 0 = e in omega arith)
-done-is Border e = absurd (let z : 6 ≡ 0 = e in omega arith)
-done-is Taken e = absurd (let z : 7 ≡ 0 = e in omega arith)
-done-is Bare e = absurd (let z : 8 ≡ 0 = e in omega arith)
-done-is Short e = absurd (let z : 9 ≡ 0 = e in omega arith)
-
-pub done-returned : (r : Returned) → numberOf (r .outcome) ≡ 0 → r ≡ returned Done (r .board)
-done-returned r e = let p = done-is (r .outcome) e in λ i. record { outcome = p i; board = r .board }
-
 -- a refused call returns the board given
 pub refused-board : (b : Board) (a : ImageCall) → (numberBy b a ≡ 0 → ⊥) → boardBy b a ≡ b
 unfolding decideOf undoOf

@@ -3,6 +3,7 @@
 ghost use mathlib.Core.Path.{_≡_};
 ghost use mathlib.Core.List.{map};
 ghost use lib.ListN.{length};
+ghost use Rattle.board.specs.Alien.{boardOf};
 ghost use Rattle.board.specs.Board.{numberOf, decideOf};
 ghost use Rattle.calls.specs.Answers.{literalOf, answerNumber, checkAnswer, checkMemory};
 ghost use Rattle.calls.specs.NumberLaws.{InRange};
@@ -38,26 +39,48 @@ fn literal(n: usize) -> Literal
     }
 }
 
-// The board after a decide of the literal with this code.
-fn decide_next(board: Board, code: u16) -> Board
-    ensures { λ r. ⌜ r ≡ decideOf board (literalOf code) .board ⌝ }
+// The count after a decide of the literal with this code; borders and stack become those of the board after it.
+fn decide_next<'a>(
+    h: usize,
+    w: usize,
+    colours: &'a [u8; Board::CELL_LIMIT],
+    clues: &'a [i32; Board::CELL_LIMIT],
+    borders: &mut [u8; Board::BORDER_LIMIT],
+    stack: &mut [u16; Board::BORDER_LIMIT],
+    count: usize,
+    code: u16,
+) -> usize
+    ensures { λ r. ⌜ boardOf h w (now (colours .entry)) (now (clues .entry)) (now (borders .exit)) (now (stack .exit)) r
+        ≡ decideOf (boardOf h w (now (colours .entry)) (now (clues .entry)) (now (borders .entry))
+        (now (stack .entry)) count) (literalOf code) .board ⌝ }
 {
     let l = literal(wide(code));
-    let r = board.decide(l);
-    r.board
+    let o = board::decide_lent(h, w, colours, clues, borders, stack, count, l);
+    if refusal(o) == 0 { count + 1 } else { count }
 }
 
-// The board with the literals of the codes decided one after another; a decide that is refused leaves the board.
-fn decided(board: Board, codes: &[u16]) -> Board
-    ensures { λ r. ⌜ r ≡ decidesOf board (map literalOf (now (codes .entry))) ⌝ }
+// The same for the literals of the codes, decided one after another; a decide that is refused leaves the board.
+fn decided<'a>(
+    h: usize,
+    w: usize,
+    colours: &'a [u8; Board::CELL_LIMIT],
+    clues: &'a [i32; Board::CELL_LIMIT],
+    borders: &mut [u8; Board::BORDER_LIMIT],
+    stack: &mut [u16; Board::BORDER_LIMIT],
+    count: usize,
+    codes: &[u16],
+) -> usize
+    ensures { λ r. ⌜ boardOf h w (now (colours .entry)) (now (clues .entry)) (now (borders .exit)) (now (stack .exit)) r
+        ≡ decidesOf (boardOf h w (now (colours .entry)) (now (clues .entry)) (now (borders .entry))
+        (now (stack .entry)) count) (map literalOf (now (codes .entry))) ⌝ }
 {
-    let mut b = board;
+    let mut n = count;
     let mut i: usize = 0;
     while i < codes.len() {
-        b = decide_next(b, codes[i]);
+        n = decide_next(h, w, colours, clues, borders, stack, n, codes[i]);
         i += 1;
     }
-    b
+    n
 }
 
 // The number of a refusal; 0 for none.
@@ -81,41 +104,78 @@ fn number(a: Answer) -> usize
 }
 
 // One check, answered by its number.
-fn check_once(board: Board, memory: &mut [u16]) -> usize
+fn check_once<'a>(
+    h: usize,
+    w: usize,
+    colours: &'a [u8; Board::CELL_LIMIT],
+    clues: &'a [i32; Board::CELL_LIMIT],
+    borders: &'a [u8; Board::BORDER_LIMIT],
+    stack: &'a [u16; Board::BORDER_LIMIT],
+    count: usize,
+    memory: &mut [u16],
+) -> usize
     ensures { λ r.
-        ⌜ (r ≡ answerNumber (checkAnswer board (length (now (memory .entry)))))
-        × (now (memory .exit) ≡ checkMemory board (now (memory .entry))) ⌝ }
+        ⌜ (r ≡ answerNumber (checkAnswer (boardOf h w (now (colours .entry)) (now (clues .entry)) (now (borders .entry))
+        (now (stack .entry)) count) (length (now (memory .entry)))))
+        × (now (memory .exit) ≡ checkMemory (boardOf h w (now (colours .entry)) (now (clues .entry))
+        (now (borders .entry)) (now (stack .entry)) count) (now (memory .entry))) ⌝ }
 {
-    let a = calls::check(board, memory);
+    let a = calls::check_lent(h, w, colours, clues, borders, stack, count, memory);
     number(a)
 }
 
-// The board with the literals of the codes decided one after another, and a check after each.
-fn streamed(board: Board, codes: &[u16], memory: &mut [u16]) -> Board
+// As `decided`, with a check after each decide.
+fn streamed<'a>(
+    h: usize,
+    w: usize,
+    colours: &'a [u8; Board::CELL_LIMIT],
+    clues: &'a [i32; Board::CELL_LIMIT],
+    borders: &mut [u8; Board::BORDER_LIMIT],
+    stack: &mut [u16; Board::BORDER_LIMIT],
+    count: usize,
+    codes: &[u16],
+    memory: &mut [u16],
+) -> usize
     ensures { λ r.
-        ⌜ (r ≡ decidesOf board (map literalOf (now (codes .entry))))
-        × (now (memory .exit) ≡ streamMemory board (map literalOf (now (codes .entry))) (now (memory .entry))) ⌝ }
+        ⌜ (boardOf h w (now (colours .entry)) (now (clues .entry)) (now (borders .exit)) (now (stack .exit)) r
+        ≡ decidesOf (boardOf h w (now (colours .entry)) (now (clues .entry)) (now (borders .entry))
+        (now (stack .entry)) count) (map literalOf (now (codes .entry))))
+        × (now (memory .exit) ≡ streamMemory (boardOf h w (now (colours .entry)) (now (clues .entry))
+        (now (borders .entry)) (now (stack .entry)) count) (map literalOf (now (codes .entry)))
+        (now (memory .entry))) ⌝ }
 {
-    let mut b = board;
+    let mut n = count;
     let mut i: usize = 0;
     while i < codes.len() {
-        b = decide_next(b, codes[i]);
-        check_once(b, memory);
+        n = decide_next(h, w, colours, clues, borders, stack, n, codes[i]);
+        check_once(h, w, colours, clues, borders, stack, n, memory);
         i += 1;
     }
-    b
+    n
 }
 
 // So many checks of one board: the number of the last answer, 0 if there was none.
-fn checks(board: Board, memory: &mut [u16], times: usize) -> usize
+fn checks<'a>(
+    h: usize,
+    w: usize,
+    colours: &'a [u8; Board::CELL_LIMIT],
+    clues: &'a [i32; Board::CELL_LIMIT],
+    borders: &'a [u8; Board::BORDER_LIMIT],
+    stack: &'a [u16; Board::BORDER_LIMIT],
+    count: usize,
+    memory: &mut [u16],
+    times: usize,
+) -> usize
     ensures { λ r.
-        ⌜ (r ≡ checksNumber board (length (now (memory .entry))) times)
-        × (now (memory .exit) ≡ checksMemory board times (now (memory .entry))) ⌝ }
+        ⌜ (r ≡ checksNumber (boardOf h w (now (colours .entry)) (now (clues .entry)) (now (borders .entry))
+        (now (stack .entry)) count) (length (now (memory .entry))) times)
+        × (now (memory .exit) ≡ checksMemory (boardOf h w (now (colours .entry)) (now (clues .entry))
+        (now (borders .entry)) (now (stack .entry)) count) times (now (memory .entry))) ⌝ }
 {
     let mut last: usize = 0;
     let mut i: usize = 0;
     while i < times {
-        last = check_once(board, memory);
+        last = check_once(h, w, colours, clues, borders, stack, count, memory);
         i += 1;
     }
     last
@@ -146,8 +206,31 @@ pub extern "C" fn trial_check(
         return n;
     }
     let b = made.board;
-    let board = decided(b, codes);
-    checks(board, memory, times)
+    let cs = b.colours;
+    let ks = b.clues;
+    let mut borders = b.borders;
+    let mut stack = b.stack;
+    let count = decided(
+        b.height,
+        b.width,
+        &cs,
+        &ks,
+        &mut borders,
+        &mut stack,
+        b.count,
+        codes,
+    );
+    checks(
+        b.height,
+        b.width,
+        &cs,
+        &ks,
+        &borders,
+        &stack,
+        count,
+        memory,
+        times,
+    )
 }
 
 // The same with a check after each decide, and one more at the end, whose number is given.
@@ -173,6 +256,20 @@ pub extern "C" fn trial_stream(
         return n;
     }
     let b = made.board;
-    let board = streamed(b, codes, memory);
-    check_once(board, memory)
+    let cs = b.colours;
+    let ks = b.clues;
+    let mut borders = b.borders;
+    let mut stack = b.stack;
+    let count = streamed(
+        b.height,
+        b.width,
+        &cs,
+        &ks,
+        &mut borders,
+        &mut stack,
+        b.count,
+        codes,
+        memory,
+    );
+    check_once(b.height, b.width, &cs, &ks, &borders, &stack, count, memory)
 }

@@ -6,12 +6,12 @@ use borrow.Author.Needs.{needs}
 use Rattle.trial.proofs.check_once.Statement.{statement}
 use Rattle.trial.proofs.check_once.Tie as tie
 
-check-requires : tie.Need-check-requires
-check-requires c κs = search needs
+check-lent-requires : tie.Need-check-lent-requires
+check-lent-requires c κs = search needs
 
 number-requires : tie.Need-number-requires
 number-requires c κs =
-    rw (c .before .before .check .ensures .0)
+    rw (c .before .before .check-lent .ensures .0)
     (check-in-range _ (c .before .before .before .before .before .args .memory .now))
 
 same-length : tie.Need-same-length
@@ -19,8 +19,8 @@ same-length c = search needs
 
 returns : tie.Need-returns
 returns c =
-    let e = c .before .before .before .check .ensures in
+    let e = c .before .before .before .check-lent .ensures in
     (c .number .ensures ∙ ap answerNumber (e .0), e .1)
 
 pub check-once-spec : {M : Type 1} → statement M
-check-once-spec = tie.close (tie.spec check-requires number-requires same-length returns)
+check-once-spec = tie.close (tie.spec check-lent-requires number-requires same-length returns)

@@ -1,23 +1,31 @@
 -- The loop's invariant: the number and the memory after i checks.
-use Rattle.calls.specs.Answers.{answerNumber, checkAnswer, checkMemory}
 use mathlib.Core.Path.{_≡_, refl, ap, _∙_}
 use Prim.Native.Nat.{_-_, _≤_}
 use native.Mathlib.Omega.{arith}
 use borrow.Author.Needs.{needs}
 use lib.ListN.{length}
+use Rattle.board.specs.declared.Board.{Board}
+use Rattle.board.specs.Alien.{boardOf}
+use Rattle.calls.specs.Answers.{answerNumber, checkAnswer, checkMemory}
 use Rattle.trial.specs.Trial.{checksNumber, checksMemory}
 use Rattle.trial.specs.TrialLaws.{checks-length, memory-more, number-more}
 use Rattle.trial.proofs.checks.Statement.{statement}
 use Rattle.trial.proofs.checks.Tie as tie
 
 abbrev Inv-loop : tie.InvT-loop
-Inv-loop board memory₀ times last₀ i₀ memory last i =
+Inv-loop h w colours clues borders stack count memory₀ times last₀ i₀ memory last i =
     (i ≤ times)
-    × (last ≡ checksNumber board (length memory₀) i)
-    × (memory ≡ checksMemory board i memory₀)
+    × (last ≡ checksNumber (boardOf h w colours clues borders stack count) (length memory₀) i)
+    × (memory ≡ checksMemory (boardOf h w colours clues borders stack count) i memory₀)
 
 abbrev μ-loop : tie.MeasureT-loop
-μ-loop board memory₀ times last₀ i₀ memory last i = times - i
+μ-loop h w colours clues borders stack count memory₀ times last₀ i₀ memory last i = times - i
+
+-- the board whose arrays are lent
+abbrev lent : tie.Start Inv-loop μ-loop → Board
+lent s =
+    let a = s .args in
+    boardOf (a .h) (a .w) (a .colours .now) (a .clues .now) (a .borders .now) (a .stack .now) (a .count)
 
 loop-holds : tie.Need-loop-holds Inv-loop μ-loop
 unfolding checksNumber checksMemory
@@ -34,14 +42,14 @@ loop-less c = omega arith
 
 loop-again : tie.Need-loop-again Inv-loop μ-loop
 loop-again c =
-    let l = c .before .before .before .before .before .loop in
-    let a = c .before .before .before .before .before .before .before .args in
-    let m = a .memory .now in
+    let p = c .before .before .before .before .before in
+    let b = lent (p .before .before) in
+    let m = p .before .before .args .memory .now in
     let e = c .before .before .check-once .ensures in (
       omega arith,
-      e .0 ∙ ap (λ n. answerNumber (checkAnswer (a .board) n)) (ap length (l .inv .2) ∙ checks-length _ (l .i) m)
-          ∙ number-more (a .board) (length m) (l .i),
-      e .1 ∙ ap (checkMemory (a .board)) (l .inv .2) ∙ memory-more (a .board) (l .i) m,
+      e .0 ∙ ap (λ n. answerNumber (checkAnswer b n)) (ap length (p .loop .inv .2) ∙ checks-length b (p .loop .i) m)
+          ∙ number-more b (length m) (p .loop .i),
+      e .1 ∙ ap (checkMemory b) (p .loop .inv .2) ∙ memory-more b (p .loop .i) m,
     )
 
 same-length : tie.Need-same-length Inv-loop μ-loop
@@ -52,10 +60,10 @@ same-length c =
 returns : tie.Need-returns Inv-loop μ-loop
 returns c =
     let l = c .before .loop in
-    let a = c .before .before .before .args in
-    let e : l .i ≡ a .times = omega (arith, l .inv .0) in (
-      l .inv .1 ∙ ap (checksNumber (a .board) (length (a .memory .now))) e,
-      l .inv .2 ∙ ap (λ k. checksMemory (a .board) k (a .memory .now)) e,
+    let s = c .before .before .before in
+    let e : l .i ≡ s .args .times = omega (arith, l .inv .0) in (
+      l .inv .1 ∙ ap (checksNumber (lent s) (length (s .args .memory .now))) e,
+      l .inv .2 ∙ ap (λ k. checksMemory (lent s) k (s .args .memory .now)) e,
     )
 
 pub checks-spec : {M : Type 1} → statement M

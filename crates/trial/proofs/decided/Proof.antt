@@ -1,10 +1,12 @@
 -- The loop's invariant: deciding what is left gives the whole.
-use mathlib.Core.Path.{_≡_, refl, sym, _∙_}
+use mathlib.Core.Path.{_≡_, refl, ap, sym, _∙_}
 use mathlib.Core.List.{map}
-use Prim.Native.Nat.{_-_, _≤_}
+use Prim.Native.Nat.{_+_, _-_, _≤_}
 use native.Mathlib.Omega.{arith}
 use borrow.Author.Needs.{needs}
 use lib.ListN.{length, drop}
+use Rattle.board.specs.declared.Board.{Board}
+use Rattle.board.specs.Alien.{boardOf}
 use Rattle.calls.specs.Answers.{literalOf}
 use Rattle.calls.specs.Runs.{decidesOf}
 use Rattle.trial.specs.TrialLaws.{decides-more, decides-none}
@@ -12,12 +14,19 @@ use Rattle.trial.proofs.decided.Statement.{statement}
 use Rattle.trial.proofs.decided.Tie as tie
 
 abbrev Inv-loop : tie.InvT-loop
-Inv-loop codes b₀ i₀ b i =
+Inv-loop h w colours clues borders₀ stack₀ count codes n₀ i₀ borders stack n i =
     (i ≤ length codes)
-    × (decidesOf b (map literalOf (drop i codes)) ≡ decidesOf b₀ (map literalOf codes))
+    × (decidesOf (boardOf h w colours clues borders stack n) (map literalOf (drop i codes))
+    ≡ decidesOf (boardOf h w colours clues borders₀ stack₀ count) (map literalOf codes))
 
 abbrev μ-loop : tie.MeasureT-loop
-μ-loop codes b₀ i₀ b i = length codes - i
+μ-loop h w colours clues borders₀ stack₀ count codes n₀ i₀ borders stack n i = length codes - i
+
+-- the board at the loop's test
+abbrev passed : tie.At-loop Inv-loop μ-loop → Board
+passed p =
+    let a = p .before .before .args in
+    boardOf (a .h) (a .w) (a .colours .now) (a .clues .now) (p .loop .borders) (p .loop .stack) (p .loop .n)
 
 loop-holds : tie.Need-loop-holds Inv-loop μ-loop
 loop-holds c = (search needs, refl)
@@ -39,17 +48,18 @@ loop-less c = omega arith
 
 loop-again : tie.Need-loop-again Inv-loop μ-loop
 loop-again c =
-    let l = c .before .before .before .loop in
-    let codes = c .before .before .before .before .before .args .codes .now in (
+    let p = c .before .before .before .before .before in
+    let codes = p .before .before .args .codes .now in (
       omega arith,
-      rw (c .decide-next .ensures) (sym (decides-more (l .b) codes (l .i) (omega arith)) ∙ l .inv .1),
+      ap (λ (b : Board). decidesOf b (map literalOf (drop (p .loop .i + 1) codes))) (c .decide-next .ensures)
+          ∙ sym (decides-more (passed p) codes (p .loop .i) (omega arith))
+          ∙ p .loop .inv .1,
     )
 
 returns : tie.Need-returns Inv-loop μ-loop
 returns c =
-    let l = c .before .loop in
-    let codes = c .before .before .before .args .codes .now in
-    sym (decides-none (l .b) codes (l .i) (omega arith)) ∙ l .inv .1
+    let p = c .before in
+    sym (decides-none (passed p) (p .before .before .args .codes .now) (p .loop .i) (omega arith)) ∙ p .loop .inv .1
 
 pub decided-spec : {M : Type 1} → statement M
 decided-spec =

@@ -1,11 +1,13 @@
 -- The loop's invariant: what is left of the stream gives the whole.
 use mathlib.Core.Path.{_≡_, refl, ap, sym, _∙_}
 use mathlib.Core.List.{map}
-use Prim.Native.Nat.{_-_, _≤_}
+use Prim.Native.Nat.{_+_, _-_, _≤_}
 use native.Mathlib.Omega.{arith}
 use borrow.Author.Needs.{needs}
 use lib.ListN.{length, drop}
-use Rattle.calls.specs.Answers.{literalOf}
+use Rattle.board.specs.declared.Board.{Board}
+use Rattle.board.specs.Alien.{boardOf}
+use Rattle.calls.specs.Answers.{literalOf, checkMemory}
 use Rattle.calls.specs.Runs.{decidesOf}
 use Rattle.trial.specs.Trial.{streamMemory}
 use Rattle.trial.specs.TrialLaws.{decides-more, decides-none, stream-more, stream-none, check-length}
@@ -13,14 +15,22 @@ use Rattle.trial.proofs.streamed.Statement.{statement}
 use Rattle.trial.proofs.streamed.Tie as tie
 
 abbrev Inv-loop : tie.InvT-loop
-Inv-loop codes memory₀ b₀ i₀ memory b i =
+Inv-loop h w colours clues borders₀ stack₀ count codes memory₀ n₀ i₀ borders stack memory n i =
     (i ≤ length codes)
-    × (decidesOf b (map literalOf (drop i codes)) ≡ decidesOf b₀ (map literalOf codes))
-    × (streamMemory b (map literalOf (drop i codes)) memory ≡ streamMemory b₀ (map literalOf codes) memory₀)
+    × (decidesOf (boardOf h w colours clues borders stack n) (map literalOf (drop i codes))
+    ≡ decidesOf (boardOf h w colours clues borders₀ stack₀ count) (map literalOf codes))
+    × (streamMemory (boardOf h w colours clues borders stack n) (map literalOf (drop i codes)) memory
+    ≡ streamMemory (boardOf h w colours clues borders₀ stack₀ count) (map literalOf codes) memory₀)
     × (length memory ≡ length memory₀)
 
 abbrev μ-loop : tie.MeasureT-loop
-μ-loop codes memory₀ b₀ i₀ memory b i = length codes - i
+μ-loop h w colours clues borders₀ stack₀ count codes memory₀ n₀ i₀ borders stack memory n i = length codes - i
+
+-- the board at the loop's test
+abbrev passed : tie.At-loop Inv-loop μ-loop → Board
+passed p =
+    let a = p .before .before .before .args in
+    boardOf (a .h) (a .w) (a .colours .now) (a .clues .now) (p .loop .borders) (p .loop .stack) (p .loop .n)
 
 loop-holds : tie.Need-loop-holds Inv-loop μ-loop
 loop-holds c = (search needs, refl, refl, refl)
@@ -45,15 +55,21 @@ loop-less c = omega arith
 
 loop-again : tie.Need-loop-again Inv-loop μ-loop
 loop-again c =
-    let l = c .before .before .before .before .before .before .before .loop in
-    let a = c .before .before .before .before .before .before .before .before .before .before .args in
-    let codes = a .codes .now in
-    let d = c .before .before .before .before .decide-next .ensures in
+    let d = c .before .before .before .before .before .before in
+    let p = d .before .before .before .before .before in
+    let i = p .loop .i in
+    let codes = p .before .before .before .args .codes .now in
+    let left = map literalOf (drop (i + 1) codes) in
     let e = c .before .before .check-once .ensures .1 in (
       omega arith,
-      rw d (sym (decides-more (l .b) codes (l .i) (omega arith)) ∙ l .inv .1),
-      rw (e, d) (sym (stream-more (l .b) codes (l .memory) (l .i) (omega arith)) ∙ l .inv .2),
-      ap length e ∙ check-length _ (l .memory) ∙ l .inv .3,
+      ap (λ (b : Board). decidesOf b left) (d .decide-next .ensures)
+          ∙ sym (decides-more (passed p) codes i (omega arith))
+          ∙ p .loop .inv .1,
+      ap (streamMemory _ left) e
+          ∙ ap (λ (b : Board). streamMemory b left (checkMemory b (p .loop .memory))) (d .decide-next .ensures)
+          ∙ sym (stream-more (passed p) codes (p .loop .memory) i (omega arith))
+          ∙ p .loop .inv .2,
+      ap length e ∙ check-length _ (p .loop .memory) ∙ p .loop .inv .3,
     )
 
 same-length : tie.Need-same-length Inv-loop μ-loop
@@ -61,10 +77,10 @@ same-length c = c .before .loop .inv .3
 
 returns : tie.Need-returns Inv-loop μ-loop
 returns c =
-    let l = c .before .loop in
-    let codes = c .before .before .before .before .args .codes .now in (
-      sym (decides-none (l .b) codes (l .i) (omega arith)) ∙ l .inv .1,
-      sym (stream-none (l .b) codes (l .memory) (l .i) (omega arith)) ∙ l .inv .2,
+    let p = c .before in
+    let codes = p .before .before .before .args .codes .now in (
+      sym (decides-none (passed p) codes (p .loop .i) (omega arith)) ∙ p .loop .inv .1,
+      sym (stream-none (passed p) codes (p .loop .memory) (p .loop .i) (omega arith)) ∙ p .loop .inv .2,
     )
 
 pub streamed-spec : {M : Type 1} → statement M

@@ -1,7 +1,6 @@
 -- The board is refused; or it is made, its literals are decided, and the checks answer.
 use mathlib.Core.Path.{_≡_, ap, sym, _∙_}
 use mathlib.Core.List.{map}
-use Prim.Native.Nat.{ℕ}
 use borrow.Author.Needs.{needs}
 use borrow.Author.Tests.{eq-eqb, ne-eqb}
 use lib.ListN.{length}
@@ -46,16 +45,18 @@ same-length c = search needs
 
 returns-2 : tie.Need-returns-2
 returns-2 c =
-    let a = c .before .before .before .before .before .before .before .before .before .before .before .before .args in
-    let r = c .before .before .before .before .before .before .before in
-    let f = eq-eqb _ _ (sym (made-is r) ∙ c .before .before .before .before .before .before .if1 .left) in
-    let d : _ ≡ boardIn (a .h) (a .w) (a .colours .now) (a .clues .now) (a .codes .now) =
-    c .before .before .before .before .decided .ensures
+    let d = c .before .before .before .before .before .before .before .before in
+    let r = d .before .before .before .before .before .before .before .before .before .before .before in
+    let a = r .before .before .before .before .before .args in
+    let f = eq-eqb _ _ (sym (made-is r)
+    ∙ d .before .before .before .before .before .before .before .before .before .before .if1 .left) in
+    let t : _ ≡ boardIn (a .h) (a .w) (a .colours .now) (a .clues .now) (a .codes .now) =
+    d .decided .ensures
     ∙ ap (λ (r : Returned). decidesOf (r .board) (map literalOf (a .codes .now))) (r .before .fresh .ensures) in
     let e = c .before .before .checks .ensures in (
-      e .0 ∙ ap (λ (b : Board). checksNumber b (length (a .memory .now)) (a .times)) d
+      e .0 ∙ ap (λ (b : Board). checksNumber b (length (a .memory .now)) (a .times)) t
           ∙ number-made _ _ _ _ (a .codes .now) (a .times) (a .memory .now) f,
-      e .1 ∙ ap (λ (b : Board). checksMemory b (a .times) (a .memory .now)) d
+      e .1 ∙ ap (λ (b : Board). checksMemory b (a .times) (a .memory .now)) t
           ∙ memory-made _ _ _ _ (a .codes .now) (a .times) (a .memory .now) f,
     )
 

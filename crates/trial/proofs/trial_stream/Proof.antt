@@ -1,5 +1,5 @@
 -- The board is refused; or it is made, the stream runs on it, and one more check answers.
-use mathlib.Core.Path.{_≡_, ap, sym, _∙_}
+use mathlib.Core.Path.{_≡_, ap, ap₂, sym, _∙_}
 use mathlib.Core.List.{List, map}
 use Prim.Native.Nat.{ℕ}
 use borrow.Author.Needs.{needs}
@@ -47,21 +47,26 @@ same-length c = search needs
 
 returns-2 : tie.Need-returns-2
 returns-2 c =
-    let r = c .before .before .before .before .before .before .before .before .before .before in
+    let s = c .before .before .before .before .before .before .before .before .before .before in
+    let r = s .before .before .before .before .before .before .before .before .before .before .before .before in
     let a = r .before .before .before .before .before .args in
     let f = eq-eqb _ _ (sym (made-is r)
-    ∙ c .before .before .before .before .before .before .before .before .before .if1 .left) in
+    ∙ s .before .before .before .before .before .before .before .before .before .before .before .if1 .left) in
     let m = a .memory .now in
     let ls = map literalOf (a .codes .now) in
-    let s = c .before .before .before .before .before .before .streamed .ensures in
     let d : _ ≡ boardIn (a .h) (a .w) (a .colours .now) (a .clues .now) (a .codes .now) =
-    s .0 ∙ ap (λ (r : Returned). decidesOf (r .board) ls) (r .before .fresh .ensures) in
+    s .streamed .ensures .0 ∙ ap (λ (r : Returned). decidesOf (r .board) ls) (r .before .fresh .ensures) in
     let t : _ ≡ streamMemory (startOf (a .h) (a .w) (a .colours .now) (a .clues .now)) ls m =
-    s .1 ∙ ap (λ (r : Returned). streamMemory (r .board) ls m) (r .before .fresh .ensures) in
+    s .streamed .ensures .1 ∙ ap (λ (r : Returned). streamMemory (r .board) ls m) (r .before .fresh .ensures) in
     let n : _ ≡ length m = ap length t ∙ stream-length _ ls m in
     let e = c .before .before .check-once .ensures in (
-      e .0 ∙ rw (d, n) (number-more _ (length m) 0) ∙ number-made _ _ _ _ (a .codes .now) 1 m f,
-      e .1 ∙ rw (d, t) (stream-made _ _ _ _ (a .codes .now) 1 m f),
+      e .0
+          ∙ ap₂ (λ (b : Board) (k : ℕ). answerNumber (checkAnswer b k)) d n
+          ∙ number-more _ (length m) 0
+          ∙ number-made _ _ _ _ (a .codes .now) 1 m f,
+      e .1
+          ∙ ap₂ (λ (b : Board) (l : List ℕ). checkMemory b l) d t
+          ∙ stream-made _ _ _ _ (a .codes .now) 1 m f,
     )
 
 pub trial-stream-spec : {M : Type 1} → statement M
