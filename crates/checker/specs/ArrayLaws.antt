@@ -1,10 +1,10 @@
--- Laws of a part of a list: its first entry, one entry more, its length.
+-- Laws of a part of a list: its first entry, one entry more, an entry within, its length.
 use mathlib.Core.Path.{_≡_}
 use mathlib.Core.List.{List, [], _∷_, _++_}
 use Prim.Native.Nat.{ℕ, suc, _+_, _-_, _<_, _≤_}
 use native.Mathlib.Omega.{arith}
 use lib.ListN.{length, getD, drop, length-take, length-drop}
-use lib.Seq.{length-take-le, take-suc, drop-cons, getD-drop}
+use lib.Seq.{length-take-le, take-suc, take-add, drop-cons, drop-drop, getD-drop}
 use Rattle.reasons.specs.Arrays.{part}
 
 -- the part from i on
@@ -27,6 +27,14 @@ part-more from i cs h k =
     let l : i - from < length (drop from cs) = simp length-drop (omega arith) in
     let j : from + (i - from) ≡ i = omega arith in
     rw (e, take-suc (drop from cs) (i - from) 0 l, getD-drop from cs (i - from) 0, j)
+
+-- the entry at i, with those before and after it
+pub part-at : (from i to : ℕ) (cs : List ℕ) → from ≤ i → i < to → to ≤ length cs
+    → part cs from to ≡ part cs from i ++ (getD cs i 0 ∷ part cs (i + 1) to)
+part-at from i to cs h k l =
+    let e : to - from ≡ (i - from) + (to - i) = omega arith in
+    let j : from + (i - from) ≡ i = omega arith in
+    rw (e, take-add (i - from) (to - i) (drop from cs), drop-drop (i - from) from cs, j, part-first i to cs k l)
 
 pub part-length : (from i : ℕ) (cs : List ℕ) → length (part cs from i) ≤ i - from
 part-length from i cs = simp length-take (omega arith)

@@ -34,7 +34,7 @@ use Rattle.checker.specs.declared.Faulty.{Faulty}
 use Rattle.checker.specs.declared.Breach.{Breach}
 use Rattle.checker.specs.Tallies.{headOf, ofColour, ownUnit, partOf, tallyOf}
 use Rattle.checker.specs.Faults.{isClear, orFault, firstFault, scanFault, smallFault, bigFault, clueFault}
-use Rattle.checker.specs.Faults.{tallyFault, cellFault, faultOn}
+use Rattle.checker.specs.Faults.{tallyFault, cellFault, scanOn, faultOn}
 use Rattle.checker.specs.Faulty.{at, faultyFrom, firstFaulty}
 use Rattle.checker.specs.Breaches.{noBreach, orBreach, isBreach, hopBreach, breachOn, breachFrom, firstBreach}
 use Rattle.checker.specs.WallCases.{breachAt, cell-split}
@@ -105,7 +105,7 @@ module _ (n : ℕ) (some : 0 < n) where
         (cond-under d Inside Clear some some) (below x)
 
     pub fault-under : (sizeAt : ℕ → ℕ) (xs : List ℕ) → faultUnit (faultOn colourAt clueAt unitAt sizeAt xs) < n
-    unfolding faultOn tallyOf partOf
+    unfolding faultOn scanOn tallyOf partOf
     fault-under sizeAt xs =
         or-under _ _ (first-under _ xs (cell-under _ _))
         (tally-under (tallyOf colourAt clueAt unitAt xs) _ _ (own-under xs false) (own-under xs true))

@@ -1,5 +1,5 @@
 -- Case laws of the faults: one for each way a function of blocks.rt returns.
-use mathlib.Core.Path.{_≡_, refl, sym, _∙_}
+use mathlib.Core.Path.{_≡_, refl}
 use mathlib.Core.Bool.{Bool, true, false}
 use mathlib.Core.List.{List, [], _∷_}
 use mathlib.Core.Option.{Option}
@@ -7,8 +7,8 @@ use Prim.Native.Nat.{ℕ, _+_, _<_, _≤_}
 use native.Mathlib.Omega.{arith}
 use borrow.Author.Tests.{eq-eqb, ne-eqb, lt-ltb, le-ltb}
 use lib.Dec.{ltb}
-use lib.ListN.{length, getD}
-use Rattle.rules.specs.Check.{clash, clueOf}
+use lib.ListN.{getD}
+use Rattle.rules.specs.Check.{clash}
 use Rattle.rules.specs.Groups.{entry}
 use Rattle.checker.specs.declared.Clue.{Clue}
 use Rattle.checker.specs.declared.Clue.the-variants.{Free, Is}
@@ -16,12 +16,10 @@ use Rattle.checker.specs.declared.Part.{Part}
 use Rattle.checker.specs.declared.Tally.{Tally}
 use Rattle.checker.specs.declared.Fault.{Fault}
 use Rattle.checker.specs.declared.Fault.the-variants.{Clear, InsideEdge, Inside, Edge, EdgeInside}
-use Rattle.reasons.specs.Arrays.{part}
 use Rattle.checker.specs.Arrays.{Parted}
-use Rattle.checker.specs.ArrayLaws.{part-first, part-end}
-use Rattle.checker.specs.Tallies.{headOf, optionOf, option-clue, ofColour, ownUnit, partOf, tallyOf}
-use Rattle.checker.specs.Faults.{orFault, isClear, firstFault, scanFault, smallFault, bigFault, clueFault}
-use Rattle.checker.specs.Faults.{unitsOf, cellFault, tallyFault, faultOn}
+use Rattle.checker.specs.Tallies.{headOf, ofColour, ownUnit, partOf, tallyOf}
+use Rattle.checker.specs.Faults.{orFault, isClear, scanFault, smallFault, bigFault, clueFault, tallyFault}
+use Rattle.checker.specs.Faults.{scanOn, faultOn}
 
 some-size : (n : ℕ) → (n ≡ 0 → ⊥) → ltb 0 n ≡ true
 some-size n h = lt-ltb 0 n (omega arith)
@@ -106,54 +104,12 @@ module _ (q : Bool → ℕ) (n : Option ℕ) (c : Bool) (u : ℕ) (k : Option �
   unfolding scanFault
   scan-clear e h = rw (eq-eqb (q c) u e, h)
 
--- the scan of a part of a list: what is left of it, from the place i on
-module _ (f : ℕ → Fault) (i to : ℕ) (cs : List ℕ) where
-  pub scan-next : i < to → to ≤ length cs → isClear (f (getD cs i 0)) ≡ true
-      → firstFault f (part cs i to) ≡ firstFault f (part cs (i + 1) to)
-  unfolding firstFault
-  scan-next h k e = rw (part-first i to cs h k) (sym (or-clear (f (getD cs i 0)) (firstFault f (part cs (i + 1) to)) e))
-
-  pub scan-found : i < to → to ≤ length cs → isClear (f (getD cs i 0)) ≡ false
-      → f (getD cs i 0) ≡ firstFault f (part cs i to)
-  unfolding firstFault
-  scan-found h k e = rw (part-first i to cs h k) (or-found (f (getD cs i 0)) (firstFault f (part cs (i + 1) to)) e)
-
-  pub scan-end : to ≤ i → Clear ≡ firstFault f (part cs i to)
-  unfolding firstFault
-  scan-end h = rw (part-end i to cs h)
-
--- a block's tally tells what its scan compares with
+-- where no cell is wrong, the tally tells
 module _ (colourAt : ℕ → Bool) (clueAt : ℕ → Option ℕ) (unitAt sizeAt : ℕ → ℕ) (xs : List ℕ) where
-  units-own : unitsOf (tallyOf colourAt clueAt unitAt xs) ≡ ownUnit colourAt clueAt unitAt xs
-  unfolding tallyOf partOf
-  units-own = λ i c. at c i
-    where
-      at : (c : Bool) → unitsOf (tallyOf colourAt clueAt unitAt xs) c ≡ ownUnit colourAt clueAt unitAt xs c
-      at true = refl
-      at false = refl
-
-  clue-own : optionOf (tallyOf colourAt clueAt unitAt xs .clue) ≡ clueOf clueAt xs
-  unfolding tallyOf
-  clue-own = option-clue (clueOf clueAt xs)
-
-  pub fault-on : (t : Tally) → t ≡ tallyOf colourAt clueAt unitAt xs
-      → orFault (firstFault (cellFault colourAt clueAt unitAt (unitsOf t) (optionOf (t .clue))) xs)
-      (tallyFault t (sizeAt (t .zero .unit)) (sizeAt (t .one .unit)))
-      ≡ faultOn colourAt clueAt unitAt sizeAt xs
-  unfolding faultOn tallyOf partOf
-  fault-on t e = rw (e, units-own, clue-own)
-
-  pub fault-clear : (t : Tally) (f g : Fault) → t ≡ tallyOf colourAt clueAt unitAt xs
-      → f ≡ firstFault (cellFault colourAt clueAt unitAt (unitsOf t) (optionOf (t .clue))) xs
-      → g ≡ tallyFault t (sizeAt (t .zero .unit)) (sizeAt (t .one .unit))
-      → isClear f ≡ true → g ≡ faultOn colourAt clueAt unitAt sizeAt xs
-  fault-clear t f g e a b h = or-clear f g h ∙ (rw (a, b) (fault-on t e))
-
-  pub fault-found : (t : Tally) (f : Fault) → t ≡ tallyOf colourAt clueAt unitAt xs
-      → f ≡ firstFault (cellFault colourAt clueAt unitAt (unitsOf t) (optionOf (t .clue))) xs
-      → isClear f ≡ false → f ≡ faultOn colourAt clueAt unitAt sizeAt xs
-  fault-found t f e a h =
-      or-found f (tallyFault t (sizeAt (t .zero .unit)) (sizeAt (t .one .unit))) h ∙ rw a (fault-on t e)
+  pub fault-tally : (t : Tally) → t ≡ tallyOf colourAt clueAt unitAt xs → scanOn colourAt clueAt unitAt xs ≡ Clear
+      → tallyFault t (sizeAt (t .zero .unit)) (sizeAt (t .one .unit)) ≡ faultOn colourAt clueAt unitAt sizeAt xs
+  unfolding faultOn orFault tallyOf partOf
+  fault-tally t e h = rw (e, h)
 
 -- the potential unit of a block's first cell has a size
 module _ (colourAt : ℕ → Bool) (clueAt : ℕ → Option ℕ) (ids offs xs : List ℕ) (p : Parted ids offs) where

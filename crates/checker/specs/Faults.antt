@@ -5,6 +5,7 @@
 --   firstFault f xs     the first fault that f gives
 --   scanFault q k u c j the fault at a cell of colour c, potential unit u and clue j
 --   tallyFault t a b    the fault that a tally shows; a and b are the sizes of the two potential units
+--   scanOn xs           the first fault at one of the cells xs
 --   faultOn xs          the fault of the cells xs
 --   blockFault B        the fault of block B
 --   block-fault         step 1's hit at block B is the reason of its fault
@@ -53,11 +54,6 @@ firstFault f (x ∷ xs) = orFault (f x) (firstFault f xs)
 unfoldable pub scanFault : (Bool → ℕ) → Option ℕ → Bool → ℕ → Option ℕ → Fault
 scanFault q n c u k = cond (eqb (q c) u) (cond (clash n k) Inside Clear) (InsideEdge u)
 
--- the potential units that a tally has
-abbrev pub unitsOf : Tally → Bool → ℕ
-unitsOf t true = t .one .unit
-unitsOf t false = t .zero .unit
-
 unfoldable pub smallFault : Part → Part → ℕ → Fault
 smallFault mine other size = cond (ltb 0 (mine .size) && ltb size (other .size)) (InsideEdge (mine .unit)) Clear
 
@@ -80,9 +76,12 @@ module _ (colourAt : ℕ → Bool) (clueAt : ℕ → Option ℕ) (unitAt : ℕ �
   unfoldable pub cellFault : (Bool → ℕ) → Option ℕ → ℕ → Fault
   cellFault q n x = scanFault q n (colourAt x) (unitAt x) (clueAt x)
 
+  unfoldable pub scanOn : List ℕ → Fault
+  scanOn xs = firstFault (cellFault (ownUnit colourAt clueAt unitAt xs) (clueOf clueAt xs)) xs
+
   unfoldable pub faultOn : (ℕ → ℕ) → List ℕ → Fault
   faultOn sizeAt xs =
-      orFault (firstFault (cellFault (ownUnit colourAt clueAt unitAt xs) (clueOf clueAt xs)) xs)
+      orFault (scanOn xs)
       (tallyFault (tallyOf colourAt clueAt unitAt xs)
       (sizeAt (ownUnit colourAt clueAt unitAt xs false))
       (sizeAt (ownUnit colourAt clueAt unitAt xs true)))
@@ -248,7 +247,7 @@ module _ (Z : Puzzle) (s : ℕ → Mark) where
 
   pub block-on : (B : ℕ) (xs : List ℕ)
       → blockHitOn Z s B xs ≡ faultReason B (faultOn (Z .colour) (Z .clue) (potentialOf Z s) (sizeOf Z s) xs)
-  unfolding blockHitOn faultOn tallyFault tallyOf smallAt
+  unfolding blockHitOn faultOn scanOn tallyFault tallyOf smallAt
   block-on B xs =
       rw (scan-cells Z s B xs, first-reason B _ (faultAt xs) (scan-reason B xs) xs, small-pair B xs, clue-reason B xs)
       (simp or-reason)

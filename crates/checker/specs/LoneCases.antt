@@ -20,7 +20,7 @@ use Rattle.reasons.specs.Arrays.{part}
 use Rattle.checker.specs.ArrayLaws.{part-first, part-end}
 use Rattle.checker.specs.Tallies.{ofColour, ownUnit, hasClue, partOf, tallyOf}
 use Rattle.checker.specs.Faults.{orFault, firstFault, scanFault, smallFault, bigFault, clueFault}
-use Rattle.checker.specs.Faults.{cellFault, tallyFault, faultOn}
+use Rattle.checker.specs.Faults.{cellFault, tallyFault, scanOn, faultOn}
 
 unfoldable pub onlyFault : Option ℕ → ℕ → ℕ → Fault
 onlyFault none u size = Clear
@@ -48,7 +48,7 @@ module _ (clueAt : ℕ → Option ℕ) (unitAt sizeAt : ℕ → ℕ) where
   lone-big x n e h k = rw (e, le-ltb n 1 (omega arith), lt-ltb (sizeAt (unitAt x)) n k)
 
   pub lone-fault : (colourAt : ℕ → Bool) (x : ℕ) → loneFault x ≡ faultOn colourAt clueAt unitAt sizeAt (x ∷ [])
-  unfolding loneFault onlyFault faultOn tallyOf partOf ownUnit ofColour filter hasClue any clueOf firstHit orElse
+  unfolding loneFault onlyFault faultOn scanOn tallyOf partOf ownUnit ofColour filter hasClue any clueOf firstHit orElse
       firstFault cellFault scanFault tallyFault smallFault clueFault bigFault orFault
   lone-fault colourAt x = go (colourAt x)
     where

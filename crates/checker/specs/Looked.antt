@@ -1,9 +1,12 @@
 -- One look at a part of a list of cells, over the arrays of a board.
 --
 --   Looked              what was seen of the part from `from` to i
---   Put own j u after   own, where u stands at j; or with u put at j, where 1,024 stood for none
-use mathlib.Core.Path.{_≡_, sym, ap, _∙_}
-use mathlib.Core.Logic.{_⊎_, inl, inr}
+--   looked-none, -more  of no cell, and of one cell more
+--   looked-stray, -clash   the fault of the whole part, where the look ends at a cell
+--   looked-scan         no cell that was seen has a fault
+--   looked-clear        nothing is wrong, where both colours have room
+--   settles             what a look that settles it promises
+use mathlib.Core.Path.{_≡_, refl, sym, ap, _∙_}
 use mathlib.Core.Bool.{Bool, true, false}
 use mathlib.Core.List.{List, [], _∷_, _++_}
 use Prim.Native.Nat.{ℕ, _+_, _-_, _<_, _≤_}
@@ -11,56 +14,101 @@ use native.Mathlib.Nat.{le-trans}
 use native.Mathlib.Omega.{arith}
 use lib.Dec.{eqb}
 use lib.IntN.{ℤ, pos}
-use lib.ListN.{length, getD, set}
+use lib.ListN.{length, getD}
+use lib.Signed.{leZ}
 use Rattle.lists.specs.Appends.{length-filter}
 use Rattle.rules.specs.Codes.{clueOf, coloursIn, cluesIn}
 use Rattle.rules.specs.Groups.{entry}
 use Rattle.rules.specs.Check.{clash}
 use Rattle.reasons.specs.Arrays.{part}
 use Rattle.checker.specs.declared.Clue.{Clue}
-use Rattle.checker.specs.declared.Clue.the-variants.{Free}
-use Rattle.checker.specs.declared.Fault.the-variants.{Clear}
+use Rattle.checker.specs.declared.Clue.the-variants.{Free, Is}
+use Rattle.checker.specs.declared.Fault.{Fault}
+use Rattle.checker.specs.declared.Fault.the-variants.{Clear, InsideEdge, Inside}
+use Rattle.checker.specs.declared.Look.{Look}
 use Rattle.checker.specs.Arrays.{Parted, sizeIn}
-use Rattle.checker.specs.ArrayLaws.{part-none, part-more, part-length, part-count}
-use Rattle.checker.specs.Tallies.{optionOf, clueIn, firstClue, option-clue, ofColour}
-use Rattle.checker.specs.Faults.{faultOn}
+use Rattle.checker.specs.ArrayLaws.{part-none, part-more, part-at, part-length, part-count}
+use Rattle.checker.specs.Tallies.{optionOf, clueIn, option-clue, ofColour}
+use Rattle.checker.specs.BlockCases.{clue-free}
+use Rattle.checker.specs.Faults.{scanOn, faultOn}
 use Rattle.checker.specs.FaultCases.{own-parted}
-use Rattle.checker.specs.Looks.{bitOf, Room, Seen, seen-none, seen-same, seen-first, own-is, zeros-are}
-use Rattle.checker.specs.Looks.{seen-clear}
-
-abbrev pub Put : List ℕ → ℕ → ℕ → List ℕ → Type 0
-Put own j u after = ((after ≡ own) × (getD own j 0 ≡ u)) ⊎ ((after ≡ set own j u) × (getD own j 0 ≡ 1024))
+use Rattle.checker.specs.Looks.{bitOf, Put, Kept, Room, Owned, Seen, seen-none, owned-more, own-is, seen-more}
+use Rattle.checker.specs.Looks.{seen-stray, seen-clash, seen-scan, zeros-are, seen-clear}
 
 pub record Looked (cs : List ℕ) (ks : List ℤ) (ids cells : List ℕ) (from i : ℕ) (own : List ℕ) (k : Clue) (n : ℕ)
     : Type 0 where
   pub seen : Seen (coloursIn cs) (cluesIn ks) (entry ids) (part cells from i) own k n
 
-pub looked-none : (cs : List ℕ) (ks : List ℤ) (ids cells : List ℕ) (from : ℕ) (own : List ℕ)
-    → Looked cs ks ids cells from from own Free 0
-looked-none cs ks ids cells from own =
-    record { seen = rw (part-none from cells) (seen-none (coloursIn cs) (cluesIn ks) (entry ids) own) }
+pub looked-none : (cs : List ℕ) (ks : List ℤ) (ids cells : List ℕ) (from : ℕ)
+    → Looked cs ks ids cells from from (1024 ∷ 1024 ∷ []) Free 0
+looked-none cs ks ids cells from =
+    record { seen = rw (part-none from cells) (seen-none (coloursIn cs) (cluesIn ks) (entry ids)) }
+
+-- no clue is kept of a cell that has none
+pub kept-none : (k : Clue) (z : ℤ) → leZ (pos 0) z ≡ false → Kept k (clueIn (clueOf z)) k
+kept-none k z e = rw (← clue-free z e) (go k)
+  where
+    go : (j : Clue) → Kept j Free j
+    go Free = (refl, refl)
+    go (Is n) = (refl, refl)
+
+-- a look that settles it promises nothing else
+pub settles : {A : Type 0} (r : Look) {f g : Fault} → r ≡ record { settled = true; fault = f } → f ≡ g
+    → (r .settled ≡ true → r .fault ≡ g) × (r .settled ≡ false → A)
+settles r e h =
+    (λ t. ap (λ q. q .fault) e ∙ h, λ t. let z : _≡_ {A = ℕ} 0 1 = cc (ap (λ q. q .settled) e) in absurd (omega arith))
 
 module _ {cs : List ℕ} {ks : List ℤ} {ids cells : List ℕ} {from i : ℕ} {own : List ℕ} {k : Clue} {n : ℕ}
     (s : Looked cs ks ids cells from i own k n) where
-  -- one cell more
-  pub looked-more : (c : ℕ) → from ≤ i → i < length cells → c ≡ getD cells i 0 → length own ≡ 2
-      → ((y : ℕ) → getD ids y 0 < 1024) → (j : Clue) → j ≡ clueIn (clueOf (getD ks c (pos 0)))
-      → clash (optionOf k) (optionOf j) ≡ false → (after : List ℕ)
-      → Put own (bitOf (eqb (getD cs c 0) 1)) (getD ids c 0) after
-      → Looked cs ks ids cells from (i + 1) after (firstClue k j) (n + bitOf (eqb (getD cs c 0) 1))
-  unfolding coloursIn cluesIn entry
-  looked-more c g l e two few j d f after p =
-      record { seen = rw (part-more from i cells g l, ← e, d) (go p) }
-    where
-      no-clash : clash (optionOf k) (clueOf (getD ks c (pos 0))) ≡ false
-      no-clash = ap (clash (optionOf k)) (sym (ap optionOf d ∙ option-clue (clueOf (getD ks c (pos 0))))) ∙ f
+  -- the next cell
+  module _ (c : ℕ) (g : from ≤ i) (e : c ≡ getD cells i 0) where
+    owned : length own ≡ 2 → ((y : ℕ) → getD ids y 0 < 1024) → {after : List ℕ}
+        → Put own (bitOf (eqb (getD cs c 0) 1)) (getD ids c 0) after
+        → Owned (coloursIn cs) (cluesIn ks) (entry ids) (part cells from i ++ (c ∷ [])) after
+    unfolding coloursIn entry
+    owned two few p = owned-more (coloursIn cs) (cluesIn ks) (entry ids) (s .seen .owned) c two few _ p
 
-      go : Put own (bitOf (eqb (getD cs c 0) 1)) (getD ids c 0) after
-          → Seen (coloursIn cs) (cluesIn ks) (entry ids) (part cells from i ++ (c ∷ [])) after
-          (firstClue k (clueIn (clueOf (getD ks c (pos 0))))) (n + bitOf (eqb (getD cs c 0) 1))
-      go (inl q) = rw (q .0) (seen-same (coloursIn cs) (cluesIn ks) (entry ids) (s .seen) c (q .1) no-clash)
-      go (inr q) =
-          rw (q .0) (seen-first (coloursIn cs) (cluesIn ks) (entry ids) (s .seen) c two few (q .1) no-clash)
+    clashes : clash (optionOf k) (cluesIn ks c) ≡ clash (optionOf k) (optionOf (clueIn (clueOf (getD ks c (pos 0)))))
+    unfolding cluesIn
+    clashes = ap (clash (optionOf k)) (sym (option-clue (clueOf (getD ks c (pos 0)))))
+
+    pub looked-more : i < length cells → length own ≡ 2 → ((y : ℕ) → getD ids y 0 < 1024) → (after : List ℕ)
+        → Put own (bitOf (eqb (getD cs c 0) 1)) (getD ids c 0) after
+        → (first : Clue) → Kept k (clueIn (clueOf (getD ks c (pos 0)))) first
+        → Looked cs ks ids cells from (i + 1) after first (n + bitOf (eqb (getD cs c 0) 1))
+    unfolding coloursIn cluesIn
+    looked-more l two few after p first q =
+        record {
+          seen = rw (part-more from i cells g l, ← e, q .0)
+              (seen-more (coloursIn cs) (cluesIn ks) (entry ids) (s .seen) c after (owned two few p)
+              (clashes ∙ q .1));
+        }
+
+    -- where something is wrong at it, that is the fault of the whole part
+    module _ (offs : List ℕ) (to : ℕ) (h : i < to) (l : to ≤ length cells) where
+      whole : part cells from to ≡ part cells from i ++ (c ∷ part cells (i + 1) to)
+      whole = rw e (part-at from i to cells g h l)
+
+      pub looked-stray : (getD own (bitOf (eqb (getD cs c 0) 1)) 0 ≡ 1024 → ⊥)
+          → (getD own (bitOf (eqb (getD cs c 0) 1)) 0 ≡ getD ids c 0 → ⊥)
+          → InsideEdge (getD ids c 0)
+          ≡ faultOn (coloursIn cs) (cluesIn ks) (entry ids) (sizeIn offs) (part cells from to)
+      unfolding coloursIn entry
+      looked-stray a b =
+          rw whole
+          (seen-stray (coloursIn cs) (cluesIn ks) (entry ids) (s .seen) (sizeIn offs) c (part cells (i + 1) to) a b)
+
+      pub looked-clash : length own ≡ 2 → ((y : ℕ) → getD ids y 0 < 1024) → (after : List ℕ)
+          → Put own (bitOf (eqb (getD cs c 0) 1)) (getD ids c 0) after
+          → clash (optionOf k) (optionOf (clueIn (clueOf (getD ks c (pos 0))))) ≡ true
+          → Inside ≡ faultOn (coloursIn cs) (cluesIn ks) (entry ids) (sizeIn offs) (part cells from to)
+      looked-clash two few after p f =
+          rw whole
+          (seen-clash (coloursIn cs) (cluesIn ks) (entry ids) (s .seen) (sizeIn offs) c (part cells (i + 1) to)
+          (owned two few p) (clashes ∙ f))
+
+  pub looked-scan : scanOn (coloursIn cs) (cluesIn ks) (entry ids) (part cells from i) ≡ Clear
+  looked-scan = seen-scan (coloursIn cs) (cluesIn ks) (entry ids) (s .seen)
 
   pub looked-few : n ≤ i - from
   unfolding ofColour
@@ -76,8 +124,8 @@ module _ {cs : List ℕ} {ks : List ℤ} {ids cells : List ℕ} {from i : ℕ} {
         → (getD own (bitOf c) 0 < 1024)
         × (getD offs (getD own (bitOf c) 0) 0 ≤ getD offs (getD own (bitOf c) 0 + 1) 0)
     parted offs p c h =
-        rw (own-is (coloursIn cs) (cluesIn ks) (entry ids) (s .seen) c h)
-        (own-parted (coloursIn cs) (cluesIn ks) ids offs (part cells from i) p c)
+        rw (own-is (coloursIn cs) (cluesIn ks) (entry ids) (s .seen .owned) [] c h)
+        (own-parted (coloursIn cs) (cluesIn ks) ids offs (part cells from i ++ []) p c)
 
     zeros : i - from - n ≡ length (ofColour (coloursIn cs) (cluesIn ks) (entry ids) false (part cells from i))
     zeros =

@@ -1,45 +1,65 @@
--- Looks: one look at a block's cells, by which nothing is wrong with it.
+-- Looks: one look at a block's cells, which ends at the first cell at which something is wrong.
 --
 --   bitOf c             1 for colour 1, 0 for colour 0
---   Seen xs own k n     what was seen of the cells xs: own has the potential unit of each colour, k is their clue, n of
---                       them have colour 1
+--   Put own j u after   own, where u stands at j; or with u put at j, where 1,024 stood for none
+--   Kept k j after      the clue k, or the clue j after none; the two do not clash
 --   Room m o k a        m cells of one colour fit o of the other and the clue k, where their potential unit has a cells
+--   Owned xs own        own has the potential unit of each colour of the cells xs, and 1,024 for a colour of none
+--   Seen xs own k n     what was seen of the cells xs, at which nothing is wrong: own is theirs, k is their clue, n of
+--                       them have colour 1
 --   seen-none           no cell was seen
 --   seen-more           one cell more
---   seen-clear          nothing is wrong with cells that are seen so
+--   seen-stray          the fault of the whole, where the next cell's potential unit is not that of its colour
+--   seen-clash          the same, where the next cell's clue clashes
+--   seen-scan           no cell that was seen has a fault
+--   seen-clear          nothing is wrong with cells that are seen so, where both colours have room
 use mathlib.Core.Path.{_≡_, refl, sym, ap, _∙_}
 use mathlib.Core.Logic.{_⊎_, inl, inr, ⊎-elim}
 use mathlib.Core.Bool.{Bool, true, false, Bool·beq}
 use mathlib.Core.List.{List, [], _∷_, _++_, List·Memᴰ·head, List·Memᴰ·tail, List·Memᴰ·not-nil, List·Memᴰ·append-cases}
-use mathlib.Core.List.{List·Memᴰ·eq-of-singleton}
+use mathlib.Core.List.{List·Memᴰ·eq-of-singleton, Memᴰ·append-left, Memᴰ·append-right, append-nil, append-assoc}
 use mathlib.Core.Option.{Option, some, none}
 use Prim.Native.Nat.{ℕ, _+_, _-_, _<_, _≤_}
 use native.Mathlib.Omega.{arith}
 use lib.ListN.{length, getD, set, length-append}
 use lib.Seq.{getD-set-same, getD-set-other}
-use Rattle.lists.specs.Lists.{_∈_, keep, filter, firstHit}
+use Rattle.lists.specs.Lists.{_∈_, keep, filter, firstHit, orElse}
 use Rattle.lists.specs.ListLaws.{mem-filter, filter-mem, filter-test}
+use Rattle.lists.specs.Appends.{filter-append, first-append}
 use Rattle.rules.specs.Check.{clash, clueOf}
 use Rattle.checker.specs.declared.Clue.{Clue}
 use Rattle.checker.specs.declared.Clue.the-variants.{Free, Is}
 use Rattle.checker.specs.declared.Part.{Part}
 use Rattle.checker.specs.declared.Tally.{Tally}
 use Rattle.checker.specs.declared.Fault.{Fault}
-use Rattle.checker.specs.declared.Fault.the-variants.{Clear}
+use Rattle.checker.specs.declared.Fault.the-variants.{Clear, InsideEdge, Inside}
 use Rattle.checker.specs.Tallies.{headOf, optionOf, clueIn, firstClue, option-clue, ofColour, ownUnit, partOf}
 use Rattle.checker.specs.Tallies.{tallyOf, coloured-more, clue-more}
 use Rattle.checker.specs.Scan.{beq-eq, beq-refl, clash-none, clash-self, clash-cases}
-use Rattle.checker.specs.Faults.{orFault, firstFault, cellFault, smallFault, bigFault, clueFault, tallyFault}
-use Rattle.checker.specs.Faults.{faultOn}
-use Rattle.checker.specs.FaultCases.{scan-clear, small-none, small-fits, big-none, big-fits, clue-none, clue-big}
+use Rattle.checker.specs.Faults.{orFault, isClear, firstFault, cellFault, smallFault, bigFault, clueFault}
+use Rattle.checker.specs.Faults.{tallyFault, scanOn, faultOn}
+use Rattle.checker.specs.FaultCases.{or-found, scan-stray, scan-clash, scan-clear, small-none, small-fits}
+use Rattle.checker.specs.FaultCases.{big-none, big-fits, clue-none, clue-big}
 
 abbrev pub bitOf : Bool → ℕ
 bitOf true = 1
 bitOf false = 0
 
+bit-cases : (c d : Bool) → (c ≡ d) ⊎ (bitOf d ≡ bitOf c → ⊥)
+bit-cases true true = inl refl
+bit-cases true false = inr (λ e. omega arith)
+bit-cases false true = inr (λ e. omega arith)
+bit-cases false false = inl refl
+
 pub bit-under : (c : Bool) → bitOf c < 2
 bit-under true = omega arith
 bit-under false = omega arith
+
+abbrev pub Put : List ℕ → ℕ → ℕ → List ℕ → Type 0
+Put own j u after = ((after ≡ own) × (getD own j 0 ≡ u)) ⊎ ((after ≡ set own j u) × (getD own j 0 ≡ 1024))
+
+abbrev pub Kept : Clue → Clue → Clue → Type 0
+Kept k j after = (after ≡ firstClue k j) × (clash (optionOf k) (optionOf j) ≡ false)
 
 -- with none of its colour, a cell asks nothing
 abbrev pub Room : ℕ → ℕ → Clue → ℕ → Type 0
@@ -78,25 +98,41 @@ unfolding firstFault orFault
 first-clear f [] h = refl
 first-clear f (x ∷ xs) h = rw (h x (List·Memᴰ·head refl)) (first-clear f xs (λ y m. h y (List·Memᴰ·tail m)))
 
+-- the first fault is that of x, where those before it are clear
+first-found : (f : ℕ → Fault) (xs : List ℕ) (x : ℕ) (ys : List ℕ) → ((y : ℕ) → y ∈ xs → f y ≡ Clear) → (g : Fault)
+    → g ≡ f x → isClear g ≡ false → g ≡ firstFault f (xs ++ (x ∷ ys))
+unfolding firstFault orFault
+first-found f [] x ys h g e k = rw (← e) (or-found g (firstFault f ys) k)
+first-found f (z ∷ xs) x ys h g e k =
+    rw (h z (List·Memᴰ·head refl)) (first-found f xs x ys (λ y m. h y (List·Memᴰ·tail m)) g e k)
+
 module _ (colourAt : ℕ → Bool) (clueAt : ℕ → Option ℕ) (unitAt : ℕ → ℕ) where
   abbrev those : Bool → List ℕ → List ℕ
   those c xs = ofColour colourAt clueAt unitAt c xs
 
-  pub record Seen (xs own : List ℕ) (k : Clue) (n : ℕ) : Type 0 where
+  pub record Owned (xs own : List ℕ) : Type 0 where
     pub units : (y : ℕ) → y ∈ xs → getD own (bitOf (colourAt y)) 0 ≡ unitAt y
+    pub firsts : (c : Bool) → (getD own (bitOf c) 0 ≡ 1024 → ⊥) → (y : ℕ) × y ∈ xs × (colourAt y ≡ c)
+
+  pub record Seen (xs own : List ℕ) (k : Clue) (n : ℕ) : Type 0 where
+    pub owned : Owned xs own
     pub clues : (y : ℕ) → y ∈ xs → (clueAt y ≡ none) ⊎ (clueAt y ≡ optionOf k)
     pub clue : k ≡ clueIn (clueOf clueAt xs)
     pub count : n ≡ length (those true xs)
 
-  pub seen-none : (own : List ℕ) → Seen [] own Free 0
+  pub seen-none : Seen [] (1024 ∷ 1024 ∷ []) Free 0
   unfolding ofColour filter clueOf firstHit
-  seen-none own =
+  seen-none =
       record {
-        units = λ y m. absurd (List·Memᴰ·not-nil m);
+        owned = record { units = λ y m. absurd (List·Memᴰ·not-nil m); firsts = λ c h. absurd (h (bare c)) };
         clues = λ y m. absurd (List·Memᴰ·not-nil m);
         clue = refl;
         count = refl;
       }
+    where
+      bare : (c : Bool) → _≡_ {A = ℕ} (getD (1024 ∷ 1024 ∷ []) (bitOf c) 0) 1024
+      bare true = refl
+      bare false = refl
 
   clues-more : (xs : List ℕ) (x : ℕ) (k : Clue) → ((y : ℕ) → y ∈ xs → (clueAt y ≡ none) ⊎ (clueAt y ≡ optionOf k))
       → clash (optionOf k) (clueAt x) ≡ false → (y : ℕ) → y ∈ (xs ++ (x ∷ []))
@@ -123,90 +159,148 @@ module _ (colourAt : ℕ → Bool) (clueAt : ℕ → Option ℕ) (unitAt : ℕ �
       go true = refl
       go false = refl
 
+  module _ {xs own : List ℕ} (o : Owned xs own) where
+    -- one cell more: the first of its colour, or of the colour's potential unit
+    pub owned-more : (x : ℕ) → length own ≡ 2 → ((y : ℕ) → unitAt y < 1024) → (after : List ℕ)
+        → Put own (bitOf (colourAt x)) (unitAt x) after → Owned (xs ++ (x ∷ [])) after
+    owned-more x two few after (inl q) =
+        rw (q .0)
+        (record {
+          units = λ y m.
+              ⊎-elim (λ p. o .units y p) (λ p. let d : y ≡ x = List·Memᴰ·eq-of-singleton p in rw d (q .1))
+              (List·Memᴰ·append-cases xs m);
+          firsts = λ c h. let r = o .firsts c h in (r .0, Memᴰ·append-left (x ∷ []) (r .1), r .2);
+        })
+    owned-more x two few after (inr q) =
+        rw (q .0)
+        (record {
+          units = λ y m.
+              ⊎-elim (λ p. getD-set-other own _ _ (unitAt x) 0 (apart y p) ∙ o .units y p)
+              (λ p.
+              let d : y ≡ x = List·Memᴰ·eq-of-singleton p in
+              rw d (getD-set-same own _ (unitAt x) 0 (omega (arith, bit-under (colourAt x)))))
+              (List·Memᴰ·append-cases xs m);
+          firsts = λ c h.
+              ⊎-elim (λ d. (x, Memᴰ·append-right xs (List·Memᴰ·head refl), d))
+              (λ d.
+              let r = o .firsts c (λ e. h (getD-set-other own _ _ (unitAt x) 0 d ∙ e)) in
+              (r .0, Memᴰ·append-left (x ∷ []) (r .1), r .2))
+              (bit-cases (colourAt x) c);
+        })
+      where
+        apart : (y : ℕ) → y ∈ xs → bitOf (colourAt y) ≡ bitOf (colourAt x) → ⊥
+        apart y p d =
+            let f : 1024 ≡ unitAt y = sym (q .1) ∙ ap (λ i. getD own i 0) (sym d) ∙ o .units y p in
+            omega (arith, few y)
+
+    -- the unit of the first cell of a colour, whatever cells ys follow
+    pub own-is : (ys : List ℕ) (c : Bool) → (length (those c xs) ≡ 0 → ⊥)
+        → getD own (bitOf c) 0 ≡ ownUnit colourAt clueAt unitAt (xs ++ ys) c
+    unfolding ownUnit ofColour
+    own-is ys c h =
+        go (those c xs) refl ∙ ap (headOf unitAt) (sym (filter-append (λ z. Bool·beq (colourAt z) c) xs ys))
+      where
+        go : (zs : List ℕ) → those c xs ≡ zs → getD own (bitOf c) 0 ≡ headOf unitAt (zs ++ those c ys)
+        go [] e = absurd (h (ap length e))
+        go (z ∷ zs) e =
+            let m : z ∈ those c xs = rw e (List·Memᴰ·head refl) in
+            let b = beq-eq (colourAt z) c (filter-test (λ y. Bool·beq (colourAt y) c) xs m) in
+            ap (λ d. getD own (bitOf d) 0) (sym b) ∙ o .units z (filter-mem (λ y. Bool·beq (colourAt y) c) xs m)
+
+    own-cell : (ys : List ℕ) (x : ℕ) → x ∈ xs → ownUnit colourAt clueAt unitAt (xs ++ ys) (colourAt x) ≡ unitAt x
+    unfolding ofColour
+    own-cell ys x m =
+        sym (own-is ys (colourAt x)
+        (some-in (mem-filter (λ z. Bool·beq (colourAt z) (colourAt x)) xs m (beq-refl (colourAt x)))))
+        ∙ o .units x m
+      where
+        some-in : {zs : List ℕ} → x ∈ zs → length zs ≡ 0 → ⊥
+        some-in (List·Memᴰ·head q) e = omega arith
+        some-in (List·Memᴰ·tail q) e = omega arith
+
+    own-found : (ys : List ℕ) (c : Bool) → (getD own (bitOf c) 0 ≡ 1024 → ⊥)
+        → ownUnit colourAt clueAt unitAt (xs ++ ys) c ≡ getD own (bitOf c) 0
+    own-found ys c h =
+        let r = o .firsts c h in rw (r .2) at (own-cell ys (r .0) (r .1) ∙ sym (o .units (r .0) (r .1)))
+
   module _ {xs own : List ℕ} {k : Clue} {n : ℕ} (s : Seen xs own k n) where
     -- one cell more, whose clue does not clash
-    next : (x : ℕ) (after : List ℕ)
-        → ((y : ℕ) → y ∈ (xs ++ (x ∷ [])) → getD after (bitOf (colourAt y)) 0 ≡ unitAt y)
+    pub seen-more : (x : ℕ) (after : List ℕ) → Owned (xs ++ (x ∷ [])) after
         → clash (optionOf k) (clueAt x) ≡ false
         → Seen (xs ++ (x ∷ [])) after (firstClue k (clueIn (clueAt x))) (n + bitOf (colourAt x))
-    next x after h e =
+    seen-more x after o e =
         record {
-          units = h;
+          owned = o;
           clues = clues-more xs x k (s .clues) e;
           clue = sym
               (clue-more colourAt clueAt unitAt xs x ∙ ap (λ j. firstClue j (clueIn (clueAt x))) (sym (s .clue)));
           count = sym (count-more xs x ∙ ap (λ m. m + bitOf (colourAt x)) (sym (s .count)));
         }
 
-    -- its potential unit is that of its colour
-    pub seen-same : (x : ℕ) → getD own (bitOf (colourAt x)) 0 ≡ unitAt x → clash (optionOf k) (clueAt x) ≡ false
-        → Seen (xs ++ (x ∷ [])) own (firstClue k (clueIn (clueAt x))) (n + bitOf (colourAt x))
-    seen-same x e =
-        next x own
-        (λ y m.
-        ⊎-elim (λ q. s .units y q) (λ q. let d : y ≡ x = List·Memᴰ·eq-of-singleton q in rw d e)
-        (List·Memᴰ·append-cases xs m))
+    -- a clue that was seen is the first, whatever cells ys follow
+    clue-kept : (ys : List ℕ) (m : ℕ) → k ≡ Is m → clueOf clueAt (xs ++ ys) ≡ some m
+    unfolding clueOf orElse
+    clue-kept ys m e =
+        let f : firstHit clueAt xs ≡ some m =
+        sym (option-clue (firstHit clueAt xs)) ∙ ap optionOf (sym (s .clue) ∙ e) in
+        first-append clueAt xs ys ∙ rw f
 
-    -- it is the first of its colour, whose potential unit was not a number of one
-    pub seen-first : (x : ℕ) → length own ≡ 2 → ((y : ℕ) → unitAt y < 1024) → getD own (bitOf (colourAt x)) 0 ≡ 1024
-        → clash (optionOf k) (clueAt x) ≡ false
-        → Seen (xs ++ (x ∷ [])) (set own (bitOf (colourAt x)) (unitAt x)) (firstClue k (clueIn (clueAt x)))
-        (n + bitOf (colourAt x))
-    seen-first x two few e =
-        next x (set own (bitOf (colourAt x)) (unitAt x))
-        (λ y m.
-        ⊎-elim (λ q. getD-set-other own _ _ (unitAt x) 0 (apart y q) ∙ s .units y q)
-        (λ q.
-        let d : y ≡ x = List·Memᴰ·eq-of-singleton q in
-        rw d (getD-set-same own _ (unitAt x) 0 (omega (arith, bit-under (colourAt x)))))
-        (List·Memᴰ·append-cases xs m))
-      where
-        apart : (y : ℕ) → y ∈ xs → bitOf (colourAt y) ≡ bitOf (colourAt x) → ⊥
-        apart y q d =
-            let f : 1024 ≡ unitAt y = sym e ∙ ap (λ i. getD own i 0) (sym d) ∙ s .units y q in omega (arith, few y)
-
-    -- the unit of the first cell of a colour
-    pub own-is : (c : Bool) → (length (those c xs) ≡ 0 → ⊥)
-        → getD own (bitOf c) 0 ≡ ownUnit colourAt clueAt unitAt xs c
-    unfolding ownUnit ofColour
-    own-is c h = go (those c xs) refl
-      where
-        go : (ys : List ℕ) → those c xs ≡ ys → getD own (bitOf c) 0 ≡ headOf unitAt ys
-        go [] e = absurd (h (ap length e))
-        go (y ∷ ys) e =
-            let m : y ∈ those c xs = rw e (List·Memᴰ·head refl) in
-            let b = beq-eq (colourAt y) c (filter-test (λ z. Bool·beq (colourAt z) c) xs m) in
-            ap (λ d. getD own (bitOf d) 0) (sym b) ∙ s .units y (filter-mem (λ z. Bool·beq (colourAt z) c) xs m)
-
-    own-cell : (x : ℕ) → x ∈ xs → ownUnit colourAt clueAt unitAt xs (colourAt x) ≡ unitAt x
-    unfolding ofColour
-    own-cell x m =
-        sym (own-is (colourAt x)
-        (some-in (mem-filter (λ z. Bool·beq (colourAt z) (colourAt x)) xs m (beq-refl (colourAt x)))))
-        ∙ s .units x m
-      where
-        some-in : {ys : List ℕ} → x ∈ ys → length ys ≡ 0 → ⊥
-        some-in (List·Memᴰ·head q) e = omega arith
-        some-in (List·Memᴰ·tail q) e = omega arith
-
-    cell-clear : (x : ℕ) → x ∈ xs
-        → cellFault colourAt clueAt unitAt (ownUnit colourAt clueAt unitAt xs) (clueOf clueAt xs) x ≡ Clear
+    cell-clear : (ys : List ℕ) (x : ℕ) → x ∈ xs
+        → cellFault colourAt clueAt unitAt (ownUnit colourAt clueAt unitAt (xs ++ ys)) (clueOf clueAt (xs ++ ys)) x
+        ≡ Clear
     unfolding cellFault
-    cell-clear x m = sym (scan-clear _ _ _ _ _ (own-cell x m) (go (s .clues x m)))
+    cell-clear ys x m = sym (scan-clear _ _ _ _ _ (own-cell (s .owned) ys x m) (go k refl (s .clues x m)))
       where
-        first : optionOf k ≡ clueOf clueAt xs
-        first = ap optionOf (s .clue) ∙ option-clue (clueOf clueAt xs)
+        go : (j : Clue) → k ≡ j → (clueAt x ≡ none) ⊎ (clueAt x ≡ optionOf j)
+            → clash (clueOf clueAt (xs ++ ys)) (clueAt x) ≡ false
+        go j e (inl f) = rw f (clash-none (clueOf clueAt (xs ++ ys)))
+        go Free e (inr f) = rw f (clash-none (clueOf clueAt (xs ++ ys)))
+        go (Is i) e (inr f) = rw (f, clue-kept ys i e) (clash-self (some i))
 
-        go : (clueAt x ≡ none) ⊎ (clueAt x ≡ optionOf k) → clash (clueOf clueAt xs) (clueAt x) ≡ false
-        go (inl e) = rw e (clash-none (clueOf clueAt xs))
-        go (inr e) = rw (e ∙ first) (clash-self (clueOf clueAt xs))
+    pub seen-scan : scanOn colourAt clueAt unitAt xs ≡ Clear
+    unfolding scanOn
+    seen-scan = first-clear _ xs (λ x m. rw (append-nil xs) at (cell-clear [] x m))
+
+    -- the first cell with which something is wrong
+    stop : (sizeAt : ℕ → ℕ) (x : ℕ) (ys : List ℕ) (f : Fault)
+        → f ≡ cellFault colourAt clueAt unitAt (ownUnit colourAt clueAt unitAt (xs ++ (x ∷ ys)))
+        (clueOf clueAt (xs ++ (x ∷ ys))) x
+        → isClear f ≡ false → f ≡ faultOn colourAt clueAt unitAt sizeAt (xs ++ (x ∷ ys))
+    unfolding faultOn scanOn
+    stop sizeAt x ys f e h = rw (← first-found _ xs x ys (cell-clear (x ∷ ys)) f e h) (or-found f _ h)
+
+    -- its potential unit is another one than that of its colour
+    pub seen-stray : (sizeAt : ℕ → ℕ) (x : ℕ) (ys : List ℕ) → (getD own (bitOf (colourAt x)) 0 ≡ 1024 → ⊥)
+        → (getD own (bitOf (colourAt x)) 0 ≡ unitAt x → ⊥)
+        → InsideEdge (unitAt x) ≡ faultOn colourAt clueAt unitAt sizeAt (xs ++ (x ∷ ys))
+    unfolding cellFault
+    seen-stray sizeAt x ys h g =
+        stop sizeAt x ys _
+        (scan-stray _ _ _ _ _ (λ e. g (sym (own-found (s .owned) (x ∷ ys) (colourAt x) h) ∙ e))) refl
+
+    -- its clue clashes
+    pub seen-clash : (sizeAt : ℕ → ℕ) (x : ℕ) (ys : List ℕ) {after : List ℕ} → Owned (xs ++ (x ∷ [])) after
+        → clash (optionOf k) (clueAt x) ≡ true
+        → Inside ≡ faultOn colourAt clueAt unitAt sizeAt (xs ++ (x ∷ ys))
+    unfolding cellFault
+    seen-clash sizeAt x ys o h =
+        stop sizeAt x ys _
+        (scan-clash _ _ _ _ _
+        (rw (append-assoc xs (x ∷ []) ys) at (own-cell o ys x (Memᴰ·append-right xs (List·Memᴰ·head refl))))
+        (go k refl h))
+        refl
+      where
+        go : (j : Clue) → k ≡ j → clash (optionOf j) (clueAt x) ≡ true
+            → clash (clueOf clueAt (xs ++ (x ∷ ys))) (clueAt x) ≡ true
+        go Free e f = let z : _≡_ {A = ℕ} 0 1 = cc in absurd (omega arith)
+        go (Is i) e f = rw (clue-kept (x ∷ ys) i e) f
 
     room-own : (sizeAt : ℕ → ℕ) (c : Bool) (m o : ℕ) → m ≡ length (those c xs)
         → Room m o k (sizeAt (getD own (bitOf c) 0))
         → Room m o (clueIn (clueOf clueAt xs)) (sizeAt (ownUnit colourAt clueAt unitAt xs c))
     room-own sizeAt c m o e (inl h) = inl h
     room-own sizeAt c m o e (inr r) =
-        let u = own-is c (λ z. r .0 (e ∙ z)) in
+        let u = rw (append-nil xs) at (own-is (s .owned) [] c (λ z. r .0 (e ∙ z))) in
         inr (r .0, rw u at (r .1), λ j f. let b = r .2 j (s .clue ∙ f) in (b .0, rw u at (b .1)))
 
     both : (ys : List ℕ) → length (those true ys) + length (those false ys) ≡ length ys
@@ -227,7 +321,7 @@ module _ (colourAt : ℕ → Bool) (clueAt : ℕ → Option ℕ) (unitAt : ℕ �
         → Room n (length xs - n) k (sizeAt (getD own 1 0)) → Clear ≡ faultOn colourAt clueAt unitAt sizeAt xs
     unfolding faultOn orFault tallyOf partOf
     seen-clear sizeAt r q =
-        rw (first-clear _ xs cell-clear)
+        rw seen-scan
         (tally-clear (tallyOf colourAt clueAt unitAt xs) _ _
         (rw (zeros-are, s .count) at (room-own sizeAt false _ _ zeros-are r))
         (rw (zeros-are, s .count) at (room-own sizeAt true _ _ (s .count) q)))

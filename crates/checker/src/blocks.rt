@@ -1,6 +1,6 @@
 // Step 1: what is wrong with a block.
 ghost use mathlib.Core.Path.{_≡_};
-ghost use mathlib.Core.Bool.{true};
+ghost use mathlib.Core.Bool.{true, false};
 ghost use Prim.Native.Nat.{_+_, _-_, _<_, _≤_};
 ghost use lib.Dec.{eqb};
 ghost use lib.ListN.{getD};
@@ -11,14 +11,15 @@ ghost use Rattle.checker.specs.Tallies.{optionOf};
 ghost use Rattle.groups.specs.Parts.{partOf};
 ghost use Rattle.reasons.specs.Arrays.{part};
 ghost use Rattle.checker.specs.Arrays.{Listed, Lists, Parted, sizeIn};
-ghost use Rattle.checker.specs.Faults.{orFault, firstFault, isClear, unitsOf, scanFault, smallFault, bigFault};
+ghost use Rattle.checker.specs.Faults.{orFault, isClear, smallFault, bigFault, clueFault, tallyFault};
+ghost use Rattle.checker.specs.Faults.{scanOn, faultOn};
 ghost use Rattle.checker.specs.Faulty.{firstFaulty};
 ghost use Rattle.checker.specs.LoneCases.{loneFault};
 ghost use Rattle.checker.specs.Looks.{bitOf, Room};
-ghost use Rattle.checker.specs.Faults.{clueFault, tallyFault, cellFault, faultOn};
 use crate::Clue;
 use crate::Fault;
 use crate::Faulty;
+use crate::Look;
 use crate::Part;
 use crate::Tally;
 use crate::tallies::clue_at;
@@ -60,33 +61,6 @@ fn or_fault(f: Fault, g: Fault) -> Fault
         return g;
     }
     f
-}
-
-// The potential unit of a block's first cell of a colour.
-fn unit_of(t: Tally, colour: u8) -> usize
-    ensures { λ r. ⌜ r ≡ unitsOf t (eqb colour 1) ⌝ }
-{
-    let zero = t.zero;
-    let one = t.one;
-    if colour == 1 {
-        return one.unit;
-    }
-    zero.unit
-}
-
-// What is wrong at a cell of a block.
-fn cell_fault(t: Tally, colour: u8, unit: usize, clue: Clue) -> Fault
-    ensures { λ r. ⌜ r ≡ scanFault (unitsOf t) (optionOf (t .clue)) (eqb colour 1) unit (optionOf clue) ⌝ }
-{
-    let own = unit_of(t, colour);
-    if own != unit {
-        return Fault::InsideEdge(unit);
-    }
-    let first = t.clue;
-    if clash(first, clue) {
-        return Fault::Inside;
-    }
-    Fault::Clear
 }
 
 // What is wrong where one colour's potential unit of that size is too small for the cells of the other.
@@ -143,35 +117,6 @@ fn tally_fault(t: Tally, a: usize, b: usize) -> Fault
     let clue = t.clue;
     let small = or_fault(small_fault(one, zero, b), clue_fault(clue, zero, one, a, b));
     or_fault(small_fault(zero, one, a), small)
-}
-
-// The first fault among the cells from..to of a list.
-fn scan<'a>(
-    t: Tally,
-    colours: &'a [u8; 1024],
-    clues: &'a [i32; 1024],
-    ids: &'a [u16; 1024],
-    cells: &'a [u16; 1024],
-    from: usize,
-    to: usize,
-) -> Fault
-    requires { ⌜ Listed from to (now cells) ⌝ }
-    ensures { λ r. ⌜ r ≡ firstFault
-        (cellFault (coloursIn (now (colours .entry))) (cluesIn (now (clues .entry))) (entry (now (ids .entry)))
-        (unitsOf t) (optionOf (t .clue)))
-        (part (now (cells .entry)) from to) ⌝ }
-{
-    let mut i = from;
-    while i < to {
-        let c = wide(cells[i]);
-        let f = cell_fault(t, colours[c], wide(ids[c]), clue_at(clues[c]));
-        if is_clear(f) {
-            i += 1;
-        } else {
-            return f;
-        }
-    }
-    Fault::Clear
 }
 
 // How many cells a group has, from the places where the groups start.
@@ -239,9 +184,20 @@ fn has_room(offs: &[u16; 1025], size: usize, unit: usize, other: usize, clue: Cl
     n <= room
 }
 
-// Whether one look at the cells from..to shows that nothing is wrong; else what it is takes a second look. The first
-// potential unit of a colour is kept at the colour's place, where 1,024 stands for none.
-fn looks_clear<'a>(
+// A look that settles what is wrong.
+fn settled(f: Fault) -> Look
+    ensures { λ r. ⌜ r ≡ record { settled = true; fault = f } ⌝ }
+{
+    Look {
+        settled: true,
+        fault: f,
+    }
+}
+
+// One look at the cells from..to. It ends at the first cell at which something is wrong. Where there is none, nothing
+// is wrong if both colours have room; else a tally is to tell. The first potential unit of a colour is kept at the
+// colour's place, where 1,024 stands for none.
+fn look<'a>(
     colours: &'a [u8; 1024],
     clues: &'a [i32; 1024],
     ids: &'a [u16; 1024],
@@ -249,11 +205,13 @@ fn looks_clear<'a>(
     cells: &'a [u16; 1024],
     from: usize,
     to: usize,
-) -> bool
+) -> Look
     requires { ⌜ Listed from to (now cells) × Parted (now ids) (now offs) ⌝ }
-    ensures { λ r. ⌜ (r ≡ true → Fault.Clear ≡ faultOn (coloursIn (now (colours .entry)))
+    ensures { λ r. ⌜ (r .settled ≡ true → r .fault ≡ faultOn (coloursIn (now (colours .entry)))
         (cluesIn (now (clues .entry))) (entry (now (ids .entry))) (sizeIn (now (offs .entry)))
-        (part (now (cells .entry)) from to)) ⌝ }
+        (part (now (cells .entry)) from to))
+        × (r .settled ≡ false → scanOn (coloursIn (now (colours .entry))) (cluesIn (now (clues .entry)))
+        (entry (now (ids .entry))) (part (now (cells .entry)) from to) ≡ Fault.Clear) ⌝ }
 {
     let mut own = [1024usize; 2];
     let mut first = Clue::Free;
@@ -265,23 +223,30 @@ fn looks_clear<'a>(
         let one = bit(colours[c]);
         if own[one] != unit {
             if own[one] != 1024 {
-                return false;
+                return settled(Fault::InsideEdge(unit));
             }
             own[one] = unit;
         }
-        let clue = clue_at(clues[c]);
-        if clash(first, clue) {
-            return false;
+        if 0 <= clues[c] {
+            let clue = clue_at(clues[c]);
+            if clash(first, clue) {
+                return settled(Fault::Inside);
+            }
+            first = first_clue(first, clue);
         }
-        first = first_clue(first, clue);
         ones += one;
         i += 1;
     }
     let zeros = to - from - ones;
     if has_room(offs, zeros, own[0], ones, first) {
-        return has_room(offs, ones, own[1], zeros, first);
+        if has_room(offs, ones, own[1], zeros, first) {
+            return settled(Fault::Clear);
+        }
     }
-    false
+    Look {
+        settled: false,
+        fault: Fault::Clear,
+    }
 }
 
 // What is wrong with the block of the cells from..to; ids and offs are those of the potential units.
@@ -303,17 +268,14 @@ pub fn block_fault<'a>(
     if to == from + 1 {
         return lone_fault(clues, ids, offs, wide(cells[from]));
     }
-    if looks_clear(colours, clues, ids, offs, cells, from, to) {
-        return Fault::Clear;
+    let seen = look(colours, clues, ids, offs, cells, from, to);
+    if seen.settled {
+        return seen.fault;
     }
     let t = tally(colours, clues, ids, cells, from, to);
-    let f = scan(t, colours, clues, ids, cells, from, to);
-    if is_clear(f) {
-        let zero = t.zero;
-        let one = t.one;
-        return tally_fault(t, size_of(offs, zero.unit), size_of(offs, one.unit));
-    }
-    f
+    let zero = t.zero;
+    let one = t.one;
+    tally_fault(t, size_of(offs, zero.unit), size_of(offs, one.unit))
 }
 
 // The first of `count` blocks with which something is wrong; ids and offs are those of the potential units, cells and

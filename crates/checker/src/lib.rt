@@ -46,6 +46,12 @@ pub enum Fault {
     EdgeInside(usize),
 }
 
+// What one look at a block's cells shows: whether it settles what is wrong with the block, and if so what it is.
+pub struct Look {
+    pub settled: bool,
+    pub fault: Fault,
+}
+
 // A block and what is wrong with it.
 pub struct Faulty {
     pub block: usize,

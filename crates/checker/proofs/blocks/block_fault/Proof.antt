@@ -1,6 +1,6 @@
--- `block_fault` meets its contract: one cell's fault; nothing where one look shows it; else the scan's fault, and where
--- that is clear the tally's.
-use mathlib.Core.Path.{sym, ap, _∙_}
+-- `block_fault` meets its contract: one cell's fault; what one look settles; else no cell has a fault, and the tally
+-- tells.
+use mathlib.Core.Path.{ap, _∙_}
 use mathlib.Core.Bool.{Bool, true, false}
 use Prim.Native.Nat.{_+_, _<_, _≤_}
 use Rattle.rules.specs.Codes.{coloursIn, cluesIn}
@@ -9,7 +9,7 @@ use Rattle.checker.specs.Arrays.{sizeIn}
 use Rattle.reasons.specs.Arrays.{part}
 use Rattle.checker.specs.Tallies.{ownUnit, partOf, tallyOf}
 use Rattle.checker.specs.LoneCases.{lone-fault, part-one}
-use Rattle.checker.specs.FaultCases.{fault-clear, fault-found, own-parted}
+use Rattle.checker.specs.FaultCases.{fault-tally, own-parted}
 use native.Mathlib.Omega.{arith}
 use lib.ListN.{getD}
 use borrow.Author.Needs.{needs}
@@ -45,20 +45,14 @@ returns c =
     (lone-fault (cluesIn (a .clues .now)) (entry (a .ids .now)) (sizeIn (a .offs .now)) (coloursIn (a .colours .now))
     (c .before .wide .result))
 
-looks-clear-requires : tie.Need-looks-clear-requires
-looks-clear-requires c κs = search needs
+look-requires : tie.Need-look-requires
+look-requires c κs = search needs
 
 returns-2 : tie.Need-returns-2
-returns-2 c = c .before .looks-clear .ensures (c .if2 .taken)
+returns-2 c = c .before .look .ensures .0 (c .if2 .taken)
 
 tally-requires : tie.Need-tally-requires
 tally-requires c κs = search needs
-
-scan-requires : tie.Need-scan-requires
-scan-requires c κs = search needs
-
-is-clear-requires : tie.Need-is-clear-requires
-is-clear-requires c κs = search needs
 
 -- the potential unit of a colour's first cell has a size
 parted : (c : tie.After-tally) → (colour : Bool)
@@ -74,13 +68,13 @@ parted c =
 size-of-requires : tie.Need-size-of-requires
 unfolding tallyOf partOf
 size-of-requires c κs =
-    let d = c .before .before .before .before .before in
+    let d = c .before .before in
     rw (ap (λ t. t .zero .unit) (d .tally .ensures)) (parted d false)
 
 size-of-requires-2 : tie.Need-size-of-requires-2
 unfolding tallyOf partOf
 size-of-requires-2 c κs =
-    let d = c .before .before .before .before .before .before in
+    let d = c .before .before .before in
     rw (ap (λ t. t .one .unit) (d .tally .ensures)) (parted d true)
 
 tally-fault-requires : tie.Need-tally-fault-requires
@@ -88,21 +82,13 @@ tally-fault-requires c κs = search needs
 
 returns-3 : tie.Need-returns-3
 returns-3 c =
-    let e = c .before .before .before .before .before in
-    let d = e .before .before .before in
+    let d = c .before .before .before .before .before in
     let a = d .before .before .before .before .args in
-    fault-clear (coloursIn (a .colours .now)) (cluesIn (a .clues .now)) (entry (a .ids .now)) (sizeIn (a .offs .now))
-    (part (a .cells .now) (a .from) (a .to)) _ _ _ (d .tally .ensures) (e .before .before .scan .ensures)
-    (c .tally-fault .ensures ∙ rw (c .before .size-of2 .ensures, c .before .before .size-of .ensures))
-    (sym (e .before .is-clear .ensures) ∙ e .if3 .taken)
-
-returns-4 : tie.Need-returns-4
-returns-4 c =
-    let d = c .before .before .before in
-    let a = d .before .before .before .before .args in
-    fault-found (coloursIn (a .colours .now)) (cluesIn (a .clues .now)) (entry (a .ids .now)) (sizeIn (a .offs .now))
-    (part (a .cells .now) (a .from) (a .to)) _ _ (d .tally .ensures) (c .before .before .scan .ensures)
-    (sym (c .before .is-clear .ensures) ∙ c .if3 .left)
+    c .tally-fault .ensures
+    ∙ rw (c .before .size-of2 .ensures, c .before .before .size-of .ensures)
+    (fault-tally (coloursIn (a .colours .now)) (cluesIn (a .clues .now)) (entry (a .ids .now)) (sizeIn (a .offs .now))
+    (part (a .cells .now) (a .from) (a .to)) _ (d .tally .ensures)
+    (d .before .before .look .ensures .1 (d .before .if2 .left)))
 
 pub block-fault-spec : {M : Type 1} → statement M
 block-fault-spec =
@@ -114,13 +100,10 @@ block-fault-spec =
     wide-requires
     lone-fault-requires
     returns
-    looks-clear-requires
+    look-requires
     returns-2
     tally-requires
-    scan-requires
-    is-clear-requires
     size-of-requires
     size-of-requires-2
     tally-fault-requires
-    returns-3
-    returns-4)
+    returns-3)

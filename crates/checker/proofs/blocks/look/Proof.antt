@@ -1,4 +1,5 @@
--- `looks_clear` meets its contract: after each turn the cells passed were seen to agree.
+-- `look` meets its contract: after each turn the cells passed were seen to agree, so that the first fault of the whole
+-- part is that of the cell where the look stops.
 use Prim.Native.Nat.{ℕ, _≤_, _<_, _-_}
 use mathlib.Core.Path.{_≡_, refl, sym, ap, _∙_}
 use mathlib.Core.Logic.{inl, inr, ⊎-elim}
@@ -7,15 +8,17 @@ use lib.ListN.{length, getD, length-set}
 use lib.IntN.{pos}
 use mir.Facts.{toZ-ofZ}
 use mir.Syntax.{w32}
+use mir.Val.{toZ, ofZ}
 use borrow.Author.Needs.{needs, sfits-of}
 use lib.Dec.{eqb}
 use Rattle.rules.specs.Codes.{clueOf}
+use Rattle.checker.specs.declared.Fault.the-variants.{InsideEdge}
 use Rattle.checker.specs.Tallies.{clueIn}
-use Rattle.checker.specs.Looks.{bit-under}
-use Rattle.checker.specs.Looked.{Put, Looked, looked-none, looked-more, looked-few, zero-parted, one-parted}
-use Rattle.checker.specs.Looked.{looked-clear}
-use Rattle.checker.proofs.blocks.looks_clear.Statement.{statement}
-use Rattle.checker.proofs.blocks.looks_clear.Tie as tie
+use Rattle.checker.specs.Looks.{bit-under, Put, Kept}
+use Rattle.checker.specs.Looked.{Looked, looked-none, looked-more, looked-few, zero-parted, one-parted}
+use Rattle.checker.specs.Looked.{kept-none, settles, looked-stray, looked-clash, looked-scan, looked-clear}
+use Rattle.checker.proofs.blocks.look.Statement.{statement}
+use Rattle.checker.proofs.blocks.look.Tie as tie
 
 abbrev Inv-loop : tie.InvT-loop
 Inv-loop colours clues ids offs cells from to own₀ first₀ ones₀ i₀ own first ones i =
@@ -39,7 +42,7 @@ two c =
     rw (c .bit .ensures) (bit-under (eqb k 1))
 
 loop-holds : tie.Need-loop-holds Inv-loop μ-loop
-loop-holds c = (omega arith, omega (arith, c .pre .0), refl, looked-none _ _ _ _ _ _)
+loop-holds c = (omega arith, omega (arith, c .pre .0), refl, looked-none _ _ _ _ _)
 
 mul-wide : tie.Need-mul-wide Inv-loop μ-loop
 mul-wide c = omega (arith, c .before .before .pre .0)
@@ -77,8 +80,21 @@ mul-if2 c = omega (arith, two (c .before))
 array-read-if2 : tie.Need-array-read-if2 Inv-loop μ-loop
 array-read-if2 c = two (c .before)
 
+settled-requires : tie.Need-settled-requires Inv-loop μ-loop
+settled-requires c κs = tt
+
 returns : tie.Need-returns Inv-loop μ-loop
-returns c e = let z : _≡_ {A = ℕ} 0 1 = cc in absurd (omega arith)
+returns c =
+    let d = c .before .before .before in
+    let w = d .before .before .before .before in
+    let l = w .before .before .before in
+    let p = l .before .pre .0 in
+    settles (c .settled .result) (c .settled .ensures)
+    (ap InsideEdge (d .before .before .wide2 .ensures)
+    ∙ looked-stray (l .loop .inv .3) (w .wide .result) (l .loop .inv .0) (w .wide .ensures) _ _
+    (w .before .before .loop-test .taken) (omega (arith, p .long, p .within))
+    (rw (d .bit .ensures) at (c .before .if2 .taken))
+    (rw (d .bit .ensures, d .before .before .wide2 .ensures) at (c .before .before .if1 .taken)))
 
 mul-own : tie.Need-mul-own Inv-loop μ-loop
 mul-own c = omega (arith, two (c .before .before))
@@ -86,11 +102,17 @@ mul-own c = omega (arith, two (c .before .before))
 array-write-own : tie.Need-array-write-own Inv-loop μ-loop
 array-write-own c = two (c .before .before)
 
+mul-if3 : tie.Need-mul-if3 Inv-loop μ-loop
+mul-if3 c = omega (arith, small (c .before .before .before .before .before))
+
+element-copy-out-if3 : tie.Need-element-copy-out-if3 Inv-loop μ-loop
+element-copy-out-if3 c = small (c .before .before .before .before .before)
+
 mul-clue-at : tie.Need-mul-clue-at Inv-loop μ-loop
-mul-clue-at c = omega (arith, small (c .before .before .before .before .before))
+mul-clue-at c = omega (arith, small (c .before .before .before .before .before .before .before))
 
 element-copy-out-clue-at : tie.Need-element-copy-out-clue-at Inv-loop μ-loop
-element-copy-out-clue-at c = small (c .before .before .before .before .before)
+element-copy-out-clue-at c = small (c .before .before .before .before .before .before .before)
 
 clue-at-requires : tie.Need-clue-at-requires Inv-loop μ-loop
 clue-at-requires c κs = tt
@@ -98,25 +120,8 @@ clue-at-requires c κs = tt
 clash-requires : tie.Need-clash-requires Inv-loop μ-loop
 clash-requires c κs = tt
 
-returns-2 : tie.Need-returns-2 Inv-loop μ-loop
-returns-2 c e = let z : _≡_ {A = ℕ} 0 1 = cc in absurd (omega arith)
-
-first-clue-requires : tie.Need-first-clue-requires Inv-loop μ-loop
-first-clue-requires c κs = tt
-
-add-ones : tie.Need-add-ones Inv-loop μ-loop
-add-ones c =
-    let d = c .before .before .before .before .before .before in
-    let e = d .before .before .before .before .before .before .before in
-    omega (arith, two d, looked-few (e .loop .inv .3), e .loop .inv, e .before .pre .0)
-
-add-i : tie.Need-add-i Inv-loop μ-loop
-add-i c =
-    let d = c .before .before .before .before .before .before in
-    omega (arith, d .before .before .before .before .before .before .before .before .pre .0)
-
-loop-less : tie.Need-loop-less Inv-loop μ-loop
-loop-less c = omega arith
+settled-requires-2 : tie.Need-settled-requires-2 Inv-loop μ-loop
+settled-requires-2 c κs = tt
 
 -- the unit stands at its colour, or was put there
 put : (c : tie.Joined1 Inv-loop μ-loop)
@@ -124,31 +129,76 @@ put : (c : tie.Joined1 Inv-loop μ-loop)
     Put (d .before .before .before .before .before .loop .own) (c .before .bit .result) (d .wide2 .result) (c .if1 .own)
 put c = ⊎-elim (λ w. inr (w .2, w .1 .left)) (λ w. inl (w .1, w .0 .left)) (c .if1 .came)
 
+-- a clue is read with its sign
+signed : (c : tie.After-if32 Inv-loop μ-loop)
+    → let d = c .before .before .before .before .before .before in
+    let z = getD (d .before .before .before .before .args .clues .now) (d .wide .result) (pos 0) in
+    toZ w32 (ofZ w32 z) ≡ z
+signed c = toZ-ofZ (sfits-of (c .if32 .given))
+
+returns-2 : tie.Need-returns-2 Inv-loop μ-loop
+returns-2 c =
+    let f = c .before .before .before .before .before .before in
+    let d = f .before .before in
+    let w = d .before .before .before .before in
+    let l = w .before .before .before in
+    let p = l .before .pre in
+    settles (c .settled2 .result) (c .settled2 .ensures)
+    (looked-clash (l .loop .inv .3) (w .wide .result) (l .loop .inv .0) (w .wide .ensures) _ _
+    (w .before .before .loop-test .taken) (omega (arith, p .0 .long, p .0 .within)) (l .loop .inv .2) (p .1 .few) _
+    (rw (d .bit .ensures, d .before .before .wide2 .ensures) at (put (f .before)))
+    (rw (← ap (λ z. clueIn (clueOf z)) (signed f), ← c .before .before .before .clue-at .ensures)
+    (sym (c .before .before .clash .ensures) ∙ c .before .if4 .taken)))
+
+first-clue-requires : tie.Need-first-clue-requires Inv-loop μ-loop
+first-clue-requires c κs = tt
+
+add-ones : tie.Need-add-ones Inv-loop μ-loop
+add-ones c =
+    let d = c .before .before .before in
+    let e = d .before .before .before .before .before .before .before in
+    omega (arith, two d, looked-few (e .loop .inv .3), e .loop .inv, e .before .pre .0)
+
+add-i : tie.Need-add-i Inv-loop μ-loop
+add-i c =
+    let d = c .before .before .before in
+    omega (arith, d .before .before .before .before .before .before .before .before .pre .0)
+
+loop-less : tie.Need-loop-less Inv-loop μ-loop
+loop-less c = omega arith
+
 still : (c : tie.Joined1 Inv-loop μ-loop) → length (c .if1 .own) ≡ 2
 still c =
     let two = c .before .before .before .before .before .before .before .before .loop .inv .2 in
     ⊎-elim (λ w. ap length (w .2) ∙ simp length-set two) (λ w. ap length (w .1) ∙ two) (c .if1 .came)
 
+-- the clue agrees, and is kept if it is the first
+kept : (c : tie.Joined3 Inv-loop μ-loop)
+    → let d = c .before .before .before .before .before .before .before in
+    let z = getD (d .before .before .before .before .args .clues .now) (d .wide .result) (pos 0) in
+    Kept (d .before .before .before .loop .first) (clueIn (clueOf z)) (c .if3 .first)
+kept c =
+    let d = c .before .before .before .before .before .before .before in
+    let z = getD (d .before .before .before .before .args .clues .now) (d .wide .result) (pos 0) in
+    ⊎-elim
+    (λ w.
+    let e = w .2 .ensures ∙ ap (λ y. clueIn (clueOf y)) (signed (c .before)) in
+    rw (← e) (w .6 ∙ w .5 .ensures, sym (w .3 .ensures) ∙ w .4 .left))
+    (λ w. rw (w .1) (kept-none _ z (rw (signed (c .before)) at (w .0 .left)))) (c .if3 .came)
+
 loop-again : tie.Need-loop-again Inv-loop μ-loop
 loop-again c =
-    let d = c .before .before .before .before .before in
-    let w = d .before .before .before .before .before .wide in
-    let l = d .before .before .before .before .before .before .before .before .loop in
-    let a = d .before .before .before .before .before .before .before .before .before .args in
-    let p = d .before .before .before .before .before .before .before .before .before .pre in
-    let u = d .before .before .before .wide2 in
-    let b = d .before .bit in
-    let clue = getD (a .clues .now) (w .result) (pos 0) in
-    let k = ap (λ z. clueIn (clueOf z))
-    (toZ-ofZ {w = w32} {z = clue} (sfits-of (c .before .before .before .before .clue-at-arg .given))) in (
+    let d = c .before .before .before in
+    let w = d .before .before .before .before in
+    let l = w .before .before .before in
+    let p = l .before .pre in (
       omega arith,
       omega arith,
-      still d,
-      rw (c .first-clue .ensures, b .ensures)
-          (looked-more (l .inv .3) (w .result) (l .inv .0) (omega (arith, p .0 .long, p .0 .within)) (w .ensures)
-          (l .inv .2) (p .1 .few) _ (c .before .before .before .clue-at .ensures ∙ k)
-          (sym (c .before .before .clash .ensures) ∙ c .before .if3 .left) _
-          (rw (b .ensures, u .ensures) at (put d))),
+      still (c .before .before),
+      rw (d .bit .ensures)
+          (looked-more (l .loop .inv .3) (w .wide .result) (l .loop .inv .0) (w .wide .ensures)
+          (omega (arith, p .0 .long, p .0 .within)) (l .loop .inv .2) (p .1 .few) _
+          (rw (d .bit .ensures, d .before .before .wide2 .ensures) at (put (c .before .before))) _ (kept c)),
     )
 
 sub-zeros : tie.Need-sub-zeros Inv-loop μ-loop
@@ -179,20 +229,35 @@ has-room-requires-2 c κs h =
     let s = d .before .before in
     one-parted (d .before .loop .inv .3) (d .before .loop .inv .0) (omega (arith, s .pre .0, all d)) _ (s .pre .1) h
 
+settled-requires-3 : tie.Need-settled-requires-3 Inv-loop μ-loop
+settled-requires-3 c κs = tt
+
 returns-3 : tie.Need-returns-3 Inv-loop μ-loop
-returns-3 c e =
-    let d = c .before .before .before in
+returns-3 c =
+    let d = c .before .before .before .before .before in
     let s = d .before .before in
-    rw (all d)
+    settles (c .settled3 .result) (c .settled3 .ensures)
+    (rw (all d)
     (looked-clear (d .before .loop .inv .3) (d .before .loop .inv .0) (omega (arith, s .pre .0, all d)) _
-    (rw (all d) at (c .before .before .has-room .ensures (c .before .if4 .taken)))
-    (rw (all d) at (c .has-room2 .ensures e)))
+    (rw (all d) at (c .before .before .before .before .has-room .ensures (c .before .before .before .if5 .taken)))
+    (rw (all d) at (c .before .before .has-room2 .ensures (c .before .if6 .taken)))))
 
 returns-4 : tie.Need-returns-4 Inv-loop μ-loop
-returns-4 c e = let z : _≡_ {A = ℕ} 0 1 = cc in absurd (omega arith)
+returns-4 c =
+    let d = c .before .before .before .before in (
+      λ e. let z : _≡_ {A = ℕ} 0 1 = cc in absurd (omega arith),
+      λ e. rw (all d) (looked-scan (d .before .loop .inv .3)),
+    )
 
-pub looks-clear-spec : {M : Type 1} → statement M
-looks-clear-spec =
+returns-5 : tie.Need-returns-5 Inv-loop μ-loop
+returns-5 c =
+    let d = c .before .before in (
+      λ e. let z : _≡_ {A = ℕ} 0 1 = cc in absurd (omega arith),
+      λ e. rw (all d) (looked-scan (d .before .loop .inv .3)),
+    )
+
+pub look-spec : {M : Type 1} → statement M
+look-spec =
     tie.close
     (tie.spec
     Inv-loop
@@ -210,13 +275,17 @@ looks-clear-spec =
     array-read-if1
     mul-if2
     array-read-if2
+    settled-requires
     returns
     mul-own
     array-write-own
+    mul-if3
+    element-copy-out-if3
     mul-clue-at
     element-copy-out-clue-at
     clue-at-requires
     clash-requires
+    settled-requires-2
     returns-2
     first-clue-requires
     add-ones
@@ -229,5 +298,7 @@ looks-clear-spec =
     has-room-requires
     array-read-has-room-2
     has-room-requires-2
+    settled-requires-3
     returns-3
-    returns-4)
+    returns-4
+    returns-5)
