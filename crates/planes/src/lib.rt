@@ -137,7 +137,7 @@ pub fn draw_mask<'a>(
     w: usize,
     cells: &'a [u16; 1024],
     offs: &'a [u16; 1025],
-    mates: &'a [u16; 4096],
+    mates: &'a [u16; 1024],
     from: usize,
     to: usize,
     name: u64,

@@ -238,7 +238,7 @@ pub fn block_mates<'a>(
     n: usize,
     cells: &'a [u16; 1024],
     offs: &'a [u16; 1025],
-    mates: &'a [u16; 4096],
+    mates: &'a [u16; 1024],
     from: usize,
     to: usize,
 ) -> usize

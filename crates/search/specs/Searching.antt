@@ -22,9 +22,9 @@ unfoldable pub groupIn : List ℕ → List ℕ → ℕ → List ℕ
 groupIn cells offs Q = part cells (getD offs Q 0) (getD offs (Q + 1) 0)
 
 pub record Beside (h w : ℕ) (cells offs mates : List ℕ) (from to : ℕ) : Type 0 where
-  pub long : length mates ≡ 4096
+  pub long : length mates ≡ 1024
   pub order : from ≤ to
-  pub end : to ≤ 4096
+  pub end : to ≤ 1024
   pub low : (i : ℕ) → from ≤ i → i < to → getD mates i 0 < 1024
   pub each : (i : ℕ) → from ≤ i → i < to
       → Cells h w cells (getD offs (getD mates i 0) 0) (getD offs (getD mates i 0 + 1) 0)

@@ -49,9 +49,9 @@ pub record Numbered (h w : ℕ) (ids cells offs : List ℕ) (g : ℕ) : Type 0 w
   pub is : Part h w ids cells (getD offs g 0) (getD offs (g + 1) 0) g
 
 pub record Low (mates : List ℕ) (from to : ℕ) : Type 0 where
-  pub long : length mates ≡ 4096
+  pub long : length mates ≡ 1024
   pub order : from ≤ to
-  pub end : to ≤ 4096
+  pub end : to ≤ 1024
   pub each : (i : ℕ) → from ≤ i → i < to → getD mates i 0 < 1024
 
 pub record Mated (h w : ℕ) (ids cells offs mates : List ℕ) (from to : ℕ) : Type 0 where

@@ -58,7 +58,7 @@ fn block_rows<'a>(
     xs: &mut [u8; 2048],
     cells: &'a [u16; 1024],
     offs: &'a [u16; 1025],
-    mates: &'a [u16; 4096],
+    mates: &'a [u16; 1024],
     from: usize,
     to: usize,
 ) -> usize
@@ -125,7 +125,7 @@ pub fn write_unit<'a>(
     potential: &'a [u16; 1024],
     cells: &'a [u16; 1024],
     offs: &'a [u16; 1025],
-    mates: &'a [u16; 4096],
+    mates: &'a [u16; 1024],
     count: usize,
     listed: Listed,
     rows: &'a [u16; 1024],
@@ -206,7 +206,7 @@ pub fn write_stuck<'a>(
     cells: &'a [u16; 1024],
     offs: &'a [u16; 1025],
     u: usize,
-    mates: &mut [u16; 4096],
+    mates: &mut [u16; 1024],
     rows: &mut [u16; 1024],
     columns: &mut [u16; 1024],
     down: &mut [u16; 2048],
@@ -215,7 +215,7 @@ pub fn write_stuck<'a>(
     xs: &mut [u8; 2048],
 ) -> usize
     requires { ⌜ Asked h w (now colours) (now borders) (now ids) (now units) (now «unit_offs») (now potential)
-        (now cells) (now offs) u × (length (now mates) ≡ 4096)
+        (now cells) (now offs) u × (length (now mates) ≡ 1024)
         × Lent (now rows) (now columns) (now down) (now across) (now ys) (now xs)
         × (length (unitReason (puzzle h w (now colours)) (marksIn (now borders)) u
         (potentialIn (puzzle h w (now colours)) (marksIn (now borders)) u)) ≤ length (now memory)) ⌝ }
@@ -230,7 +230,7 @@ pub fn write_stuck<'a>(
     let p = wide(potential[c]);
     let from = wide(offs[p]);
     let to = wide(offs[p + 1]);
-    let count = mates_of(h, w, colours, borders, potential, cells, from, to, p, mates);
+    let count = mates_of(h, w, colours, borders, potential, cells, from, to, mates);
     let n = places(units, first, last, w, rows, columns);
     let k = joints(ids, h, w, u, rows, columns, n, down, across);
     let listed = list_rows(ids, h, w, u, rows, columns, n);

@@ -23,7 +23,7 @@ fn edges_of<'a>(
     ids: &'a [u16; 1024],
     cells: &'a [u16; 1024],
     offs: &'a [u16; 1025],
-    mates: &'a [u16; 4096],
+    mates: &'a [u16; 1024],
     from: usize,
     to: usize,
 ) -> usize
@@ -60,7 +60,7 @@ fn edges_of<'a>(
 }
 
 // 1 at the number of each group that the list of mates has from the place `from` to the place `to`, 0 elsewhere.
-fn marks_of(mates: &[u16; 4096], from: usize, to: usize) -> [u8; 1024]
+fn marks_of(mates: &[u16; 1024], from: usize, to: usize) -> [u8; 1024]
     requires { ⌜ Low (now mates) from to ⌝ }
     ensures { λ r. ⌜ r ≡ flagsOf (part (now (mates .entry)) from to) ⌝ }
 {
@@ -87,7 +87,7 @@ fn far_walls<'a>(
     cells: &'a [u16; 1024],
     first: usize,
     last: usize,
-    mates: &'a [u16; 4096],
+    mates: &'a [u16; 1024],
     from: usize,
     to: usize,
 ) -> usize
@@ -129,7 +129,7 @@ pub fn walls_of<'a>(
     ids: &'a [u16; 1024],
     cells: &'a [u16; 1024],
     offs: &'a [u16; 1025],
-    mates: &'a [u16; 4096],
+    mates: &'a [u16; 1024],
     from: usize,
     to: usize,
     p: usize,

@@ -42,6 +42,6 @@ module _ (h w : ℕ) (cs bs cells offs : List ℕ) where
   pub record Held (p m list : List ℕ) : Type 0 where
     pub long : length p ≡ 192
     pub size : length m ≡ 33
-    pub room : length list ≡ 4096
+    pub room : length list ≡ 1024
     pub none : getD m 32 0 ≡ 0 → p ≡ replicate 192 0
     pub some : (q : ℕ) → getD m 32 0 ≡ q + 1 → HeldOf q p m

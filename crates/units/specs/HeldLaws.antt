@@ -74,7 +74,7 @@ module _ {h w : ℕ} {cs bs ids cells offs : List ℕ} {p : ℕ} (k : Home h w c
   mate-kept m = record { some = λ l. m; none = λ l. absurd (omega (arith, mate-few m)) }
 
   -- some list begins with its adjacent units
-  mates-few : length (mates (puzzle h w cs) (marksIn bs) p) ≤ 4096
+  mates-few : length (mates (puzzle h w cs) (marksIn bs) p) ≤ 1024
   unfolding mates
   mates-few =
       let n = potentialCount (puzzle h w cs) (marksIn bs) in
@@ -85,12 +85,12 @@ module _ {h w : ℕ} {cs bs ids cells offs : List ℕ} {p : ℕ} (k : Home h w c
         k .known .few,
       )
 
-  mates-lead : let xs = mates (puzzle h w cs) (marksIn bs) p in Leading xs (padded 4096 0 xs) (length xs)
+  mates-lead : let xs = mates (puzzle h w cs) (marksIn bs) p in Leading xs (padded 1024 0 xs) (length xs)
   mates-lead =
       let xs = mates (puzzle h w cs) (marksIn bs) p in
-      let zs = replicate {A = ℕ} (4096 - length xs) 0 in
+      let zs = replicate {A = ℕ} (1024 - length xs) 0 in
       record {
-        long = omega (arith, mates-few, length-append xs zs, length-replicate {A = ℕ} (4096 - length xs) 0);
+        long = omega (arith, mates-few, length-append xs zs, length-replicate {A = ℕ} (1024 - length xs) 0);
         few = mates-few;
         first =
             let z : length xs - 0 ≡ length xs = omega arith in
@@ -98,12 +98,12 @@ module _ {h w : ℕ} {cs bs ids cells offs : List ℕ} {p : ℕ} (k : Home h w c
       }
 
 module _ (h w : ℕ) (cs bs cells offs : List ℕ) where
-  pub held-start : Held h w cs bs cells offs (replicate 192 0) (replicate 33 0) (replicate 4096 0)
+  pub held-start : Held h w cs bs cells offs (replicate 192 0) (replicate 33 0) (replicate 1024 0)
   held-start =
       record {
         long = length-replicate 192 zero;
         size = length-replicate 33 zero;
-        room = length-replicate 4096 zero;
+        room = length-replicate 1024 zero;
         none = λ e. refl;
         some = λ q e. absurd (never q e);
       }
@@ -121,7 +121,7 @@ module _ {h w : ℕ} {cs bs cells offs p m list : List ℕ} where
       last (suc n) f = omega arith
 
 module _ {h w : ℕ} {cs bs cells offs p m : List ℕ} {q : ℕ} (k : HeldOf h w cs bs cells offs q p m) where
-  pub held-of : {list : List ℕ} → length list ≡ 4096 → Held h w cs bs cells offs p m list
+  pub held-of : {list : List ℕ} → length list ≡ 1024 → Held h w cs bs cells offs p m list
   held-of l =
       record {
         long = planes-long h w cs bs (k .planes);

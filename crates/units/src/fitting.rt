@@ -97,12 +97,12 @@ fn prepare<'a>(
     p: usize,
     planes: &mut [u64; 192],
     mask: &mut [u64; 33],
-    list: &mut [u16; 4096],
+    list: &mut [u16; 1024],
 )
     requires { ⌜ Home h w (now colours) (now borders) (now potential) (now cells) (now offs) p
         × Held h w (now colours) (now borders) (now cells) (now offs) (now planes) (now mask) (now list) ⌝ }
     ensures { λ r. ⌜ HeldOf h w (now (colours .entry)) (now (borders .entry)) (now (cells .entry))
-        (now (offs .entry)) p (now (planes .exit)) (now (mask .exit)) × (length (now (list .exit)) ≡ 4096) ⌝ }
+        (now (offs .entry)) p (now (planes .exit)) (now (mask .exit)) × (length (now (list .exit)) ≡ 1024) ⌝ }
 {
     let name = mask[32];
     if name == p as u64 + 1 {
@@ -113,18 +113,7 @@ fn prepare<'a>(
     }
     let first = start_at(offs, p);
     let last = start_at(offs, p + 1);
-    let n = mates_of(
-        h,
-        w,
-        colours,
-        borders,
-        potential,
-        cells,
-        first,
-        last,
-        p,
-        list,
-    );
+    let n = mates_of(h, w, colours, borders, potential, cells, first, last, list);
     draw_mask(h, w, cells, offs, list, 0, n, p as u64 + 1, mask);
 }
 
@@ -149,7 +138,7 @@ fn written_fits<'a>(
     xs: &mut [u8; 2048],
     planes: &mut [u64; 192],
     mask: &mut [u64; 33],
-    list: &mut [u16; 4096],
+    list: &mut [u16; 1024],
 ) -> bool
     requires { ⌜ Home h w (now colours) (now borders) (now potential) (now cells) (now offs) p
         × Spotted (now rows) (now columns) n × Jointed (now down) (now across) k
@@ -205,7 +194,7 @@ pub fn unit_fits<'a>(
     xs: &mut [u8; 2048],
     planes: &mut [u64; 192],
     mask: &mut [u64; 33],
-    list: &mut [u16; 4096],
+    list: &mut [u16; 1024],
 ) -> bool
     requires { ⌜ Home h w (now colours) (now borders) (now potential) (now cells) (now offs) p
         × UnitIn h w (now ids) g (now units) first last

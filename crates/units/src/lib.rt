@@ -128,7 +128,7 @@ fn fits_at<'a>(
     xs: &mut [u8; 2048],
     planes: &mut [u64; 192],
     mask: &mut [u64; 33],
-    list: &mut [u16; 4096],
+    list: &mut [u16; 1024],
 ) -> bool
     requires { ⌜ Sorted h w (now colours) (now borders) (now ids) (now units) (now «unit_offs») (now potential)
         (now cells) (now offs)
@@ -228,7 +228,7 @@ fn stuck_from<'a>(
     let mut xs = [0u8; 2048];
     let mut planes = [0u64; 192];
     let mut mask = [0u64; 33];
-    let mut list = [0u16; 4096];
+    let mut list = [0u16; 1024];
     let mut u = from;
     while u < count {
         if fits_at(

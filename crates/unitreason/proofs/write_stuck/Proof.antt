@@ -114,14 +114,8 @@ mates-of-requires c κs =
     let f = e .before .before in
     let v = f .before .before in
     let s = v .before .before .before .before .before .before .before .before .before in
-    let k = home-at v in (
-      k .drawn,
-      k .known,
-      rw (f .wide5 .ensures, e .wide6 .ensures) (home-cells k),
-      rw (f .wide5 .ensures, e .wide6 .ensures) (k .grouped .group (v .wide4 .result) (k .low)),
-      home-few k,
-      s .pre .1,
-    )
+    let k = home-at v in
+    (k .drawn, k .known, rw (f .wide5 .ensures, e .wide6 .ensures) (home-cells k), s .pre .1)
 
 places-requires : tie.Need-places-requires
 places-requires c κs =
@@ -160,10 +154,15 @@ write-unit-requires c κs =
     let j = l .before .before .before in
     let a = j .before .before .before .before .before in
     let m = a .before .before .before in
-    let v = m .before .before .before .before .before .before in
+    let e = m .before .before in
+    let f = e .before .before in
+    let v = f .before .before in
     let s = v .before .before .before .before .before .before .before .before .before in
-    let q = s .pre .0 in (
-      arranged q (home-is v) (m .mates-of .ensures),
+    let q = s .pre .0 in
+    let p = v .wide4 .result in
+    let k = home-at v in (
+      arranged q (home-is v)
+          (m .mates-of .ensures p (rw (f .wide5 .ensures, e .wide6 .ensures) (k .grouped .group p (k .low)))),
       imaged q (unit-is a) (j .joints .ensures) (l .list-rows .ensures),
       s .pre .2 .ys,
       s .pre .2 .xs,

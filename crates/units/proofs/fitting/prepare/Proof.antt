@@ -38,14 +38,8 @@ mates-of-requires c κs =
     let l = c .before in
     let s = l .before .before .before .before .before in
     let f = l .before .start-at .ensures in
-    let e = l .start-at2 .ensures in (
-      s .pre .0 .drawn,
-      s .pre .0 .known,
-      rw (f, e) (home-cells (s .pre .0)),
-      rw (f, e) (s .pre .0 .grouped .group (s .args .p) (s .pre .0 .low)),
-      home-few (s .pre .0),
-      s .pre .1 .room,
-    )
+    let e = l .start-at2 .ensures in
+    (s .pre .0 .drawn, s .pre .0 .known, rw (f, e) (home-cells (s .pre .0)), s .pre .1 .room)
 
 add-draw-mask : tie.Need-add-draw-mask
 add-draw-mask c =
@@ -55,28 +49,36 @@ add-draw-mask c =
 draw-mask-requires : tie.Need-draw-mask-requires
 draw-mask-requires c κs =
     let m = c .before .before in
-    let s = m .before .before .before .before .before .before .before in (
-      s .pre .0 .drawn .sized,
-      beside-leading (s .pre .0 .grouped) (s .pre .0 .known) (s .args .p) (m .mates-of .ensures),
-      s .pre .1 .size,
-    )
+    let l = m .before .before in
+    let s = l .before .before .before .before .before in
+    let p = s .args .p in
+    let f = l .before .start-at .ensures in
+    let e = l .start-at2 .ensures in
+    let g = s .pre .0 .grouped in
+    let u = m .mates-of .ensures p (rw (f, e) (g .group p (s .pre .0 .low))) in
+    (s .pre .0 .drawn .sized, beside-leading g (s .pre .0 .known) p u, s .pre .1 .size)
 
 returns-2 : tie.Need-returns-2
 returns-2 c =
     let m = c .before .before .before in
-    let i = m .before .before .before .before in
+    let l = m .before .before in
+    let i = l .before .before in
     let s = i .before .before .before in
-    let e = c .draw-mask .ensures in (
+    let p = s .args .p in
+    let f = l .before .start-at .ensures in
+    let e = l .start-at2 .ensures in
+    let u = m .mates-of .ensures p (rw (f, e) (s .pre .0 .grouped .group p (s .pre .0 .low))) in
+    let d = c .draw-mask .ensures in (
       record {
         planes =
             ⊎-elim
             (λ v. v .3 ∙ v .2 .ensures)
             (λ v. v .1 ∙ held-planes (s .pre .1) (v .0 .left))
             (i .if2 .came);
-        mask = rw (m .mates-of .ensures .first) at (e .0);
-        name = e .1;
+        mask = rw (u .first) at (d .0);
+        name = d .1;
       },
-      m .mates-of .ensures .long,
+      u .long,
     )
 
 pub prepare-spec : {M : Type 1} → statement M
