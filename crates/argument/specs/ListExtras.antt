@@ -16,7 +16,6 @@ use native.Mathlib.Nat.{not-suc-le-zero, eq-or-lt-of-le, le-of-suc-le-suc, mul-s
 use native.Mathlib.Omega.{arith}
 use lib.Dec.{ltb, T, nltb→le, ltb→lt}
 use lib.ListN.{length, length-append}
-use Rattle.lists.specs.Appends.{length-filter}
 use Rattle.lists.specs.Lists.{_∈_, keep, filter, flatMap, rangeFrom, Distinct}
 use Rattle.lists.specs.ListLaws.{T-dec}
 use Rattle.lists.specs.Lengths.{subset-full}

@@ -18,12 +18,12 @@ use native.Mathlib.Omega.{arith}
 use lib.Dec.{eqb, T, eqb→eq, eqb-refl}
 use lib.ListN.{length}
 use borrow.Author.Tests.{eq-eqb, ne-eqb}
-use Rattle.rules.specs.SmallLaws.{marks-none, without-last}
+use Rattle.rules.specs.SmallLaws.{marks-none}
 use Rattle.lists.specs.Lists.{_∈_, any, Distinct}
 use Rattle.lists.specs.ListLaws.{any-mem, any-find, mem-map, map-find}
 use Rattle.lists.specs.Count.{countBelow, count-cong, count-more}
 use Rattle.rules.specs.declared.Literal.{Literal}
-use Rattle.rules.specs.Page.{Puzzle, undecided, decided, Has, isUndecided}
+use Rattle.rules.specs.Page.{Puzzle, decided, Has, isUndecided}
 use Rattle.rules.specs.Check.{undecidedCount}
 use Rattle.rules.specs.Book.{markIf, marks, names, withLast, withoutLast}
 use Rattle.argument.specs.ListExtras.{or-false}

@@ -22,7 +22,7 @@
 --   boardOf h w cs ks bs st n   the board with these arrays
 --   isAlien b               decides and undos cannot produce b from a fresh board; crate reach has the proof
 use mathlib.Core.Path.{_≡_}
-use mathlib.Core.Bool.{Bool, true, false, not, cond, _&&_, Bool·beq}
+use mathlib.Core.Bool.{Bool, false, not, cond, _&&_, Bool·beq}
 use mathlib.Core.List.{List}
 use Prim.Native.Nat.{ℕ, _*_, _<_}
 use lib.Dec.{leb, ltb, eqb}

@@ -1,5 +1,5 @@
 -- The definitions by cases: what `isAlien`, `freshOf`, `decideOf` and `undoOf` give where their tests are known.
-use mathlib.Core.Path.{_≡_, refl, ap, _∙_}
+use mathlib.Core.Path.{_≡_, ap, _∙_}
 use mathlib.Core.Bool.{Bool, true, false, not}
 use mathlib.Core.List.{List}
 use Prim.Native.Nat.{ℕ, _*_, _<_, _≤_}

@@ -18,10 +18,8 @@ use Rattle.board.specs.NativeLaws.{native-has}
 use Rattle.board.specs.ViewLaws.{undecided-rules, undecided-is}
 use Rattle.checker.specs.Bridges.{puzzleIn}
 use Rattle.search.specs.Placing.{Drawn}
-use Rattle.hits.specs.declared.Found.{Found}
 use Rattle.hits.specs.declared.Found.the-variants.{Nothing, Reason as Given}
 use Rattle.hits.specs.Found.{foundOf, writtenBy, Answers}
-use Rattle.calls.specs.declared.Answer.{Answer}
 use Rattle.calls.specs.declared.Answer.the-variants.{Pass, Conflict}
 use Rattle.calls.specs.Answers.{asAnswer, written, checkAnswer, checkMemory}
 use Rattle.calls.specs.AnswerLaws.{check-found, memory-found}

@@ -2,11 +2,10 @@
 ghost use mathlib.Core.Path.{_≡_};
 ghost use mathlib.Core.Bool.{true, _||_};
 ghost use Prim.Native.Nat.{_+_, _-_, _<_};
-ghost use lib.Dec.{eqb};
 ghost use Rattle.rules.specs.Codes.{clueOf, coloursIn, cluesIn};
 ghost use Rattle.rules.specs.Groups.{entry};
 ghost use Rattle.rules.specs.Check.{isSome};
-ghost use Rattle.checker.specs.Tallies.{clueIn, optionOf, firstClue, nextPart, nextTally, tallyOf};
+ghost use Rattle.checker.specs.Tallies.{clueIn, optionOf, firstClue, nextPart, tallyOf};
 ghost use Rattle.reasons.specs.Arrays.{part};
 ghost use Rattle.checker.specs.Arrays.{Listed};
 use crate::Clue;

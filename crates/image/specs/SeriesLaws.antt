@@ -11,7 +11,6 @@ use Rattle.lists.specs.Table.{getD-table}
 use Rattle.rules.specs.declared.Literal.{Literal}
 use Rattle.rules.specs.Flat.{borderCount}
 use Rattle.rules.specs.Codes.{codeOf}
-use Rattle.board.specs.declared.Board.{Board}
 use Rattle.board.specs.declared.Returned.{Returned}
 use Rattle.board.specs.Alien.{bordersOf, isAlien}
 use Rattle.board.specs.Board.{numberOf, decideOf}

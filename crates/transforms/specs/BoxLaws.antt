@@ -27,7 +27,7 @@ use Rattle.shapes.specs.SortLaws.{mem-sort, sort-mem, sort-sorted, sorted-disti
 use Rattle.shapes.specs.FixLaws.{row-inj, shift-sorted}
 use Rattle.shapes.specs.ListExtras.{map-map}
 use Rattle.shapes.specs.Rows.{turnAt}
-use Rattle.shapes.specs.Spots.{hasCell, places, spotAt, spots, Near, UnitAt}
+use Rattle.shapes.specs.Spots.{hasCell, spotAt, spots, Near, UnitAt}
 use Rattle.shapes.specs.SpotLaws.{near-image}
 use Rattle.shapes.specs.UnitLaws.{from-sorted, places-sorted, among-places}
 use Rattle.transforms.specs.Box.{undone, corner, boxAt, boxSize, ofImage, cellAt, sweep}

@@ -1,5 +1,5 @@
 -- `early_hit` meets its contract: step 1's hit, and where there is none step 2's.
-use mathlib.Core.Path.{_≡_, sym, _∙_}
+use mathlib.Core.Path.{_≡_}
 use native.Mathlib.Omega.{arith}
 use Rattle.rules.specs.Codes.{marksIn}
 use Rattle.checker.specs.Steps.{breachIn}

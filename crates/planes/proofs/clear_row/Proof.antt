@@ -3,8 +3,7 @@ use mathlib.Core.Path.{_≡_, refl, ap₂, sym, _∙_}
 use mathlib.Core.Bool.{Bool}
 use Prim.Native.Nat.{ℕ, _+_, _-_, _*_, _≤_, _<_}
 use native.Mathlib.Omega.{arith}
-use borrow.Author.Needs.{needs}
-use Rattle.planes.specs.Bits.{flag, rowFrom}
+use Rattle.planes.specs.Bits.{rowFrom}
 use Rattle.planes.specs.BitLaws.{flag-lt}
 use Rattle.planes.specs.RowLaws.{row-start, row-end, row-more, row-fits}
 use Rattle.planes.specs.Planes.{clearAt, clearRow}

@@ -1,8 +1,6 @@
 -- The loop's invariant: the doubled rows before r are drawn.
-use mathlib.Core.Path.{_≡_}
 use Prim.Native.Nat.{_*_, _-_, _≤_, _<_}
 use native.Mathlib.Omega.{arith}
-use borrow.Author.Needs.{needs}
 use Rattle.planes.specs.DrawLaws.{Drawing, draw-start, draw-more, draw-end}
 use Rattle.planes.proofs.draw_planes.Statement.{statement}
 use Rattle.planes.proofs.draw_planes.Tie as tie
