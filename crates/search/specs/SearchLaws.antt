@@ -94,7 +94,7 @@ module _ {h w : ℕ} {cs bs ids cells offs : List ℕ} {count : ℕ} (g : Groupe
     (k : Known h w cs bs ids) where
   -- the mates of p stand from the start of a list
   module _ {list : List ℕ} (p : ℕ) {n : ℕ} (l : Leading (mates (puzzle h w cs) (marksIn bs) p) list n) where
-    entry-low : (i : ℕ) → i < n → getD list i 0 < count
+    pub entry-low : (i : ℕ) → i < n → getD list i 0 < count
     entry-low i b =
         let f = mates (puzzle h w cs) (marksIn bs) p in
         let m : length f ≡ n - 0 =

@@ -25,7 +25,7 @@ use Rattle.reasons.specs.MemoryLaws.{wrote-more}
 use Rattle.reasons.specs.NumberLaws.{members-same, inside-same, edge-same}
 use Rattle.search.specs.Placing.{puzzle, bare}
 use Rattle.search.specs.Searching.{Beside, blockOf, blocksAmong, blocksBeside}
-use Rattle.search.specs.SearchLaws.{placed-blocks, mates-low, beside-leading}
+use Rattle.search.specs.SearchLaws.{placed-blocks, mates-low, entry-low, beside-leading}
 use Rattle.shapes.specs.declared.Listed.{Listed as RowList}
 use Rattle.shapes.specs.Listing.{listing}
 use Rattle.shapes.specs.Rows.{image, rowsOf}
@@ -35,7 +35,7 @@ use Rattle.units.specs.ImageLaws.{image-is}
 use Rattle.unitreason.specs.Writing.{Numbered, Mated, flagsOf, edgesIn, farIn, wallsIn, clued, Arranged}
 use Rattle.unitreason.specs.Writing.{blocksBy, blocksListed, Imaged}
 use Rattle.unitreason.specs.FlagLaws.{marked-is}
-use Rattle.unitreason.specs.ListExtras.{mem-part, flat-all}
+use Rattle.unitreason.specs.ListExtras.{flat-all}
 use Rattle.unitreason.specs.ListExtras.{room-first, room-second, room-third}
 use Rattle.unitreason.specs.ClueLaws.{reason-clue}
 
@@ -100,16 +100,11 @@ module _ {h w : ℕ} {cs bs ids cells offs pids pcells poffs list : List ℕ} {c
   pub beside : Beside h w pcells poffs list 0 count
   beside = beside-leading (a .grouped) (a .known) p (a .mates)
 
-  low-at : (i : ℕ) → 0 ≤ i → i < count → getD list i 0 < potentialCount Z s
-  low-at i x y =
-      mates-low (a .grouped) p (getD list i 0)
-      (rw mates-are at (mem-part list 0 i count x y (omega (arith, beside .end, beside .long))))
-
   pub mated : Mated h w pids pcells poffs list 0 count
   mated =
       record {
         low = record { long = beside .long; order = beside .order; end = beside .end; each = beside .low };
-        each = λ i x y. numbered (getD list i 0) (low-at i x y);
+        each = λ i x y. numbered (getD list i 0) (entry-low (a .grouped) (a .known) p (a .mates) i y);
       }
 
   -- the marks of the mates

@@ -14,7 +14,7 @@ ghost use Rattle.shapes.specs.Spots.{spots, Spotted};
 ghost use Rattle.units.specs.Images.{Jointed};
 ghost use Rattle.units.specs.Fitting.{Lent, UnitIn, fitsTurned, fitsRows};
 ghost use Rattle.units.specs.Held.{Home, Nearby, Adjoined, Held, HeldOf};
-use crate::listed::some_row_fits;
+use crate::images::some_row_fits;
 use crate::number_at;
 use crate::start_at;
 use crate::turn_row;

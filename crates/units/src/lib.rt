@@ -1,7 +1,7 @@
 // Step 3 of the check: the first unit for which no placement fits.
 mod copies; // copies.rt: whether the unit itself, shifted, fits at one of the first cells of a potential unit
 mod fitting; // fitting.rt: whether a unit fits beside its potential unit
-mod listed; // listed.rt: the eight images of a unit, at the origins of a mask
+mod images; // images.rt: the eight images of a unit, at the origins of a mask
 mod singles; // singles.rt: units of one cell
 
 ghost use mathlib.Core.Path.{_≡_};

@@ -10,8 +10,8 @@ use Rattle.rules.specs.Page.{Point}
 use Rattle.planes.specs.Masks.{Answers}
 use Rattle.shapes.specs.Spots.{spots}
 use Rattle.units.specs.Images.{imageJoints}
-use Rattle.units.proofs.listed.some_row_fits.Statement.{statement}
-use Rattle.units.proofs.listed.some_row_fits.Tie as tie
+use Rattle.units.proofs.images.some_row_fits.Statement.{statement}
+use Rattle.units.proofs.images.some_row_fits.Tie as tie
 
 -- the test of a row, and that of row 0 as the search over the planes answers it
 abbrev test : tie.Start → (List Point → Bool) → ℕ → Bool

@@ -1,7 +1,7 @@
 -- The search lays what the turn wrote, and that is the image.
 use mathlib.Core.Path.{ap, _∙_}
-use Rattle.units.proofs.listed.row_fits.Statement.{statement}
-use Rattle.units.proofs.listed.row_fits.Tie as tie
+use Rattle.units.proofs.images.row_fits.Statement.{statement}
+use Rattle.units.proofs.images.row_fits.Tie as tie
 
 turn-row-requires : tie.Need-turn-row-requires
 turn-row-requires c κs =

@@ -11,8 +11,8 @@ use Rattle.planes.specs.Extras.{any-next}
 use Rattle.planes.specs.Masks.{Answers}
 use Rattle.shapes.specs.Spots.{spots}
 use Rattle.units.specs.Images.{imageJoints}
-use Rattle.units.proofs.listed.others_fit.Statement.{statement}
-use Rattle.units.proofs.listed.others_fit.Tie as tie
+use Rattle.units.proofs.images.others_fit.Statement.{statement}
+use Rattle.units.proofs.images.others_fit.Tie as tie
 
 abbrev Inv-loop : tie.InvT-loop
 Inv-loop h planes mask top end rows columns n down across k ys₀ xs₀ row₀ ys xs row =
