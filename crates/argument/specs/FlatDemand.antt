@@ -4,13 +4,14 @@
 --   flat-full           a full setting passes exactly when it is a solution
 --   flat-sound          no solution contains a reason
 --   flat-holds          a reason holds on its board
---   flat-short          a reason has at most 16,120 literals on a page of at most 32×32
+--   flat-bound          a reason has at most 14 literals for each cell and one more
+--   flat-short          at most 16,120 literals on a page of at most 32×32
 use mathlib.Core.Path.{_≡_, refl}
 use mathlib.Core.Logic.{_↔_}
 use mathlib.Core.Bool.{Bool}
 use mathlib.Core.List.{List}
 use mathlib.Core.Option.{Option}
-use Prim.Native.Nat.{ℕ, _*_, _<_, _≤_}
+use Prim.Native.Nat.{ℕ, _+_, _*_, _<_, _≤_}
 use native.Mathlib.Omega.{arith}
 use lib.ListN.{length}
 use Rattle.rules.specs.Page.{Mark, Contains, Shape}
@@ -50,9 +51,13 @@ module _ (h w : ℕ) (hw : 0 < w) (colour : ℕ → Bool) (clue : ℕ → Option
   cells-are = refl
 
   -- at most 8 blockers, 2 and 4 literals for each cell, and the wall of step 2
-  pub flat-short : Sized h w → (s : ℕ → Mark) (r : Reason) → check (flatPuzzle h w colour clue) s ≡ conflict r
-      → length r ≤ 16120
-  flat-short z s r e =
+  pub flat-bound : (s : ℕ → Mark) (r : Reason) → check (flatPuzzle h w colour clue) s ≡ conflict r
+      → length r ≤ 14 * (h * w) + 1
+  flat-bound s r e =
       let few = check-short (flatPuzzle h w colour clue) (flat-bordered h w hw) s 2 4 8 (flat-ahead h w)
       (flat-around h w) images-eight r e in
-      omega (arith, few, counts z, cells-are)
+      omega (arith, few, cells-are)
+
+  pub flat-short : Sized h w → (s : ℕ → Mark) (r : Reason) → check (flatPuzzle h w colour clue) s ≡ conflict r
+      → length r ≤ 16120
+  flat-short z s r e = omega (arith, flat-bound s r e, counts z)

@@ -4,7 +4,7 @@
 --   code-once           two literals with one code are equal
 --   reason-in           a reason read from memory that begins with its codes
 --   put-start           memory with a reason written from its start
---   length-call         a call keeps the length of the memory
+--   length-written, length-call   an answered check and a call keep the length of the memory
 --   check-alien, check-short, check-found   the answer of a check by its cases
 --   memory-alien, memory-short, memory-found   the memory after it by its cases
 use mathlib.Core.Path.{_≡_, refl, ap, sym, _∙_}
@@ -74,7 +74,7 @@ put-start m r h =
     let e = length-map r literalCode in
     sets-eq (map literalCode r) m 0 (omega arith) ∙ simp (length-map, zero-add)
 
-length-written : (m : List ℕ) (f : Found) → length (written m f) ≡ length m
+pub length-written : (m : List ℕ) (f : Found) → length (written m f) ≡ length m
 unfolding put
 length-written m (pass n) = refl
 length-written m (conflict r) = simp length-sets

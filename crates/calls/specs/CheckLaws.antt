@@ -1,4 +1,8 @@
 -- What the search for a hit finds over a board's arrays is the answer of a check.
+--
+--   drawn-of, stack-few, left-free   what the search and the count of a pass need of a board that is not alien
+--   same-found          what Check gives of a board is what it gives of the board's arrays
+--   nothing-found, reason-found   what the search found, as the answer of a check
 use mathlib.Core.Path.{_≡_, refl, sym, ap, _∙_}
 use mathlib.Core.Bool.{false}
 use mathlib.Core.List.{List}
@@ -8,7 +12,7 @@ use native.Mathlib.Decide.{decLt}
 use native.Mathlib.Omega.{arith}
 use lib.ListN.{length}
 use Rattle.rules.specs.Codes.{marksIn}
-use Rattle.rules.specs.Check.{Reason, hit, check, answerOf, undecidedCount}
+use Rattle.rules.specs.Check.{Reason, Answer as Found, hit, check, answerOf, undecidedCount}
 use Rattle.board.specs.declared.Board.{Board}
 use Rattle.board.specs.Alien.{isAlien, bordersOf}
 use Rattle.board.specs.View.{puzzleOf, marksOf, undecidedOf}
@@ -21,8 +25,16 @@ use Rattle.search.specs.Placing.{Drawn}
 use Rattle.hits.specs.declared.Found.the-variants.{Nothing, Reason as Given}
 use Rattle.hits.specs.Found.{foundOf, writtenBy, Answers}
 use Rattle.calls.specs.declared.Answer.the-variants.{Pass, Conflict}
-use Rattle.calls.specs.Answers.{asAnswer, written, checkAnswer, checkMemory}
-use Rattle.calls.specs.AnswerLaws.{check-found, memory-found}
+use Rattle.calls.specs.Answers.{asAnswer, written}
+use Rattle.calls.specs.Known.{foundIn}
+
+-- what Check gives of a board's arrays
+abbrev foundOn : Board → Found
+foundOn b = foundIn (b .height) (b .width) (b .colours) (b .clues) (b .borders)
+
+pub same-found : (b : Board) → foundOn b ≡ check (puzzleOf b) (marksOf b)
+unfolding puzzleOf marksOf view.puzzleIn
+same-found b = refl
 
 module _ (b : Board) (t : isAlien b ≡ false) where
   -- the colours are 0 or 1, those of unused places too
@@ -50,39 +62,35 @@ module _ (b : Board) (t : isAlien b ≡ false) where
   abbrev hitOf : Option Reason
   hitOf = hit (puzzleIn (b .height) (b .width) (b .colours) (b .clues)) (marksIn (b .borders))
 
-  same-hit : hitOf ≡ hit (puzzleOf b) (marksOf b)
-  unfolding puzzleOf marksOf view.puzzleIn
-  same-hit = refl
-
   checked : (o : Option Reason) → hitOf ≡ o
-      → check (puzzleOf b) (marksOf b) ≡ answerOf (undecidedCount (puzzleOf b) (marksOf b)) o
-  unfolding check
-  checked o e = ap (answerOf (undecidedCount (puzzleOf b) (marksOf b))) (sym same-hit ∙ e)
+      → foundOn b ≡ answerOf (undecidedCount (puzzleOf b) (marksOf b)) o
+  unfolding check puzzleOf marksOf view.puzzleIn
+  checked o e = ap (answerOf (undecidedCount (puzzleOf b) (marksOf b))) e
 
-  module _ (m after : List ℕ) (h : 16384 ≤ length m) where
+  module _ (m after : List ℕ) where
     pub nothing-found : Answers hitOf m after Nothing
-        → (Pass (undecidedOf b) ≡ checkAnswer b (length m)) × (after ≡ checkMemory b m)
-    unfolding foundOf writtenBy asAnswer written
+        → (Pass (undecidedOf b) ≡ asAnswer (foundOn b)) × (after ≡ written m (foundOn b))
+    unfolding foundOf writtenBy
     nothing-found a = go hitOf refl (a .found) (a .memory)
       where
         go : (o : Option Reason) → hitOf ≡ o → Nothing ≡ foundOf o → after ≡ writtenBy o m
-            → (Pass (undecidedOf b) ≡ checkAnswer b (length m)) × (after ≡ checkMemory b m)
+            → (Pass (undecidedOf b) ≡ asAnswer (foundOn b)) × (after ≡ written m (foundOn b))
         go none e f g = (
-          ap Pass (undecided-rules b (native-has b t)) ∙ (sym (ap asAnswer (checked none e)) ∙ check-found b m t h),
-          g ∙ (sym (ap (written m) (checked none e)) ∙ memory-found b m t h),
+          ap Pass (undecided-rules b (native-has b t)) ∙ sym (ap asAnswer (checked none e)),
+          g ∙ sym (ap (written m) (checked none e)),
         )
         go (some r) e f g = let z : _≡_ {A = ℕ} 0 1 = cc in absurd (omega arith)
 
     pub reason-found : (n : ℕ) → Answers hitOf m after (Given n)
-        → (Conflict n ≡ checkAnswer b (length m)) × (after ≡ checkMemory b m)
-    unfolding foundOf writtenBy asAnswer written
+        → (Conflict n ≡ asAnswer (foundOn b)) × (after ≡ written m (foundOn b))
+    unfolding foundOf writtenBy
     reason-found n a = go hitOf refl (a .found) (a .memory)
       where
         go : (o : Option Reason) → hitOf ≡ o → Given n ≡ foundOf o → after ≡ writtenBy o m
-            → (Conflict n ≡ checkAnswer b (length m)) × (after ≡ checkMemory b m)
+            → (Conflict n ≡ asAnswer (foundOn b)) × (after ≡ written m (foundOn b))
         go none e f g = let z : _≡_ {A = ℕ} 0 1 = cc in absurd (omega arith)
         go (some r) e f g =
             let q : n ≡ length r = cc in (
-              ap Conflict q ∙ (sym (ap asAnswer (checked (some r) e)) ∙ check-found b m t h),
-              g ∙ (sym (ap (written m) (checked (some r) e)) ∙ memory-found b m t h),
+              ap Conflict q ∙ sym (ap asAnswer (checked (some r) e)),
+              g ∙ sym (ap (written m) (checked (some r) e)),
             )

@@ -4,6 +4,7 @@
 --   answerFrom v      the answer with the number v
 --   InRange a         the counts that a call can give, and a refusal that is one
 --   check-count       a pass gives the count of undecided borders
+--   found-range       what Check gives of a board that is not alien is in range
 --   call-range        what a call answers is in range, on every board
 --   answer-from       the answer is read back from its number
 --   number-once       two answers with one number are equal
@@ -80,7 +81,7 @@ pass-range b t n e =
       borders-le (native-has b t .size),
     )
 
-found-range : (b : Board) → isAlien b ≡ false → (f : Found) → check (puzzleOf b) (marksOf b) ≡ f
+pub found-range : (b : Board) → isAlien b ≡ false → (f : Found) → check (puzzleOf b) (marksOf b) ≡ f
     → InRange (asAnswer f)
 found-range b t (pass n) e = pass-range b t n e
 found-range b t (conflict r) e = reason-short b t r e

@@ -1,8 +1,11 @@
 // The three calls on a board: what they answer, and what a call returns.
 ghost use mathlib.Core.Path.{_≡_};
+ghost use Prim.Native.Nat.{_*_, _≤_};
 ghost use lib.ListN.{length};
 ghost use Rattle.board.specs.Alien.{boardOf};
-ghost use Rattle.calls.specs.Answers.{ended, steppedBy, checkAnswer, checkMemory, callOf, callMemory};
+ghost use Rattle.calls.specs.Answers.{asAnswer, written, ended, steppedBy, checkAnswer, checkMemory, callOf};
+ghost use Rattle.calls.specs.Answers.{callMemory};
+ghost use Rattle.calls.specs.Known.{Known, foundIn};
 use board::Board;
 use board::Outcome;
 use board::Returned;
@@ -47,8 +50,35 @@ fn step(r: Returned) -> Stepped
     }
 }
 
+// What a check answers of a board that is not alien, with room in the memory for 14 literals for each cell. On such a
+// board the stack has every decided border once, so the others are undecided.
+pub fn answer_known<'a>(
+    h: usize,
+    w: usize,
+    colours: &'a [u8; Board::CELL_LIMIT],
+    clues: &'a [i32; Board::CELL_LIMIT],
+    borders: &'a [u8; Board::BORDER_LIMIT],
+    count: usize,
+    memory: &mut [u16],
+) -> Answer
+    requires { ⌜ Known h w (now colours) (now clues) (now borders) count × (14 * (h * w) ≤ length (now memory)) ⌝ }
+    ensures { λ r.
+        ⌜ (r ≡ asAnswer (foundIn h w (now (colours .entry)) (now (clues .entry)) (now (borders .entry))))
+        × (now (memory .exit) ≡ written (now (memory .entry))
+        (foundIn h w (now (colours .entry)) (now (clues .entry)) (now (borders .entry)))) ⌝ }
+{
+    // as slices, so that the proof knows their lengths
+    let cells: &[u8] = colours;
+    let marks: &[u8] = borders;
+    let found = hits::find(h, w, colours, clues, borders, memory);
+    match found {
+        Found::Nothing => Answer::Pass(board::border_count(h, w) - count),
+        Found::Reason(n) => Answer::Conflict(n),
+    }
+}
+
 // What a check of a board answers whose arrays are lent; a reason's literals stand from the start of the memory. No
-// board is copied. On a board that is not alien the stack has every decided border once, so the others are undecided.
+// board is copied.
 pub fn check_lent<'a>(
     h: usize,
     w: usize,
@@ -71,14 +101,7 @@ pub fn check_lent<'a>(
     if memory.len() < 16384 {
         return Answer::Refused(Outcome::Short);
     }
-    // as slices, so that the proof knows their lengths
-    let cells: &[u8] = colours;
-    let marks: &[u8] = borders;
-    let found = hits::find(h, w, colours, clues, borders, memory);
-    match found {
-        Found::Nothing => Answer::Pass(board::border_count(h, w) - count),
-        Found::Reason(n) => Answer::Conflict(n),
-    }
+    answer_known(h, w, colours, clues, borders, count, memory)
 }
 
 // What a check of a board answers.

@@ -1,5 +1,5 @@
 -- Bounds: a fault names a potential unit that there is, a faulty block is one of the blocks, a breach's border is on
--- the page, and their reasons have at most 6,144 and 1,025 literals.
+-- the page, and on a page of n cells their reasons have at most 6·n and n + 1 literals.
 use mathlib.Core.Path.{_≡_, refl, sym, ap, _∙_}
 use mathlib.Core.Bool.{Bool, true, false, _&&_, _||_, cond}
 use mathlib.Core.List.{List, [], _∷_}
@@ -14,7 +14,6 @@ use Rattle.lists.specs.Appends.{length-filter}
 use Rattle.rules.specs.declared.Literal.{Literal}
 use Rattle.rules.specs.Page.{Mark, wallAt}
 use Rattle.rules.specs.Flat.{Sized, flat, hopIf}
-use Rattle.rules.specs.FlatLaws.{counts}
 use Rattle.rules.specs.Codes.{marksIn, coloursIn}
 use Rattle.rules.specs.Groups.{entry, members}
 use Rattle.rules.specs.Reasons.{path}
@@ -159,30 +158,28 @@ literals-le i e Inside = omega arith
 literals-le i e (Edge p) = omega arith
 literals-le i e (EdgeInside p) = omega (arith, length-append (e p) i)
 
-module _ {h w : ℕ} (z : Sized h w) where
-  pub reason-short : (cs bs blocks units : List ℕ) (f : Faulty)
-      → length (reasonIn h w cs bs blocks units f) ≤ 6144
-  unfolding reasonIn insideIn edgeIn
-  reason-short cs bs blocks units f =
-      omega (
-        arith,
-        literals-le (insideIn h w bs blocks (f .block)) (edgeIn h w cs bs units) (f .fault),
-        inside-le h w (marksIn bs) (entry blocks) (f .block),
-        edge-le h w (marksIn bs) (entry units) (faultUnit (f .fault)) (coloursIn cs),
-        members-le h w (entry blocks) (f .block),
-        members-le h w (entry units) (faultUnit (f .fault)),
-        counts z .cells,
-      )
+pub reason-short : (h w : ℕ) (cs bs blocks units : List ℕ) (f : Faulty)
+    → length (reasonIn h w cs bs blocks units f) ≤ 6 * (h * w)
+unfolding reasonIn insideIn edgeIn
+reason-short h w cs bs blocks units f =
+    omega (
+      arith,
+      literals-le (insideIn h w bs blocks (f .block)) (edgeIn h w cs bs units) (f .fault),
+      inside-le h w (marksIn bs) (entry blocks) (f .block),
+      edge-le h w (marksIn bs) (entry units) (faultUnit (f .fault)) (coloursIn cs),
+      members-le h w (entry blocks) (f .block),
+      members-le h w (entry units) (faultUnit (f .fault)),
+    )
 
-  pub breach-short : (s : ℕ → Mark) (b : Breach) → length (breachLiterals (flat h w) s b) ≤ 1025
-  unfolding breachLiterals
-  breach-short s b =
-      omega (
-        arith,
-        length-append (path (flat h w) s (b .cell) (b .to)) (wallAt (b .border) ∷ []),
-        path-le z s (b .cell) (b .to),
-        counts z .cells,
-      )
+pub breach-short : {h w : ℕ} → Sized h w → (s : ℕ → Mark) (b : Breach)
+    → length (breachLiterals (flat h w) s b) ≤ h * w + 1
+unfolding breachLiterals
+breach-short {h} {w} z s b =
+    omega (
+      arith,
+      length-append (path (flat h w) s (b .cell) (b .to)) (wallAt (b .border) ∷ []),
+      path-le z s (b .cell) (b .to),
+    )
 
 -- a breach's border
 or-small : (a b : Breach) → a .border < 1984 → b .border < 1984 → orBreach a b .border < 1984

@@ -5,11 +5,11 @@
 --   blocksHit, wallsHit, unitsHit   the first hit of each step
 --   earlyHit            the first hit of steps 1 and 2
 --   Answers o m after r   for the hit o the code answers r, and leaves the memory `after` where it was m
---   Room cs bs m        the arrays of colours and borders are whole, and the memory has room for any reason
+--   Room h w cs bs m    the arrays of colours and borders are whole, and the memory has room for any reason of the page
 use mathlib.Core.Path.{_≡_}
 use mathlib.Core.List.{List}
 use mathlib.Core.Option.{Option, some, none}
-use Prim.Native.Nat.{ℕ, _≤_}
+use Prim.Native.Nat.{ℕ, _*_, _≤_}
 use lib.ListN.{length}
 use Rattle.lists.specs.Lists.{firstHit, orElse, range}
 use Rattle.rules.specs.Page.{Puzzle, Mark}
@@ -47,8 +47,8 @@ pub record Answers (o : Option Reason) (m after : List ℕ) (r : Found) : Type 0
   pub found : r ≡ foundOf o
   pub memory : after ≡ writtenBy o m
 
--- "short: reason memory below 16,384 literals" is refused before
-pub record Room (cs bs m : List ℕ) : Type 0 where
+-- 14 literals for each cell: at most 8 blockers, 2 and 4 literals
+pub record Room (h w : ℕ) (cs bs m : List ℕ) : Type 0 where
   pub colours : length cs ≡ 1024
   pub borders : length bs ≡ 1984
-  pub memory : 16384 ≤ length m
+  pub memory : 14 * (h * w) ≤ length m

@@ -10,7 +10,6 @@ use lib.ListN.{length}
 use Rattle.lists.specs.Lists.{orElse}
 use Rattle.rules.specs.Page.{Mark, Puzzle, Shape}
 use Rattle.rules.specs.Flat.{Sized, flat}
-use Rattle.rules.specs.FlatLaws.{counts}
 use Rattle.rules.specs.Codes.{marksIn, cluesIn}
 use Rattle.rules.specs.Groups.{unitCount}
 use Rattle.rules.specs.Check.{Reason, unitReason, hit}
@@ -35,13 +34,13 @@ cells-are h w = refl
 
 -- at most 8 blockers, 2 and 4 literals for each cell
 pub unit-short : {h w : ℕ} → Sized h w → (cs : List ℕ) (s : ℕ → Mark) (U P : ℕ)
-    → length (unitReason (puzzle h w cs) s U P) ≤ 14336
+    → length (unitReason (puzzle h w cs) s U P) ≤ 14 * (h * w)
 unit-short {h} {w} z cs s U P =
     let few =
     unit-bound (puzzle h w cs) (flat-bordered h w (omega (arith, z .columns))) s 2 4 8 (flat-ahead h w)
     (flat-around h w)
     (images-eight h w) U P in
-    omega (arith, few, counts z, cells-are h w)
+    omega (arith, few, cells-are h w)
 
 -- u is what the search found
 module _ {h w : ℕ} (z : Sized h w) (cs : List ℕ) (bs : List ℕ) (u : ℕ)

@@ -1,29 +1,33 @@
--- A check on an image by cases: another length, short memory, and what the check of its board answers.
+-- A check on an image by cases: another length, an alien board, short memory, and what Check gives.
 --
 --   other-number, other-bytes   an image of another length
+--   alien-checked, short-checked, found-checked   an alien board, short memory, and neither
 --   Quiet a             the answer a is no conflict
---   Checks s m codes a  what the answer a of the board's check says of the check on the image
---   short-alien, short-known    memory below 32,768 bytes
---   checks              memory that is not short
+--   Fits n a            the literals of the answer a fit n places
+--   Checks m codes f a  what the answer a of a check, with its codes, says where Check gives f and m is the memory
+--   checks              of a board that is not alien, with room for its reasons
 use mathlib.Core.Path.{_≡_, refl, ap, sym, _∙_}
-use mathlib.Core.Bool.{Bool, true, false, cond}
+use mathlib.Core.Bool.{true, false}
 use mathlib.Core.List.{List}
-use Prim.Native.Nat.{ℕ, _/_}
+use Prim.Native.Nat.{ℕ, _*_, _/_, _<_, _≤_}
 use native.Mathlib.Omega.{arith}
 use borrow.Author.Tests.{ne-eqb, ltb-true, ltb-false, lt-ltb, le-ltb}
-use lib.Dec.{ltb}
+use lib.IntN.{ℤ}
 use lib.ListN.{length}
-use Rattle.rules.specs.declared.Call.the-variants.{Check}
+use Rattle.rules.specs.Codes.{marksIn, coloursIn, cluesIn}
 use Rattle.rules.specs.Check.{Answer as Found, pass, conflict, check}
+use Rattle.argument.specs.FlatDemand.{flat-bound}
 use Rattle.board.specs.declared.Board.{Board}
-use Rattle.board.specs.declared.Outcome.the-variants.{Alien}
-use Rattle.board.specs.Alien.{isAlien}
+use Rattle.board.specs.Alien.{isAlien, boardOf as boardWith}
 use Rattle.board.specs.View.{puzzleOf, marksOf}
+use Rattle.board.specs.NativeLaws.{native-has}
 use Rattle.calls.specs.declared.Answer.{Answer}
 use Rattle.calls.specs.declared.Answer.the-variants.{Done, Pass, Conflict, Refused}
-use Rattle.calls.specs.Answers.{answerNumber, asAnswer, written, checkAnswer, checkMemory, callOf}
-use Rattle.calls.specs.CallLaws.{reason-short}
-use Rattle.calls.specs.NumberLaws.{InRange, call-range}
+use Rattle.calls.specs.Answers.{answerNumber, asAnswer, written, checkAnswer}
+use Rattle.calls.specs.AnswerLaws.{length-written}
+use Rattle.calls.specs.Known.{Known, foundIn}
+use Rattle.calls.specs.CheckLaws.{same-found}
+use Rattle.calls.specs.NumberLaws.{InRange, found-range}
 use Rattle.image.specs.Image.{boardOf, rightLength, putCodes, isShort, places, bytesAfter, bytesBy, checkNumber}
 use Rattle.image.specs.Image.{checkBytes}
 use Rattle.image.specs.RoundLaws.{long-is}
@@ -43,11 +47,45 @@ module _ (s m : List ℕ) (h : length s ≡ 11076 → ⊥) where
   unfolding checkBytes
   other-bytes = rw other
 
--- ---- what an answer of a check can be
-pub answer-range : (b : Board) (m : List ℕ) → InRange (checkAnswer b (length m))
-unfolding callOf
-answer-range b m = call-range b Check m
+-- ---- an image of the right length, whose board is b
+module _ (s m : List ℕ) (e : length s ≡ 11076) (b : Board) (q : b ≡ boardOf s) where
+  number-is : answerNumber (checkAnswer b (places m)) ≡ checkNumber s m
+  unfolding checkNumber
+  number-is = rw (long-is s e, q)
 
+  bytes-is : bytesBy b m ≡ checkBytes s m
+  unfolding checkBytes
+  bytes-is = rw (long-is s e, q)
+
+  pub alien-checked : isAlien b ≡ true → (5 ≡ checkNumber s m) × (m ≡ checkBytes s m)
+  unfolding checkAnswer
+  alien-checked a =
+      let n : 5 ≡ answerNumber (checkAnswer b (places m)) = rw a in
+      let k : m ≡ bytesBy b m = rw a in
+      (n ∙ number-is, k ∙ bytes-is)
+
+  module _ (a : isAlien b ≡ false) where
+    pub short-checked : isShort m ≡ true → (9 ≡ checkNumber s m) × (m ≡ checkBytes s m)
+    unfolding checkAnswer isShort
+    short-checked t =
+        let few = lt-ltb (length m / 2) 16384 (omega (arith, ltb-true (length m) 32768 t)) in
+        let n : 9 ≡ answerNumber (checkAnswer b (places m)) = rw (a, few) in
+        let k : m ≡ bytesBy b m = rw (a, few) in
+        (n ∙ number-is, k ∙ bytes-is)
+
+    abbrev found : Found
+    found = foundIn (b .height) (b .width) (b .colours) (b .clues) (b .borders)
+
+    pub found-checked : isShort m ≡ false
+        → (answerNumber (asAnswer found) ≡ checkNumber s m) × (bytesAfter m found ≡ checkBytes s m)
+    unfolding checkAnswer isShort
+    found-checked t =
+        let many = le-ltb (length m / 2) 16384 (omega (arith, ltb-false (length m) 32768 t)) in
+        let n : answerNumber (asAnswer found) ≡ answerNumber (checkAnswer b (places m)) = rw (a, many, same-found b) in
+        let k : bytesAfter m found ≡ bytesBy b m = rw (a, many, same-found b) in
+        (n ∙ number-is, k ∙ bytes-is)
+
+-- ---- what an answer of a check says
 -- the memory m after an answer, where codes holds the literals
 abbrev left : List ℕ → List ℕ → Answer → List ℕ
 left m codes Done = m
@@ -68,81 +106,48 @@ left-quiet m codes (Pass n) q = refl
 left-quiet m codes (Conflict n) q = absurd q
 left-quiet m codes (Refused o) q = refl
 
--- what the answer a of the board's check, with its codes, says of the check on the image
-pub record Checks (s m codes : List ℕ) (a : Answer) : Type 0 where
-  pub number : (k : Answer) → a ≡ k → answerNumber k ≡ checkNumber s m
-  pub range : (k : Answer) → a ≡ k → InRange k
-  pub quiet : (k : Answer) → a ≡ k → Quiet k → m ≡ checkBytes s m
-  pub reason : (n : ℕ) → a ≡ Conflict n → putCodes m codes n ≡ checkBytes s m
+abbrev pub Fits : ℕ → Answer → Type 0
+Fits k Done = Unit {0}
+Fits k (Pass n) = Unit {0}
+Fits k (Conflict n) = n ≤ k
+Fits k (Refused o) = Unit {0}
 
--- ---- an image of the right length, whose board is b
-module _ (s m : List ℕ) (e : length s ≡ 11076) (b : Board) (q : b ≡ boardOf s) where
-  number-is : answerNumber (checkAnswer b (places m)) ≡ checkNumber s m
-  unfolding checkNumber
-  number-is = rw (long-is s e, q)
+pub record Checks (m codes : List ℕ) (f : Found) (a : Answer) : Type 0 where
+  pub number : (x : Answer) → a ≡ x → answerNumber x ≡ answerNumber (asAnswer f)
+  pub range : (x : Answer) → a ≡ x → InRange x
+  pub fits : (x : Answer) → a ≡ x → Fits (length codes) x
+  pub quiet : (x : Answer) → a ≡ x → Quiet x → m ≡ bytesAfter m f
+  pub reason : (n : ℕ) → a ≡ Conflict n → putCodes m codes n ≡ bytesAfter m f
 
-  bytes-is : bytesBy b m ≡ checkBytes s m
-  unfolding checkBytes
-  bytes-is = rw (long-is s e, q)
+module _ {h w : ℕ} {cs : List ℕ} {ks : List ℤ} {bs : List ℕ} {n : ℕ} (K : Known h w cs ks bs n) (m before : List ℕ)
+    (room : 14 * (h * w) < length before) where
+  abbrev b : Board
+  b = boardWith h w cs ks bs (K .stack) n
 
-  -- memory that is short
-  module _ (t : isShort m ≡ true) where
-    few : ltb (length m / 2) 16384 ≡ true
-    unfolding isShort
-    few = lt-ltb (length m / 2) 16384 (omega (arith, ltb-true (length m) 32768 t))
+  abbrev f : Found
+  f = foundIn h w cs ks bs
 
-    pub short-alien : isAlien b ≡ true → (5 ≡ checkNumber s m) × (m ≡ checkBytes s m)
-    unfolding checkAnswer
-    short-alien a =
-        let n : 5 ≡ answerNumber (checkAnswer b (places m)) = rw a in
-        let k : m ≡ bytesBy b m = rw a in
-        (n ∙ number-is, k ∙ bytes-is)
+  in-range : InRange (asAnswer f)
+  in-range = rw (same-found b) (found-range b (K .native) (check (puzzleOf b) (marksOf b)) refl)
 
-    pub short-known : isAlien b ≡ false → (9 ≡ checkNumber s m) × (m ≡ checkBytes s m)
-    unfolding checkAnswer
-    short-known a =
-        let n : 9 ≡ answerNumber (checkAnswer b (places m)) = rw (a, few) in
-        let k : m ≡ bytesBy b m = rw (a, few) in
-        (n ∙ number-is, k ∙ bytes-is)
+  fit : (g : Found) → f ≡ g → Fits (length before) (asAnswer g)
+  fit (pass x) e = tt
+  fit (conflict r) e =
+      let z = native-has b (K .native) .size in
+      omega (arith, flat-bound h w (omega (arith, z .columns)) (coloursIn cs) (cluesIn ks) (marksIn bs) r e)
 
-  -- memory that is not, with codes for the literals
-  module _ (t : isShort m ≡ false) (zeros : List ℕ) (z : length zeros ≡ 16384) where
-    many : ltb (length m / 2) 16384 ≡ false
-    unfolding isShort
-    many = le-ltb (length m / 2) 16384 (omega (arith, ltb-false (length m) 32768 t))
+  after : (g : Found) → f ≡ g → left m (written before g) (asAnswer g) ≡ bytesAfter m g
+  after (pass x) e = refl
+  after (conflict r) e = codes-put m _ before r (fit (conflict r) e) refl
 
-    enough : ltb (length zeros) 16384 ≡ false
-    enough = le-ltb (length zeros) 16384 (omega arith)
-
-    same-answer : checkAnswer b (length zeros) ≡ checkAnswer b (places m)
-    unfolding checkAnswer
-    same-answer = rw (many, enough)
-
-    same-bytes : left m (checkMemory b zeros) (checkAnswer b (length zeros)) ≡ bytesBy b m
-    unfolding checkAnswer checkMemory
-    same-bytes = rw (many, enough) (go (isAlien b) refl)
-      where
-        f : Found
-        f = check (puzzleOf b) (marksOf b)
-
-        found : isAlien b ≡ false → (g : Found) → f ≡ g → left m (written zeros g) (asAnswer g) ≡ bytesAfter m g
-        found a (pass n) p = refl
-        found a (conflict r) p =
-            codes-put m _ zeros r (omega (arith, reason-short b a r p)) refl
-
-        go : (x : Bool) → isAlien b ≡ x
-            → left m (cond x zeros (written zeros f)) (cond x (Refused Alien) (asAnswer f)) ≡ cond x m (bytesAfter m f)
-        go true a = refl
-        go false a = found a f refl
-
-    module _ (a : Answer) (codes : List ℕ) (p : a ≡ checkAnswer b 16384) (c : codes ≡ checkMemory b zeros) where
-      pub checks : Checks s m codes a
-      checks =
-          let told : a ≡ checkAnswer b (length zeros) = p ∙ ap (checkAnswer b) (sym z) in
-          let after : left m codes a ≡ checkBytes s m = rw (told, c) same-bytes ∙ bytes-is in
-          record {
-            number = λ k e. ap answerNumber (sym e ∙ told ∙ same-answer) ∙ number-is;
-            range = λ k e. rw (sym e ∙ told) (answer-range b zeros);
-            quiet = λ k e q. left-quiet m codes k q ∙ sym (ap (left m codes) e) ∙ after;
-            reason = λ n e. sym (ap (left m codes) e) ∙ after;
-          }
+  module _ (a : Answer) (codes : List ℕ) (p : a ≡ asAnswer f) (c : codes ≡ written before f) where
+    pub checks : Checks m codes f a
+    checks =
+        let memory : left m codes a ≡ bytesAfter m f = rw (p, c) (after f refl) in
+        record {
+          number = λ x e. ap answerNumber (sym e ∙ p);
+          range = λ x e. rw (sym e ∙ p) in-range;
+          fits = λ x e. rw (sym e ∙ p, c, length-written before f) (fit f refl);
+          quiet = λ x e q. left-quiet m codes x q ∙ sym (ap (left m codes) e) ∙ memory;
+          reason = λ x e. sym (ap (left m codes) e) ∙ memory;
+        }

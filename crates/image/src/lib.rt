@@ -1,7 +1,12 @@
 // The board image: 11,076 bytes that the host lends, and the calls on them.
 ghost use mathlib.Core.Path.{_≡_};
+ghost use mathlib.Core.Bool.{false};
+ghost use Prim.Native.Nat.{_*_, _<_};
+ghost use lib.ListN.{length};
+ghost use Rattle.calls.specs.Answers.{answerNumber, asAnswer};
+ghost use Rattle.calls.specs.Known.{Known, foundIn};
 ghost use Rattle.image.specs.Image.{imageAlien, literalOf, decide, undo, imageNumber, imageAfter};
-ghost use Rattle.image.specs.Image.{checkNumber, checkBytes};
+ghost use Rattle.image.specs.Image.{isShort, bytesAfter, checkNumber, checkBytes};
 use board::Board;
 use calls::Answer;
 use rules::Literal;
@@ -28,6 +33,9 @@ pub const LENGTH: usize = 11076;
 const ALIEN: u32 = 5;
 
 const SHORT: u32 = 9;
+
+// The most cells of a small page. A reason has at most 14 literals for each cell and one more: 4,096 codes hold it.
+const SMALL: usize = 256;
 
 // Whether decides and undos cannot produce the image.
 pub fn alien(image: &[u8]) -> bool
@@ -103,6 +111,37 @@ pub extern "C" fn dbchoco_undo(image: &mut [u8]) -> u32
     number
 }
 
+// The number of a check's answer of a board that is not alien; a reason's literals are written to the codes, and from
+// there to the memory's bytes.
+fn answered<'a>(
+    h: usize,
+    w: usize,
+    colours: &'a [u8; Board::CELL_LIMIT],
+    clues: &'a [i32; Board::CELL_LIMIT],
+    borders: &'a [u8; Board::BORDER_LIMIT],
+    count: usize,
+    codes: &mut [u16],
+    memory: &mut [u8],
+) -> u32
+    requires { ⌜ Known h w (now colours) (now clues) (now borders) count × (14 * (h * w) < length (now codes))
+        × (isShort (now memory) ≡ false) ⌝ }
+    ensures number { λ r. ⌜ r ≡ answerNumber (asAnswer (foundIn h w (now (colours .entry)) (now (clues .entry))
+        (now (borders .entry)))) ⌝ }
+    ensures bytes { λ _. ⌜ now (memory .exit) ≡ bytesAfter (now (memory .entry)) (foundIn h w (now (colours .entry))
+        (now (clues .entry)) (now (borders .entry))) ⌝ }
+{
+    let answer = calls::answer_known(h, w, colours, clues, borders, count, codes);
+    match answer {
+        Answer::Done => 0,
+        Answer::Pass(n) => 32 + (n as u32),
+        Answer::Conflict(n) => {
+            writing::put_codes(memory, codes, n);
+            65536 + (n as u32)
+        }
+        Answer::Refused(o) => board::number(o),
+    }
+}
+
 // Checks the image. The refusal's number, 32 plus the count of undecided borders for a pass, or 65,536 plus the count
 // of literals for a conflict; a reason's literals stand from the start of the memory, two bytes each.
 #[no_mangle]
@@ -114,21 +153,36 @@ pub extern "C" fn dbchoco_check(image: &[u8], memory: &mut [u8]) -> u32
         return ALIEN;
     }
     let b = reading::board(image);
+    let h = b.height;
+    let w = b.width;
+    if board::is_alien(h, w, &b.colours, &b.clues, &b.borders, &b.stack, b.count) {
+        return ALIEN;
+    }
     if writing::short(memory) {
-        if b.alien() {
-            return ALIEN;
-        }
         return SHORT;
     }
-    let mut codes = [0u16; 16384];
-    let answer = calls::check(b, &mut codes);
-    match answer {
-        Answer::Done => 0,
-        Answer::Pass(n) => 32 + (n as u32),
-        Answer::Conflict(n) => {
-            writing::put_codes(memory, &codes, n);
-            65536 + (n as u32)
-        }
-        Answer::Refused(o) => board::number(o),
+    if h * w <= SMALL {
+        let mut codes = [0u16; 4096];
+        return answered(
+            h,
+            w,
+            &b.colours,
+            &b.clues,
+            &b.borders,
+            b.count,
+            &mut codes,
+            memory,
+        );
     }
+    let mut codes = [0u16; 16384];
+    answered(
+        h,
+        w,
+        &b.colours,
+        &b.clues,
+        &b.borders,
+        b.count,
+        &mut codes,
+        memory,
+    )
 }

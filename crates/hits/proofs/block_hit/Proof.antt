@@ -47,7 +47,7 @@ write-fault-requires c κs =
       rw (p .4 .ids-are, p .4 .cells-are, p .4 .offs-are) (fault-unit (p .0) _ _ _ _ f),
       omega (
         arith,
-        reason-short (p .0) (a .colours .now) (a .borders .now) (a .blocks .now) (a .units .now)
+        reason-short (a .h) (a .w) (a .colours .now) (a .borders .now) (a .blocks .now) (a .units .now)
             (c .before .before .before .first-faulty .result),
         p .1 .memory,
       ),

@@ -1,6 +1,7 @@
 -- `early_hit` meets its contract: step 1's hit, and where there is none step 2's.
 use mathlib.Core.Path.{_≡_}
 use native.Mathlib.Omega.{arith}
+use Rattle.rules.specs.FlatLaws.{counts}
 use Rattle.rules.specs.Codes.{marksIn}
 use Rattle.checker.specs.Steps.{breachIn}
 use Rattle.checker.specs.Bounds.{breach-small, breach-short}
@@ -46,7 +47,12 @@ write-breach-requires c κs =
       p .0,
       p .1 .borders,
       rw (b .ensures) (breach-small (p .0) (s .args .borders .now) (s .args .blocks .now)),
-      omega (arith, breach-short (p .0) (marksIn (s .args .borders .now)) (b .result), p .1 .memory),
+      omega (
+        arith,
+        breach-short (p .0) (marksIn (s .args .borders .now)) (b .result),
+        p .1 .memory,
+        counts (p .0) .some,
+      ),
     )
 
 same-length-2 : tie.Need-same-length-2

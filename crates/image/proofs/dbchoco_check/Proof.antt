@@ -1,36 +1,40 @@
--- `dbchoco_check` meets its contract: the refusals, and what the check of the image's board answers.
+-- `dbchoco_check` meets its contract: the refusals, and what Check gives of the image's board, by its size.
 use mathlib.Core.Path.{_≡_, sym, _∙_}
 use mathlib.Core.Bool.{false}
 use mathlib.Core.List.{List}
-use Prim.Native.Nat.{ℕ}
+use Prim.Native.Nat.{ℕ, _*_, _≤_}
 use native.Mathlib.Omega.{arith}
 use borrow.Author.Needs.{needs}
-use borrow.Author.Tests.{ltb-false}
-use lib.ListN.{length, length-replicate}
+use lib.ListN.{length-replicate}
+use Rattle.rules.specs.FlatLaws.{counts}
+use Rattle.board.specs.declared.Board.{Board}
+use Rattle.board.specs.Alien.{isAlien}
+use Rattle.board.specs.NativeLaws.{native-has}
 use Rattle.image.specs.Image.{isShort}
-use Rattle.image.specs.CheckLaws.{other-number, other-bytes, short-alien, short-known, Checks, checks}
+use Rattle.image.specs.CheckLaws.{other-number, other-bytes, alien-checked, short-checked, found-checked}
 use Rattle.image.proofs.dbchoco_check.Statement.{statement}
 use Rattle.image.proofs.dbchoco_check.Tie as tie
 
--- once the board is checked
-abbrev Checked : Type 0
-Checked = tie.After-codes2
+-- once nothing is refused
+abbrev Left : Type 0
+Left = tie.Else3
 
-abbrev image : Checked → List ℕ
-image k = k .before .before .before .before .before .before .before .before .before .before .args .image .now
+abbrev board : Left → Board
+board e = e .before .before .before .before .before .before .before .before .before .before .board .result
 
-abbrev memory : Checked → List ℕ
-memory k = k .before .before .before .before .before .before .before .before .before .before .args .memory .now
+abbrev memory : Left → List ℕ
+memory e =
+    e .before .before .before .before .before .before .before .before .before .before .before .before .before .before
+    .args .memory .now
 
-room : (k : Checked) → isShort (memory k) ≡ false
-room k = sym (k .before .before .before .before .short .ensures) ∙ k .before .before .before .if2 .left
+known : (e : Left) → isAlien (board e) ≡ false
+known e = sym (e .before .before .before .before .is-alien .ensures) ∙ e .before .before .before .if2 .left
 
-facts : (k : Checked) → Checks (image k) (memory k) (k .before .check .last .1 .0) (k .before .check .result)
-facts k =
-    let r = k .before .check .ensures in
-    let b = k .before .before .before .before .before .before .board .ensures in
-    let l = k .before .before .before .before .before .before .before .if1 .left in
-    checks (image k) (memory k) l _ b (room k) _ (length-replicate {A = ℕ} 16384 0) _ _ (r .0) (r .1)
+room : (e : Left) → isShort (memory e) ≡ false
+room e = sym (e .before .short .ensures) ∙ e .if3 .left
+
+few : (e : Left) → board e .height * board e .width ≤ 1024
+few e = counts (native-has (board e) (known e) .size) .cells
 
 returns : tie.Need-returns
 returns c = (other-number _ _ (c .if1 .taken), other-bytes _ _ (c .if1 .taken))
@@ -38,119 +42,75 @@ returns c = (other-number _ _ (c .if1 .taken), other-bytes _ _ (c .if1 .taken))
 board-requires : tie.Need-board-requires
 board-requires c κs = search needs
 
+is-alien-requires : tie.Need-is-alien-requires
+is-alien-requires c κs = search needs
+
+returns-2 : tie.Need-returns-2
+returns-2 c =
+    let i = c .before .before .before .before .before .before .before in
+    alien-checked _ _ (i .before .if1 .left) _ (i .board .ensures)
+    (sym (c .before .is-alien .ensures) ∙ c .if2 .taken)
+
 short-requires : tie.Need-short-requires
 short-requires c κs = search needs
-
-alien-requires : tie.Need-alien-requires
-alien-requires c κs = search needs
 
 same-length : tie.Need-same-length
 same-length c = search needs
 
-returns-2 : tie.Need-returns-2
-returns-2 c =
-    let t = sym (c .before .before .before .short .ensures) ∙ c .before .before .if2 .taken in
-    let b = c .before .before .before .before .before .board .ensures in
-    let l = c .before .before .before .before .before .before .if1 .left in
-    short-alien _ _ l _ b t (sym (c .before .alien .ensures) ∙ c .if3 .taken)
+returns-3 : tie.Need-returns-3
+returns-3 c =
+    let i = c .before .before .before .before .before .before .before .before .before .before in
+    let t = sym (c .before .before .before .before .is-alien .ensures) ∙ c .before .before .before .if2 .left in
+    short-checked _ _ (i .before .if1 .left) _ (i .board .ensures) t
+    (sym (c .before .short .ensures) ∙ c .if3 .taken)
+
+mul-if4 : tie.Need-mul-if4
+mul-if4 c = omega (arith, few c)
+
+slice-aggregate-answered : tie.Need-slice-aggregate-answered
+slice-aggregate-answered c = search needs
+
+answered-requires : tie.Need-answered-requires
+answered-requires c κs =
+    let i = c .before .before .before .before .before .before in
+    let e = i .before in (
+      record { stack = board e .stack; native = known e },
+      omega (arith, i .if4 .taken, length-replicate {A = ℕ} 4096 0),
+      room e,
+    )
 
 same-length-2 : tie.Need-same-length-2
 same-length-2 c = search needs
 
-returns-3 : tie.Need-returns-3
-returns-3 c =
-    let t = sym (c .before .before .before .short .ensures) ∙ c .before .before .if2 .taken in
-    let b = c .before .before .before .before .before .board .ensures in
-    let l = c .before .before .before .before .before .before .if1 .left in
-    short-known _ _ l _ b t (sym (c .before .alien .ensures) ∙ c .if3 .left)
+returns-4 : tie.Need-returns-4
+returns-4 c =
+    let e = c .before .before .before .before .before .before .before .before .before .before .before in
+    let i = e .before .before .before .before .before .before .before .before .before .before in
+    let f = found-checked _ _ (i .before .if1 .left) _ (i .board .ensures) (known e) (room e) in
+    let r = c .before .before .before .answered .ensures in
+    (r .0 ∙ f .0, r .1 ∙ f .1)
 
-slice-aggregate-check : tie.Need-slice-aggregate-check
-slice-aggregate-check c = search needs
+slice-aggregate-answered-2 : tie.Need-slice-aggregate-answered-2
+slice-aggregate-answered-2 c = search needs
 
-check-requires : tie.Need-check-requires
-check-requires c κs = search needs
-
-enum-told : tie.Need-enum-told
-enum-told c = search needs
-
-enum-known-answer : tie.Need-enum-known-answer
-enum-known-answer c = search needs
-
-cast-result : tie.Need-cast-result
-cast-result c = let r = facts (c .before .before .before) .range _ (c .before .answer .given .1) in search needs
-
-add-result : tie.Need-add-result
-add-result c = let r = facts (c .before .before .before) .range _ (c .before .answer .given .1) in omega arith
-
-enum-known-answer-2 : tie.Need-enum-known-answer-2
-enum-known-answer-2 c = search needs
-
-slice-aggregate-put-codes : tie.Need-slice-aggregate-put-codes
-slice-aggregate-put-codes c = search needs
-
-put-codes-requires : tie.Need-put-codes-requires
-unfolding isShort
-put-codes-requires c κs =
-    let k = c .before .before .before .before .before in
-    let r = facts k .range _ (c .before .before .before .answer2 .given .1) in
-    let h = ltb-false (length (memory k)) 32768 (room k) in
-    (omega arith, omega arith)
-
-cast-result-2 : tie.Need-cast-result-2
-cast-result-2 c =
-    let k = c .before .before .before .before .before .before .before .before in
-    let r = facts k .range _ (c .before .before .before .before .before .before .answer2 .given .1) in
-    search needs
-
-add-result-2 : tie.Need-add-result-2
-add-result-2 c =
-    let k = c .before .before .before .before .before .before .before .before in
-    let r = facts k .range _ (c .before .before .before .before .before .before .answer2 .given .1) in
-    omega arith
-
-enum-known-answer-3 : tie.Need-enum-known-answer-3
-enum-known-answer-3 c = search needs
-
-number-requires : tie.Need-number-requires
-number-requires c κs = search needs
+answered-requires-2 : tie.Need-answered-requires-2
+answered-requires-2 c κs =
+    let e = c .before .before .before .before .before .before .before in (
+      record { stack = board e .stack; native = known e },
+      omega (arith, few e, length-replicate {A = ℕ} 16384 0),
+      room e,
+    )
 
 same-length-3 : tie.Need-same-length-3
 same-length-3 c = search needs
 
-returns-4 : tie.Need-returns-4
-returns-4 c =
-    let k = c .before .before in
-    let e = c .enum-told .given .1 in
-    (facts k .number _ e, facts k .quiet _ e tt)
-
-same-length-4 : tie.Need-same-length-4
-same-length-4 c = search needs
-
 returns-5 : tie.Need-returns-5
 returns-5 c =
-    let k = c .before .before .before in
-    let e = c .before .answer .given .1 in
-    (facts k .number _ e, facts k .quiet _ e tt)
-
-same-length-5 : tie.Need-same-length-5
-same-length-5 c = search needs
-
-returns-6 : tie.Need-returns-6
-returns-6 c =
-    let k = c .before .before .before .before .before .before .before .before in
-    let e = c .before .before .before .before .before .before .answer2 .given .1 in (
-      facts k .number _ e,
-      c .before .before .put-codes .ensures ∙ facts k .reason _ e,
-    )
-
-same-length-6 : tie.Need-same-length-6
-same-length-6 c = search needs
-
-returns-7 : tie.Need-returns-7
-returns-7 c =
-    let k = c .before .before .before .before in
-    let e = c .before .before .answer3 .given .1 in
-    (c .number .ensures ∙ facts k .number _ e, facts k .quiet _ e tt)
+    let e = c .before .before .before .before .before .before .before .before .before .before .before in
+    let i = e .before .before .before .before .before .before .before .before .before .before in
+    let f = found-checked _ _ (i .before .if1 .left) _ (i .board .ensures) (known e) (room e) in
+    let r = c .before .before .before .answered2 .ensures in
+    (r .0 ∙ f .0, r .1 ∙ f .1)
 
 pub dbchoco-check-spec : {M : Type 1} → statement M
 dbchoco-check-spec =
@@ -158,30 +118,17 @@ dbchoco-check-spec =
     (tie.spec
     returns
     board-requires
-    short-requires
-    alien-requires
-    same-length
+    is-alien-requires
     returns-2
-    same-length-2
+    short-requires
+    same-length
     returns-3
-    slice-aggregate-check
-    check-requires
-    enum-told
-    enum-known-answer
-    cast-result
-    add-result
-    enum-known-answer-2
-    slice-aggregate-put-codes
-    put-codes-requires
-    cast-result-2
-    add-result-2
-    enum-known-answer-3
-    number-requires
-    same-length-3
+    mul-if4
+    slice-aggregate-answered
+    answered-requires
+    same-length-2
     returns-4
-    same-length-4
-    returns-5
-    same-length-5
-    returns-6
-    same-length-6
-    returns-7)
+    slice-aggregate-answered-2
+    answered-requires-2
+    same-length-3
+    returns-5)

@@ -1,0 +1,20 @@
+-- Known: a board that is not alien, without its stack, and what Check gives of it.
+--
+--   Known h w cs ks bs n   with some stack of n decisions these arrays are a board that is not alien
+--   foundIn h w cs ks bs   what Check gives of the puzzle and the borders that these arrays spell
+use mathlib.Core.Path.{_≡_}
+use mathlib.Core.Bool.{false}
+use mathlib.Core.List.{List}
+use Prim.Native.Nat.{ℕ}
+use lib.IntN.{ℤ}
+use Rattle.rules.specs.Codes.{marksIn}
+use Rattle.rules.specs.Check.{Answer as Found, check}
+use Rattle.board.specs.Alien.{boardOf, isAlien}
+use Rattle.checker.specs.Bridges.{puzzleIn}
+
+pub record Known (h w : ℕ) (cs : List ℕ) (ks : List ℤ) (bs : List ℕ) (n : ℕ) : Type 0 where
+  pub stack : List ℕ
+  pub native : isAlien (boardOf h w cs ks bs stack n) ≡ false
+
+abbrev pub foundIn : ℕ → ℕ → List ℕ → List ℤ → List ℕ → Found
+foundIn h w cs ks bs = check (puzzleIn h w cs ks) (marksIn bs)
