@@ -55,12 +55,15 @@ clueRight k = leZ (negsuc 0) k
 unfoldable pub cluesRight : List ℤ → ℕ → Bool
 cluesRight ks n = allBelow n (λ i. clueRight (getD ks i (pos 0)))
 
+-- "the stack of decided borders": x is one of its first n entries
 unfoldable pub stacked : List ℕ → ℕ → ℕ → Bool
 stacked s n x = anyBelow n (λ j. eqb (getD s j 0) x)
 
+-- each of its entries is a border of the page
 unfoldable pub entriesRight : List ℕ → ℕ → ℕ → Bool
 entriesRight s m n = allBelow n (λ i. ltb (getD s i 0) m)
 
+-- and none stands on it twice
 unfoldable pub onceEach : List ℕ → ℕ → Bool
 onceEach s n = allBelow n (λ i. not (stacked s i (getD s i 0)))
 

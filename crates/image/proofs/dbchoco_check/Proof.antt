@@ -10,7 +10,9 @@ use Rattle.rules.specs.FlatLaws.{counts}
 use Rattle.board.specs.declared.Board.{Board}
 use Rattle.board.specs.Alien.{isAlien}
 use Rattle.board.specs.NativeLaws.{native-has}
-use Rattle.image.specs.Image.{isShort}
+use Rattle.calls.specs.Answers.{answerNumber, asAnswer}
+use Rattle.calls.specs.Known.{foundIn}
+use Rattle.image.specs.Image.{isShort, bytesAfter, checkNumber, checkBytes}
 use Rattle.image.specs.CheckLaws.{other-number, other-bytes, alien-checked, short-checked, found-checked}
 use Rattle.image.proofs.dbchoco_check.Statement.{statement}
 use Rattle.image.proofs.dbchoco_check.Tie as tie
@@ -27,6 +29,11 @@ memory e =
     e .before .before .before .before .before .before .before .before .before .before .before .before .before .before
     .args .memory .now
 
+abbrev image : Left → List ℕ
+image e =
+    e .before .before .before .before .before .before .before .before .before .before .before .before .before .before
+    .args .image .now
+
 known : (e : Left) → isAlien (board e) ≡ false
 known e = sym (e .before .before .before .before .is-alien .ensures) ∙ e .before .before .before .if2 .left
 
@@ -35,6 +42,15 @@ room e = sym (e .before .short .ensures) ∙ e .if3 .left
 
 few : (e : Left) → board e .height * board e .width ≤ 1024
 few e = counts (native-has (board e) (known e) .size) .cells
+
+-- what Check gives of the board is the answer of the check
+told : (e : Left) → let b = board e in
+    let f = foundIn (b .height) (b .width) (b .colours) (b .clues) (b .borders) in
+    (answerNumber (asAnswer f) ≡ checkNumber (image e) (memory e))
+    × (bytesAfter (memory e) f ≡ checkBytes (image e) (memory e))
+told e =
+    let i = e .before .before .before .before .before .before .before .before .before .before in
+    found-checked _ _ (i .before .if1 .left) _ (i .board .ensures) (known e) (room e)
 
 returns : tie.Need-returns
 returns c = (other-number _ _ (c .if1 .taken), other-bytes _ _ (c .if1 .taken))
@@ -84,9 +100,7 @@ same-length-2 c = search needs
 
 returns-4 : tie.Need-returns-4
 returns-4 c =
-    let e = c .before .before .before .before .before .before .before .before .before .before .before in
-    let i = e .before .before .before .before .before .before .before .before .before .before in
-    let f = found-checked _ _ (i .before .if1 .left) _ (i .board .ensures) (known e) (room e) in
+    let f = told (c .before .before .before .before .before .before .before .before .before .before .before) in
     let r = c .before .before .before .answered .ensures in
     (r .0 ∙ f .0, r .1 ∙ f .1)
 
@@ -106,9 +120,7 @@ same-length-3 c = search needs
 
 returns-5 : tie.Need-returns-5
 returns-5 c =
-    let e = c .before .before .before .before .before .before .before .before .before .before .before in
-    let i = e .before .before .before .before .before .before .before .before .before .before in
-    let f = found-checked _ _ (i .before .if1 .left) _ (i .board .ensures) (known e) (room e) in
+    let f = told (c .before .before .before .before .before .before .before .before .before .before .before) in
     let r = c .before .before .before .answered2 .ensures in
     (r .0 ∙ f .0, r .1 ∙ f .1)
 
