@@ -2,10 +2,13 @@
 // piece after piece as crate answers puts them.
 //
 // What the pieces are together is proved in crate answers (specs/PageTheorem, `printed`). Here it is proved that the
-// program is safe, keeps to fixed memory, and ends. Assumed, since nothing proves C: that `read` and `write` do what
-// POSIX says of them, each returns, and their counts lie within the buffer (kit's library libc); that `io::write_all`
-// writes each byte once and in order is tested by the kit, and is not part of its contract.
-ghost use Prim.Native.Nat.{_≤_};
+// program is safe, keeps to fixed memory, has room for one byte more than a page has and for 16,384 literals, and ends.
+// To be read, and tested: that `answer` begins with `first()`, calls `next` on what the last call left, and writes each
+// piece once. Assumed, since nothing proves C: that `read` and `write` do what POSIX says of them, each returns, and
+// their counts lie within the buffer (kit's library libc); that `io::write_all` writes each byte once and in order is
+// tested by the kit, and is not part of its contract.
+ghost use mathlib.Core.Path.{_≡_};
+ghost use Prim.Native.Nat.{_<_, _≤_};
 ghost use lib.ListN.{length};
 ghost use Rattle.io.specs.Counts.{Counts};
 use libc::STDIN_FILENO;
@@ -17,8 +20,10 @@ struct Input {
     failed: bool,
 }
 
-// Reads until the input ends or `page` is full.
+// Reads until the input ends or `page` is full. A page has at most 65,536 bytes: `page` has room for one more, by which
+// a longer input is known.
 fn read_page(page: &mut [u8]) -> Input
+    requires { ⌜ 65536 < length (now page) ⌝ }
     ensures { λ r. ⌜ Counts (r .count) (now (page .exit)) ⌝ }
 {
     let mut n = 0;
@@ -40,9 +45,9 @@ fn read_page(page: &mut [u8]) -> Input
     }
 }
 
-// Writes the answers of the page s; false where a write failed.
+// Writes the answers of the page s; false where a write failed. The memory is as long as `printed` asks.
 fn answer(s: &[u8], memory: &mut [u16], out: &mut [u8]) -> bool
-    requires { ⌜ 32 ≤ length (now out) ⌝ }
+    requires { ⌜ (32 ≤ length (now out)) × (length (now memory) ≡ 16384) ⌝ }
 {
     let mut run = answers::first();
     while answers::goes_on(run) {
@@ -55,7 +60,6 @@ fn answer(s: &[u8], memory: &mut [u16], out: &mut [u8]) -> bool
     true
 }
 
-// A page has at most 65,536 bytes: one more is read, to know a longer input.
 fn main() {
     let mut page = [0u8; 65537];
     let input = read_page(&mut page);
