@@ -1,12 +1,13 @@
 #!/usr/bin/env python3
 """Compares the definitions with the published answers, board by board and literal by literal.
 
-    cargo run --release --bin sample -- N [seed] | tools/theorems.py
-    tools/theorems.py FILE
+    tools/theorems.py FILE [EDIT..]
 
 Reads boards as the oracle's `sample` prints them (its head says the form). Each becomes a theorem: Check's answer, the
 number of units, and each unit's listed transforms with their cells and connections. The theorems stand in a throw-away
 repository with copies of the crates lists and rules, and are proved there by computing; a wrong one fails the check.
+
+With edits of a definition, each is made in that repository by itself, and a theorem must fail: the boards see it.
 """
 import re
 import shutil
@@ -151,18 +152,42 @@ def write(folder, taken):
     (specs / "Lib.antt").write_text("".join(f"pub mod {name}\n" for name in modules), encoding="utf-8")
 
 
-def main():
-    if len(sys.argv) > 2:
-        sys.exit(__doc__)
-    text = Path(sys.argv[1]).read_text(encoding="utf-8") if len(sys.argv) == 2 else sys.stdin.read()
-    taken = boards(text.splitlines())
-    if not taken:
-        sys.exit("no boards")
+def proved(taken, edit=None):
+    """Whether the theorems are proved, with the edit made if there is one; and what the check printed."""
     with tempfile.TemporaryDirectory() as name:
         write(Path(name), taken)
-        run = subprocess.run(["rt", "check", "sample"], cwd=name, capture_output=True, text=True)
-    if run.returncode != 0 or "rt: sample proved" not in run.stdout + run.stderr:
-        print(run.stdout + run.stderr)
+        if edit:
+            fields = dict(line.split(": ", 1) for line in edit.read_text(encoding="utf-8").splitlines()[1:])
+            path, old = Path(name) / fields["file"], fields["old"]
+            text = path.read_text(encoding="utf-8")
+            if text.count(old) != 1:
+                sys.exit(f"{edit}: the old text stands there {text.count(old)} times")
+            path.write_text(text.replace(old, fields["new"]), encoding="utf-8")
+        run = subprocess.run(["rt", "check", "sample"], cwd=name, capture_output=True, text=True, check=False)
+    said = run.stdout + run.stderr
+    return run.returncode == 0 and "rt: sample proved" in said, said
+
+
+def seen(taken, edit):
+    """Whether a theorem about a board fails with the edit made."""
+    good, said = proved(taken, edit)
+    if not good and not re.search(r"Boards\d+\.antt:\d+:\d+: error", said):
+        sys.exit(f"{edit}: the check failed, and not at a board:\n{said[-2000:]}")
+    print(f"{edit.stem}: {'not seen by any board' if good else 'seen'}")
+    return not good
+
+
+def main():
+    if len(sys.argv) < 2:
+        sys.exit(__doc__)
+    taken = boards(Path(sys.argv[1]).read_text(encoding="utf-8").splitlines())
+    if not taken:
+        sys.exit("no boards")
+    if edits := [Path(name) for name in sys.argv[2:]]:
+        sys.exit(0 if all([seen(taken, edit) for edit in edits]) else 1)
+    good, said = proved(taken)
+    if not good:
+        print(said)
         sys.exit("the definitions and the published answers differ, or the check did not run")
     units = sum(len(board["units"]) for board in taken)
     print(f"{len(taken)} boards compared: answers literal by literal, and the transforms of {units} units")
