@@ -11,3 +11,7 @@ pub mod CodeLaws
 pub mod RunLaws
 pub mod Series
 pub mod SeriesLaws
+pub mod Hosts
+pub mod HostLaws
+pub mod Producing
+pub mod ProducingLaws

@@ -3,8 +3,7 @@
 --
 --   number-image, after-image   a decide or an undo on the image of a board
 --   step-number, step-codes, step-image   any call on it: its number, the memory, and the image afterwards
---   ImageDemand         demand 3 for a list of calls on images
---   image-demand        it holds
+--   image-demand        demand 3 for a list of calls on images
 use mathlib.Core.Path.{_≡_, refl, ap, ap₂, sym, _∙_}
 use mathlib.Core.Bool.{Bool, true, false, cond}
 use mathlib.Core.List.{List, [], _∷_, map}
@@ -30,13 +29,12 @@ use Rattle.board.specs.StepLaws.{Kept, decide-kept, undo-kept}
 use Rattle.calls.specs.Answers.{answerNumber, written, checkAnswer, checkMemory, ended, callOf, callMemory}
 use Rattle.calls.specs.CallLaws.{reason-short}
 use Rattle.calls.specs.Runs.{Accepted, startOf, Given, givenBy, boardAfter, runFrom}
-use Rattle.calls.specs.Demand3.{Demand3}
 use Rattle.calls.specs.Demand3Laws.{start-bare, demand3}
 use Rattle.image.specs.Image.{imageOf, Proper, sideOf, literalOf, ImageCall, decide, undo, numberBy}
 use Rattle.image.specs.Image.{boardBy, imageNumber, imageAfter, places, bytesAfter, bytesBy}
 use Rattle.image.specs.Image.{checkNumber, checkBytes}
 use Rattle.image.specs.Runs.{Sent, altering, checking, sentNumber, sentImage, sentBytes, imageRun, imageFrom}
-use Rattle.image.specs.Runs.{codesIn, lentFor, Read, read, numbered}
+use Rattle.image.specs.Runs.{codesIn, lentFor, Read, read, numbered, ImageDemand}
 use Rattle.image.specs.LayoutLaws.{image-long}
 use Rattle.image.specs.RoundLaws.{board-image, long-is}
 use Rattle.image.specs.CodeLaws.{length-codes, codes-written, literals-small}
@@ -163,15 +161,6 @@ unfolding imageFrom boardAfter
 run-image b P [] = refl
 run-image b P (c ∷ calls) =
     ap (λ (s : List ℕ). imageFrom s calls) (step-image b P c) ∙ run-image (after b c) (step-proper b P c) calls
-
--- start is the board that making the puzzle's board returns, and Z the puzzle
-pub record ImageDemand (start : Board) (Z : Puzzle) (calls : List Sent) : Type 0 where
-  -- the same calls on the board, with the same literals' memory, meet demand 3
-  pub demand : Demand3 start Z (map lentFor calls)
-  -- each call on the image gives the number of the board's answer, and the memory holds the same literals
-  pub answers : map read (imageRun (imageOf start) calls) ≡ map numbered (runFrom start (map lentFor calls))
-  -- the image that the calls leave is the image of the board that they leave
-  pub image : imageFrom (imageOf start) calls ≡ imageOf (boardAfter start (map lentFor calls))
 
 pub image-demand : (h w : ℕ) (cs : List ℕ) (ks : List ℤ) → Accepted h w cs ks → (calls : List Sent)
     → ImageDemand (startOf h w cs ks) (puzzleIn h w cs ks) calls

@@ -12,12 +12,17 @@
 --   Read              a number with the numbers of two bytes in the memory
 --   read g            what a call on an image gave, read so
 --   numbered g        what a call on a board gave, with the number of its answer
-use mathlib.Core.List.{List, [], _∷_}
+--   ImageDemand       demand 3 for a list of calls on images
+use mathlib.Core.Path.{_≡_}
+use mathlib.Core.List.{List, [], _∷_, map}
 use Prim.Native.Nat.{ℕ, _+_, _*_}
 use Rattle.rules.specs.declared.Call.the-variants.{Decide, Undo, Check}
+use Rattle.rules.specs.Page.{Puzzle}
+use Rattle.board.specs.declared.Board.{Board}
 use Rattle.calls.specs.Answers.{answerNumber}
-use Rattle.calls.specs.Runs.{Lent, Given}
-use Rattle.image.specs.Image.{ImageCall, decide, undo, literalOf, imageNumber, imageAfter}
+use Rattle.calls.specs.Runs.{Lent, Given, boardAfter, runFrom}
+use Rattle.calls.specs.Demand3.{Demand3}
+use Rattle.image.specs.Image.{imageOf, ImageCall, decide, undo, literalOf, imageNumber, imageAfter}
 use Rattle.image.specs.Image.{checkNumber, checkBytes}
 
 -- ---- calls on an image
@@ -71,3 +76,13 @@ read g = record { number = g .number; codes = codesIn (g .bytes) }
 
 abbrev pub numbered : Given → Read
 numbered g = record { number = answerNumber (g .answer); codes = g .memory }
+
+-- ---- demand 3
+-- start is the board that making the puzzle's board returns, and Z the puzzle
+pub record ImageDemand (start : Board) (Z : Puzzle) (calls : List Sent) : Type 0 where
+  -- the same calls on the board, with the same literals' memory, meet demand 3
+  pub demand : Demand3 start Z (map lentFor calls)
+  -- each call on the image gives the number of the board's answer, and the memory holds the same literals
+  pub answers : map read (imageRun (imageOf start) calls) ≡ map numbered (runFrom start (map lentFor calls))
+  -- the image that the calls leave is the image of the board that they leave
+  pub image : imageFrom (imageOf start) calls ≡ imageOf (boardAfter start (map lentFor calls))

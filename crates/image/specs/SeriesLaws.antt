@@ -165,7 +165,7 @@ module _ (s : List ℕ) (h : Bytes s) (k : imageAlien s ≡ false) where
 
 -- ---- a list of calls
 -- no call is done on an alien image
-alien-number : (s : List ℕ) → imageAlien s ≡ true → (a : ImageCall) → imageNumber s a ≡ 5
+pub alien-number : (s : List ℕ) → imageAlien s ≡ true → (a : ImageCall) → imageNumber s a ≡ 5
 unfolding imageAlien imageNumber
 alien-number s k a = go (rightLength s) k a
   where
