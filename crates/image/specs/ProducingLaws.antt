@@ -12,7 +12,6 @@ use native.Mathlib.Omega.{arith}
 use borrow.Author.Tests.{eqb-false}
 use lib.Dec.{eqb, ltb}
 use lib.ListN.{length, getD}
-use Rattle.rules.specs.declared.Literal.{Literal}
 use Rattle.rules.specs.Flat.{borderCount}
 use Rattle.rules.specs.Codes.{sideCode, codeOf}
 use Rattle.rules.specs.Check.{Answer as Found, pass, conflict, check}
@@ -27,10 +26,10 @@ use Rattle.reach.specs.Produced.{Produced}
 use Rattle.reach.specs.Reach.{produced-known, known-produced}
 use Rattle.calls.specs.declared.Answer.the-variants.{Refused}
 use Rattle.calls.specs.Answers.{answerNumber, asAnswer, checkAnswer}
-use Rattle.image.specs.Image.{boardOf, imageOf, imageAlien, Bytes, Proper, literalOf, ImageCall, decide, undo}
+use Rattle.image.specs.Image.{boardOf, imageOf, imageAlien, Bytes, Proper, ImageCall, decide, undo}
 use Rattle.image.specs.Image.{sideOf, rightLength, numberBy, boardBy, imageNumber, imageAfter, places, checkNumber}
 use Rattle.image.specs.Producing.{ImageProduced, made, called}
-use Rattle.image.specs.RoundLaws.{long-is, image-known, known-board, alien-image}
+use Rattle.image.specs.RoundLaws.{long-is, known-board, alien-image}
 use Rattle.image.specs.RunLaws.{literal-of-code, proper-after, number-image, after-image}
 use Rattle.image.specs.SeriesLaws.{alien-number}
 

@@ -16,7 +16,6 @@ use lib.ListN.{length}
 use Rattle.rules.specs.declared.Side.{Side}
 use Rattle.rules.specs.declared.Side.the-variants.{Wall, Open}
 use Rattle.rules.specs.declared.Literal.{Literal}
-use Rattle.rules.specs.Page.{Puzzle}
 use Rattle.rules.specs.Codes.{sideCode}
 use Rattle.rules.specs.Check.{Answer as Found, pass, conflict, check}
 use Rattle.board.specs.declared.Board.{Board}
