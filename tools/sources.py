@@ -1,7 +1,7 @@
 """Reads the crates' sources for tools/contracts and tools/believed; no command.
 
 Of code (.rt): the public functions with their contracts, the types, the constants. Of definitions (.antt): each with
-its lines and the names that stand in it. A line belongs to the declaration above it if it is further in, or an equation.
+its lines and the names that stand in it. A line belongs to the declaration above it if it is further in or an equation.
 """
 import re
 from dataclasses import dataclass, field
