@@ -1,6 +1,6 @@
 -- What a host does with the exported calls is a list of single calls that meets demand 3.
 --
---   series-image, series-heard    a list of calls in one call: the image, and what is told, are those of its single calls
+--   series-image, series-heard    a list of calls in one call: image and what is told are those of its single calls
 --   series-stop                   the call after them, if there is one, is refused
 --   host-demand                   demand 3 for every list of a host's calls, from the image of a fresh board
 use mathlib.Core.Path.{_≡_, refl, ap, ap₂, sym, _∙_}
@@ -86,7 +86,8 @@ run-append : (s : List ℕ) (a b : List Sent) → imageRun s (a ++ b) ≡ imageR
 unfolding imageRun imageFrom
 run-append s [] b = refl
 run-append s (c ∷ a) b =
-    ap (λ (l : List Got). record { number = sentNumber s c; bytes = sentBytes s c } ∷ l) (run-append (sentImage s c) a b)
+    ap (λ (l : List Got). record { number = sentNumber s c; bytes = sentBytes s c } ∷ l)
+    (run-append (sentImage s c) a b)
 
 from-append : (s : List ℕ) (a b : List Sent) → imageFrom s (a ++ b) ≡ imageFrom (imageFrom s a) b
 unfolding imageFrom

@@ -11,6 +11,6 @@ use Rattle.board.specs.Board.{returned, freshOf, Small}
 use Rattle.image.specs.Image.{imageOf, ImageCall, imageNumber, imageAfter}
 
 pub data ImageProduced : List ℕ → Type 0 where
-  made : (h w : ℕ) (cs : List ℕ) (ks : List ℤ) (b : Board) → Small ks → freshOf h w cs ks ≡ returned Done b
+  begun : (h w : ℕ) (cs : List ℕ) (ks : List ℤ) (b : Board) → Small ks → freshOf h w cs ks ≡ returned Done b
       → ImageProduced (imageOf b)
   called : (s : List ℕ) (a : ImageCall) → ImageProduced s → imageNumber s a ≡ 0 → ImageProduced (imageAfter s a)

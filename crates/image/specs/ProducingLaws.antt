@@ -27,8 +27,9 @@ use Rattle.reach.specs.Reach.{produced-known, known-produced}
 use Rattle.calls.specs.declared.Answer.the-variants.{Refused}
 use Rattle.calls.specs.Answers.{answerNumber, asAnswer, checkAnswer}
 use Rattle.image.specs.Image.{boardOf, imageOf, imageAlien, Bytes, Proper, ImageCall, decide, undo}
-use Rattle.image.specs.Image.{sideOf, rightLength, numberBy, boardBy, imageNumber, imageAfter, places, checkNumber}
-use Rattle.image.specs.Producing.{ImageProduced, made, called}
+use Rattle.image.specs.Image.{sideOf, rightLength, numberBy, boardBy, imageNumber, imageAfter, places}
+use Rattle.image.specs.Image.{checkNumber}
+use Rattle.image.specs.Producing.{ImageProduced, begun, called}
 use Rattle.image.specs.RoundLaws.{long-is, known-board, alien-image}
 use Rattle.image.specs.RunLaws.{literal-of-code, proper-after, number-image, after-image}
 use Rattle.image.specs.SeriesLaws.{alien-number}
@@ -46,7 +47,7 @@ module _ (b d : Board) (p : Produced b) (a : ImageCall) where
       (called (imageOf b) a q (number-image b P a ∙ n))
 
 board-produced : (b : Board) → Produced b → ImageProduced (imageOf b)
-board-produced b (board.made h w cs ks _ s e) = made h w cs ks b s e
+board-produced b (board.made h w cs ks _ s e) = begun h w cs ks b s e
 board-produced b (board.decided c l _ p e) =
     let f = ap (decideOf c) (literal-of-code l) ∙ e in
     called-image c b p (decide (l .border) (sideCode (l .side)))
@@ -56,7 +57,7 @@ board-produced b (board.undone c _ p e) =
     (ap (λ (r : Returned). numberOf (r .outcome)) e) (ap (λ (r : Returned). r .board) e) (board-produced c p)
 
 produced-board : (s : List ℕ) → ImageProduced s → (b : Board) × Proper b × (s ≡ imageOf b)
-produced-board s (made h w cs ks b m e) = (b, produced-proper b (board.made h w cs ks b m e), refl)
+produced-board s (begun h w cs ks b m e) = (b, produced-proper b (board.made h w cs ks b m e), refl)
 produced-board s (called t a p z) =
     let r = produced-board t p in
     let b = r .0 in
