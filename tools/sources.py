@@ -28,6 +28,7 @@ class Item:
     patterns: set = field(default_factory=set)  # names on the left of its equations: constructors, or bound there
     bound: set = field(default_factory=set)  # names that it binds in brackets, after λ or let, or as fields
     constructors: list = field(default_factory=list)
+    exported: bool = False
 
 
 # ---- code
@@ -89,6 +90,7 @@ def code_items(file, text):
     for name, start, head in functions(text):
         said = " ".join(clauses(head))
         item = Item(file, name, "function", lines_of(text, start, start + len(head)), names_in(said))
+        item.exported = 'extern "C"' in head
         item.types = code_names(re.split(r"\b(?:requires|ensures)\b", head)[0]) - {"Self"}
         item.bound = set(re.findall(r"(\w+): ", head)) | bound_in(said) | {"self", "now"}
         items.append(item)
