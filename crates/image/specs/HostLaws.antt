@@ -122,7 +122,7 @@ host-heard s (c ∷ calls) =
     ∙ sym (run-append s (singles s c) (singlesFrom (hostImage s c) calls))
 
 pub host-demand : (h w : ℕ) (cs : List ℕ) (ks : List ℤ) → Accepted h w cs ks → (calls : List HostCall)
-    → HostDemand (startOf h w cs ks) (puzzleIn h w cs ks) calls
+    → HostDemand (imageOf (startOf h w cs ks)) (startOf h w cs ks) (puzzleIn h w cs ks) calls
 host-demand h w cs ks A calls =
     let s = imageOf (startOf h w cs ks) in
     record {

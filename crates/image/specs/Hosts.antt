@@ -14,7 +14,6 @@ use Prim.Native.Nat.{ℕ}
 use lib.ListN.{take, replicate}
 use Rattle.rules.specs.Page.{Puzzle}
 use Rattle.board.specs.declared.Board.{Board}
-use Rattle.image.specs.Image.{imageOf}
 use Rattle.image.specs.Runs.{Sent, altering, sentNumber, sentImage, sentBytes, Got, imageRun, imageFrom}
 use Rattle.image.specs.Runs.{ImageDemand}
 use Rattle.image.specs.Series.{callOf, doneOf, imageDone}
@@ -50,11 +49,11 @@ unfoldable pub hostFrom : List ℕ → List HostCall → List ℕ
 hostFrom s [] = s
 hostFrom s (c ∷ calls) = hostFrom (hostImage s c) calls
 
--- start is the board that making the puzzle's board returns, and Z the puzzle
-pub record HostDemand (start : Board) (Z : Puzzle) (calls : List HostCall) : Type 0 where
+-- s is the first image, start the board that making the puzzle's board returns, and Z the puzzle
+pub record HostDemand (s : List ℕ) (start : Board) (Z : Puzzle) (calls : List HostCall) : Type 0 where
   -- the single calls meet demand 3
-  pub demand : ImageDemand start Z (singlesFrom (imageOf start) calls)
+  pub demand : ImageDemand s start Z (singlesFrom s calls)
   -- the host hears what they give
-  pub answers : heardFrom (imageOf start) calls ≡ imageRun (imageOf start) (singlesFrom (imageOf start) calls)
+  pub answers : heardFrom s calls ≡ imageRun s (singlesFrom s calls)
   -- the image that the host's calls leave is the one that they leave
-  pub image : hostFrom (imageOf start) calls ≡ imageFrom (imageOf start) (singlesFrom (imageOf start) calls)
+  pub image : hostFrom s calls ≡ imageFrom s (singlesFrom s calls)

@@ -7,6 +7,7 @@
 --   twoBytes v         two bytes of a number
 --   fourBytes v        four bytes of a number
 --   bitsOf k           the 32 bits of a signed number
+--   clueBytes k        the four bytes of a clue
 --   imageOf b          the image of a board
 --   rightLength s      the image s has the right length
 --   imageAlien s       decides and undos cannot produce the image s
@@ -87,11 +88,15 @@ abbrev pub bitsOf : ℤ → ℕ
 bitsOf (pos n) = n
 bitsOf (negsuc n) = 4294967295 - n
 
+-- "clues of 4 bytes, two's complement"
+abbrev pub clueBytes : ℤ → List ℕ
+clueBytes k = fourBytes (bitsOf k)
+
 unfoldable pub imageOf : Board → List ℕ
 imageOf b =
     (b .height ∷ b .width ∷ [])
     ++ (b .colours
-    ++ (flatMap (λ (k : ℤ). fourBytes (bitsOf k)) (b .clues)
+    ++ (flatMap clueBytes (b .clues)
     ++ (b .borders
     ++ (twoBytes (b .count)
     ++ flatMap twoBytes (b .stack)))))

@@ -4,14 +4,14 @@ use mathlib.Core.List.{List, [], _∷_, _++_}
 use mathlib.Core.Logic.{_⊎_}
 use Prim.Native.Nat.{ℕ, _+_, _*_, _<_, _≤_}
 use native.Mathlib.Omega.{arith}
-use lib.IntN.{ℤ, pos}
+use lib.IntN.{pos}
 use lib.ListN.{length, getD, set, length-append, length-set, List·getD-append}
 use lib.Seq.{set-append-left, sets}
 use Rattle.lists.specs.Lists.{flatMap}
 use Rattle.board.specs.declared.Board.{Board}
 use Rattle.board.specs.Board.{Typed}
 use Rattle.image.specs.ListExtras.{getD-past, sets-past, getD-sets-apart, length-flat, getD-flat, sets-flat}
-use Rattle.image.specs.Image.{twoBytes, fourBytes, bitsOf, imageOf, written}
+use Rattle.image.specs.Image.{twoBytes, fourBytes, bitsOf, clueBytes, imageOf, written}
 use Rattle.image.specs.ByteLaws.{two-long, four-long, two-over}
 
 -- ---- three parts, and then the rest, which starts at 5122
@@ -40,9 +40,6 @@ module _ (a c k r : List ℕ) (p : length a ≡ 2) (q : length c ≡ 1024) (m : 
       ∙ getD-past a (c ++ (k ++ r)) 2 p (1024 + i) 0
       ∙ getD-past c (k ++ r) 1024 q i 0
       ∙ List·getD-append k r 0 i (omega arith)
-
-abbrev clueBytes : ℤ → List ℕ
-clueBytes k = fourBytes (bitsOf k)
 
 -- ---- a board with one place changed
 module _ (b : Board) where

@@ -15,3 +15,5 @@ pub mod Hosts
 pub mod HostLaws
 pub mod Producing
 pub mod ProducingLaws
+pub mod Making
+pub mod MakingLaws

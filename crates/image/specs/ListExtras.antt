@@ -4,10 +4,12 @@ use mathlib.Core.List.{List, [], _∷_, _++_, append-assoc, append-nil}
 use mathlib.Core.Logic.{_⊎_, inl, inr, ⊎-elim}
 use Prim.Native.Nat.{ℕ, zero, suc, _+_, _*_, _<_, _≤_}
 use native.Mathlib.Nat.{not-suc-le-zero, le-of-suc-le-suc, mul-zero, mul-suc}
+use native.Mathlib.Numerals.{add-one}
 use native.Mathlib.Omega.{arith}
-use lib.ListN.{length, getD, set, take, drop, length-append, length-drop, take-append-drop, List·getD-append}
-use lib.Seq.{getD-append-add, sets, sets-eq, take-append-seam, take-add, drop-drop, length-take-le}
-use lib.Seq.{getD-take, getD-drop, getD-set-other}
+use lib.ListN.{length, getD, set, take, drop, replicate, length-append, length-drop, take-append-drop}
+use lib.ListN.{List·getD-append, replicate-append-replicate}
+use lib.Seq.{getD-append-add, sets, sets-eq, take-append-seam, take-add, take-suc, drop-drop, drop-at}
+use lib.Seq.{length-take-le, getD-take, getD-drop, getD-set-other}
 use Rattle.lists.specs.Lists.{flatMap}
 use Rattle.lists.specs.Table.{table, table-is}
 
@@ -52,6 +54,23 @@ module _ {A : Type 0} where
   take-sets l vs h =
       ap (λ (x : List A). take (length vs) x) (sets-eq vs l 0 (omega arith)) ∙ take-append-seam vs _
 
+  -- stored over as many others
+  pub sets-over : (vs r t : List A) → length r ≡ length vs → sets (r ++ t) 0 vs ≡ vs ++ t
+  sets-over vs r t e =
+      let l = length-append r t in
+      sets-eq vs (r ++ t) 0 (omega arith)
+      ∙ ap (λ (x : List A). vs ++ x) (drop-at r t (0 + length vs) (omega arith))
+
+  -- the elements before i are stored from a on, and one more
+  pub sets-more : (l : List A) (a : ℕ) (xs : List A) (i : ℕ) (d : A) → i < length xs
+      → set (sets l a (take i xs)) (a + i) (getD xs i d) ≡ sets l a (take (i + 1) xs)
+  sets-more l a xs i d h =
+      let t = length-take-le i xs (omega arith) in
+      let e : a + i ≡ a + length (take i xs) = omega arith in
+      ap (λ j. sets (sets l a (take i xs)) j (getD xs i d ∷ [])) e
+      ∙ sym (sets-append l a (take i xs) (getD xs i d ∷ []))
+      ∙ ap (λ (x : List A). sets l a x) (sym (take-suc xs i d h) ∙ ap (λ j. take j xs) (sym (add-one i)))
+
   -- the next n elements, and what comes after them
   pub drop-split : (n i : ℕ) (l : List A) → drop i l ≡ take n (drop i l) ++ drop (i + n) l
   drop-split n i l =
@@ -63,6 +82,10 @@ module _ {A B : Type 0} (f : A → List B) where
   unfolding flatMap
   flat-append [] ys = refl
   flat-append (x ∷ xs) ys = ap (λ (l : List B). f x ++ l) (flat-append xs ys) ∙ sym (append-assoc (f x) _ _)
+
+  flat-one : (x : A) → flatMap f (x ∷ []) ≡ f x
+  unfolding flatMap
+  flat-one x = append-nil (f x)
 
   module _ (k : ℕ) (long : (x : A) → length (f x) ≡ k) where
     pub length-flat : (xs : List A) → length (flatMap f xs) ≡ k * length xs
@@ -105,6 +128,31 @@ module _ {A B : Type 0} (f : A → List B) where
         ap (λ n. sets (f x ++ flatMap f xs) n (f a)) e
         ∙ sets-past (f x) (flatMap f xs) k (k * i) (f a) (long x)
         ∙ ap (λ (l : List B). f x ++ l) (sets-flat over xs i a (le-of-suc-le-suc h))
+
+    -- the lists of the elements before i are stored from a on, and one more
+    pub flat-more : (s : List B) (a : ℕ) (xs : List A) (i : ℕ) (d : A) → i < length xs
+        → sets (sets s a (flatMap f (take i xs))) (a + k * i) (f (getD xs i d)) ≡ sets s a (flatMap f (take (i + 1) xs))
+    flat-more s a xs i d h =
+        let t = length-take-le i xs (omega arith) in
+        let l = length-flat (take i xs) ∙ ap (λ n. k * n) t in
+        let e : a + k * i ≡ a + length (flatMap f (take i xs)) = omega arith in
+        ap (λ j. sets (sets s a (flatMap f (take i xs))) j (f (getD xs i d))) e
+        ∙ sym (sets-append s a (flatMap f (take i xs)) (f (getD xs i d)))
+        ∙ ap (λ (x : List B). sets s a x)
+        (ap (λ (x : List B). flatMap f (take i xs) ++ x) (sym (flat-one (getD xs i d)))
+        ∙ sym (flat-append (take i xs) (getD xs i d ∷ []))
+        ∙ ap (λ (x : List A). flatMap f x) (sym (take-suc xs i d h) ∙ ap (λ j. take j xs) (sym (add-one i))))
+
+  -- as many times z
+  pub flat-same : (k : ℕ) (a : A) (z : B) → f a ≡ replicate k z
+      → (n : ℕ) → flatMap f (replicate n a) ≡ replicate (k * n) z
+  unfolding flatMap
+  flat-same k a z e zero = let q : k * 0 ≡ 0 = mul-zero k in sym (ap (λ n. replicate n z) q)
+  flat-same k a z e (suc n) =
+      let q : k + k * n ≡ k * suc n = omega (arith, mul-suc k n) in
+      ap₂ (λ (x y : List B). x ++ y) e (flat-same k a z e n)
+      ∙ replicate-append-replicate k (k * n) z
+      ∙ ap (λ m. replicate m z) q
 
   -- the lists of a table in a row are a part of s, where each of them is one
   pub flat-part : (k a n : ℕ) (g : ℕ → A) (s : List B)

@@ -8,7 +8,7 @@ use native.Mathlib.Decide.{decLt}
 use native.Mathlib.Omega.{arith}
 use borrow.Author.Tests.{eq-eqb, eqb-true}
 use lib.Dec.{eqb}
-use lib.IntN.{ℤ, pos, negsuc}
+use lib.IntN.{pos, negsuc}
 use lib.ListN.{length, getD, take, drop, length-drop, List·getD-eq-default}
 use lib.Seq.{drop-cons, take-all}
 use lib.Signed.{leZ}
@@ -19,8 +19,8 @@ use Rattle.board.specs.Alien.{isAlien}
 use Rattle.board.specs.Board.{Typed}
 use Rattle.board.specs.NativeLaws.{Native, native-has, borders-fit}
 use Rattle.image.specs.ListExtras.{drop-split, flat-part, table-part}
-use Rattle.image.specs.Image.{pair, quad, signed, boardOf, twoBytes, fourBytes, bitsOf, imageOf, rightLength}
-use Rattle.image.specs.Image.{imageAlien, Bytes, Proper}
+use Rattle.image.specs.Image.{pair, quad, signed, boardOf, twoBytes, fourBytes, bitsOf, clueBytes, imageOf}
+use Rattle.image.specs.Image.{rightLength, imageAlien, Bytes, Proper}
 use Rattle.image.specs.ByteLaws.{pair-of, quad-of, two-of, four-of, quad-small, bits-signed, signed-small}
 use Rattle.image.specs.ByteLaws.{bits-small, signed-bits}
 use Rattle.image.specs.LayoutLaws.{image-long, colour-at, clue-at, border-at, count-at, entry-at}
@@ -30,10 +30,10 @@ module _ (s : List ℕ) (h : Bytes s) (e : length s ≡ 11076) where
   front : s ≡ (getD s 0 0 ∷ getD s 1 0 ∷ []) ++ drop 2 s
   front = drop-cons s 0 0 (omega arith) ∙ ap (λ (l : List ℕ). getD s 0 0 ∷ l) (drop-cons s 1 0 (omega arith))
 
-  clue-part : flatMap (λ (k : ℤ). fourBytes (bitsOf k)) (table 1024 (λ i. signed (quad s (1026 + 4 * i))))
+  clue-part : flatMap clueBytes (table 1024 (λ i. signed (quad s (1026 + 4 * i))))
       ≡ take 4096 (drop 1026 s)
   clue-part =
-      flat-part (λ (k : ℤ). fourBytes (bitsOf k)) 4 1026 1024 (λ i. signed (quad s (1026 + 4 * i))) s
+      flat-part clueBytes 4 1026 1024 (λ i. signed (quad s (1026 + 4 * i))) s
       (λ i l.
       ap fourBytes (bits-signed (quad s (1026 + 4 * i)) (quad-small s h (1026 + 4 * i)))
       ∙ four-of s h (1026 + 4 * i) (omega arith))

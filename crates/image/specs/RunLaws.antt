@@ -162,7 +162,7 @@ run-image b P (c ∷ calls) =
     ap (λ (s : List ℕ). imageFrom s calls) (step-image b P c) ∙ run-image (after b c) (step-proper b P c) calls
 
 pub image-demand : (h w : ℕ) (cs : List ℕ) (ks : List ℤ) → Accepted h w cs ks → (calls : List Sent)
-    → ImageDemand (startOf h w cs ks) (puzzleIn h w cs ks) calls
+    → ImageDemand (imageOf (startOf h w cs ks)) (startOf h w cs ks) (puzzleIn h w cs ks) calls
 image-demand h w cs ks A calls =
     let S = start-bare h w cs ks A in
     let P : Proper (startOf h w cs ks) = record { known = S .known; typed = S .typed } in

@@ -78,11 +78,11 @@ abbrev pub numbered : Given → Read
 numbered g = record { number = answerNumber (g .answer); codes = g .memory }
 
 -- ---- demand 3
--- start is the board that making the puzzle's board returns, and Z the puzzle
-pub record ImageDemand (start : Board) (Z : Puzzle) (calls : List Sent) : Type 0 where
+-- s is the first image, start the board that making the puzzle's board returns, and Z the puzzle
+pub record ImageDemand (s : List ℕ) (start : Board) (Z : Puzzle) (calls : List Sent) : Type 0 where
   -- the same calls on the board, with the same literals' memory, meet demand 3
   pub demand : Demand3 start Z (map lentFor calls)
   -- each call on the image gives the number of the board's answer, and the memory holds the same literals
-  pub answers : map read (imageRun (imageOf start) calls) ≡ map numbered (runFrom start (map lentFor calls))
+  pub answers : map read (imageRun s calls) ≡ map numbered (runFrom start (map lentFor calls))
   -- the image that the calls leave is the image of the board that they leave
-  pub image : imageFrom (imageOf start) calls ≡ imageOf (boardAfter start (map lentFor calls))
+  pub image : imageFrom s calls ≡ imageOf (boardAfter start (map lentFor calls))

@@ -15,6 +15,7 @@ use rules::Side;
 pub mod reading; // reading.rt: the board that an image spells
 mod writing; // writing.rt: the bytes that a call changes, and a reason's literals in lent bytes
 pub mod series; // series.rt: a list of calls on an image that is tested once
+pub mod making; // making.rt: a fresh image made in lent bytes
 
 // Where the parts of an image start, and its length.
 pub const COLOURS: usize = 2;

@@ -13,7 +13,7 @@ use crate::reading;
 const REASON_LENGTH: usize = 32768;
 
 // Stores a number in two bytes, low byte first.
-fn put_two(s: &mut [u8], k: usize, v: usize)
+pub fn put_two(s: &mut [u8], k: usize, v: usize)
     requires { ⌜ k + 1 < length (now s) ⌝ }
     ensures { λ _. ⌜ now (s .exit) ≡ sets (now (s .entry)) k (twoBytes v) ⌝ }
 {
