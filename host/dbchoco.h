@@ -1,9 +1,10 @@
 /*
- * The Double Choco border checker: three calls on a board image, and lists of them in one call.
+ * The Double Choco border checker: a call that makes a board image, three calls on one, and lists of decides and undos
+ * in one call.
  *
  * Link with libimage.a, which `rt staticlib image` writes to target/staticlib. The library keeps no state, allocates
  * nothing and calls nothing but memcpy and memset: calls on different images may run at the same time. A check takes
- * up to 192 KiB of stack, a decide or undo up to 64 KiB.
+ * up to 192 KiB of stack, any other call up to 64 KiB.
  *
  * THE IMAGE is 11,076 bytes that the host owns. Numbers of more than one byte have their low byte first.
  *
@@ -20,17 +21,20 @@
  * below it h*(w-1) + y*w + x; there are h*(w-1) + (h-1)*w borders. Places beyond the last cell, border or stack entry
  * are unused, and unused places are 0.
  *
- * The host writes a fresh image itself: height, width, colours and clues, and 0 everywhere else. From then on the calls
- * below keep it. An image that no fresh image becomes by decides and undos is alien, and every call refuses it.
+ * A fresh image has height, width, colours and clues, and 0 everywhere else. dbchoco_fresh makes one; a host may also
+ * write the bytes itself. From then on the calls below keep it. An image that no fresh image becomes by decides and
+ * undos is alien, and every call on it is refused.
  *
  * REASON MEMORY is at least 32,768 bytes, which is enough for every reason. A literal takes 2 bytes, low byte first:
  * twice the border's number, plus 1 for wall.
  *
- * EVERY CALL but dbchoco_calls returns one number. If it is from 5 to 9 the call was refused, and image and memory are as they were.
- * Where several refusals apply the lowest number is given: 5, then 6, 7, 8, 9.
+ * EVERY CALL but dbchoco_calls returns one number. If it is from 1 to 9 the call was refused, and image and memory are as
+ * they were: making an image is refused with 1 to 5, a call on an image with 5 to 9. Where several refusals apply the
+ * lowest number is given.
  *
- * An image or memory passes as its address and its length. The address must be valid for that many bytes, image and
- * memory must not overlap, and nothing else may write them during the call; a length of 0 takes any address that is not
+ * Images, memory and lists pass as their address and their length, a list's length being the count of its numbers. The
+ * address must be valid for that many and a multiple of one number's size. What a call writes must not overlap what else
+ * is lent to it, and nothing else may write any of it during the call; a length of 0 takes any such address that is not
  * null. Nothing beyond the length is read or written.
  */
 #ifndef DBCHOCO_H
@@ -56,10 +60,14 @@ extern "C" {
 #define DBCHOCO_COUNT_AT 7106
 #define DBCHOCO_STACK_AT 7108
 
-/* What a call returns: a decide or undo done. */
+/* What a call returns: an image made, a decide or undo done. */
 #define DBCHOCO_DONE 0u
 
 /* A refusal. */
+#define DBCHOCO_SIZE 1u   /* height or width is not from 1 to 32 */
+#define DBCHOCO_RAGGED 2u /* not as many colours, or clues, as cells */
+#define DBCHOCO_COLOUR 3u /* a colour is neither 0 nor 1 */
+#define DBCHOCO_CLUE 4u   /* a clue is below -1 */
 #define DBCHOCO_ALIEN 5u  /* the image has another length, or decides and undos cannot make it of a fresh image */
 #define DBCHOCO_BORDER 6u /* the border's number is not below the count of borders */
 #define DBCHOCO_TAKEN 7u  /* the border is decided already */
@@ -75,6 +83,14 @@ extern "C" {
 /* Sides of a decide. */
 #define DBCHOCO_OPEN 0u
 #define DBCHOCO_WALL 1u
+
+/*
+ * Makes the fresh image of a page in the lent bytes, whatever they held. Colours and clues stand by cell number, row by
+ * row. Numbers are not cut: height 257 is refused with 1.
+ * Returns 0, or 1, 2, 3, 4 for the page, or 5 if image_len is not 11,076.
+ */
+uint32_t dbchoco_fresh(uint8_t *image, size_t image_len, uint32_t height, uint32_t width, const uint8_t *colours,
+                       size_t colours_len, const int32_t *clues, size_t clues_len);
 
 /*
  * Decides a border: side 0 makes it open, any other number wall. Numbers are not cut: border 65,536 is refused with 6,
@@ -103,7 +119,7 @@ uint32_t dbchoco_check(const uint8_t *image, size_t image_len, uint8_t *memory, 
  * DBCHOCO_UNDO. The calls are made one after the other up to the first that would be refused; that one and those after
  * it are not made.
  * Returns how many were made: the count of codes if all were. Why the next one is refused, dbchoco_decide or
- * dbchoco_undo tells; on an alien image none is made. The address of the codes must be a multiple of 2, and not null.
+ * dbchoco_undo tells; on an alien image none is made.
  */
 size_t dbchoco_calls(uint8_t *image, size_t image_len, const uint16_t *codes, size_t codes_len);
 

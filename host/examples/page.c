@@ -5,25 +5,14 @@
  *     cc -std=c99 -Wall -Wextra -pedantic -I host host/examples/page.c target/staticlib/libimage.a -o page && ./page
  */
 #include <stdio.h>
-#include <string.h>
 
 #include "dbchoco.h"
 
 static uint8_t image[DBCHOCO_IMAGE_LENGTH];
 static uint8_t memory[DBCHOCO_MEMORY_LENGTH];
 
-/* A fresh image of a page of one row, without clues. */
-static void fresh(uint8_t width, const char *colours)
-{
-    int cell;
-    memset(image, 0, sizeof image);
-    image[DBCHOCO_HEIGHT_AT] = 1;
-    image[DBCHOCO_WIDTH_AT] = width;
-    for (cell = 0; cell < width; cell++) {
-        image[DBCHOCO_COLOURS_AT + cell] = (uint8_t)(colours[cell] - '0');
-        memset(image + DBCHOCO_CLUES_AT + 4 * cell, 0xff, 4); /* -1: no clue */
-    }
-}
+static const uint8_t colours[] = {0, 1};
+static const int32_t clues[] = {-1, -1}; /* no clue */
 
 static void refused(uint32_t number)
 {
@@ -52,8 +41,8 @@ static void check(void)
 
 int main(void)
 {
-    fresh(2, "01");
     printf("(answers\n");
+    refused(dbchoco_fresh(image, sizeof image, 1, 2, colours, 2, clues, 2));
     check();
     refused(dbchoco_decide(image, sizeof image, 0, DBCHOCO_WALL));
     check();

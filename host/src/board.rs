@@ -27,7 +27,12 @@ pub struct Board {
     memory: Box<Memory>,
 }
 
-/// The outcome of a decide or an undo.
+/// A number in 32 bits. A larger one is no side and no border of any page, and neither is the largest of 32 bits.
+fn narrow(number: usize) -> u32 {
+    u32::try_from(number).unwrap_or(u32::MAX)
+}
+
+/// The outcome of making an image, a decide or an undo.
 fn outcome(number: u32) -> Result<(), Refusal> {
     match Refusal::from_number(number) {
         None => Ok(()),
@@ -57,7 +62,9 @@ impl Board {
         colours: &[u8],
         clues: &[i32],
     ) -> Result<Board, Refusal> {
-        let image = image::fresh(height, width, colours, clues)?;
+        let mut image = image::blank();
+        let (height, width) = (narrow(height), narrow(width));
+        outcome(ffi::fresh(&mut image, height, width, colours, clues))?;
         let memory = image::memory();
         Ok(Board { image, memory })
     }
@@ -94,13 +101,8 @@ impl Board {
     /// Decides a border. Refused with [`Refusal::Border`] if the page has no such border, and with [`Refusal::Taken`]
     /// if it is decided already.
     pub fn decide(&mut self, border: usize, side: Side) -> Result<(), Refusal> {
-        // A number of more than 32 bits is no border of any page, and neither is the largest of 32 bits.
-        let border = u32::try_from(border).unwrap_or(u32::MAX);
-        outcome(ffi::decide(
-            &mut self.image,
-            border,
-            u32::from(side.is_wall()),
-        ))
+        let (border, side) = (narrow(border), u32::from(side.is_wall()));
+        outcome(ffi::decide(&mut self.image, border, side))
     }
 
     /// Takes the last decision back. Refused with [`Refusal::Bare`] if there is none.

@@ -4,6 +4,16 @@ use crate::image::{Image, Memory};
 
 // A slice goes over as its address and its length; dbchoco.h has the contracts.
 extern "C" {
+    fn dbchoco_fresh(
+        image: *mut u8,
+        image_len: usize,
+        height: u32,
+        width: u32,
+        colours: *const u8,
+        colours_len: usize,
+        clues: *const i32,
+        clues_len: usize,
+    ) -> u32;
     fn dbchoco_decide(image: *mut u8, image_len: usize, border: u32, side: u32) -> u32;
     fn dbchoco_undo(image: *mut u8, image_len: usize) -> u32;
     fn dbchoco_check(image: *const u8, image_len: usize, memory: *mut u8, memory_len: usize)
@@ -14,6 +24,22 @@ extern "C" {
         codes: *const u16,
         codes_len: usize,
     ) -> usize;
+}
+
+pub fn fresh(image: &mut Image, height: u32, width: u32, colours: &[u8], clues: &[i32]) -> u32 {
+    // SAFETY: as in `decide`; colours and clues are only read, and the borrows do not overlap.
+    unsafe {
+        dbchoco_fresh(
+            image.as_mut_ptr(),
+            image.len(),
+            height,
+            width,
+            colours.as_ptr(),
+            colours.len(),
+            clues.as_ptr(),
+            clues.len(),
+        )
+    }
 }
 
 pub fn decide(image: &mut Image, border: u32, side: u32) -> u32 {

@@ -1,7 +1,6 @@
-//! The layout of a board image, and the image of a fresh board.
+//! The layout of a board image.
 
 use crate::literal::{Literal, Side};
-use crate::refusal::Refusal;
 
 /// The largest height and width of a page.
 pub const SIDE_LIMIT: usize = 32;
@@ -26,39 +25,14 @@ const MEMORY_LENGTH: usize = 32_768;
 pub type Image = [u8; IMAGE_LENGTH];
 pub type Memory = [u8; MEMORY_LENGTH];
 
+/// Bytes to make an image in.
+pub fn blank() -> Box<Image> {
+    Box::new([0; IMAGE_LENGTH])
+}
+
 /// Memory for the longest reason.
 pub fn memory() -> Box<Memory> {
     Box::new([0; MEMORY_LENGTH])
-}
-
-/// The image of a fresh board, or the refusal with the lowest number.
-pub fn fresh(
-    height: usize,
-    width: usize,
-    colours: &[u8],
-    clues: &[i32],
-) -> Result<Box<Image>, Refusal> {
-    let side = 1..=SIDE_LIMIT;
-    if !side.contains(&height) || !side.contains(&width) {
-        return Err(Refusal::Size);
-    }
-    if colours.len() != height * width || clues.len() != height * width {
-        return Err(Refusal::Ragged);
-    }
-    if colours.iter().any(|&colour| colour > 1) {
-        return Err(Refusal::Colour);
-    }
-    if clues.iter().any(|&clue| clue < -1) {
-        return Err(Refusal::Clue);
-    }
-    let mut image = Box::new([0; IMAGE_LENGTH]);
-    image[0] = height as u8;
-    image[1] = width as u8;
-    image[COLOURS_AT..][..colours.len()].copy_from_slice(colours);
-    for (place, clue) in image[CLUES_AT..].chunks_exact_mut(4).zip(clues) {
-        place.copy_from_slice(&clue.to_le_bytes());
-    }
-    Ok(image)
 }
 
 fn two(image: &Image, at: usize) -> usize {

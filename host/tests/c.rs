@@ -1,4 +1,4 @@
-//! The header and the C example, by the C compiler.
+//! The header, the C example and a C test of making an image, by the C compiler.
 
 use std::path::{Path, PathBuf};
 use std::process::Command;
@@ -10,28 +10,39 @@ const STRICT: [&str; 4] = ["-Wall", "-Wextra", "-pedantic", "-Werror"];
 fn run(command: &mut Command) -> String {
     let output = command.output().expect("the command is there");
     let errors = String::from_utf8_lossy(&output.stderr);
-    assert!(output.status.success(), "{command:?}\n{errors}");
-    String::from_utf8(output.stdout).expect("text")
+    let text = String::from_utf8_lossy(&output.stdout);
+    assert!(output.status.success(), "{command:?}\n{errors}{text}");
+    text.into_owned()
 }
 
 fn built(name: &str) -> PathBuf {
     Path::new(env!("CARGO_TARGET_TMPDIR")).join(name)
 }
 
-#[test]
-fn the_c_example_prints_the_answers_of_document_01() {
-    let program = built("page");
+/// Compiles a C program of this folder, runs it, and gives what it prints.
+fn printed(source: &str) -> String {
+    let program = built(&source.replace('/', "_"));
     let compile = run(Command::new("cc")
         .args(["-std=c99", "-O2"])
         .args(STRICT)
         .args(["-I", HERE])
-        .arg(Path::new(HERE).join("examples/page.c"))
+        .arg(Path::new(HERE).join(source))
         .arg(env!("DBCHOCO_LIBRARY"))
         .arg("-o")
         .arg(&program));
     assert_eq!(compile, "");
-    let printed = run(&mut Command::new(program));
-    assert_eq!(printed, "(answers\n(pass 1)\n(conflict 0w)\n(pass 0)\n)\n");
+    run(&mut Command::new(program))
+}
+
+#[test]
+fn the_c_example_prints_the_answers_of_document_01() {
+    let answers = "(answers\n(pass 1)\n(conflict 0w)\n(pass 0)\n)\n";
+    assert_eq!(printed("examples/page.c"), answers);
+}
+
+#[test]
+fn an_image_made_and_one_that_the_host_writes_itself() {
+    assert_eq!(printed("tests/fresh.c"), "right\n");
 }
 
 /// The header alone, in one language.
