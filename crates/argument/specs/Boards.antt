@@ -19,7 +19,7 @@ use Rattle.rules.specs.Reasons.{gather, insideAt, inside, edgeAt, edge, isFound
 use Rattle.rules.specs.Turns.{apply}
 use Rattle.rules.specs.Shapes.{samePoints, insert, sort, shiftBy, normal, turned, connectionsAt, shapeOf, withHalf}
 use Rattle.rules.specs.Shapes.{quarters, withQuarter, withFlip, flatTransforms}
-use Rattle.rules.specs.Check.{Answer, pass, conflict, check, hitIf, clueOf, insideBlock, insideUnit, edgeOf, sizeOf}
+use Rattle.rules.specs.Check.{Answer, pass, conflict, check, hitIf, blockClue, insideBlock, insideUnit, edgeOf, sizeOf}
 use Rattle.rules.specs.Check.{coloured, strayFrom, cellHit, cellHits, smallHit, bigHit, clueHit, blockHitOn, blockHit}
 use Rattle.rules.specs.Check.{wallHit, wallHits, touches, adjacent, mates, judge, laid, transformsOf, placements}
 use Rattle.rules.specs.Check.{farWallsAt, farWalls, unitReason, unitHitIn, unitHitOn, unitHit, hit, undecidedCount}
@@ -83,7 +83,7 @@ pub boards : Boards
 unfolding filter any orElse flatMap firstHit countBelow _⊕_ opposite marksIn coloursIn cluesIn oneColour joinsBlock
     joinsUnit labels entry isFirst numbers groupCount members joinsPotential gather insideAt inside edgeAt edge isFound
     trace look hunt path apply samePoints insert sort shiftBy normal turned connectionsAt shapeOf withHalf quarters
-    withQuarter withFlip flatTransforms check hitIf clueOf insideBlock insideUnit edgeOf sizeOf coloured strayFrom
+    withQuarter withFlip flatTransforms check hitIf blockClue insideBlock insideUnit edgeOf sizeOf coloured strayFrom
     cellHit cellHits smallHit bigHit clueHit blockHitOn blockHit wallHit wallHits touches adjacent mates judge laid
     transformsOf placements farWallsAt farWalls unitReason unitHitIn unitHitOn unitHit hit undecidedCount flat cellAt
     rightOf belowOf borderCount hopIf hopAbove hopBelow hopLeft hopRight aroundAt aheadAt flatFirst flatSecond

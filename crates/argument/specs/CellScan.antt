@@ -15,7 +15,7 @@ use Rattle.lists.specs.Lists.{_∈_, filter, any, head?}
 use Rattle.lists.specs.ListLaws.{T-and, T-dec, filter-mem, filter-test, any-mem, first-find}
 use Rattle.rules.specs.Page.{Puzzle, Mark}
 use Rattle.rules.specs.Groups.{potentialOf}
-use Rattle.rules.specs.Check.{hitIf, clash, clueOf, insideBlock, edgeOf, coloured, strayFrom, cellHit, cellHits}
+use Rattle.rules.specs.Check.{hitIf, clash, blockClue, insideBlock, edgeOf, coloured, strayFrom, cellHit, cellHits}
 use Rattle.argument.specs.Marks.{beq-eq, eq-beq}
 use Rattle.argument.specs.Hits.{hit-misses, else-none}
 
@@ -93,6 +93,6 @@ module _ (Z : Puzzle) (s : ℕ → Mark) where
             beq-eq (Z .colour x) c (filter-test (λ y. Bool·beq (Z .colour y) c) xs m),
           )
 
-  pub clue-mem : (xs : List ℕ) (n : ℕ) → clueOf (Z .clue) xs ≡ some n → (z : ℕ) × z ∈ xs × (Z .clue z ≡ some n)
-  unfolding clueOf
+  pub clue-mem : (xs : List ℕ) (n : ℕ) → blockClue (Z .clue) xs ≡ some n → (z : ℕ) × z ∈ xs × (Z .clue z ≡ some n)
+  unfolding blockClue
   clue-mem xs n e = first-find (Z .clue) xs n e

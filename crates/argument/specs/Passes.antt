@@ -17,7 +17,7 @@ use Rattle.lists.specs.ListLaws.{T-or-l, T-or-r, mem-filter, first-none}
 use Rattle.rules.specs.Page.{Puzzle, Mark}
 use Rattle.rules.specs.Rules.{stay, joinsBlock, SameBlock, SameUnit, UnitHas}
 use Rattle.rules.specs.Groups.{blockOf, blockCount, potentialOf}
-use Rattle.rules.specs.Check.{Reason, hitIf, clueOf, sizeOf, coloured, smallHit, bigHit, clueHit, blockHitOn}
+use Rattle.rules.specs.Check.{Reason, hitIf, blockClue, sizeOf, coloured, smallHit, bigHit, clueHit, blockHitOn}
 use Rattle.rules.specs.Check.{blockHit}
 use Rattle.argument.specs.PageLaws.{Bordered}
 use Rattle.argument.specs.Demand.{Full}
@@ -36,7 +36,7 @@ module _ (Z : Puzzle) (K : Bordered (Z .page)) (s : ℕ → Mark) (full : Full Z
     small : (c : Bool) → smallHit Z s (blockOf Z s x) (ownBlock Z s x) c
         (head? (coloured Z s c (ownBlock Z s x))) ≡ none
     clue : clueHit Z s (blockOf Z s x) (ownBlock Z s x)
-        (clueOf (Z .clue) (ownBlock Z s x)) ≡ none
+        (blockClue (Z .clue) (ownBlock Z s x)) ≡ none
 
   passed : (x : ℕ) → x < Z .page .cells → Passed x
   unfolding blockHit blockHitOn
@@ -90,8 +90,8 @@ module _ (Z : Puzzle) (K : Bordered (Z .page)) (s : ℕ → Mark) (full : Full Z
       (coloured Z s (not (Z .colour x)) (ownBlock Z s x)) =
       ap (λ d. length (coloured Z s d (ownBlock Z s x))) e in omega arith
 
-  clue-some : (xs : List ℕ) (x n : ℕ) → x ∈ xs → Z .clue x ≡ some n → (k : ℕ) × (clueOf (Z .clue) xs ≡ some k)
-  unfolding clueOf
+  clue-some : (xs : List ℕ) (x n : ℕ) → x ∈ xs → Z .clue x ≡ some n → (k : ℕ) × (blockClue (Z .clue) xs ≡ some k)
+  unfolding blockClue
   clue-some xs x n m e = go (firstHit (Z .clue) xs) refl
     where
       go : (o : Option ℕ) → firstHit (Z .clue) xs ≡ o → (k : ℕ) × (o ≡ some k)

@@ -23,7 +23,7 @@ use Rattle.lists.specs.Lengths.{distinct-filter, subset-le}
 use Rattle.rules.specs.Page.{Puzzle, Mark, Contains}
 use Rattle.rules.specs.Rules.{joinsBlock, SameBlock, Solution}
 use Rattle.rules.specs.Groups.{blockOf, potentialOf}
-use Rattle.rules.specs.Check.{Reason, isSome, clash, clueOf, insideBlock, edgeOf, sizeOf, coloured, strayFrom}
+use Rattle.rules.specs.Check.{Reason, isSome, clash, blockClue, insideBlock, edgeOf, sizeOf, coloured, strayFrom}
 use Rattle.rules.specs.Check.{cellHit, cellHits, smallHit, bigHit, clueHit, blockHitOn, blockHit}
 use Rattle.argument.specs.PageLaws.{Bordered, Placed}
 use Rattle.argument.specs.Joins.{join-trans, join-in, join-sym}
@@ -140,7 +140,7 @@ module _ (Z : Puzzle) (K : Bordered (Z .page)) (P : Placed (Z .page)) (s : ℕ �
   some-clue none t = absurd t
 
   sound-big : (B n : ℕ) (c : Bool) (o : Option ℕ) → cellHits Z s B [] (blockCells Z s B) ≡ none
-      → clueOf (Z .clue) (blockCells Z s B) ≡ some n →
+      → blockClue (Z .clue) (blockCells Z s B) ≡ some n →
       head? (coloured Z s c (blockCells Z s B)) ≡ o → Each (Sound Z) (bigHit Z s B (blockCells Z s B) n c o)
   unfolding bigHit Each Sound coloured
   sound-big B n c none p q e = tt
@@ -174,7 +174,7 @@ module _ (Z : Puzzle) (K : Bordered (Z .page)) (P : Placed (Z .page)) (s : ℕ �
           in omega (arith, ltb→lt)
 
   sound-clue : (B : ℕ) (o : Option ℕ) → cellHits Z s B [] (blockCells Z s B) ≡ none
-      → clueOf (Z .clue) (blockCells Z s B) ≡ o → Each (Sound Z) (clueHit Z s B (blockCells Z s B) o)
+      → blockClue (Z .clue) (blockCells Z s B) ≡ o → Each (Sound Z) (clueHit Z s B (blockCells Z s B) o)
   unfolding clueHit Each Sound
   sound-clue B none p q = tt
   sound-clue B (some n) p q = each-else (Sound Z) _ _

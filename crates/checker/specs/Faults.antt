@@ -21,7 +21,7 @@ use borrow.Author.Tests.{lt-ltb}
 use Rattle.lists.specs.Lists.{any, firstHit, orElse, head?}
 use Rattle.rules.specs.Page.{Puzzle, Mark}
 use Rattle.rules.specs.Groups.{members, blockOf, potentialOf}
-use Rattle.rules.specs.Check.{Reason, hitIf, isSome, clash, clueOf, insideBlock, edgeOf, sizeOf, coloured}
+use Rattle.rules.specs.Check.{Reason, hitIf, isSome, clash, blockClue, insideBlock, edgeOf, sizeOf, coloured}
 use Rattle.rules.specs.Check.{smallHit, bigHit, clueHit, blockHitOn, blockHit}
 use Rattle.checker.specs.declared.Clue.{Clue}
 use Rattle.checker.specs.declared.Clue.the-variants.{Free, Is}
@@ -77,7 +77,7 @@ module _ (colourAt : ℕ → Bool) (clueAt : ℕ → Option ℕ) (unitAt : ℕ �
   cellFault q n x = scanFault q n (colourAt x) (unitAt x) (clueAt x)
 
   unfoldable pub scanOn : List ℕ → Fault
-  scanOn xs = firstFault (cellFault (ownUnit colourAt clueAt unitAt xs) (clueOf clueAt xs)) xs
+  scanOn xs = firstFault (cellFault (ownUnit colourAt clueAt unitAt xs) (blockClue clueAt xs)) xs
 
   unfoldable pub faultOn : (ℕ → ℕ) → List ℕ → Fault
   faultOn sizeAt xs =
@@ -108,7 +108,7 @@ module _ (Z : Puzzle) (s : ℕ → Mark) where
 
   abbrev faultAt : List ℕ → ℕ → Fault
   faultAt xs x =
-      cellFault (Z .colour) (Z .clue) (potentialOf Z s) (own xs) (clueOf (Z .clue) xs) x
+      cellFault (Z .colour) (Z .clue) (potentialOf Z s) (own xs) (blockClue (Z .clue) xs) x
 
   pub or-reason : (B : ℕ) (f g : Fault) → faultReason B (orFault f g) ≡ orElse (faultReason B f) (faultReason B g)
   unfolding faultReason orElse orFault
@@ -119,10 +119,10 @@ module _ (Z : Puzzle) (s : ℕ → Mark) where
   or-reason B (EdgeInside p) g = refl
 
   scan-reason : (B : ℕ) (xs : List ℕ) (x : ℕ)
-      → scanHit Z s B (own xs) (clueOf (Z .clue) xs) x ≡ faultReason B (faultAt xs x)
+      → scanHit Z s B (own xs) (blockClue (Z .clue) xs) x ≡ faultReason B (faultAt xs x)
   unfolding scanHit cellFault scanFault faultReason orElse hitIf
   scan-reason B xs x =
-      go (eqb (own xs (Z .colour x)) (potentialOf Z s x)) (clash (clueOf (Z .clue) xs) (Z .clue x))
+      go (eqb (own xs (Z .colour x)) (potentialOf Z s x)) (clash (blockClue (Z .clue) xs) (Z .clue x))
     where
       go : (b d : Bool)
           → orElse (hitIf (not b) (insideBlock Z s B ++ edgeOf Z s (potentialOf Z s x))) (hitIf d (insideBlock Z s B))

@@ -13,7 +13,7 @@ use borrow.Author.Tests.{eq-eqb, lt-ltb, le-ltb}
 use lib.Dec.{eqb, ltb}
 use lib.ListN.{length, getD}
 use Rattle.lists.specs.Lists.{filter, any, firstHit, orElse}
-use Rattle.rules.specs.Check.{clueOf}
+use Rattle.rules.specs.Check.{blockClue}
 use Rattle.checker.specs.declared.Fault.{Fault}
 use Rattle.checker.specs.declared.Fault.the-variants.{Clear, Inside, Edge}
 use Rattle.reasons.specs.Arrays.{part}
@@ -48,7 +48,8 @@ module _ (clueAt : ℕ → Option ℕ) (unitAt sizeAt : ℕ → ℕ) where
   lone-big x n e h k = rw (e, le-ltb n 1 (omega arith), lt-ltb (sizeAt (unitAt x)) n k)
 
   pub lone-fault : (colourAt : ℕ → Bool) (x : ℕ) → loneFault x ≡ faultOn colourAt clueAt unitAt sizeAt (x ∷ [])
-  unfolding loneFault onlyFault faultOn scanOn tallyOf partOf ownUnit ofColour filter hasClue any clueOf firstHit orElse
+  unfolding loneFault onlyFault faultOn scanOn tallyOf partOf ownUnit ofColour filter hasClue any blockClue firstHit
+      orElse
       firstFault cellFault scanFault tallyFault smallFault clueFault bigFault orFault
   lone-fault colourAt x = go (colourAt x)
     where

@@ -26,7 +26,7 @@ use lib.Seq.{getD-set-same, getD-set-other}
 use Rattle.lists.specs.Lists.{_∈_, keep, filter, firstHit, orElse}
 use Rattle.lists.specs.ListLaws.{mem-filter, filter-mem, filter-test}
 use Rattle.lists.specs.Appends.{filter-append, first-append}
-use Rattle.rules.specs.Check.{clash, clueOf}
+use Rattle.rules.specs.Check.{clash, blockClue}
 use Rattle.checker.specs.declared.Clue.{Clue}
 use Rattle.checker.specs.declared.Clue.the-variants.{Free, Is}
 use Rattle.checker.specs.declared.Part.{Part}
@@ -117,11 +117,11 @@ module _ (colourAt : ℕ → Bool) (clueAt : ℕ → Option ℕ) (unitAt : ℕ �
   pub record Seen (xs own : List ℕ) (k : Clue) (n : ℕ) : Type 0 where
     pub owned : Owned xs own
     pub clues : (y : ℕ) → y ∈ xs → (clueAt y ≡ none) ⊎ (clueAt y ≡ optionOf k)
-    pub clue : k ≡ clueIn (clueOf clueAt xs)
+    pub clue : k ≡ clueIn (blockClue clueAt xs)
     pub count : n ≡ length (those true xs)
 
   pub seen-none : Seen [] (1024 ∷ 1024 ∷ []) Free 0
-  unfolding ofColour filter clueOf firstHit
+  unfolding ofColour filter blockClue firstHit
   seen-none =
       record {
         owned = record { units = λ y m. absurd (List·Memᴰ·not-nil m); firsts = λ c h. absurd (h (bare c)) };
@@ -238,23 +238,23 @@ module _ (colourAt : ℕ → Bool) (clueAt : ℕ → Option ℕ) (unitAt : ℕ �
         }
 
     -- a clue that was seen is the first, whatever cells ys follow
-    clue-kept : (ys : List ℕ) (m : ℕ) → k ≡ Is m → clueOf clueAt (xs ++ ys) ≡ some m
-    unfolding clueOf orElse
+    clue-kept : (ys : List ℕ) (m : ℕ) → k ≡ Is m → blockClue clueAt (xs ++ ys) ≡ some m
+    unfolding blockClue orElse
     clue-kept ys m e =
         let f : firstHit clueAt xs ≡ some m =
         sym (option-clue (firstHit clueAt xs)) ∙ ap optionOf (sym (s .clue) ∙ e) in
         first-append clueAt xs ys ∙ rw f
 
     cell-clear : (ys : List ℕ) (x : ℕ) → x ∈ xs
-        → cellFault colourAt clueAt unitAt (ownUnit colourAt clueAt unitAt (xs ++ ys)) (clueOf clueAt (xs ++ ys)) x
+        → cellFault colourAt clueAt unitAt (ownUnit colourAt clueAt unitAt (xs ++ ys)) (blockClue clueAt (xs ++ ys)) x
         ≡ Clear
     unfolding cellFault
     cell-clear ys x m = sym (scan-clear _ _ _ _ _ (own-cell (s .owned) ys x m) (go k refl (s .clues x m)))
       where
         go : (j : Clue) → k ≡ j → (clueAt x ≡ none) ⊎ (clueAt x ≡ optionOf j)
-            → clash (clueOf clueAt (xs ++ ys)) (clueAt x) ≡ false
-        go j e (inl f) = rw f (clash-none (clueOf clueAt (xs ++ ys)))
-        go Free e (inr f) = rw f (clash-none (clueOf clueAt (xs ++ ys)))
+            → clash (blockClue clueAt (xs ++ ys)) (clueAt x) ≡ false
+        go j e (inl f) = rw f (clash-none (blockClue clueAt (xs ++ ys)))
+        go Free e (inr f) = rw f (clash-none (blockClue clueAt (xs ++ ys)))
         go (Is i) e (inr f) = rw (f, clue-kept ys i e) (clash-self (some i))
 
     pub seen-scan : scanOn colourAt clueAt unitAt xs ≡ Clear
@@ -264,7 +264,7 @@ module _ (colourAt : ℕ → Bool) (clueAt : ℕ → Option ℕ) (unitAt : ℕ �
     -- the first cell with which something is wrong
     stop : (sizeAt : ℕ → ℕ) (x : ℕ) (ys : List ℕ) (f : Fault)
         → f ≡ cellFault colourAt clueAt unitAt (ownUnit colourAt clueAt unitAt (xs ++ (x ∷ ys)))
-        (clueOf clueAt (xs ++ (x ∷ ys))) x
+        (blockClue clueAt (xs ++ (x ∷ ys))) x
         → isClear f ≡ false → f ≡ faultOn colourAt clueAt unitAt sizeAt (xs ++ (x ∷ ys))
     unfolding faultOn scanOn
     stop sizeAt x ys f e h = rw (← first-found _ xs x ys (cell-clear (x ∷ ys)) f e h) (or-found f _ h)
@@ -291,13 +291,13 @@ module _ (colourAt : ℕ → Bool) (clueAt : ℕ → Option ℕ) (unitAt : ℕ �
         refl
       where
         go : (j : Clue) → k ≡ j → clash (optionOf j) (clueAt x) ≡ true
-            → clash (clueOf clueAt (xs ++ (x ∷ ys))) (clueAt x) ≡ true
+            → clash (blockClue clueAt (xs ++ (x ∷ ys))) (clueAt x) ≡ true
         go Free e f = let z : _≡_ {A = ℕ} 0 1 = cc in absurd (omega arith)
         go (Is i) e f = rw (clue-kept (x ∷ ys) i e) f
 
     room-own : (sizeAt : ℕ → ℕ) (c : Bool) (m o : ℕ) → m ≡ length (those c xs)
         → Room m o k (sizeAt (getD own (bitOf c) 0))
-        → Room m o (clueIn (clueOf clueAt xs)) (sizeAt (ownUnit colourAt clueAt unitAt xs c))
+        → Room m o (clueIn (blockClue clueAt xs)) (sizeAt (ownUnit colourAt clueAt unitAt xs c))
     room-own sizeAt c m o e (inl h) = inl h
     room-own sizeAt c m o e (inr r) =
         let u = rw (append-nil xs) at (own-is (s .owned) [] c (λ z. r .0 (e ∙ z))) in

@@ -18,7 +18,7 @@ use Rattle.lists.specs.ListLaws.{any-mem, any-find, T-dec, T-and, T-and-l, T-an
 use Rattle.rules.specs.Page.{Puzzle, Mark}
 use Rattle.rules.specs.Groups.{potentialOf}
 use Rattle.checker.specs.Tallies.{headOf, ofColour, ownUnit}
-use Rattle.rules.specs.Check.{Reason, hitIf, isSome, clash, clueOf, insideBlock, edgeOf, strayFrom}
+use Rattle.rules.specs.Check.{Reason, hitIf, isSome, clash, blockClue, insideBlock, edgeOf, strayFrom}
 use Rattle.rules.specs.Check.{cellHit, cellHits}
 
 -- ---- tests
@@ -72,7 +72,7 @@ module _ (Z : Puzzle) (s : ℕ → Mark) where
     units : (y : ℕ) → y ∈ earlier → potentialOf Z s y ≡ q (Z .colour y)
     clues : (y : ℕ) → y ∈ earlier → (Z .clue y ≡ none) ⊎ (Z .clue y ≡ n)
     firsts : (c : Bool) → ((y : ℕ) × y ∈ earlier × (Z .colour y ≡ c)) ⊎ (q c ≡ own rest c)
-    clue : ((y : ℕ) × y ∈ earlier × (Z .clue y ≡ n) × T (isSome n)) ⊎ (n ≡ clueOf (Z .clue) rest)
+    clue : ((y : ℕ) × y ∈ earlier × (Z .clue y ≡ n) × T (isSome n)) ⊎ (n ≡ blockClue (Z .clue) rest)
 
   module _ (q : Bool → ℕ) (n : Option ℕ) (earlier : List ℕ) (x : ℕ) (xs : List ℕ) (a : Agrees q n earlier (x ∷ xs))
     where
@@ -108,8 +108,8 @@ module _ (Z : Puzzle) (s : ℕ → Mark) where
           back t (inr e) = absurd (neqb→ne _ _ t (own-first e))
 
       -- the first clue among x and the cells after it
-      clue-own : (o : Option ℕ) → Z .clue x ≡ o → n ≡ clueOf (Z .clue) (x ∷ xs) → (o ≡ none) ⊎ (o ≡ n)
-      unfolding clueOf firstHit orElse
+      clue-own : (o : Option ℕ) → Z .clue x ≡ o → n ≡ blockClue (Z .clue) (x ∷ xs) → (o ≡ none) ⊎ (o ≡ n)
+      unfolding blockClue firstHit orElse
       clue-own none e f = inl refl
       clue-own (some k) e f = inr (sym (rw e at f))
 
@@ -127,7 +127,7 @@ module _ (Z : Puzzle) (s : ℕ → Mark) where
               at y t (inr e) = rw e at t
 
           back : T (clash n (Z .clue x))
-              → ((y : ℕ) × y ∈ earlier × (Z .clue y ≡ n) × T (isSome n)) ⊎ (n ≡ clueOf (Z .clue) (x ∷ xs))
+              → ((y : ℕ) × y ∈ earlier × (Z .clue y ≡ n) × T (isSome n)) ⊎ (n ≡ blockClue (Z .clue) (x ∷ xs))
               → T (any (λ y. clash (Z .clue y) (Z .clue x)) earlier)
           back t (inl r) = any-mem (λ y. clash (Z .clue y) (Z .clue x)) earlier (r .1) (rw (r .2) t)
           back t (inr e) = absurd (at (clue-own (Z .clue x) refl e))
@@ -140,12 +140,12 @@ module _ (Z : Puzzle) (s : ℕ → Mark) where
       unfolding ownUnit ofColour filter
       own-rest c g = rw g
 
-      clue-rest : Z .clue x ≡ none → clueOf (Z .clue) (x ∷ xs) ≡ clueOf (Z .clue) xs
-      unfolding clueOf firstHit orElse
+      clue-rest : Z .clue x ≡ none → blockClue (Z .clue) (x ∷ xs) ≡ blockClue (Z .clue) xs
+      unfolding blockClue firstHit orElse
       clue-rest g = rw g
 
-      clue-here : {k : ℕ} → Z .clue x ≡ some k → clueOf (Z .clue) (x ∷ xs) ≡ some k
-      unfolding clueOf firstHit orElse
+      clue-here : {k : ℕ} → Z .clue x ≡ some k → blockClue (Z .clue) (x ∷ xs) ≡ some k
+      unfolding blockClue firstHit orElse
       clue-here g = rw g
 
       hit-same : (B : ℕ) → cellHit Z s B earlier x ≡ scanHit B q n x
@@ -166,7 +166,8 @@ module _ (Z : Puzzle) (s : ℕ → Mark) where
           units y (List·Memᴰ·head f) = rw f p
           units y (List·Memᴰ·tail m) = a .units y m
 
-          bare : n ≡ none → ((y : ℕ) × y ∈ earlier × (Z .clue y ≡ n) × T (isSome n)) ⊎ (n ≡ clueOf (Z .clue) (x ∷ xs))
+          bare : n ≡ none
+              → ((y : ℕ) × y ∈ earlier × (Z .clue y ≡ n) × T (isSome n)) ⊎ (n ≡ blockClue (Z .clue) (x ∷ xs))
               → Z .clue x ≡ none
           bare f (inl r) = absurd (rw f at (r .3))
           bare f (inr g) = ⊎-elim (λ o. o) (λ o. o ∙ f) (clue-own (Z .clue x) refl g)
@@ -183,8 +184,8 @@ module _ (Z : Puzzle) (s : ℕ → Mark) where
           firsts c false g (inr f) = inr (f ∙ own-rest c g)
 
           clue : (o : Option ℕ) → Z .clue x ≡ o
-              → ((y : ℕ) × y ∈ earlier × (Z .clue y ≡ n) × T (isSome n)) ⊎ (n ≡ clueOf (Z .clue) (x ∷ xs))
-              → ((y : ℕ) × y ∈ (x ∷ earlier) × (Z .clue y ≡ n) × T (isSome n)) ⊎ (n ≡ clueOf (Z .clue) xs)
+              → ((y : ℕ) × y ∈ earlier × (Z .clue y ≡ n) × T (isSome n)) ⊎ (n ≡ blockClue (Z .clue) (x ∷ xs))
+              → ((y : ℕ) × y ∈ (x ∷ earlier) × (Z .clue y ≡ n) × T (isSome n)) ⊎ (n ≡ blockClue (Z .clue) xs)
           clue o g (inl r) = inl (r .0, List·Memᴰ·tail (r .1), r .2, r .3)
           clue none g (inr f) = inr (f ∙ clue-rest g)
           clue (some k) g (inr f) = inl (x, List·Memᴰ·head refl, g ∙ sym (f ∙ clue-here g), rw (f ∙ clue-here g) tt)
@@ -219,9 +220,9 @@ module _ (Z : Puzzle) (s : ℕ → Mark) where
       let r = scan-none B q n x e in scan-from B q n (x ∷ earlier) xs (agrees-next q n earlier x xs a (r .0) (r .1))))
 
   pub scan-cells : (B : ℕ) (xs : List ℕ)
-      → cellHits Z s B [] xs ≡ firstHit (scanHit B (own xs) (clueOf (Z .clue) xs)) xs
+      → cellHits Z s B [] xs ≡ firstHit (scanHit B (own xs) (blockClue (Z .clue) xs)) xs
   scan-cells B xs =
-      scan-from B (own xs) (clueOf (Z .clue) xs) [] xs
+      scan-from B (own xs) (blockClue (Z .clue) xs) [] xs
       (record {
         units = λ y m. absurd (List·Memᴰ·not-nil m);
         clues = λ y m. absurd (List·Memᴰ·not-nil m);

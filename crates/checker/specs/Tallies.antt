@@ -17,7 +17,7 @@ use lib.ListN.{length, length-append}
 use borrow.Author.Tests.{ne-eqb}
 use Rattle.lists.specs.Lists.{keep, filter, any, firstHit, orElse}
 use Rattle.lists.specs.Appends.{filter-append, any-append, first-append}
-use Rattle.rules.specs.Check.{isSome, clueOf}
+use Rattle.rules.specs.Check.{isSome, blockClue}
 use Rattle.checker.specs.declared.Clue.{Clue}
 use Rattle.checker.specs.declared.Clue.the-variants.{Free, Is}
 use Rattle.checker.specs.declared.Part.{Part}
@@ -77,7 +77,7 @@ module _ (colourAt : ℕ → Bool) (clueAt : ℕ → Option ℕ) (unitAt : ℕ �
 
   unfoldable pub tallyOf : List ℕ → Tally
   tallyOf xs =
-      record { zero = partOf false xs; one = partOf true xs; clue = clueIn (clueOf clueAt xs) }
+      record { zero = partOf false xs; one = partOf true xs; clue = clueIn (blockClue clueAt xs) }
 
   -- ---- laws
 
@@ -132,8 +132,8 @@ module _ (colourAt : ℕ → Bool) (clueAt : ℕ → Option ℕ) (unitAt : ℕ �
       go false = ap partFrom (append-nil (ofColour c xs))
 
   pub clue-more : (xs : List ℕ) (x : ℕ)
-      → clueIn (clueOf clueAt (snoc xs x)) ≡ firstClue (clueIn (clueOf clueAt xs)) (clueIn (clueAt x))
-  unfolding clueOf firstHit orElse
+      → clueIn (blockClue clueAt (snoc xs x)) ≡ firstClue (clueIn (blockClue clueAt xs)) (clueIn (clueAt x))
+  unfolding blockClue firstHit orElse
   clue-more xs x = ap clueIn (first-append clueAt xs (x ∷ [])) ∙ go (firstHit clueAt xs) (clueAt x)
     where
       go : (o k : Option ℕ) → clueIn (orElse o (orElse k none)) ≡ firstClue (clueIn o) (clueIn k)
@@ -142,7 +142,7 @@ module _ (colourAt : ℕ → Bool) (clueAt : ℕ → Option ℕ) (unitAt : ℕ �
       go (some n) k = refl
 
   pub tally-none : tallyOf [] ≡ noTally
-  unfolding tallyOf partOf ownUnit ofColour filter clueOf firstHit hasClue any
+  unfolding tallyOf partOf ownUnit ofColour filter blockClue firstHit hasClue any
   tally-none = refl
 
   -- one cell more is counted

@@ -17,8 +17,8 @@ use Rattle.board.specs.Alien.{isAlien}
 use Rattle.board.specs.Board.{numberOf, returned, pushed, popped, decideOf, undoOf, Typed}
 use Rattle.board.specs.NativeLaws.{native-has, borders-fit, room}
 use Rattle.board.specs.DecideLaws.{Decided, decided-is, done-returned, Undone, undone-is}
-use Rattle.image.specs.Image.{boardOf, imageOf, rightLength, Bytes, sideOf, literalOf, ImageCall, decide, undo}
-use Rattle.image.specs.Image.{imageAlien, numberBy, boardBy, imageNumber, imageAfter, written}
+use Rattle.image.specs.Image.{boardOf, imageOf, rightLength, Bytes, sideOf, decideLiteral, ImageCall, decide}
+use Rattle.image.specs.Image.{undo, imageAlien, numberBy, boardBy, imageNumber, imageAfter, written}
 use Rattle.image.specs.LayoutLaws.{written-image}
 use Rattle.image.specs.RoundLaws.{image-board, board-typed, long-is}
 
@@ -30,7 +30,7 @@ refused-board b (decide n d) h =
     go (isAlien b) (ltb n (borderCount (b .height) (b .width))) (eqb (getD (b .borders) n 0) 0) h
   where
     l : Literal
-    l = literalOf n d
+    l = decideLiteral n d
 
     of : Bool → Bool → Bool → Returned
     of x y z =
@@ -96,8 +96,8 @@ module _ (s : List ℕ) (h : Bytes s) (e : length s ≡ 11076) (b : Board) (q : 
 
   -- a decide that is done
   module _ (n d : ℕ) (z : imageNumber s (decide n d) ≡ 0) where
-    decided : Decided b (literalOf n d) (decideOf b (literalOf n d) .board)
-    decided = decided-is (done-returned (decideOf b (literalOf n d)) (number-is (decide n d) ∙ z))
+    decided : Decided b (decideLiteral n d) (decideOf b (decideLiteral n d) .board)
+    decided = decided-is (done-returned (decideOf b (decideLiteral n d)) (number-is (decide n d) ∙ z))
 
     pub decide-fits : (n < 1984) × (b .count < 1984)
     decide-fits =
@@ -114,7 +114,7 @@ module _ (s : List ℕ) (h : Bytes s) (e : length s ≡ 11076) (b : Board) (q : 
         ∙ sym (after-is (decide n d))
 
     -- the same, from what the code has
-    pub decide-after : (l : Literal) (v : ℕ) (t : List ℕ) → l ≡ literalOf n d → v ≡ codeOf (l .side)
+    pub decide-after : (l : Literal) (v : ℕ) (t : List ℕ) → l ≡ decideLiteral n d → v ≡ codeOf (l .side)
         → t ≡ written s (l .border) v (b .count + 1) (b .count) (l .border) → t ≡ imageAfter s (decide n d)
     decide-after l v t x y w =
         w

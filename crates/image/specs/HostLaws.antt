@@ -16,7 +16,7 @@ use Rattle.board.specs.View.{puzzleIn}
 use Rattle.calls.specs.Runs.{Accepted, startOf}
 use Rattle.image.specs.Image.{imageOf, imageNumber, imageAfter}
 use Rattle.image.specs.Runs.{Sent, altering, sentNumber, sentImage, sentBytes, Got, imageRun, imageFrom}
-use Rattle.image.specs.Series.{callOf, doneOf, imageDone}
+use Rattle.image.specs.Series.{codeCall, doneOf, imageDone}
 use Rattle.image.specs.Hosts.{HostCall, single, series, singles, heard, hostImage, singlesFrom, heardFrom}
 use Rattle.image.specs.Hosts.{hostFrom, HostDemand}
 use Rattle.image.specs.RunLaws.{image-demand}
@@ -28,7 +28,7 @@ done = record { number = 0; bytes = [] }
 module _ (s : List ℕ) (c : ℕ) (codes : List ℕ) where
   -- the image after the first call
   abbrev next : List ℕ
-  next = imageAfter s (callOf c)
+  next = imageAfter s (codeCall c)
 
   -- how many are done, where t says whether the first is
   abbrev count : Bool → ℕ
@@ -36,7 +36,7 @@ module _ (s : List ℕ) (c : ℕ) (codes : List ℕ) where
 
   -- their single calls
   abbrev made : Bool → List Sent
-  made t = map (λ d. altering (callOf d)) (take (count t) (c ∷ codes))
+  made t = map (λ d. altering (codeCall d)) (take (count t) (c ∷ codes))
 
   first-image : (t : Bool) → imageDone next codes ≡ imageFrom next (singles next (series codes))
       → cond t (imageDone next codes) s ≡ imageFrom s (made t)
@@ -44,42 +44,42 @@ module _ (s : List ℕ) (c : ℕ) (codes : List ℕ) where
   first-image true e = e
   first-image false e = refl
 
-  first-heard : (t : Bool) → eqb (imageNumber s (callOf c)) 0 ≡ t
+  first-heard : (t : Bool) → eqb (imageNumber s (codeCall c)) 0 ≡ t
       → heard next (series codes) ≡ imageRun next (singles next (series codes))
       → replicate (count t) done ≡ imageRun s (made t)
   unfolding imageRun
   first-heard true q e =
       ap₂ (λ (n : ℕ) (l : List Got). record { number = n; bytes = [] } ∷ l)
-      (sym (eqb-true (imageNumber s (callOf c)) 0 q)) e
+      (sym (eqb-true (imageNumber s (codeCall c)) 0 q)) e
   first-heard false q e = refl
 
-  first-stop : (t : Bool) → eqb (imageNumber s (callOf c)) 0 ≡ t
+  first-stop : (t : Bool) → eqb (imageNumber s (codeCall c)) 0 ≡ t
       → (doneOf next codes < length codes
-      → imageNumber (imageDone next codes) (callOf (getD codes (doneOf next codes) 0)) ≡ 0 → ⊥)
+      → imageNumber (imageDone next codes) (codeCall (getD codes (doneOf next codes) 0)) ≡ 0 → ⊥)
       → count t < length (c ∷ codes)
-      → imageNumber (cond t (imageDone next codes) s) (callOf (getD (c ∷ codes) (count t) 0)) ≡ 0
+      → imageNumber (cond t (imageDone next codes) s) (codeCall (getD (c ∷ codes) (count t) 0)) ≡ 0
       → ⊥
   first-stop true q f l z = f (omega arith) z
-  first-stop false q f l z = eqb-false (imageNumber s (callOf c)) 0 q z
+  first-stop false q f l z = eqb-false (imageNumber s (codeCall c)) 0 q z
 
 pub series-image : (s codes : List ℕ) → imageDone s codes ≡ imageFrom s (singles s (series codes))
 unfolding imageDone doneOf imageFrom
 series-image s [] = refl
 series-image s (c ∷ codes) =
-    first-image s c codes (eqb (imageNumber s (callOf c)) 0) (series-image (imageAfter s (callOf c)) codes)
+    first-image s c codes (eqb (imageNumber s (codeCall c)) 0) (series-image (imageAfter s (codeCall c)) codes)
 
 pub series-heard : (s codes : List ℕ) → heard s (series codes) ≡ imageRun s (singles s (series codes))
 unfolding doneOf imageRun
 series-heard s [] = refl
 series-heard s (c ∷ codes) =
-    first-heard s c codes (eqb (imageNumber s (callOf c)) 0) refl (series-heard (imageAfter s (callOf c)) codes)
+    first-heard s c codes (eqb (imageNumber s (codeCall c)) 0) refl (series-heard (imageAfter s (codeCall c)) codes)
 
 pub series-stop : (s codes : List ℕ) → doneOf s codes < length codes
-    → imageNumber (imageDone s codes) (callOf (getD codes (doneOf s codes) 0)) ≡ 0 → ⊥
+    → imageNumber (imageDone s codes) (codeCall (getD codes (doneOf s codes) 0)) ≡ 0 → ⊥
 unfolding imageDone doneOf
 series-stop s [] l z = omega arith
 series-stop s (c ∷ codes) l z =
-    first-stop s c codes (eqb (imageNumber s (callOf c)) 0) refl (series-stop (imageAfter s (callOf c)) codes) l z
+    first-stop s c codes (eqb (imageNumber s (codeCall c)) 0) refl (series-stop (imageAfter s (codeCall c)) codes) l z
 
 -- ---- a list of a host's calls
 run-append : (s : List ℕ) (a b : List Sent) → imageRun s (a ++ b) ≡ imageRun s a ++ imageRun (imageFrom s a) b

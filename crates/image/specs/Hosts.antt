@@ -16,7 +16,7 @@ use Rattle.rules.specs.Page.{Puzzle}
 use Rattle.board.specs.declared.Board.{Board}
 use Rattle.image.specs.Runs.{Sent, altering, sentNumber, sentImage, sentBytes, Got, imageRun, imageFrom}
 use Rattle.image.specs.Runs.{ImageDemand}
-use Rattle.image.specs.Series.{callOf, doneOf, imageDone}
+use Rattle.image.specs.Series.{codeCall, doneOf, imageDone}
 
 -- "Each image call returns one number"; beyond 01, `dbchoco_calls` returns how many of its calls are done
 pub data HostCall : Type 0 where
@@ -25,7 +25,7 @@ pub data HostCall : Type 0 where
 
 abbrev pub singles : List ℕ → HostCall → List Sent
 singles s (single c) = c ∷ []
-singles s (series codes) = map (λ c. altering (callOf c)) (take (doneOf s codes) codes)
+singles s (series codes) = map (λ c. altering (codeCall c)) (take (doneOf s codes) codes)
 
 -- a call that is counted as done has returned 0
 abbrev pub heard : List ℕ → HostCall → List Got

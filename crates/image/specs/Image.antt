@@ -14,7 +14,7 @@
 --   Bytes s            every element of s is a byte
 --   Proper b           b is a value of the code's type Board, and not alien
 --   sideOf d           the side of a decide's number d
---   literalOf n d      the literal of a decide on an image
+--   decideLiteral n d  the literal of a decide on an image
 --   ImageCall          a call on an image, with its numbers
 --   numberBy b a       the number of the call a on the board b, by value
 --   boardBy b a        the board that it returns
@@ -120,8 +120,8 @@ pub record Proper (b : Board) : Type 0 where
 abbrev pub sideOf : ℕ → Side
 sideOf d = cond (eqb d 0) Open Wall
 
-abbrev pub literalOf : ℕ → ℕ → Literal
-literalOf n d = record { border = n; side = sideOf d }
+abbrev pub decideLiteral : ℕ → ℕ → Literal
+decideLiteral n d = record { border = n; side = sideOf d }
 
 pub data ImageCall : Type 0 where
   decide : ℕ → ℕ → ImageCall
@@ -129,11 +129,11 @@ pub data ImageCall : Type 0 where
 
 -- "Each image call returns one number: the refusal number; 0 for a decide or undo done"
 abbrev pub numberBy : Board → ImageCall → ℕ
-numberBy b (decide n d) = numberOf (decideOf b (literalOf n d) .outcome)
+numberBy b (decide n d) = numberOf (decideOf b (decideLiteral n d) .outcome)
 numberBy b undo = numberOf (undoOf b .outcome)
 
 abbrev pub boardBy : Board → ImageCall → Board
-boardBy b (decide n d) = decideOf b (literalOf n d) .board
+boardBy b (decide n d) = decideOf b (decideLiteral n d) .board
 boardBy b undo = undoOf b .board
 
 unfoldable pub imageNumber : List ℕ → ImageCall → ℕ

@@ -29,7 +29,7 @@ use Rattle.calls.specs.Answers.{answerNumber, written, checkAnswer, checkMemory
 use Rattle.calls.specs.CallLaws.{reason-short}
 use Rattle.calls.specs.Runs.{Accepted, startOf, Given, givenBy, boardAfter, runFrom}
 use Rattle.calls.specs.Demand3Laws.{start-bare, demand3}
-use Rattle.image.specs.Image.{imageOf, Proper, sideOf, literalOf, ImageCall, decide, undo, numberBy}
+use Rattle.image.specs.Image.{imageOf, Proper, sideOf, decideLiteral, ImageCall, decide, undo, numberBy}
 use Rattle.image.specs.Image.{boardBy, imageNumber, imageAfter, places, bytesAfter, bytesBy}
 use Rattle.image.specs.Image.{checkNumber, checkBytes}
 use Rattle.image.specs.Runs.{Sent, altering, checking, sentNumber, sentImage, sentBytes, imageRun, imageFrom}
@@ -43,7 +43,7 @@ pub side-of-code : (d : Side) → sideOf (sideCode d) ≡ d
 side-of-code Wall = refl
 side-of-code Open = refl
 
-pub literal-of-code : (l : Literal) → literalOf (l .border) (sideCode (l .side)) ≡ l
+pub literal-of-code : (l : Literal) → decideLiteral (l .border) (sideCode (l .side)) ≡ l
 literal-of-code l = λ i. record { border = l .border; side = side-of-code (l .side) i }
 
 -- ---- one call
@@ -51,7 +51,7 @@ pub proper-after : (b : Board) (a : ImageCall) → Proper b → Proper (boardBy 
 proper-after b a P = go (kept a)
   where
     kept : (x : ImageCall) → Kept b (boardBy b x)
-    kept (decide n d) = decide-kept b (P .known) (literalOf n d) (P .typed)
+    kept (decide n d) = decide-kept b (P .known) (decideLiteral n d) (P .typed)
     kept undo = undo-kept b (P .known) (P .typed)
 
     go : Kept b (boardBy b a) → Proper (boardBy b a)
@@ -121,7 +121,7 @@ module _ (b : Board) (P : Proper b) where
   pub step-number : (c : Sent) → sentNumber (imageOf b) c ≡ answerNumber (given b c .answer)
   unfolding callOf
   step-number (altering (decide n d)) =
-      number-image b P (decide n d) ∙ sym (answer-ended (decideOf b (literalOf n d) .outcome))
+      number-image b P (decide n d) ∙ sym (answer-ended (decideOf b (decideLiteral n d) .outcome))
   step-number (altering undo) = number-image b P undo ∙ sym (answer-ended (undoOf b .outcome))
   step-number (checking m) = check-number b P m
 

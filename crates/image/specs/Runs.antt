@@ -22,7 +22,7 @@ use Rattle.board.specs.declared.Board.{Board}
 use Rattle.calls.specs.Answers.{answerNumber}
 use Rattle.calls.specs.Runs.{Lent, Given, boardAfter, runFrom}
 use Rattle.calls.specs.Demand3.{Demand3}
-use Rattle.image.specs.Image.{imageOf, ImageCall, decide, undo, literalOf, imageNumber, imageAfter}
+use Rattle.image.specs.Image.{imageOf, ImageCall, decide, undo, decideLiteral, imageNumber, imageAfter}
 use Rattle.image.specs.Image.{checkNumber, checkBytes}
 
 -- ---- calls on an image
@@ -63,7 +63,7 @@ codesIn (low ∷ []) = []
 codesIn (low ∷ high ∷ m) = (low + 256 * high) ∷ codesIn m
 
 abbrev pub lentFor : Sent → Lent
-lentFor (altering (decide n d)) = record { call = Decide (literalOf n d); memory = [] }
+lentFor (altering (decide n d)) = record { call = Decide (decideLiteral n d); memory = [] }
 lentFor (altering undo) = record { call = Undo; memory = [] }
 lentFor (checking m) = record { call = Check; memory = codesIn m }
 

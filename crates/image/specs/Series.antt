@@ -1,6 +1,6 @@
 -- Series: a list of decides and undos on an image in one call.
 --
---   callOf c          the call of a code: 65,535 is an undo, any other the decide of the literal with that code
+--   codeCall c        the call of a code: 65,535 is an undo, any other the decide of the literal with that code
 --   doneOf s cs       how many of the calls are done one after another, up to the first that is refused
 --   imageDone s cs    the image after those
 --   Stepped s a t r   one call: r says whether a is done on the image s, and t is the image afterwards
@@ -12,16 +12,16 @@ use lib.Dec.{eqb}
 use Rattle.image.specs.Image.{ImageCall, decide, undo, imageNumber, imageAfter}
 
 -- "a literal is 2·border, plus 1 for wall"
-unfoldable pub callOf : ℕ → ImageCall
-callOf c = cond (eqb c 65535) undo (decide (c / 2) (c % 2))
+unfoldable pub codeCall : ℕ → ImageCall
+codeCall c = cond (eqb c 65535) undo (decide (c / 2) (c % 2))
 
 unfoldable pub doneOf : List ℕ → List ℕ → ℕ
 doneOf s [] = 0
-doneOf s (c ∷ cs) = cond (eqb (imageNumber s (callOf c)) 0) (suc (doneOf (imageAfter s (callOf c)) cs)) 0
+doneOf s (c ∷ cs) = cond (eqb (imageNumber s (codeCall c)) 0) (suc (doneOf (imageAfter s (codeCall c)) cs)) 0
 
 unfoldable pub imageDone : List ℕ → List ℕ → List ℕ
 imageDone s [] = s
-imageDone s (c ∷ cs) = cond (eqb (imageNumber s (callOf c)) 0) (imageDone (imageAfter s (callOf c)) cs) s
+imageDone s (c ∷ cs) = cond (eqb (imageNumber s (codeCall c)) 0) (imageDone (imageAfter s (codeCall c)) cs) s
 
 pub record Stepped (s : List ℕ) (a : ImageCall) (t : List ℕ) (r : Bool) : Type 0 where
   pub done : r ≡ eqb (imageNumber s a) 0

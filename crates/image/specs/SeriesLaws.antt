@@ -17,12 +17,12 @@ use Rattle.board.specs.Board.{numberOf, decideOf}
 use Rattle.board.specs.Cases.{decide-alien, undo-alien, decide-border, decide-taken, decide-done, undo-bare, undo-done}
 use Rattle.board.specs.ConditionLaws.{borders-of, borders-of-le}
 use Rattle.board.specs.NativeLaws.{native-has}
-use Rattle.image.specs.Image.{pair, boardOf, Bytes, Proper, literalOf, ImageCall, decide, undo, numberBy}
+use Rattle.image.specs.Image.{pair, boardOf, Bytes, Proper, decideLiteral, ImageCall, decide, undo, numberBy}
 use Rattle.image.specs.Image.{boardBy, rightLength, imageAlien, imageNumber, imageAfter, written}
 use Rattle.image.specs.RoundLaws.{long-is, known-board, image-known}
 use Rattle.image.specs.CallLaws.{number-is, after-refused, decide-fits, decide-after, undo-fits, undo-after}
 use Rattle.image.specs.RunLaws.{proper-after}
-use Rattle.image.specs.Series.{callOf, doneOf, imageDone, Stepped}
+use Rattle.image.specs.Series.{codeCall, doneOf, imageDone, Stepped}
 
 -- ---- an image that is not alien
 module _ (s : List ℕ) (h : Bytes s) (k : imageAlien s ≡ false) where
@@ -68,8 +68,9 @@ module _ (s : List ℕ) (h : Bytes s) (k : imageAlien s ≡ false) where
   stepped z e = record { done = sym (eq-eqb _ 0 z); after = e }
 
   -- a decide, from what the code has: its literal l, and the count m of the page's borders
-  module _ (n d : ℕ) (l : Literal) (y : l ≡ literalOf n d) (m : ℕ) (q : m ≡ bordersOf (getD s 0 0) (getD s 1 0)) where
-    number : {r : Returned} → r ≡ decideOf (boardOf s) (literalOf n d)
+  module _ (n d : ℕ) (l : Literal) (y : l ≡ decideLiteral n d) (m : ℕ)
+      (q : m ≡ bordersOf (getD s 0 0) (getD s 1 0)) where
+    number : {r : Returned} → r ≡ decideOf (boardOf s) (decideLiteral n d)
         → numberOf (r .outcome) ≡ imageNumber s (decide n d)
     number e = ap (λ (r : Returned). numberOf (r .outcome)) e ∙ by-board (decide n d)
 
@@ -82,7 +83,7 @@ module _ (s : List ℕ) (h : Bytes s) (k : imageAlien s ≡ false) where
     pub decide-far : m ≤ l .border → Stepped s (decide n d) s false
     decide-far g =
         let e =
-        number (decide-border (boardOf s) (literalOf n d) (proper .known) (rw (← borders-are, ← q, ← named) g)) in
+        number (decide-border (boardOf s) (decideLiteral n d) (proper .known) (rw (← borders-are, ← q, ← named) g)) in
         refused (decide n d) (λ z. let f : 6 ≡ 0 = e ∙ z in omega arith)
 
     module _ (g : l .border < m) where
@@ -96,7 +97,7 @@ module _ (s : List ℕ) (h : Bytes s) (k : imageAlien s ≡ false) where
       decide-held f =
           let e =
           number
-          (decide-taken (boardOf s) (literalOf n d) (proper .known) (rw (← borders-are, ← q, ← named) g)
+          (decide-taken (boardOf s) (decideLiteral n d) (proper .known) (rw (← borders-are, ← q, ← named) g)
           (λ z. f (sym (free (getD s (5122 + l .border) 0) refl) ∙ z))) in
           refused (decide n d) (λ z. let o : 7 ≡ 0 = e ∙ z in omega arith)
 
@@ -106,7 +107,7 @@ module _ (s : List ℕ) (h : Bytes s) (k : imageAlien s ≡ false) where
         decided =
             sym
             (number
-            (decide-done (boardOf s) (literalOf n d) (proper .known) (rw (← borders-are, ← q, ← named) g)
+            (decide-done (boardOf s) (decideLiteral n d) (proper .known) (rw (← borders-are, ← q, ← named) g)
             (free 0 f)))
 
         pub decide-room : (l .border < 1984) × (c < 1984)
@@ -172,7 +173,7 @@ alien-number s k a = go (rightLength s) k a
     go : (x : Bool) → cond x (isAlien (boardOf s)) true ≡ true → (c : ImageCall)
         → cond x (numberBy (boardOf s) c) 5 ≡ 5
     go true e (decide n d) =
-        sym (ap (λ (r : Returned). numberOf (r .outcome)) (decide-alien (boardOf s) (literalOf n d) e))
+        sym (ap (λ (r : Returned). numberOf (r .outcome)) (decide-alien (boardOf s) (decideLiteral n d) e))
     go true e undo = sym (ap (λ (r : Returned). numberOf (r .outcome)) (undo-alien (boardOf s) e))
     go false e c = refl
 
@@ -180,8 +181,8 @@ pub alien-none : (s codes : List ℕ) → imageAlien s ≡ true → (0 ≡ doneO
 unfolding doneOf imageDone
 alien-none s [] k = (refl, refl)
 alien-none s (c ∷ codes) k =
-    let n = alien-number s k (callOf c) in
-    let f = ne-eqb (imageNumber s (callOf c)) 0 (λ z. let g : 5 ≡ 0 = sym n ∙ z in omega arith) in
+    let n = alien-number s k (codeCall c) in
+    let f = ne-eqb (imageNumber s (codeCall c)) 0 (λ z. let g : 5 ≡ 0 = sym n ∙ z in omega arith) in
     (rw f, rw f)
 
 -- i calls are done, and the image is s now
@@ -210,7 +211,7 @@ running-end {start} {codes} {i} {s} R l =
 
 module _ {start codes : List ℕ} {i : ℕ} {s : List ℕ} (R : Running start codes i s) (l : i < length codes) where
   abbrev call : ImageCall
-  call = callOf (getD codes i 0)
+  call = codeCall (getD codes i 0)
 
   here : drop i codes ≡ getD codes i 0 ∷ drop (suc i) codes
   here = drop-cons codes i 0 l

@@ -5,7 +5,7 @@ ghost use Prim.Native.Nat.{_*_, _<_};
 ghost use lib.ListN.{length};
 ghost use Rattle.calls.specs.Answers.{answerNumber, asAnswer};
 ghost use Rattle.calls.specs.Known.{Known, foundIn};
-ghost use Rattle.image.specs.Image.{imageAlien, literalOf, decide, undo, imageNumber, imageAfter};
+ghost use Rattle.image.specs.Image.{imageAlien, decideLiteral, decide, undo, imageNumber, imageAfter};
 ghost use Rattle.image.specs.Image.{isShort, bytesAfter, checkNumber, checkBytes};
 use board::Board;
 use calls::Answer;
@@ -51,7 +51,7 @@ pub fn alien(image: &[u8]) -> bool
 
 // The literal of a decide on an image.
 fn literal(border: u32, side: u32) -> Literal
-    ensures { λ r. ⌜ r ≡ literalOf border side ⌝ }
+    ensures { λ r. ⌜ r ≡ decideLiteral border side ⌝ }
 {
     let n = border as usize;
     if side == 0 {

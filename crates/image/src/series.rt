@@ -5,7 +5,7 @@ ghost use mathlib.Core.Bool.{false};
 ghost use lib.ListN.{length, getD};
 ghost use Rattle.board.specs.Alien.{bordersOf};
 ghost use Rattle.image.specs.Image.{imageAlien, decide, undo};
-ghost use Rattle.image.specs.Series.{Stepped, callOf, doneOf, imageDone};
+ghost use Rattle.image.specs.Series.{Stepped, codeCall, doneOf, imageDone};
 use crate::BORDERS;
 use crate::COUNT;
 use crate::STACK;
@@ -64,7 +64,7 @@ fn undone(image: &mut [u8]) -> bool
 // Makes the call of a code on an image that is not alien. Whether that is done.
 fn step(image: &mut [u8], code: u16) -> bool
     requires { ⌜ (length (now image) ≡ 11076) × (imageAlien (now image) ≡ false) ⌝ }
-    ensures { λ r. ⌜ Stepped (now (image .entry)) (callOf code) (now (image .exit)) r ⌝ }
+    ensures { λ r. ⌜ Stepped (now (image .entry)) (codeCall code) (now (image .exit)) r ⌝ }
 {
     if code == UNDO {
         return undone(image);

@@ -11,7 +11,7 @@
 --   sheetAt s p         the page whose parts stand at the places p
 --   formOf s r          that page, or none
 --   judgedOf s r        the number, or that page
---   numberOf, digitsOf, sizeOf, rowOf, clueOf, callOf   the value that was read, and what is left
+--   gotNumber, gotDigits, gotSize, gotRow, gotClue, gotCall   the value that was read, and what is left
 use mathlib.Core.List.{List}
 use mathlib.Core.Option.{Option, none, some}
 use Prim.Native.Nat.{ℕ, _+_, _-_}
@@ -52,30 +52,30 @@ unfoldable pub placeOf : List ℕ → Place → Option (List ℕ)
 placeOf s (place.At p) = some (rest s p)
 placeOf s place.No = none
 
-unfoldable pub numberOf : List ℕ → Number → Option (ℕ × List ℕ)
-numberOf s (num.Got v p) = some (v, rest s p)
-numberOf s num.No = none
+unfoldable pub gotNumber : List ℕ → Number → Option (ℕ × List ℕ)
+gotNumber s (num.Got v p) = some (v, rest s p)
+gotNumber s num.No = none
 
 -- the digits from `at` on end where the number says
-unfoldable pub digitsOf : List ℕ → ℕ → Number → Option (List ℕ × List ℕ)
-digitsOf s at (num.Got e p) = some (digitsIn s at e, rest s p)
-digitsOf s at num.No = none
+unfoldable pub gotDigits : List ℕ → ℕ → Number → Option (List ℕ × List ℕ)
+gotDigits s at (num.Got e p) = some (digitsIn s at e, rest s p)
+gotDigits s at num.No = none
 
-unfoldable pub sizeOf : List ℕ → Size → Option ((ℕ × ℕ) × List ℕ)
-sizeOf s (sizeRead.Got h w p) = some ((h, w), rest s p)
-sizeOf s sizeRead.No = none
+unfoldable pub gotSize : List ℕ → Size → Option ((ℕ × ℕ) × List ℕ)
+gotSize s (sizeRead.Got h w p) = some ((h, w), rest s p)
+gotSize s sizeRead.No = none
 
-unfoldable pub rowOf : List ℕ → Row → Option (List ℕ × List ℕ)
-rowOf s (rowRead.Got a e p) = some (digitsIn s a e, rest s p)
-rowOf s rowRead.No = none
+unfoldable pub gotRow : List ℕ → Row → Option (List ℕ × List ℕ)
+gotRow s (rowRead.Got a e p) = some (digitsIn s a e, rest s p)
+gotRow s rowRead.No = none
 
-unfoldable pub clueOf : List ℕ → ClueRead → Option (Clue × List ℕ)
-clueOf s (clueRead.Got c p) = some (c, rest s p)
-clueOf s clueRead.No = none
+unfoldable pub gotClue : List ℕ → ClueRead → Option (Clue × List ℕ)
+gotClue s (clueRead.Got c p) = some (c, rest s p)
+gotClue s clueRead.No = none
 
-unfoldable pub callOf : List ℕ → CallRead → Option (Call × List ℕ)
-callOf s (callRead.Got c p) = some (c, rest s p)
-callOf s callRead.No = none
+unfoldable pub gotCall : List ℕ → CallRead → Option (Call × List ℕ)
+gotCall s (callRead.Got c p) = some (c, rest s p)
+gotCall s callRead.No = none
 
 module _ {A : Type 0} where
   unfoldable pub allFrom : Reader A → List ℕ → ℕ → List A

@@ -2,7 +2,7 @@
 ghost use mathlib.Core.Path.{_≡_};
 ghost use Prim.Native.Nat.{_≤_};
 ghost use Rattle.page.specs.Readers.{rest, strip, number, numberOn, digit, digits};
-ghost use Rattle.page.specs.Places.{placeOf, numberOf, digitsOf};
+ghost use Rattle.page.specs.Places.{placeOf, gotNumber, gotDigits};
 use crate::Number;
 use crate::Place;
 
@@ -45,7 +45,7 @@ pub fn word_at(s: &[u8], at: usize, word: &[u8]) -> Place
 // The rest of a number that stood at `from`, up to the byte `stop`.
 fn number_on(s: &[u8], at: usize, stop: u8, from: usize) -> Number
     requires { ⌜ from ≤ 2147483647 ⌝ }
-    ensures { λ r. ⌜ numberOf (now (s .entry)) r ≡ numberOn stop from (rest (now (s .entry)) at) ⌝ }
+    ensures { λ r. ⌜ gotNumber (now (s .entry)) r ≡ numberOn stop from (rest (now (s .entry)) at) ⌝ }
 {
     let mut v = from;
     let mut p = at;
@@ -73,7 +73,7 @@ fn number_on(s: &[u8], at: usize, stop: u8, from: usize) -> Number
 
 // A number without leading zeros, at most 2147483647, and the byte `stop` after it.
 pub fn number_at(s: &[u8], at: usize, stop: u8) -> Number
-    ensures { λ r. ⌜ numberOf (now (s .entry)) r ≡ number stop (rest (now (s .entry)) at) ⌝ }
+    ensures { λ r. ⌜ gotNumber (now (s .entry)) r ≡ number stop (rest (now (s .entry)) at) ⌝ }
 {
     if s.len() <= at {
         return Number::No;
@@ -87,7 +87,7 @@ pub fn number_at(s: &[u8], at: usize, stop: u8) -> Number
 
 // The place of the byte `stop` after one digit or more, and the place after it.
 pub fn digits_at(s: &[u8], at: usize, stop: u8) -> Number
-    ensures { λ r. ⌜ digitsOf (now (s .entry)) at r ≡ digits stop (rest (now (s .entry)) at) ⌝ }
+    ensures { λ r. ⌜ gotDigits (now (s .entry)) at r ≡ digits stop (rest (now (s .entry)) at) ⌝ }
 {
     if s.len() <= at {
         return Number::No;

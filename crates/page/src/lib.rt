@@ -4,7 +4,7 @@ ghost use mathlib.Core.Path.{_≡_};
 ghost use Rattle.page.specs.Readers.{rest};
 ghost use Rattle.page.specs.Grammar.{call};
 ghost use Rattle.page.specs.Judge.{judge, colourArray, clueArray};
-ghost use Rattle.page.specs.Places.{sheetAt, judgedOf, callOf};
+ghost use Rattle.page.specs.Places.{sheetAt, judgedOf, gotCall};
 use rules::Call;
 
 mod bytes; // bytes.rt: words, numbers and digits
@@ -113,7 +113,7 @@ pub fn clues(s: &[u8], p: Parts) -> [i32; 1024]
 
 // The call at a place, and the place of the next. The calls of a page begin at its parts' place `calls`.
 pub fn call_at(s: &[u8], at: usize) -> CallRead
-    ensures { λ r. ⌜ callOf (now (s .entry)) r ≡ call (rest (now (s .entry)) at) ⌝ }
+    ensures { λ r. ⌜ gotCall (now (s .entry)) r ≡ call (rest (now (s .entry)) at) ⌝ }
 {
     lines::call_at(s, at)
 }

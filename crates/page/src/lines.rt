@@ -2,7 +2,7 @@
 ghost use mathlib.Core.Path.{_≡_};
 ghost use Rattle.page.specs.Readers.{rest};
 ghost use Rattle.page.specs.Grammar.{size, row, clue, decide, call};
-ghost use Rattle.page.specs.Places.{sizeOf, rowOf, clueOf, callOf};
+ghost use Rattle.page.specs.Places.{gotSize, gotRow, gotClue, gotCall};
 use crate::CallRead;
 use crate::Clue;
 use crate::ClueRead;
@@ -17,7 +17,7 @@ use rules::Side;
 
 // `(size h w)`
 pub fn size_at(s: &[u8], at: usize) -> Size
-    ensures { λ r. ⌜ sizeOf (now (s .entry)) r ≡ size (rest (now (s .entry)) at) ⌝ }
+    ensures { λ r. ⌜ gotSize (now (s .entry)) r ≡ size (rest (now (s .entry)) at) ⌝ }
 {
     let Place::At(a) = bytes::word_at(s, at, b"(size ") else {
         return Size::No;
@@ -36,7 +36,7 @@ pub fn size_at(s: &[u8], at: usize) -> Size
 
 // `(row digits)`
 pub fn row_at(s: &[u8], at: usize) -> Row
-    ensures { λ r. ⌜ rowOf (now (s .entry)) r ≡ row (rest (now (s .entry)) at) ⌝ }
+    ensures { λ r. ⌜ gotRow (now (s .entry)) r ≡ row (rest (now (s .entry)) at) ⌝ }
 {
     let Place::At(from) = bytes::word_at(s, at, b"(row ") else {
         return Row::No;
@@ -52,7 +52,7 @@ pub fn row_at(s: &[u8], at: usize) -> Row
 
 // `(clue y x n)`
 pub fn clue_at(s: &[u8], at: usize) -> ClueRead
-    ensures { λ r. ⌜ clueOf (now (s .entry)) r ≡ clue (rest (now (s .entry)) at) ⌝ }
+    ensures { λ r. ⌜ gotClue (now (s .entry)) r ≡ clue (rest (now (s .entry)) at) ⌝ }
 {
     let Place::At(a) = bytes::word_at(s, at, b"(clue ") else {
         return ClueRead::No;
@@ -74,7 +74,7 @@ pub fn clue_at(s: &[u8], at: usize) -> ClueRead
 
 // `(decide b s)`
 fn decide_at(s: &[u8], at: usize) -> CallRead
-    ensures { λ r. ⌜ callOf (now (s .entry)) r ≡ decide (rest (now (s .entry)) at) ⌝ }
+    ensures { λ r. ⌜ gotCall (now (s .entry)) r ≡ decide (rest (now (s .entry)) at) ⌝ }
 {
     let Place::At(a) = bytes::word_at(s, at, b"(decide ") else {
         return CallRead::No;
@@ -97,7 +97,7 @@ fn decide_at(s: &[u8], at: usize) -> CallRead
 
 // A call's line: `(undo)`, `(check)` or a decide.
 pub fn call_at(s: &[u8], at: usize) -> CallRead
-    ensures { λ r. ⌜ callOf (now (s .entry)) r ≡ call (rest (now (s .entry)) at) ⌝ }
+    ensures { λ r. ⌜ gotCall (now (s .entry)) r ≡ call (rest (now (s .entry)) at) ⌝ }
 {
     let Place::At(a) = bytes::word_at(s, at, b"(undo)\n") else {
         let Place::At(b) = bytes::word_at(s, at, b"(check)\n") else {

@@ -45,8 +45,8 @@ clash (some m) none = false
 clash none o = false
 
 -- the first clue among some cells
-unfoldable pub clueOf : (ℕ → Option ℕ) → List ℕ → Option ℕ
-clueOf clue xs = firstHit clue xs
+unfoldable pub blockClue : (ℕ → Option ℕ) → List ℕ → Option ℕ
+blockClue clue xs = firstHit clue xs
 
 pub data Answer : Type 0 where
   pass : ℕ → Answer
@@ -114,7 +114,7 @@ module _ (Z : Puzzle) (s : ℕ → Mark) where
       orElse (cellHits B [] xs)
       (orElse
       (firstHit (λ c. smallHit B xs c (head? (coloured c xs))) (false ∷ true ∷ []))
-      (clueHit B xs (clueOf (Z .clue) xs)))
+      (clueHit B xs (blockClue (Z .clue) xs)))
 
   -- "Per block B"
   unfoldable pub blockHit : ℕ → Option Reason

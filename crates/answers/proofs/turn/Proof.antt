@@ -1,5 +1,5 @@
 -- `turn` meets its contract: no call is left, or the call's line begins.
-use Rattle.page.specs.Places.{callOf}
+use Rattle.page.specs.Places.{gotCall}
 use Rattle.page.specs.ReaderLaws.{told}
 use Rattle.answers.specs.LeftLaws.{turn-end, turn-goes}
 use borrow.Author.Needs.{needs}
@@ -16,8 +16,8 @@ enum-told : tie.Need-enum-told
 enum-told c = search needs
 
 returns : tie.Need-returns
-unfolding callOf
-returns c = turn-end _ _ _ _ _ (told (callOf _) (c .before .before .call-at .ensures) (c .enum-told .given .1))
+unfolding gotCall
+returns c = turn-end _ _ _ _ _ (told (gotCall _) (c .before .before .call-at .ensures) (c .enum-told .given .1))
 
 call-requires : tie.Need-call-requires
 call-requires c κs = search needs
@@ -38,10 +38,10 @@ same-length-2 : tie.Need-same-length-2
 same-length-2 c = search needs
 
 returns-2 : tie.Need-returns-2
-unfolding callOf
+unfolding gotCall
 returns-2 c =
     let d = c .before .before .before .before .before .before .before .before .before in
-    turn-goes _ _ _ _ _ _ (told (callOf _) (d .before .before .before .before .before .call-at .ensures)
+    turn-goes _ _ _ _ _ _ (told (gotCall _) (d .before .before .before .before .before .call-at .ensures)
     (d .before .before .before .call .given .1)) (d .call2 .ensures)
     (c .before .before .before .before .before .stage-of .ensures) (c .before .before .before .line-of .ensures)
     (c .before .before .put-line .ensures) (search needs)

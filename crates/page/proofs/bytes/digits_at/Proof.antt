@@ -1,6 +1,6 @@
 -- `digits_at` meets its contract: the digits passed stand before those read on from p.
 use Prim.Native.Nat.{_≤_, _-_}
-use Rattle.page.specs.Places.{digitsIn, digitsOf}
+use Rattle.page.specs.Places.{digitsIn, gotDigits}
 use Rattle.page.specs.ReaderLaws.{after, digits-none, digits-not, digits-first}
 use Rattle.page.specs.ReaderLaws.{digits-past, digits-stop, digits-bad, digits-more}
 use Rattle.page.specs.Readers.{rest, digits, digitsOn}
@@ -17,7 +17,7 @@ abbrev μ-loop : tie.MeasureT-loop
 μ-loop s at stop p₀ p = length s - p
 
 returns : tie.Need-returns Inv-loop μ-loop
-unfolding digitsOf
+unfolding gotDigits
 returns c = sym (digits-none _ _ _ (search needs))
 
 shared-slice-read-is-digit : tie.Need-shared-slice-read-is-digit Inv-loop μ-loop
@@ -39,7 +39,7 @@ add-t15 : tie.Need-add-t15 Inv-loop μ-loop
 add-t15 c = search needs
 
 returns-2 : tie.Need-returns-2 Inv-loop μ-loop
-unfolding digitsOf
+unfolding gotDigits
 returns-2 c = sym (c .before .before .before .loop .inv .1 ∙ digits-stop _ _ _ _ (search needs) (c .if3 .taken))
 
 is-digit-requires-2 : tie.Need-is-digit-requires-2 Inv-loop μ-loop
@@ -60,7 +60,7 @@ loop-again c = (
 )
 
 returns-3 : tie.Need-returns-3 Inv-loop μ-loop
-unfolding digitsOf
+unfolding gotDigits
 returns-3 c =
     sym
     (c .before .before .before .before .before .loop .inv .1 ∙
@@ -68,11 +68,11 @@ returns-3 c =
     (sym (c .before .is-digit2 .ensures) ∙ c .if4 .left))
 
 returns-4 : tie.Need-returns-4 Inv-loop μ-loop
-unfolding digitsOf
+unfolding gotDigits
 returns-4 c = sym (c .before .loop .inv .1 ∙ digits-past _ _ _ _ (search needs))
 
 returns-5 : tie.Need-returns-5 Inv-loop μ-loop
-unfolding digitsOf
+unfolding gotDigits
 returns-5 c = sym (digits-not _ _ _ (search needs) (sym (c .before .is-digit .ensures) ∙ c .if2 .left))
 
 pub digits-at-spec : {M : Type 1} → statement M

@@ -1,5 +1,5 @@
 -- `number_at` meets its contract: the first digit, then `number_on`.
-use Rattle.page.specs.Places.{numberOf}
+use Rattle.page.specs.Places.{gotNumber}
 use Rattle.page.specs.ReaderLaws.{digit-low, digit-high, number-past, number-not, number-first}
 use borrow.Author.Needs.{needs}
 use mathlib.Core.Path.{sym, _∙_}
@@ -8,7 +8,7 @@ use Rattle.page.proofs.bytes.number_at.Statement.{statement}
 use Rattle.page.proofs.bytes.number_at.Tie as tie
 
 returns : tie.Need-returns
-unfolding numberOf
+unfolding gotNumber
 returns c = sym (number-past _ _ _ (search needs))
 
 shared-slice-read-b : tie.Need-shared-slice-read-b
@@ -41,7 +41,7 @@ returns-2 c = c .number-on .ensures
     (sym (c .before .before .before .is-digit .ensures) ∙ c .before .before .if2 .taken)))
 
 returns-3 : tie.Need-returns-3
-unfolding numberOf
+unfolding gotNumber
 returns-3 c = sym (number-not _ _ _ (search needs) (sym (c .before .is-digit .ensures) ∙ c .if2 .left))
 
 pub number-at-spec : {M : Type 1} → statement M

@@ -1,6 +1,6 @@
 -- `number_on` meets its contract: the number read so far goes on at p as the whole did at `at`.
 use Prim.Native.Nat.{_≤_, _-_}
-use Rattle.page.specs.Places.{numberOf}
+use Rattle.page.specs.Places.{gotNumber}
 use Rattle.page.specs.ReaderLaws.{digit-low, digit-high, may-not, may-zero, may-large, may}
 use Rattle.page.specs.ReaderLaws.{on-past, on-stop, on-not, on-more}
 use Rattle.page.specs.Readers.{rest, numberOn}
@@ -27,14 +27,14 @@ add-t13 : tie.Need-add-t13 Inv-loop μ-loop
 add-t13 c = search needs
 
 returns : tie.Need-returns Inv-loop μ-loop
-unfolding numberOf
+unfolding gotNumber
 returns c = sym (c .before .before .before .loop .inv .0 ∙ on-stop _ _ _ _ (search needs) (search needs))
 
 is-digit-requires : tie.Need-is-digit-requires Inv-loop μ-loop
 is-digit-requires c κs = search needs
 
 returns-2 : tie.Need-returns-2 Inv-loop μ-loop
-unfolding numberOf
+unfolding gotNumber
 returns-2 c =
     sym
     (c .before .before .before .before .before .before .loop .inv .0 ∙ on-not _ _ _ _ (search needs) (search needs)
@@ -64,7 +64,7 @@ add-more c =
     )
 
 returns-3 : tie.Need-returns-3 Inv-loop μ-loop
-unfolding numberOf
+unfolding gotNumber
 returns-3 c =
     sym
     (c .before .before .before .before .before .before .before .before .loop .inv .0
@@ -89,14 +89,14 @@ loop-again c = (
 )
 
 returns-4 : tie.Need-returns-4 Inv-loop μ-loop
-unfolding numberOf
+unfolding gotNumber
 returns-4 c =
     sym
     (c .before .before .before .before .before .loop .inv .0 ∙ on-not _ _ _ _ (search needs) (search needs)
     (may-not _ _ (sym (c .before .is-digit .ensures) ∙ c .if2 .left)))
 
 returns-5 : tie.Need-returns-5 Inv-loop μ-loop
-unfolding numberOf
+unfolding gotNumber
 returns-5 c = sym (c .before .loop .inv .0 ∙ on-past _ _ _ _ (search needs))
 
 pub number-on-spec : {M : Type 1} → statement M

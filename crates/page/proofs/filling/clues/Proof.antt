@@ -6,7 +6,7 @@ use Rattle.page.specs.Grammar.{clue}
 use Rattle.page.specs.Judge.{placed}
 use Rattle.page.specs.Many.{passes}
 use Rattle.page.specs.PageText.{clue-takes}
-use Rattle.page.specs.Places.{allFrom, clueOf}
+use Rattle.page.specs.Places.{allFrom, gotClue}
 use Rattle.page.specs.ReaderLaws.{told}
 use borrow.Author.Needs.{needs}
 use lib.IntN.{negsuc}
@@ -27,10 +27,10 @@ abbrev μ-loop : tie.MeasureT-loop
 
 fits : (c : tie.After-known-told Inv-loop μ-loop)
     → Stores (c .before .before .before .before .before .before .before .args .w) (c .before .c .given .0 .0)
-unfolding clueOf
+unfolding gotClue
 fits c =
     stores _ _ _ _ (c .before .before .before .before .before .before .before .pre)
-    (told (clueOf _) (c .before .before .before .clue-at .ensures) (c .before .c .given .1))
+    (told (gotClue _) (c .before .before .before .clue-at .ensures) (c .before .c .given .1))
 
 loop-holds : tie.Need-loop-holds Inv-loop μ-loop
 loop-holds c = (search needs, refl)
@@ -45,10 +45,10 @@ enum-told : tie.Need-enum-told Inv-loop μ-loop
 enum-told c = search needs
 
 returns : tie.Need-returns Inv-loop μ-loop
-unfolding clueOf
+unfolding gotClue
 returns c = sym (c .before .before .before .before .loop .inv .1
     ∙ placed-none _ _ (from-none clue-takes _ _
-    (told (clueOf _) (c .before .before .clue-at .ensures) (c .enum-told .given .1))))
+    (told (gotClue _) (c .before .before .clue-at .ensures) (c .enum-told .given .1))))
 
 mul-cell : tie.Need-mul-cell Inv-loop μ-loop
 mul-cell c = omega (arith, fits (c .before) .product)
@@ -66,36 +66,36 @@ array-set-from-out : tie.Need-array-set-from-out Inv-loop μ-loop
 array-set-from-out c = search needs
 
 loop-less : tie.Need-loop-less Inv-loop μ-loop
-unfolding clueOf
+unfolding gotClue
 loop-less c = passes clue-takes _ _ _ _
-    (told (clueOf _) (c .before .before .before .before .before .before .before .clue-at .ensures)
+    (told (gotClue _) (c .before .before .before .before .before .before .before .clue-at .ensures)
     (c .before .before .before .before .before .c .given .1))
 
 loop-again : tie.Need-loop-again Inv-loop μ-loop
-unfolding clueOf
+unfolding gotClue
 loop-again c =
     let f = fits (c .before .before .before .before) in (
       simp length-set (c .before .before .before .before .before .before .before .before .before .loop .inv .0),
       c .before .before .before .before .before .before .before .before .before .loop .inv .1 ∙
           rw (toZ-pos w32 {n = c .before .before .before .before .before .c .given .0 .0 .n} (omega arith))
           (placed-more _ _ (from-more clue-takes _ _ _ _
-          (told (clueOf _) (c .before .before .before .before .before .before .before .clue-at .ensures)
+          (told (gotClue _) (c .before .before .before .before .before .before .before .clue-at .ensures)
           (c .before .before .before .before .before .c .given .1)))),
     )
 
 loop-less-2 : tie.Need-loop-less-2 Inv-loop μ-loop
-unfolding clueOf
+unfolding gotClue
 loop-less-2 c = passes clue-takes _ _ _ _
-    (told (clueOf _) (c .before .before .before .before .before .before .clue-at .ensures)
+    (told (gotClue _) (c .before .before .before .before .before .before .clue-at .ensures)
     (c .before .before .before .before .c .given .1))
 
 loop-again-2 : tie.Need-loop-again-2 Inv-loop μ-loop
-unfolding clueOf
+unfolding gotClue
 loop-again-2 c = (
   search needs,
   c .before .before .before .before .before .before .before .before .loop .inv .1
       ∙ placed-off _ _ (from-more clue-takes _ _ _ _
-      (told (clueOf _) (c .before .before .before .before .before .before .clue-at .ensures)
+      (told (gotClue _) (c .before .before .before .before .before .before .clue-at .ensures)
       (c .before .before .before .before .c .given .1))) (search needs),
 )
 

@@ -6,7 +6,7 @@ use Rattle.page.specs.Judge.{cluesLow}
 use Rattle.page.specs.ListExtras.{all-nil, all-fails, all-more}
 use Rattle.page.specs.Many.{passes}
 use Rattle.page.specs.PageText.{clue-takes}
-use Rattle.page.specs.Places.{allFrom, clueOf}
+use Rattle.page.specs.Places.{allFrom, gotClue}
 use Rattle.page.specs.ReaderLaws.{told}
 use borrow.Author.Needs.{needs}
 use borrow.Author.Tests.{le-leb, lt-leb}
@@ -34,35 +34,35 @@ enum-told : tie.Need-enum-told Inv-loop μ-loop
 enum-told c = search needs
 
 returns : tie.Need-returns Inv-loop μ-loop
-unfolding clueOf cluesLow
+unfolding gotClue cluesLow
 returns c =
     sym
     (c .before .before .before .before .loop .inv ∙
     all-nil _ (from-none clue-takes _ _
-    (told (clueOf _) (c .before .before .clue-at .ensures) (c .enum-told .given .1))))
+    (told (gotClue _) (c .before .before .clue-at .ensures) (c .enum-told .given .1))))
 
 returns-2 : tie.Need-returns-2 Inv-loop μ-loop
-unfolding clueOf cluesLow
+unfolding gotClue cluesLow
 returns-2 c =
     sym
     (c .before .before .before .before .before .before .before .loop .inv ∙
     all-fails _ (from-more clue-takes _ _ _ _
-    (told (clueOf _) (c .before .before .before .before .before .clue-at .ensures)
+    (told (gotClue _) (c .before .before .before .before .before .clue-at .ensures)
     (c .before .before .before .c .given .1)))
     (lt-leb _ _ (c .if1 .taken)))
 
 loop-less : tie.Need-loop-less Inv-loop μ-loop
-unfolding clueOf
+unfolding gotClue
 loop-less c = passes clue-takes _ _ _ _
-    (told (clueOf _) (c .before .before .before .before .before .clue-at .ensures)
+    (told (gotClue _) (c .before .before .before .before .before .clue-at .ensures)
     (c .before .before .before .c .given .1))
 
 loop-again : tie.Need-loop-again Inv-loop μ-loop
-unfolding clueOf cluesLow
+unfolding gotClue cluesLow
 loop-again c =
     c .before .before .before .before .before .before .before .loop .inv ∙
     all-more _ (from-more clue-takes _ _ _ _
-    (told (clueOf _) (c .before .before .before .before .before .clue-at .ensures)
+    (told (gotClue _) (c .before .before .before .before .before .clue-at .ensures)
     (c .before .before .before .c .given .1)))
     (le-leb _ _ (c .if1 .left))
 

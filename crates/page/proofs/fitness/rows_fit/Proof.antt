@@ -6,7 +6,7 @@ use Rattle.page.specs.Judge.{rowsFit}
 use Rattle.page.specs.JudgeLaws.{length-digits, rows-none, rows-many, rows-other, rows-more}
 use Rattle.page.specs.Many.{passes}
 use Rattle.page.specs.PageText.{row-takes}
-use Rattle.page.specs.Places.{allFrom, rowOf}
+use Rattle.page.specs.Places.{allFrom, gotRow}
 use Rattle.page.specs.ReaderLaws.{told}
 use borrow.Author.Needs.{needs}
 use lib.ListN.{length}
@@ -33,32 +33,32 @@ enum-told : tie.Need-enum-told Inv-loop μ-loop
 enum-told c = search needs
 
 returns : tie.Need-returns Inv-loop μ-loop
-unfolding rowOf
+unfolding gotRow
 returns c =
     sym
     (c .before .before .before .before .loop .inv ∙
     rows-none _ _ (from-none row-takes _ _
-    (told (rowOf _) (c .before .before .row-at .ensures) (c .enum-told .given .1))))
+    (told (gotRow _) (c .before .before .row-at .ensures) (c .enum-told .given .1))))
 
 returns-2 : tie.Need-returns-2 Inv-loop μ-loop
-unfolding rowOf
+unfolding gotRow
 returns-2 c =
     sym
     (c .before .before .before .before .before .before .loop .inv ∙
     rows-many _ _ (from-more row-takes _ _ _ _
-    (told (rowOf _) (c .before .before .before .before .row-at .ensures) (c .before .before .from .given .1)))
+    (told (gotRow _) (c .before .before .before .before .row-at .ensures) (c .before .before .from .given .1)))
     (c .if1 .taken))
 
 places-requires : tie.Need-places-requires Inv-loop μ-loop
 places-requires c κs = search needs
 
 returns-3 : tie.Need-returns-3 Inv-loop μ-loop
-unfolding rowOf
+unfolding gotRow
 returns-3 c =
     sym
     (c .before .before .before .before .before .before .before .before .loop .inv ∙
     rows-other _ _ (from-more row-takes _ _ _ _
-    (told (rowOf _) (c .before .before .before .before .before .before .row-at .ensures)
+    (told (gotRow _) (c .before .before .before .before .before .before .row-at .ensures)
     (c .before .before .before .before .from .given .1)))
     (λ q. c .if2 .taken (c .before .places .ensures ∙ sym (length-digits _ _ _) ∙ q)))
 
@@ -66,17 +66,17 @@ sub-left : tie.Need-sub-left Inv-loop μ-loop
 sub-left c = search needs
 
 loop-less : tie.Need-loop-less Inv-loop μ-loop
-unfolding rowOf
+unfolding gotRow
 loop-less c = passes row-takes _ _ _ _
-    (told (rowOf _) (c .before .before .before .before .before .before .row-at .ensures)
+    (told (gotRow _) (c .before .before .before .before .before .before .row-at .ensures)
     (c .before .before .before .before .from .given .1))
 
 loop-again : tie.Need-loop-again Inv-loop μ-loop
-unfolding rowOf
+unfolding gotRow
 loop-again c =
     c .before .before .before .before .before .before .before .before .loop .inv ∙
     rows-more _ _ (from-more row-takes _ _ _ _
-    (told (rowOf _) (c .before .before .before .before .before .before .row-at .ensures)
+    (told (gotRow _) (c .before .before .before .before .before .before .row-at .ensures)
     (c .before .before .before .before .from .given .1)))
     (search needs) (length-digits _ _ _ ∙ sym (c .before .places .ensures) ∙ c .if2 .left)
 

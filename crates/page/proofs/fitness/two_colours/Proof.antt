@@ -6,7 +6,7 @@ use Rattle.page.specs.Judge.{twoColours}
 use Rattle.page.specs.ListExtras.{all-nil, all-fails, all-more}
 use Rattle.page.specs.Many.{passes}
 use Rattle.page.specs.PageText.{row-takes}
-use Rattle.page.specs.Places.{allFrom, rowOf}
+use Rattle.page.specs.Places.{allFrom, gotRow}
 use Rattle.page.specs.ReaderLaws.{told}
 use borrow.Author.Needs.{needs}
 use lib.ListN.{length}
@@ -33,37 +33,37 @@ enum-told : tie.Need-enum-told Inv-loop μ-loop
 enum-told c = search needs
 
 returns : tie.Need-returns Inv-loop μ-loop
-unfolding rowOf twoColours
+unfolding gotRow twoColours
 returns c =
     sym
     (c .before .before .before .before .loop .inv ∙
-    all-nil _ (from-none row-takes _ _ (told (rowOf _) (c .before .before .row-at .ensures) (c .enum-told .given .1))))
+    all-nil _ (from-none row-takes _ _ (told (gotRow _) (c .before .before .row-at .ensures) (c .enum-told .given .1))))
 
 digits-low-requires : tie.Need-digits-low-requires Inv-loop μ-loop
 digits-low-requires c κs = search needs
 
 loop-less : tie.Need-loop-less Inv-loop μ-loop
-unfolding rowOf
+unfolding gotRow
 loop-less c = passes row-takes _ _ _ _
-    (told (rowOf _) (c .before .before .before .before .before .row-at .ensures)
+    (told (gotRow _) (c .before .before .before .before .before .row-at .ensures)
     (c .before .before .before .from .given .1))
 
 loop-again : tie.Need-loop-again Inv-loop μ-loop
-unfolding rowOf twoColours
+unfolding gotRow twoColours
 loop-again c =
     c .before .before .before .before .before .before .before .loop .inv ∙
     all-more _ (from-more row-takes _ _ _ _
-    (told (rowOf _) (c .before .before .before .before .before .row-at .ensures)
+    (told (gotRow _) (c .before .before .before .before .before .row-at .ensures)
     (c .before .before .before .from .given .1)))
     (sym (c .before .digits-low .ensures) ∙ c .if1 .taken)
 
 returns-2 : tie.Need-returns-2 Inv-loop μ-loop
-unfolding rowOf twoColours
+unfolding gotRow twoColours
 returns-2 c =
     sym
     (c .before .before .before .before .before .before .before .loop .inv ∙
     all-fails _ (from-more row-takes _ _ _ _
-    (told (rowOf _) (c .before .before .before .before .before .row-at .ensures)
+    (told (gotRow _) (c .before .before .before .before .before .row-at .ensures)
     (c .before .before .before .from .given .1)))
     (sym (c .before .digits-low .ensures) ∙ c .if1 .left))
 

@@ -1,7 +1,7 @@
 -- `decide_at` meets its contract: each word and number read is what the reader reads there.
 use Rattle.lists.specs.Lists.{orElse}
 use Rattle.page.specs.Grammar.{decide, side}
-use Rattle.page.specs.Places.{callOf, placeOf, numberOf}
+use Rattle.page.specs.Places.{gotCall, placeOf, gotNumber}
 use Rattle.page.specs.ReaderLaws.{told}
 use Rattle.page.specs.Readers.{mapR, either, lead, onto, both, also, done}
 use borrow.Author.Needs.{needs}
@@ -21,7 +21,7 @@ enum-told : tie.Need-enum-told
 enum-told c = search needs
 
 returns : tie.Need-returns
-unfolding decide side mapR either orElse lead onto both also done callOf placeOf numberOf
+unfolding decide side mapR either orElse lead onto both also done gotCall placeOf gotNumber
 returns c = rw (told (placeOf _) (c .before .before .word-at .ensures) (c .enum-told .given .1))
 
 number-at-requires : tie.Need-number-at-requires
@@ -34,11 +34,11 @@ enum-told-2 : tie.Need-enum-told-2
 enum-told-2 c = search needs
 
 returns-2 : tie.Need-returns-2
-unfolding decide side mapR either orElse lead onto both also done callOf placeOf numberOf
+unfolding decide side mapR either orElse lead onto both also done gotCall placeOf gotNumber
 returns-2 c = rw (
   told (placeOf _) (c .before .before .before .before .before .before .word-at .ensures)
       (c .before .before .before .before .a .given .1),
-  told (numberOf _) (c .before .before .number-at .ensures) (c .enum-told2 .given .1),
+  told (gotNumber _) (c .before .before .number-at .ensures) (c .enum-told2 .given .1),
 )
 
 slice-aggregate-word-at-2 : tie.Need-slice-aggregate-word-at-2
@@ -66,13 +66,13 @@ enum-told-4 : tie.Need-enum-told-4
 enum-told-4 c = search needs
 
 returns-3 : tie.Need-returns-3
-unfolding decide side mapR either orElse lead onto both also done callOf placeOf numberOf
+unfolding decide side mapR either orElse lead onto both also done gotCall placeOf gotNumber
 returns-3 c = rw (
   told (placeOf _)
       (c .before .before .before .before .before .before .before .before .before .before .before .before .before .before
       .before .word-at .ensures) (c .before .before .before .before .before .before .before .before .before .before
       .before .before .before .a .given .1),
-  told (numberOf _) (c .before .before .before .before .before .before .before .before .before .before .before
+  told (gotNumber _) (c .before .before .before .before .before .before .before .before .before .before .before
       .number-at .ensures) (c .before .before .before .before .before .before .before .before .before .border .given
       .1),
   told (placeOf _) (c .before .before .before .before .before .before .word-at2 .ensures)
@@ -81,14 +81,14 @@ returns-3 c = rw (
 )
 
 returns-4 : tie.Need-returns-4
-unfolding decide side mapR either orElse lead onto both also done callOf placeOf numberOf
+unfolding decide side mapR either orElse lead onto both also done gotCall placeOf gotNumber
 returns-4 c = rw (
   told (placeOf _)
       (c .before .before .before .before .before .before .before .before .before .before .before .before .before .before
       .before .before .word-at .ensures)
       (c .before .before .before .before .before .before .before .before .before .before .before .before .before .before
       .a .given .1),
-  told (numberOf _) (c .before .before .before .before .before .before .before .before .before .before .before
+  told (gotNumber _) (c .before .before .before .before .before .before .before .before .before .before .before
       .before .number-at .ensures) (c .before .before .before .before .before .before .before .before .before .before
       .border .given .1),
   told (placeOf _) (c .before .before .before .before .before .before .before .word-at2 .ensures)
@@ -97,12 +97,12 @@ returns-4 c = rw (
 )
 
 returns-5 : tie.Need-returns-5
-unfolding decide side mapR either orElse lead onto both also done callOf placeOf numberOf
+unfolding decide side mapR either orElse lead onto both also done gotCall placeOf gotNumber
 returns-5 c = rw (
   told (placeOf _)
       (c .before .before .before .before .before .before .before .before .before .before .before .before .word-at
       .ensures) (c .before .before .before .before .before .before .before .before .before .before .a .given .1),
-  told (numberOf _) (c .before .before .before .before .before .before .before .before .number-at .ensures)
+  told (gotNumber _) (c .before .before .before .before .before .before .before .before .number-at .ensures)
       (c .before .before .before .before .before .before .border .given .1),
   told (placeOf _) (c .before .before .before .word-at2 .ensures) (c .before .d .given .1),
 )

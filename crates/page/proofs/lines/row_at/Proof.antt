@@ -1,6 +1,6 @@
 -- `row_at` meets its contract: each word and the digits read are what the reader reads there.
 use Rattle.page.specs.Grammar.{row}
-use Rattle.page.specs.Places.{rowOf, placeOf, digitsOf}
+use Rattle.page.specs.Places.{gotRow, placeOf, gotDigits}
 use Rattle.page.specs.ReaderLaws.{told}
 use Rattle.page.specs.Readers.{lead, trail, done, onto, also}
 use borrow.Author.Needs.{needs}
@@ -20,7 +20,7 @@ enum-told : tie.Need-enum-told
 enum-told c = search needs
 
 returns : tie.Need-returns
-unfolding row lead trail done onto also rowOf placeOf digitsOf
+unfolding row lead trail done onto also gotRow placeOf gotDigits
 returns c = rw (told (placeOf _) (c .before .before .word-at .ensures) (c .enum-told .given .1))
 
 digits-at-requires : tie.Need-digits-at-requires
@@ -33,11 +33,11 @@ enum-told-2 : tie.Need-enum-told-2
 enum-told-2 c = search needs
 
 returns-2 : tie.Need-returns-2
-unfolding row lead trail done onto also rowOf placeOf digitsOf
+unfolding row lead trail done onto also gotRow placeOf gotDigits
 returns-2 c = rw (
   told (placeOf _) (c .before .before .before .before .before .before .word-at .ensures)
       (c .before .before .before .before .from .given .1),
-  told (digitsOf _ _) (c .before .before .digits-at .ensures) (c .enum-told2 .given .1),
+  told (gotDigits _ _) (c .before .before .digits-at .ensures) (c .enum-told2 .given .1),
 )
 
 slice-aggregate-word-at-2 : tie.Need-slice-aggregate-word-at-2
@@ -53,23 +53,23 @@ enum-told-3 : tie.Need-enum-told-3
 enum-told-3 c = search needs
 
 returns-3 : tie.Need-returns-3
-unfolding row lead trail done onto also rowOf placeOf digitsOf
+unfolding row lead trail done onto also gotRow placeOf gotDigits
 returns-3 c = rw (
   told (placeOf _)
       (c .before .before .before .before .before .before .before .before .before .before .before .word-at .ensures)
       (c .before .before .before .before .before .before .before .before .before .from .given .1),
-  told (digitsOf _ _) (c .before .before .before .before .before .before .before .digits-at .ensures)
+  told (gotDigits _ _) (c .before .before .before .before .before .before .before .digits-at .ensures)
       (c .before .before .before .before .before .to .given .1),
   told (placeOf _) (c .before .before .word-at2 .ensures) (c .enum-told3 .given .1),
 )
 
 returns-4 : tie.Need-returns-4
-unfolding row lead trail done onto also rowOf placeOf digitsOf
+unfolding row lead trail done onto also gotRow placeOf gotDigits
 returns-4 c = rw (
   told (placeOf _)
       (c .before .before .before .before .before .before .before .before .before .before .before .before .word-at
       .ensures) (c .before .before .before .before .before .before .before .before .before .before .from .given .1),
-  told (digitsOf _ _) (c .before .before .before .before .before .before .before .before .digits-at .ensures)
+  told (gotDigits _ _) (c .before .before .before .before .before .before .before .before .digits-at .ensures)
       (c .before .before .before .before .before .before .to .given .1),
   told (placeOf _) (c .before .before .before .word-at2 .ensures) (c .before .next .given .1),
 )

@@ -1,6 +1,6 @@
 -- `size_at` meets its contract: each word and number read is what the reader reads there.
 use Rattle.page.specs.Grammar.{size}
-use Rattle.page.specs.Places.{sizeOf, placeOf, numberOf}
+use Rattle.page.specs.Places.{gotSize, placeOf, gotNumber}
 use Rattle.page.specs.ReaderLaws.{told}
 use Rattle.page.specs.Readers.{lead, both, trail, done, onto, also}
 use borrow.Author.Needs.{needs}
@@ -20,7 +20,7 @@ enum-told : tie.Need-enum-told
 enum-told c = search needs
 
 returns : tie.Need-returns
-unfolding size lead both trail done onto also sizeOf placeOf numberOf
+unfolding size lead both trail done onto also gotSize placeOf gotNumber
 returns c = rw (told (placeOf _) (c .before .before .word-at .ensures) (c .enum-told .given .1))
 
 number-at-requires : tie.Need-number-at-requires
@@ -33,11 +33,11 @@ enum-told-2 : tie.Need-enum-told-2
 enum-told-2 c = search needs
 
 returns-2 : tie.Need-returns-2
-unfolding size lead both trail done onto also sizeOf placeOf numberOf
+unfolding size lead both trail done onto also gotSize placeOf gotNumber
 returns-2 c = rw (
   told (placeOf _) (c .before .before .before .before .before .before .word-at .ensures)
       (c .before .before .before .before .a .given .1),
-  told (numberOf _) (c .before .before .number-at .ensures) (c .enum-told2 .given .1),
+  told (gotNumber _) (c .before .before .number-at .ensures) (c .enum-told2 .given .1),
 )
 
 number-at-requires-2 : tie.Need-number-at-requires-2
@@ -50,14 +50,14 @@ enum-told-3 : tie.Need-enum-told-3
 enum-told-3 c = search needs
 
 returns-3 : tie.Need-returns-3
-unfolding size lead both trail done onto also sizeOf placeOf numberOf
+unfolding size lead both trail done onto also gotSize placeOf gotNumber
 returns-3 c = rw (
   told (placeOf _)
       (c .before .before .before .before .before .before .before .before .before .before .word-at .ensures)
       (c .before .before .before .before .before .before .before .before .a .given .1),
-  told (numberOf _) (c .before .before .before .before .before .before .number-at .ensures)
+  told (gotNumber _) (c .before .before .before .before .before .before .number-at .ensures)
       (c .before .before .before .before .h .given .1),
-  told (numberOf _) (c .before .before .number-at2 .ensures) (c .enum-told3 .given .1),
+  told (gotNumber _) (c .before .before .number-at2 .ensures) (c .enum-told3 .given .1),
 )
 
 slice-aggregate-word-at-2 : tie.Need-slice-aggregate-word-at-2
@@ -73,31 +73,31 @@ enum-told-4 : tie.Need-enum-told-4
 enum-told-4 c = search needs
 
 returns-4 : tie.Need-returns-4
-unfolding size lead both trail done onto also sizeOf placeOf numberOf
+unfolding size lead both trail done onto also gotSize placeOf gotNumber
 returns-4 c = rw (
   told (placeOf _)
       (c .before .before .before .before .before .before .before .before .before .before .before .before .before .before
       .before .word-at .ensures) (c .before .before .before .before .before .before .before .before .before .before
       .before .before .before .a .given .1),
-  told (numberOf _) (c .before .before .before .before .before .before .before .before .before .before .before
+  told (gotNumber _) (c .before .before .before .before .before .before .before .before .before .before .before
       .number-at .ensures) (c .before .before .before .before .before .before .before .before .before .h .given .1),
-  told (numberOf _) (c .before .before .before .before .before .before .before .number-at2 .ensures)
+  told (gotNumber _) (c .before .before .before .before .before .before .before .number-at2 .ensures)
       (c .before .before .before .before .before .w .given .1),
   told (placeOf _) (c .before .before .word-at2 .ensures) (c .enum-told4 .given .1),
 )
 
 returns-5 : tie.Need-returns-5
-unfolding size lead both trail done onto also sizeOf placeOf numberOf
+unfolding size lead both trail done onto also gotSize placeOf gotNumber
 returns-5 c = rw (
   told (placeOf _)
       (c .before .before .before .before .before .before .before .before .before .before .before .before .before .before
       .before .before .word-at .ensures)
       (c .before .before .before .before .before .before .before .before .before .before .before .before .before .before
       .a .given .1),
-  told (numberOf _) (c .before .before .before .before .before .before .before .before .before .before .before
+  told (gotNumber _) (c .before .before .before .before .before .before .before .before .before .before .before
       .before .number-at .ensures) (c .before .before .before .before .before .before .before .before .before .before
       .h .given .1),
-  told (numberOf _) (c .before .before .before .before .before .before .before .before .number-at2 .ensures)
+  told (gotNumber _) (c .before .before .before .before .before .before .before .before .number-at2 .ensures)
       (c .before .before .before .before .before .before .w .given .1),
   told (placeOf _) (c .before .before .before .word-at2 .ensures) (c .before .next .given .1),
 )

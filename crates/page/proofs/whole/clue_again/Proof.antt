@@ -6,7 +6,7 @@ use Rattle.page.specs.Grammar.{clue, sameCell}
 use Rattle.page.specs.ListExtras.{any-none, any-hit, any-more}
 use Rattle.page.specs.Many.{passes}
 use Rattle.page.specs.PageText.{clue-takes}
-use Rattle.page.specs.Places.{allFrom, clueOf}
+use Rattle.page.specs.Places.{allFrom, gotClue}
 use Rattle.page.specs.ReaderLaws.{told}
 use borrow.Author.Needs.{needs}
 use lib.ListN.{length}
@@ -33,38 +33,38 @@ enum-told : tie.Need-enum-told Inv-loop μ-loop
 enum-told c = search needs
 
 returns : tie.Need-returns Inv-loop μ-loop
-unfolding clueOf
+unfolding gotClue
 returns c =
     sym
     (c .before .before .before .before .loop .inv ∙
     any-none _ (from-none clue-takes _ _
-    (told (clueOf _) (c .before .before .clue-at .ensures) (c .enum-told .given .1))))
+    (told (gotClue _) (c .before .before .clue-at .ensures) (c .enum-told .given .1))))
 
 same-cell-requires : tie.Need-same-cell-requires Inv-loop μ-loop
 same-cell-requires c κs = search needs
 
 returns-2 : tie.Need-returns-2 Inv-loop μ-loop
-unfolding clueOf
+unfolding gotClue
 returns-2 c =
     sym
     (c .before .before .before .before .before .before .before .loop .inv ∙
     any-hit _ (from-more clue-takes _ _ _ _
-    (told (clueOf _) (c .before .before .before .before .before .clue-at .ensures)
+    (told (gotClue _) (c .before .before .before .before .before .clue-at .ensures)
     (c .before .before .before .d .given .1)))
     (sym (c .before .same-cell .ensures) ∙ c .if1 .taken))
 
 loop-less : tie.Need-loop-less Inv-loop μ-loop
-unfolding clueOf
+unfolding gotClue
 loop-less c = passes clue-takes _ _ _ _
-    (told (clueOf _) (c .before .before .before .before .before .clue-at .ensures)
+    (told (gotClue _) (c .before .before .before .before .before .clue-at .ensures)
     (c .before .before .before .d .given .1))
 
 loop-again : tie.Need-loop-again Inv-loop μ-loop
-unfolding clueOf
+unfolding gotClue
 loop-again c =
     c .before .before .before .before .before .before .before .loop .inv ∙
     any-more _ (from-more clue-takes _ _ _ _
-    (told (clueOf _) (c .before .before .before .before .before .clue-at .ensures)
+    (told (gotClue _) (c .before .before .before .before .before .clue-at .ensures)
     (c .before .before .before .d .given .1)))
     (sym (c .before .same-cell .ensures) ∙ c .if1 .left)
 

@@ -4,7 +4,7 @@ use Rattle.page.specs.FormLaws.{from-past, from-none, from-more, fit-non
 use Rattle.page.specs.Grammar.{clue, cluesFit}
 use Rattle.page.specs.Many.{passes}
 use Rattle.page.specs.PageText.{clue-takes}
-use Rattle.page.specs.Places.{allFrom, clueOf}
+use Rattle.page.specs.Places.{allFrom, gotClue}
 use Rattle.page.specs.ReaderLaws.{told}
 use borrow.Author.Needs.{needs}
 use lib.ListN.{length}
@@ -31,12 +31,12 @@ enum-told : tie.Need-enum-told Inv-loop μ-loop
 enum-told c = search needs
 
 returns : tie.Need-returns Inv-loop μ-loop
-unfolding clueOf
+unfolding gotClue
 returns c =
     sym
     (c .before .before .before .before .loop .inv ∙
     fit-none _ _ (from-none clue-takes _ _
-    (told (clueOf _) (c .before .before .clue-at .ensures) (c .enum-told .given .1))))
+    (told (gotClue _) (c .before .before .clue-at .ensures) (c .enum-told .given .1))))
 
 on-page-requires : tie.Need-on-page-requires Inv-loop μ-loop
 on-page-requires c κs = search needs
@@ -45,39 +45,39 @@ clue-again-requires : tie.Need-clue-again-requires Inv-loop μ-loop
 clue-again-requires c κs = search needs
 
 returns-2 : tie.Need-returns-2 Inv-loop μ-loop
-unfolding clueOf
+unfolding gotClue
 returns-2 c =
     sym
     (c .before .before .before .before .before .before .before .before .before .loop .inv ∙
     fit-twice _ _ _ _ (from-more clue-takes _ _ _ _
-    (told (clueOf _) (c .before .before .before .before .before .before .before .clue-at .ensures)
+    (told (gotClue _) (c .before .before .before .before .before .before .before .clue-at .ensures)
     (c .before .before .before .before .before .c .given .1)))
     (sym (c .before .before .before .on-page .ensures) ∙ c .before .before .if1 .taken)
     (sym (c .before .clue-again .ensures) ∙ c .if2 .taken))
 
 loop-less : tie.Need-loop-less Inv-loop μ-loop
-unfolding clueOf
+unfolding gotClue
 loop-less c = passes clue-takes _ _ _ _
-    (told (clueOf _) (c .before .before .before .before .before .before .before .clue-at .ensures)
+    (told (gotClue _) (c .before .before .before .before .before .before .before .clue-at .ensures)
     (c .before .before .before .before .before .c .given .1))
 
 loop-again : tie.Need-loop-again Inv-loop μ-loop
-unfolding clueOf
+unfolding gotClue
 loop-again c =
     c .before .before .before .before .before .before .before .before .before .loop .inv ∙
     fit-more _ _ _ _ (from-more clue-takes _ _ _ _
-    (told (clueOf _) (c .before .before .before .before .before .before .before .clue-at .ensures)
+    (told (gotClue _) (c .before .before .before .before .before .before .before .clue-at .ensures)
     (c .before .before .before .before .before .c .given .1)))
     (sym (c .before .before .before .on-page .ensures) ∙ c .before .before .if1 .taken)
     (sym (c .before .clue-again .ensures) ∙ c .if2 .left)
 
 returns-3 : tie.Need-returns-3 Inv-loop μ-loop
-unfolding clueOf
+unfolding gotClue
 returns-3 c =
     sym
     (c .before .before .before .before .before .before .before .loop .inv ∙
     fit-off _ _ _ _ (from-more clue-takes _ _ _ _
-    (told (clueOf _) (c .before .before .before .before .before .clue-at .ensures)
+    (told (gotClue _) (c .before .before .before .before .before .clue-at .ensures)
     (c .before .before .before .c .given .1)))
     (sym (c .before .on-page .ensures) ∙ c .if1 .left))
 

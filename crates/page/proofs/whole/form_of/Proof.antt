@@ -1,6 +1,6 @@
 -- `form_of` meets its contract: the words and the lines read are what the readers read there.
 use Rattle.page.specs.FormLaws.{Body, too-long, no-page, no-size, no-end, more-left, misfit, good}
-use Rattle.page.specs.Places.{formOf, placeOf, sizeOf, endOf, sheetAt}
+use Rattle.page.specs.Places.{formOf, placeOf, gotSize, endOf, sheetAt}
 use Rattle.page.specs.ReaderLaws.{told, rest-all}
 use borrow.Author.Needs.{needs}
 use mathlib.Core.Path.{sym, _∙_}
@@ -19,14 +19,14 @@ body : (c : tie.After-lines-end3)
     → Body (at-word c .before .before .before .before .before .before .args .s .now)
     (at-size c .height .given .0 .0) (at-size c .height .given .0 .1 .0) (at-size c .height .given .0 .1 .1 .0)
     (c .before .before .lines-end .result) (c .before .lines-end2 .result) (c .lines-end3 .result)
-unfolding placeOf sizeOf endOf
+unfolding placeOf gotSize endOf
 body c =
     record {
       short = at-word c .before .before .before .before .if1 .left;
       start = _;
       paged =
           rw rest-all at (told (placeOf _) (at-word c .before .before .word-at .ensures) (at-word c .a .given .1));
-      sized = told (sizeOf _) (at-size c .before .before .size-at .ensures) (at-size c .height .given .1);
+      sized = told (gotSize _) (at-size c .before .before .size-at .ensures) (at-size c .height .given .1);
       rowed = c .before .before .lines-end .ensures;
       clued = c .before .lines-end2 .ensures;
       called = c .lines-end3 .ensures;
@@ -63,13 +63,13 @@ enum-told-2 : tie.Need-enum-told-2
 enum-told-2 c = search needs
 
 returns-3 : tie.Need-returns-3
-unfolding formOf placeOf sizeOf
+unfolding formOf placeOf gotSize
 returns-3 c =
     sym
     (no-size _ (c .before .before .before .before .before .before .before .before .if1 .left) _
     (rw rest-all at (told (placeOf _) (c .before .before .before .before .before .before .word-at .ensures)
     (c .before .before .before .before .a .given .1)))
-    (told (sizeOf _) (c .before .before .size-at .ensures) (c .enum-told2 .given .1)))
+    (told (gotSize _) (c .before .before .size-at .ensures) (c .enum-told2 .given .1)))
 
 lines-end-requires : tie.Need-lines-end-requires
 lines-end-requires c κs = search needs
