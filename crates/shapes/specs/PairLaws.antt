@@ -14,13 +14,14 @@ use mir.Syntax.{w32}
 use mir.Val.{SFits, toZ, ofZ}
 use mir.Facts.{toZ-ofZ}
 use Rattle.rules.specs.Page.{Point}
-use Rattle.rules.specs.Turns.{Axis, layerward, rowward, columnward, Row, Turn, coordinate, signed, read, apply}
+use Rattle.rules.specs.Turns.{Axis, layerward, rowward, columnward, Row, coordinate, signed, read, apply}
 use Rattle.rules.specs.Turns.{flatTurn}
 use Rattle.rules.specs.Shapes.{before, lessℤ, sameℤ}
 use Rattle.argument.specs.Points.{point-eq}
 use Rattle.shapes.specs.OrderLaws.{less-irrefl, less-total, same-eq, same-refl}
 use Rattle.shapes.specs.declared.Pair.{Pair}
-use Rattle.shapes.specs.Pairs.{pointAt, pointOf, Small, Sign, turnBy, Reads}
+use Rattle.shapes.specs.declared.Signs.{Signs}
+use Rattle.shapes.specs.Pairs.{pointAt, pointOf, Small, Sign, BothSigns, turnBy, signOf, signsOf}
 use Rattle.shapes.specs.Rows.{turnAt}
 
 pub one-times : (z : ℤ) → pos 1 *ℤ z ≡ z
@@ -75,11 +76,7 @@ times-back s z e h =
     toZ-ofZ {w = w32} {z = toZ w32 (ofZ w32 s) *ℤ toZ w32 (ofZ w32 z)} (times-fits s z e h)
     ∙ ap₂ (λ x y. x *ℤ y) (small-back s (sign-small s e)) (small-back z h)
 
--- a sign as the code has it
-abbrev pub signOf : Bool → ℤ
-signOf true = negsuc 0
-signOf false = pos 1
-
+-- a row of the table as the code has it
 sign-is : (b : Bool) → Sign (signOf b)
 sign-is true = inr refl
 sign-is false = inl refl
@@ -88,27 +85,33 @@ sign-times : (b : Bool) (z : ℤ) → signOf b *ℤ z ≡ signed b z
 sign-times true z = minus-times z
 sign-times false z = one-times z
 
--- a row of the definition's table by its swap and its signs
-abbrev pub rowFor : Bool → Bool → Bool → Turn
-rowFor true down across =
-    flatTurn (record { axis = columnward; minus = down }) (record { axis = rowward; minus = across })
-rowFor false down across =
-    flatTurn (record { axis = rowward; minus = down }) (record { axis = columnward; minus = across })
-
-turn-row : (swap down across : Bool) (y x : ℤ)
+-- every row is a row of a flat page, which swaps or not
+flat-turns : (swap down across : Bool) (y x : ℤ)
     → pointOf (turnBy (record { swap = swap; down = signOf down; across = signOf across }) y x)
-    ≡ apply (rowFor swap down across) (pointAt y x)
+    ≡ apply (flatTurn (record { axis = cond swap columnward rowward; minus = down })
+    (record { axis = cond swap rowward columnward; minus = across })) (pointAt y x)
 unfolding apply turnBy
-turn-row true d a y x = point-eq refl (sign-times d x) (sign-times a y)
-turn-row false d a y x = point-eq refl (sign-times d y) (sign-times a x)
+flat-turns true d a y x = point-eq refl (sign-times d x) (sign-times a y)
+flat-turns false d a y x = point-eq refl (sign-times d y) (sign-times a x)
 
-pub row-reads : (r : ℕ) (swap down across : Bool) → turnAt r ≡ rowFor swap down across
-    → Reads r (record { swap = swap; down = signOf down; across = signOf across })
-row-reads r swap down across e =
-    record {
-      signs = record { down = sign-is down; across = sign-is across };
-      turns = λ y x. turn-row swap down across y x ∙ ap (λ t. apply t (pointAt y x)) (sym e);
-    }
+row-turns : (r : ℕ) (y x : ℤ) → pointOf (turnBy (signsOf (turnAt r)) y x) ≡ apply (turnAt r) (pointAt y x)
+row-turns zero y x = flat-turns false false false y x
+row-turns (suc zero) y x = flat-turns false true true y x
+row-turns (suc (suc zero)) y x = flat-turns true true false y x
+row-turns (suc (suc (suc zero))) y x = flat-turns true false true y x
+row-turns (suc (suc (suc (suc zero)))) y x = flat-turns false true false y x
+row-turns (suc (suc (suc (suc (suc zero))))) y x = flat-turns false false true y x
+row-turns (suc (suc (suc (suc (suc (suc zero)))))) y x = flat-turns true false false y x
+row-turns (suc (suc (suc (suc (suc (suc (suc zero))))))) y x = flat-turns true true true y x
+row-turns (suc (suc (suc (suc (suc (suc (suc (suc r)))))))) y x = flat-turns false false false y x
+
+-- what the code read from a row: signs, and the turn of the definition
+module _ (r : ℕ) {s : Signs} (e : s ≡ signsOf (turnAt r)) where
+  pub signs-read : BothSigns s
+  signs-read = rw e (record { down = sign-is (turnAt r .rows .minus); across = sign-is (turnAt r .columns .minus) })
+
+  pub turns-read : (y x : ℤ) → pointOf (turnBy s y x) ≡ apply (turnAt r) (pointAt y x)
+  turns-read y x = ap (λ q. pointOf (turnBy q y x)) e ∙ row-turns r y x
 
 -- the order of two places, by the tests of the code
 pub less-test : (a b : ℤ) → ltZ a b ≡ lessℤ a b

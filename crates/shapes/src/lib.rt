@@ -11,7 +11,7 @@ ghost use Rattle.rules.specs.Turns.{apply};
 ghost use Rattle.rules.specs.Shapes.{before, shapeOf};
 ghost use Rattle.shapes.specs.Rows.{turnAt, fixes, flipListed, rowsBy, rowsOf};
 ghost use Rattle.shapes.specs.Listing.{listing};
-ghost use Rattle.shapes.specs.Pairs.{pointAt, pointOf, Small, SmallPair, BothSigns, turnBy, Reads};
+ghost use Rattle.shapes.specs.Pairs.{pointAt, pointOf, Small, SmallPair, BothSigns, turnBy, signsOf};
 ghost use Rattle.shapes.specs.Spots.{placeAt, spots, leastImage, cellIn, hasCell, within};
 ghost use Rattle.shapes.specs.Spots.{SpotIn, Spotted, UnitAt};
 
@@ -23,34 +23,70 @@ pub struct Pair {
     pub x: i32,
 }
 
-// The eight rows: whether the coordinates change places, and the signs of the new ones.
-const SWAP: [bool; 8] = [false, false, true, true, false, false, true, true];
-
-const DOWN: [i32; 8] = [1, -1, -1, 1, -1, 1, 1, -1];
-
-const ACROSS: [i32; 8] = [1, -1, 1, -1, 1, -1, 1, -1];
-
-// A row of the table.
-struct Signs {
-    swap: bool,
-    down: i32,
-    across: i32,
+// A row of the table: whether the coordinates change places, and the signs of the new ones, 1 or -1.
+pub struct Signs {
+    pub swap: bool,
+    pub down: i32,
+    pub across: i32,
 }
 
-// Reads a row of the table. All three constants are laid out for it, so a loop reads its row once, before it begins.
-fn signs_at(row: usize) -> Signs
-    requires { ⌜ row < 8 ⌝ }
-    ensures { λ r. ⌜ Reads row r ⌝ }
-{
+// "Every transform is read from eight rows of signs and swaps": the one table, each row with what it makes of (y,x).
+// `signs_at` alone reads it, and its contract says that the rows are those of the definition's `flatTable`. So the
+// composition rules, which are tested over that table, are rules of this one: `compose-rows` (specs/TableLaws.antt) and
+// `table-rules` (argument/specs/TurnLaws.antt).
+const TABLE: [Signs; 8] = [
     Signs {
-        swap: SWAP[row],
-        down: DOWN[row],
-        across: ACROSS[row],
-    }
+        swap: false,
+        down: 1,
+        across: 1, // (y,x)
+    },
+    Signs {
+        swap: false,
+        down: -1,
+        across: -1, // (-y,-x)
+    },
+    Signs {
+        swap: true,
+        down: -1,
+        across: 1, // (-x,y)
+    },
+    Signs {
+        swap: true,
+        down: 1,
+        across: -1, // (x,-y)
+    },
+    Signs {
+        swap: false,
+        down: -1,
+        across: 1, // (-y,x)
+    },
+    Signs {
+        swap: false,
+        down: 1,
+        across: -1, // (y,-x)
+    },
+    Signs {
+        swap: true,
+        down: 1,
+        across: 1, // (x,y)
+    },
+    Signs {
+        swap: true,
+        down: -1,
+        across: -1, // (-x,-y)
+    },
+];
+
+// Reads a row of the table, which is laid out for it: a loop reads its row once, before it begins.
+pub fn signs_at(row: usize) -> Signs
+    requires { ⌜ row < 8 ⌝ }
+    ensures { λ r. ⌜ r ≡ signsOf (turnAt row) ⌝ }
+{
+    TABLE[row]
 }
 
 // The place (y,x), its coordinates swapped or not, the new ones times a sign.
-fn turn(s: Signs, y: i32, x: i32) -> Pair
+pub fn turn(s: Signs, y: i32, x: i32) -> Pair
     requires { ⌜ BothSigns s × Small y × Small x ⌝ }
     ensures { λ r. ⌜ r ≡ turnBy s y x ⌝ }
 {

@@ -6,8 +6,10 @@ use Prim.Native.Nat.{ℕ, zero, suc, _+_, _-_, _*_, _%_, _<_, _≤_}
 use native.Mathlib.Omega.{arith}
 use borrow.Author.Tests.{le-ltb}
 use lib.IntN.{ℤ, pos, negsuc, negℤ, _+ℤ_, _-ℤ_, +ℤ-comm, +ℤ-negℤ-cancel}
-use lib.Signed.{mag}
+use lib.Signed.{mag, ltZ}
 use lib.ListN.{length, getD}
+use mir.Syntax.{w32}
+use mir.Val.{toZ, ofZ}
 use Rattle.lists.specs.Table.{table-find}
 use Rattle.lists.specs.Lists.{_∈_}
 use Rattle.lists.specs.ListLaws.{map-find}
@@ -18,7 +20,8 @@ use Rattle.rules.specs.Flat.{flat}
 use Rattle.rules.specs.Groups.{entry}
 use Rattle.argument.specs.Points.{point-eq}
 use Rattle.shapes.specs.declared.Pair.{Pair}
-use Rattle.shapes.specs.Pairs.{pointAt, pointOf}
+use Rattle.shapes.specs.declared.Signs.{Signs}
+use Rattle.shapes.specs.Pairs.{pointAt, pointOf, signOf, signsOf}
 use Rattle.shapes.specs.Rows.{turnAt, image}
 use Rattle.shapes.specs.Spots.{placeAt, spotAt, spots, leastImage, Near, Spotted, UnitAt}
 use Rattle.shapes.specs.SpotLaws.{length-spots, near-least}
@@ -31,7 +34,7 @@ use Rattle.shapes.specs.ListExtras.{map-map}
 use Rattle.search.specs.Placing.{lowered, raised}
 use Rattle.search.specs.Raising.{turnOf, pointsOf, movedBy, Lifts, Turnable}
 use Rattle.units.specs.ListExtras.{map-range}
-use Rattle.units.specs.Images.{raiseOf, swaps, upwards, leftwards, imageJoints, Jointed}
+use Rattle.units.specs.Images.{raiseOf, imageJoints, Jointed}
 
 -- the raised shift
 pub raise-sum : (v : ℤ) → mag v < 33 → pos 64 +ℤ (negℤ v +ℤ negℤ v) ≡ pos (raiseOf v)
@@ -72,16 +75,33 @@ raise-even true (suc a) h = omega arith
 raise-even false a h = omega arith
 
 -- the table
-row-turn : (r : ℕ) → r < 8 → turnAt r ≡ turnOf (getD swaps r false) (getD upwards r false) (getD leftwards r false)
-row-turn zero l = refl
-row-turn (suc zero) l = refl
-row-turn (suc (suc zero)) l = refl
-row-turn (suc (suc (suc zero))) l = refl
-row-turn (suc (suc (suc (suc zero)))) l = refl
-row-turn (suc (suc (suc (suc (suc zero))))) l = refl
-row-turn (suc (suc (suc (suc (suc (suc zero)))))) l = refl
-row-turn (suc (suc (suc (suc (suc (suc (suc zero))))))) l = refl
-row-turn (suc (suc (suc (suc (suc (suc (suc (suc r)))))))) l = absurd (omega arith)
+row-turn : (r : ℕ) → turnAt r
+    ≡ turnOf (signsOf (turnAt r) .swap) (turnAt r .rows .minus) (turnAt r .columns .minus)
+row-turn zero = refl
+row-turn (suc zero) = refl
+row-turn (suc (suc zero)) = refl
+row-turn (suc (suc (suc zero))) = refl
+row-turn (suc (suc (suc (suc zero)))) = refl
+row-turn (suc (suc (suc (suc (suc zero))))) = refl
+row-turn (suc (suc (suc (suc (suc (suc zero)))))) = refl
+row-turn (suc (suc (suc (suc (suc (suc (suc zero))))))) = refl
+row-turn (suc (suc (suc (suc (suc (suc (suc (suc r)))))))) = refl
+
+-- the sign of a coordinate changes where the code's sign is below 0
+abbrev pub below : ℤ → Bool
+below z = ltZ (toZ w32 (ofZ w32 z)) (pos 0)
+
+sign-below : (minus : Bool) → below (signOf minus) ≡ minus
+sign-below true = refl
+sign-below false = refl
+
+read-turn : (r : ℕ) (s : Signs) → s ≡ signsOf (turnAt r)
+    → turnAt r ≡ turnOf (s .swap) (below (s .down)) (below (s .across))
+read-turn r s e =
+    row-turn r
+    ∙ (ap₂ (turnOf (signsOf (turnAt r) .swap)) (sym (sign-below (turnAt r .rows .minus)))
+    (sym (sign-below (turnAt r .columns .minus)))
+    ∙ ap (λ q. turnOf (q .swap) (below (q .down)) (below (q .across))) (sym e))
 
 turn-place : (swap up left : Bool) (y x : ℕ)
     → apply (turnOf swap up left) (placeAt y x)
@@ -118,17 +138,8 @@ points-spots : (D A : List ℕ) (k : ℕ) → pointsOf D A k ≡ spots D A k
 unfolding pointsOf spots
 points-spots D A k = map-range (spotAt D A) k
 
-module _ (r : ℕ) (low : r < 8) (R C : List ℕ) (n : ℕ) (s : Spotted R C n) (D A : List ℕ) (k : ℕ) (j : Jointed D A k)
-    (p : Pair) (first : pointOf p ≡ leastImage r (spots R C n)) where
-  abbrev swap : Bool
-  swap = getD swaps r false
-
-  abbrev up : Bool
-  up = getD upwards r false
-
-  abbrev left : Bool
-  left = getD leftwards r false
-
+module _ (r : ℕ) (R C : List ℕ) (n : ℕ) (s : Spotted R C n) (p : Pair)
+    (first : pointOf p ≡ leastImage r (spots R C n)) where
   near : Near (pointOf p)
   near = subst Near (sym first) (near-least r R C n s)
 
@@ -137,6 +148,17 @@ module _ (r : ℕ) (low : r < 8) (R C : List ℕ) (n : ℕ) (s : Spotted R C n) 
 
   pub across-near : mag (p .x) < 33
   across-near = near .column
+
+module _ (r : ℕ) (R C : List ℕ) (n : ℕ) (s : Spotted R C n) (D A : List ℕ) (k : ℕ) (j : Jointed D A k)
+    (p : Pair) (first : pointOf p ≡ leastImage r (spots R C n)) (t : Signs) (e : t ≡ signsOf (turnAt r)) where
+  abbrev swap : Bool
+  swap = t .swap
+
+  abbrev up : Bool
+  up = below (t .down)
+
+  abbrev left : Bool
+  left = below (t .across)
 
   abbrev cell : ℕ
   cell = least-of r R C n (s .some) .0
@@ -150,7 +172,7 @@ module _ (r : ℕ) (low : r < 8) (R C : List ℕ) (n : ℕ) (s : Spotted R C n) 
   at : pointOf p ≡ pointAt (signed up (pos down)) (signed left (pos across))
   at =
       first ∙ (least-of r R C n (s .some) .2
-      ∙ (ap (λ t. apply t (spotAt R C cell)) (row-turn r low)
+      ∙ (ap (λ q. apply q (spotAt R C cell)) (read-turn r t e)
       ∙ turn-place swap up left (getD R cell 0) (getD C cell 0)))
 
   down-is : p .y ≡ signed up (pos down)
@@ -198,8 +220,8 @@ module _ (r : ℕ) (low : r < 8) (R C : List ℕ) (n : ℕ) (s : Spotted R C n) 
       ≡ opposite (leastImage r (spots R C n)) ⊕ opposite (leastImage r (spots R C n))
   unfolding _⊕_ opposite
   raised-back =
-      point-eq {q = opposite (pointOf p) ⊕ opposite (pointOf p)} refl (lower-raise (p .y) down-near)
-      (lower-raise (p .x) across-near)
+      point-eq {q = opposite (pointOf p) ⊕ opposite (pointOf p)} refl (lower-raise (p .y) (down-near r R C n s p first))
+      (lower-raise (p .x) (across-near r R C n s p first))
       ∙ ap (λ q. opposite q ⊕ opposite q) first
 
   pub moved-image : movedBy (apply (turnOf swap up left)) (raised (raiseOf (p .y)) (raiseOf (p .x))) (pointsOf D A k)
@@ -207,7 +229,7 @@ module _ (r : ℕ) (low : r < 8) (R C : List ℕ) (n : ℕ) (s : Spotted R C n) 
   unfolding movedBy imageJoints shiftBy
   moved-image =
       let v = opposite (leastImage r (spots R C n)) ⊕ opposite (leastImage r (spots R C n)) in
-      ap (λ t. movedBy (apply t) (raised (raiseOf (p .y)) (raiseOf (p .x))) (pointsOf D A k)) (sym (row-turn r low))
+      ap (λ q. movedBy (apply q) (raised (raiseOf (p .y)) (raiseOf (p .x))) (pointsOf D A k)) (sym (read-turn r t e))
       ∙ (ap₂ (λ q js. movedBy (apply (turnAt r)) q js) raised-back (points-spots D A k)
       ∙ sym (map-map (λ q. q ⊕ v) (apply (turnAt r)) (spots D A k)))
 

@@ -26,13 +26,7 @@ use crate::fitting::unit_fits;
 use crate::singles::after_singles;
 use search::turn;
 use shapes::least;
-
-// The eight rows of the table: whether the coordinates change places, and whether the new ones change sign.
-const SWAP: [bool; 8] = [false, false, true, true, false, false, true, true];
-
-const UPWARD: [bool; 8] = [false, true, true, false, true, false, false, true];
-
-const LEFTWARD: [bool; 8] = [false, true, false, true, false, true, false, true];
+use shapes::signs_at;
 
 // The shift back by twice `v`, raised by 64.
 fn raise(v: i32) -> usize
@@ -66,13 +60,14 @@ pub fn turn_row<'a>(
     let m = least(row, rows, columns, n);
     let y = raise(m.y);
     let x = raise(m.x);
+    let s = signs_at(row);
     turn(
         down,
         across,
         k,
-        SWAP[row],
-        UPWARD[row],
-        LEFTWARD[row],
+        s.swap,
+        s.down < 0,
+        s.across < 0,
         y,
         x,
         ys,

@@ -4,6 +4,7 @@ use Prim.Native.Nat.{_-_, _≤_}
 use native.Mathlib.Omega.{arith}
 use borrow.Author.Needs.{needs}
 use Rattle.shapes.specs.Pairs.{pointOf}
+use Rattle.shapes.specs.PairLaws.{signs-read, turns-read}
 use Rattle.shapes.specs.Spots.{spots, leastImage}
 use Rattle.shapes.specs.SpotLaws.{spot-in, least-one, earlier-more}
 use Rattle.shapes.proofs.least.Statement.{statement}
@@ -20,18 +21,22 @@ signs-at-requires : tie.Need-signs-at-requires Inv-loop μ-loop
 signs-at-requires c κs = search needs
 
 moved-requires : tie.Need-moved-requires Inv-loop μ-loop
-moved-requires c κs = (c .signs-at .ensures .signs, spot-in (c .before .pre .1) (c .before .pre .1 .some))
+moved-requires c κs = (
+  signs-read (c .before .args .row) (c .signs-at .ensures),
+  spot-in (c .before .pre .1) (c .before .pre .1 .some),
+)
 
 loop-holds : tie.Need-loop-holds Inv-loop μ-loop
 loop-holds c = (
   omega arith,
   c .before .before .pre .1 .some,
-  ap pointOf (c .moved .ensures) ∙ (c .before .signs-at .ensures .turns _ _ ∙ sym (least-one _ _ _)),
+  ap pointOf (c .moved .ensures)
+      ∙ (turns-read (c .before .before .args .row) (c .before .signs-at .ensures) _ _ ∙ sym (least-one _ _ _)),
 )
 
 moved-requires-2 : tie.Need-moved-requires-2 Inv-loop μ-loop
 moved-requires-2 c κs = (
-  c .before .before .before .signs-at .ensures .signs,
+  signs-read (c .before .before .before .before .args .row) (c .before .before .before .signs-at .ensures),
   spot-in (c .before .before .before .before .pre .1) (search needs),
 )
 
@@ -46,12 +51,13 @@ loop-less c = omega arith
 
 loop-again : tie.Need-loop-again Inv-loop μ-loop
 loop-again c =
+    let a = c .before .before .before .before .before in
     let m = c .before .moved2 in
     let l = c .before .before .before .loop in (
       omega arith,
       omega arith,
       earlier-more _ _ _ (l .i) (m .result) (l .best) (c .earlier .result) (l .inv .0)
-          (ap pointOf (m .ensures) ∙ c .before .before .before .before .before .signs-at .ensures .turns _ _)
+          (ap pointOf (m .ensures) ∙ turns-read (a .before .args .row) (a .signs-at .ensures) _ _)
           (l .inv .2) (c .earlier .ensures),
     )
 

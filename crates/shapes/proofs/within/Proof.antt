@@ -9,6 +9,7 @@ use Rattle.rules.specs.Page.{_⊕_}
 use Rattle.rules.specs.Groups.{entry}
 use Rattle.rules.specs.Turns.{apply}
 use Rattle.shapes.specs.Pairs.{pointOf}
+use Rattle.shapes.specs.PairLaws.{signs-read, turns-read}
 use Rattle.shapes.specs.Rows.{turnAt}
 use Rattle.shapes.specs.Spots.{spotAt, hasCell}
 use Rattle.shapes.specs.SpotLaws.{spot-in, near-image, near-small}
@@ -32,7 +33,7 @@ loop-holds c = (omega arith, all-none _)
 
 moved-requires : tie.Need-moved-requires Inv-loop μ-loop
 moved-requires c κs = (
-  c .before .before .signs-at .ensures .signs,
+  signs-read (c .before .before .before .args .row) (c .before .before .signs-at .ensures),
   spot-in (c .before .before .before .pre .2 .spotted) (search needs),
 )
 
@@ -41,7 +42,9 @@ image-is : (c : tie.After-moved Inv-loop μ-loop) → pointOf (c .moved .result)
     ≡ apply (turnAt (c .before .before .before .before .args .row))
     (spotAt (c .before .before .before .before .args .rows .now) (c .before .before .before .before .args .columns .now)
     (c .before .before .loop .i))
-image-is c = ap pointOf (c .moved .ensures) ∙ c .before .before .before .signs-at .ensures .turns _ _
+image-is c =
+    let a = c .before .before .before in
+    ap pointOf (c .moved .ensures) ∙ turns-read (a .before .args .row) (a .signs-at .ensures) _ _
 
 lands-requires : tie.Need-lands-requires Inv-loop μ-loop
 lands-requires c κs =

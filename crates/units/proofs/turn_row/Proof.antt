@@ -1,17 +1,15 @@
--- The constants are the rows of the table, and the first image's place gives the shift: so the turn makes the image.
+-- The signs read are those of the row, and the first image's place gives the shift: so the turn makes the image.
 use mathlib.Core.Path.{_≡_, ap, ap₂, _∙_}
-use mathlib.Core.Bool.{false}
 use Prim.Native.Nat.{_<_}
 use native.Mathlib.Omega.{arith}
 use borrow.Author.Needs.{needs}
-use lib.ListN.{getD}
 use lib.Signed.{mag}
 use Rattle.rules.specs.Turns.{apply}
 use Rattle.search.specs.Placing.{raised}
 use Rattle.search.specs.Raising.{turnOf, pointsOf, movedBy}
 use Rattle.shapes.specs.PairLaws.{small-back}
-use Rattle.units.specs.Images.{raiseOf, swaps, upwards, leftwards}
-use Rattle.units.specs.ImageLaws.{down-near, across-near, turnable, moved-image}
+use Rattle.units.specs.Images.{raiseOf}
+use Rattle.units.specs.ImageLaws.{below, down-near, across-near, turnable, moved-image}
 use Rattle.units.proofs.turn_row.Statement.{statement}
 use Rattle.units.proofs.turn_row.Tie as tie
 
@@ -23,8 +21,8 @@ raise-requires c κs =
     let s = c .before .before in
     let p = c .before .least .result in
     let n : mag (p .y) < 33 =
-    down-near (s .args .row) (s .pre .0) (s .args .rows .now) (s .args .columns .now) (s .args .n) (s .pre .1)
-    (s .args .down .now) (s .args .across .now) (s .args .k) (s .pre .2) p (c .before .least .ensures) in
+    down-near (s .args .row) (s .args .rows .now) (s .args .columns .now) (s .args .n) (s .pre .1) p
+    (c .before .least .ensures) in
     rw (small-back (p .y) (omega arith)) n
 
 raise-requires-2 : tie.Need-raise-requires-2
@@ -32,19 +30,12 @@ raise-requires-2 c κs =
     let s = c .before .before .before .before in
     let p = c .before .before .before .least .result in
     let n : mag (p .x) < 33 =
-    across-near (s .args .row) (s .pre .0) (s .args .rows .now) (s .args .columns .now) (s .args .n) (s .pre .1)
-    (s .args .down .now) (s .args .across .now) (s .args .k) (s .pre .2) p (c .before .before .before .least .ensures)
-    in
+    across-near (s .args .row) (s .args .rows .now) (s .args .columns .now) (s .args .n) (s .pre .1) p
+    (c .before .before .before .least .ensures) in
     rw (small-back (p .x) (omega arith)) n
 
-array-read-turn : tie.Need-array-read-turn
-array-read-turn c = search needs
-
-array-read-turn-2 : tie.Need-array-read-turn-2
-array-read-turn-2 c = search needs
-
-array-read-turn-3 : tie.Need-array-read-turn-3
-array-read-turn-3 c = search needs
+signs-at-requires : tie.Need-signs-at-requires
+signs-at-requires c κs = search needs
 
 -- the shift that the two calls of raise give
 down-raised : (c : tie.After-raise2) → c .before .before .raise .result
@@ -54,8 +45,8 @@ down-raised c =
     let s = a .before in
     let p = a .least .result in
     let n : mag (p .y) < 33 =
-    down-near (s .args .row) (s .pre .0) (s .args .rows .now) (s .args .columns .now) (s .args .n) (s .pre .1)
-    (s .args .down .now) (s .args .across .now) (s .args .k) (s .pre .2) p (a .least .ensures) in
+    down-near (s .args .row) (s .args .rows .now) (s .args .columns .now) (s .args .n) (s .pre .1) p
+    (a .least .ensures) in
     c .before .before .raise .ensures ∙ ap raiseOf (small-back (p .y) (omega arith))
 
 across-raised : (c : tie.After-raise2) → c .raise2 .result
@@ -65,36 +56,39 @@ across-raised c =
     let s = a .before in
     let p = a .least .result in
     let n : mag (p .x) < 33 =
-    across-near (s .args .row) (s .pre .0) (s .args .rows .now) (s .args .columns .now) (s .args .n) (s .pre .1)
-    (s .args .down .now) (s .args .across .now) (s .args .k) (s .pre .2) p (a .least .ensures) in
+    across-near (s .args .row) (s .args .rows .now) (s .args .columns .now) (s .args .n) (s .pre .1) p
+    (a .least .ensures) in
     c .raise2 .ensures ∙ ap raiseOf (small-back (p .x) (omega arith))
 
 turn-requires : tie.Need-turn-requires
 turn-requires c κs =
-    let b = c .before .before in
+    let g = c .before .before .before .before .before .before in
+    let b = g .before in
     let a = b .before .before .before .before in
     let s = a .before in (
       rw (down-raised b, across-raised b)
-          (turnable (s .args .row) (s .pre .0) (s .args .rows .now) (s .args .columns .now) (s .args .n) (s .pre .1)
-          (s .args .down .now) (s .args .across .now) (s .args .k) (s .pre .2) (a .least .result) (a .least .ensures)),
+          (turnable (s .args .row) (s .args .rows .now) (s .args .columns .now) (s .args .n) (s .pre .1)
+          (s .args .down .now) (s .args .across .now) (s .args .k) (s .pre .2) (a .least .result) (a .least .ensures)
+          (g .signs-at .result) (g .signs-at .ensures)),
       s .pre .3,
       s .pre .4,
     )
 
 returns : tie.Need-returns
 returns c =
-    let b = c .before .before .before in
+    let g = c .before .before .before .before .before .before .before in
+    let b = g .before in
     let a = b .before .before .before .before in
     let s = a .before in
+    let q = g .signs-at .result in
     let t = c .turn .ensures in (
       t .0,
       t .1
-          ∙ (ap₂ (λ y x. movedBy (apply (turnOf (getD swaps (s .args .row) false) (getD upwards (s .args .row) false)
-          (getD leftwards (s .args .row) false))) (raised y x)
+          ∙ (ap₂ (λ y x. movedBy (apply (turnOf (q .swap) (below (q .down)) (below (q .across)))) (raised y x)
           (pointsOf (s .args .down .now) (s .args .across .now) (s .args .k))) (down-raised b) (across-raised b)
-          ∙ moved-image (s .args .row) (s .pre .0) (s .args .rows .now) (s .args .columns .now) (s .args .n)
+          ∙ moved-image (s .args .row) (s .args .rows .now) (s .args .columns .now) (s .args .n)
           (s .pre .1) (s .args .down .now) (s .args .across .now) (s .args .k) (s .pre .2) (a .least .result)
-          (a .least .ensures)),
+          (a .least .ensures) q (g .signs-at .ensures)),
       t .2,
       t .3,
     )
@@ -106,8 +100,6 @@ turn-row-spec =
     least-requires
     raise-requires
     raise-requires-2
-    array-read-turn
-    array-read-turn-2
-    array-read-turn-3
+    signs-at-requires
     turn-requires
     returns)
