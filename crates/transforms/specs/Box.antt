@@ -1,13 +1,14 @@
 -- The cells of an image in order: the box that every image of a page lies in, place by place.
 --
 --   undone r              the row that undoes row r of the table
+--   reversed s            the row that leads back from where s leads, as the code has it
 --   boxAt i               place i of the box: rows and columns from -33 to 32, row by row
 --   boxSize               how many places it has
 --   ofImage h w number g r p   p is a cell of the image of group g by row r: the way back leads to a cell of the group
 --   cellAt h w number g r m i  place i of the box, shifted back by m, if it is a cell of the image
 --   sweep h w number g r m n   those of the first n places
 --   movedBack r m js      connections turned by row r, and shifted back by twice m
-use mathlib.Core.Bool.{Bool}
+use mathlib.Core.Bool.{Bool, cond}
 use mathlib.Core.List.{List, [], _∷_, map}
 use Prim.Native.Nat.{ℕ}
 use lib.IntN.{negsuc}
@@ -18,6 +19,7 @@ use Rattle.rules.specs.Flat.{flatPlace}
 use Rattle.rules.specs.Turns.{apply}
 use Rattle.rules.specs.Shapes.{shiftBy}
 use Rattle.reasons.specs.ListExtras.{upTo}
+use Rattle.shapes.specs.declared.Signs.{Signs}
 use Rattle.shapes.specs.Pairs.{pointAt}
 use Rattle.shapes.specs.Rows.{turnAt}
 use Rattle.shapes.specs.Spots.{hasCell}
@@ -25,6 +27,15 @@ use Rattle.shapes.specs.Spots.{hasCell}
 -- the two quarter turns undo each other, and any other row undoes itself
 abbrev pub undone : ℕ → ℕ
 undone r = getD (0 ∷ 1 ∷ 3 ∷ 2 ∷ 4 ∷ 5 ∷ 6 ∷ 7 ∷ []) r 0
+
+-- where the coordinates change places, so do their signs
+abbrev pub reversed : Signs → Signs
+reversed s =
+    record {
+      swap = s .swap;
+      down = cond (s .swap) (s .across) (s .down);
+      across = cond (s .swap) (s .down) (s .across);
+    }
 
 abbrev pub corner : Point
 corner = pointAt (negsuc 32) (negsuc 32)

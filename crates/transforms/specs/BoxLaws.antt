@@ -1,13 +1,14 @@
 -- The places of the box that are cells of an image are the image's cells, sorted.
 use mathlib.Core.Path.{_≡_, refl, sym, ap, _∙_, subst}
-use mathlib.Core.Bool.{Bool, xor}
+use mathlib.Core.Logic.{inl, inr}
+use mathlib.Core.Bool.{Bool, true, false, xor, cond}
 use mathlib.Core.List.{List, map, Memᴰ·cast}
 use Prim.Native.Nat.{ℕ, zero, suc, _+_, _-_, _*_, _<_}
 use native.Mathlib.Omega.{arith}
 use borrow.Author.Tests.{le-ltb}
 use lib.Arith.{digits-lt, digits-div, digits-mod}
 use lib.Dec.{T}
-use lib.IntN.{ℤ, pos, negsuc, _+ℤ_, +ℤ-negℤ-cancel}
+use lib.IntN.{ℤ, pos, negsuc, negℤ, _+ℤ_, _*ℤ_, +ℤ-negℤ-cancel, negℤ-negℤ}
 use lib.Signed.{mag}
 use lib.ListN.{getD}
 use Rattle.argument.specs.Same.{samePoint→eq, samePoint-refl}
@@ -22,6 +23,10 @@ use Rattle.rules.specs.Turns.{apply, compose, keep, plus, layerward}
 use Rattle.rules.specs.Shapes.{sort, shiftBy, samePoint}
 use Rattle.argument.specs.Points.{point-eq}
 use Rattle.argument.specs.TurnLaws.{apply-compose, apply-keep}
+use Rattle.shapes.specs.declared.Pair.{Pair}
+use Rattle.shapes.specs.declared.Signs.{Signs}
+use Rattle.shapes.specs.Pairs.{pointAt, pointOf, Sign, BothSigns, turnBy}
+use Rattle.shapes.specs.PairLaws.{one-times, minus-times}
 use Rattle.shapes.specs.Order.{Sorted}
 use Rattle.shapes.specs.SortLaws.{mem-sort, sort-mem, sort-sorted, sorted-distinct, sorted-unique}
 use Rattle.shapes.specs.FixLaws.{row-inj, shift-sorted}
@@ -30,36 +35,58 @@ use Rattle.shapes.specs.Rows.{turnAt}
 use Rattle.shapes.specs.Spots.{hasCell, spotAt, spots, Near, UnitAt}
 use Rattle.shapes.specs.SpotLaws.{near-image}
 use Rattle.shapes.specs.UnitLaws.{from-sorted, places-sorted, among-places}
-use Rattle.transforms.specs.Box.{undone, corner, boxAt, boxSize, ofImage, cellAt, sweep}
+use Rattle.transforms.specs.Box.{undone, reversed, corner, boxAt, boxSize, ofImage, cellAt, sweep}
 use Rattle.transforms.specs.ListExtras.{up-filter}
 
--- a row and the one that undoes it, either first; the layer stays; the one is a row of the table
-abbrev pub Undoes : ℕ → Type 0
+-- a row and the one that undoes it, either first; the layer stays
+abbrev Undoes : ℕ → Type 0
 Undoes r =
     (compose (turnAt (undone r)) (turnAt r) ≡ keep)
     × (compose (turnAt r) (turnAt (undone r)) ≡ keep)
     × (turnAt r .layers ≡ plus layerward)
-    × (undone r < 8)
 
-pub undoes : (r : ℕ) → Undoes r
+undoes : (r : ℕ) → Undoes r
 unfolding xor
-undoes zero = (refl, refl, refl, omega arith)
-undoes (suc zero) = (refl, refl, refl, omega arith)
-undoes (suc (suc zero)) = (refl, refl, refl, omega arith)
-undoes (suc (suc (suc zero))) = (refl, refl, refl, omega arith)
-undoes (suc (suc (suc (suc zero)))) = (refl, refl, refl, omega arith)
-undoes (suc (suc (suc (suc (suc zero))))) = (refl, refl, refl, omega arith)
-undoes (suc (suc (suc (suc (suc (suc zero)))))) = (refl, refl, refl, omega arith)
-undoes (suc (suc (suc (suc (suc (suc (suc zero))))))) = (refl, refl, refl, omega arith)
-undoes (suc (suc (suc (suc (suc (suc (suc (suc r)))))))) = (refl, refl, refl, omega arith)
+undoes zero = (refl, refl, refl)
+undoes (suc zero) = (refl, refl, refl)
+undoes (suc (suc zero)) = (refl, refl, refl)
+undoes (suc (suc (suc zero))) = (refl, refl, refl)
+undoes (suc (suc (suc (suc zero)))) = (refl, refl, refl)
+undoes (suc (suc (suc (suc (suc zero))))) = (refl, refl, refl)
+undoes (suc (suc (suc (suc (suc (suc zero)))))) = (refl, refl, refl)
+undoes (suc (suc (suc (suc (suc (suc (suc zero))))))) = (refl, refl, refl)
+undoes (suc (suc (suc (suc (suc (suc (suc (suc r)))))))) = (refl, refl, refl)
 
-undo-turn : (r : ℕ) (p : Point) → apply (turnAt (undone r)) (apply (turnAt r) p) ≡ p
+pub undo-turn : (r : ℕ) (p : Point) → apply (turnAt (undone r)) (apply (turnAt r) p) ≡ p
 undo-turn r p =
     sym (apply-compose (turnAt (undone r)) (turnAt r) p) ∙ (ap (λ t. apply t p) (undoes r .0) ∙ apply-keep p)
 
 turn-undo : (r : ℕ) (p : Point) → apply (turnAt r) (apply (turnAt (undone r)) p) ≡ p
 turn-undo r p =
     sym (apply-compose (turnAt r) (turnAt (undone r)) p) ∙ (ap (λ t. apply t p) (undoes r .1) ∙ apply-keep p)
+
+-- the way back as the code has it
+sign-twice : (s z : ℤ) → Sign s → s *ℤ (s *ℤ z) ≡ z
+sign-twice s z (inl e) = rw e (one-times (pos 1 *ℤ z) ∙ one-times z)
+sign-twice s z (inr e) = rw e (minus-times (negsuc 0 *ℤ z) ∙ (ap negℤ (minus-times z) ∙ negℤ-negℤ z))
+
+pub signs-reversed : {s : Signs} → BothSigns s → BothSigns (reversed s)
+signs-reversed {s} b = go (s .swap)
+  where
+    go : (t : Bool)
+        → BothSigns (record { swap = t; down = cond t (s .across) (s .down); across = cond t (s .down) (s .across) })
+    go true = record { down = b .across; across = b .down }
+    go false = record { down = b .down; across = b .across }
+
+pub turn-reversed : {s : Signs} → BothSigns s → (y x : ℤ) → let p : Pair = turnBy (reversed s) y x in
+    pointOf (turnBy s (p .y) (p .x)) ≡ pointAt y x
+unfolding turnBy
+turn-reversed {s} b y x = go (s .swap) refl
+  where
+    go : (t : Bool) → s .swap ≡ t → let p : Pair = turnBy (reversed s) y x in
+        pointOf (turnBy s (p .y) (p .x)) ≡ pointAt y x
+    go true e = rw e (point-eq refl (sign-twice (s .down) y (b .down)) (sign-twice (s .across) x (b .across)))
+    go false e = rw e (point-eq refl (sign-twice (s .down) y (b .down)) (sign-twice (s .across) x (b .across)))
 
 same-layer : (r : ℕ) (p : Point) → apply (turnAt r) p .layer ≡ p .layer
 unfolding apply

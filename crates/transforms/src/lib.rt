@@ -8,30 +8,34 @@ ghost use Rattle.rules.specs.Page.{_⊕_, opposite};
 ghost use Rattle.rules.specs.Flat.{Sized, flat};
 ghost use Rattle.rules.specs.Codes.{marksIn};
 ghost use Rattle.rules.specs.Groups.{entry};
+ghost use Rattle.rules.specs.Turns.{apply};
 ghost use Rattle.rules.specs.Check.{transformsOf};
 ghost use Rattle.rules.specs.Shapes.{shapeOf, flatTransforms};
 ghost use Rattle.search.specs.Placing.{puzzle};
 ghost use Rattle.shapes.specs.Joints.{Joined};
-ghost use Rattle.shapes.specs.Pairs.{pointOf, SmallPair};
+ghost use Rattle.shapes.specs.Pairs.{pointAt, pointOf, Small, SmallPair};
 ghost use Rattle.shapes.specs.Listing.{listing};
-ghost use Rattle.shapes.specs.Rows.{image, rowsOf};
+ghost use Rattle.shapes.specs.Rows.{turnAt, image, rowsOf};
 ghost use Rattle.shapes.specs.Spots.{spots, UnitAt};
 ghost use Rattle.units.specs.Images.{Jointed};
 ghost use Rattle.transforms.specs.Transforms.{nothing, words, answered, kthAnswer, kthMemory, Wrote};
 ghost use Rattle.transforms.specs.Transforms.{transformOf, memoryAfter};
-ghost use Rattle.transforms.specs.Box.{boxAt, ofImage, cellAt, sweep, movedBack};
+ghost use Rattle.transforms.specs.Box.{boxAt, reversed, ofImage, cellAt, sweep, movedBack};
 use board::Board;
 use board::Outcome;
 use groups::Kind;
 use groups::groups_of;
 use shapes::Listed;
 use shapes::Pair;
+use shapes::Signs;
 use shapes::connections::joint;
 use shapes::connections::joints;
 use shapes::connections::places;
 use shapes::has_cell;
 use shapes::least;
 use shapes::list_rows;
+use shapes::signs_at;
+use shapes::turn;
 
 // What asking for a transform returns: how many transforms the unit has, and how many cells and connections the one
 // asked for has. Each place takes two numbers of the lent memory, down and across: first the cells, sorted, with the
@@ -48,9 +52,6 @@ const ROOM: usize = 6144;
 
 // The places of the box that every image of a page lies in: 66 rows of 66.
 const BOX: usize = 4356;
-
-// The row of the table that undoes each row.
-const UNDONE: [usize; 8] = [0, 1, 3, 2, 4, 5, 6, 7];
 
 // Writes a place from the number `at` on; gives the next number's place.
 fn put(memory: &mut [i32], at: usize, p: Pair) -> usize
@@ -86,12 +87,41 @@ fn back(p: Pair, m: Pair) -> Pair
     }
 }
 
+// The row that leads back from where `s` leads: where the coordinates change places, so do their signs.
+fn reversed(s: Signs) -> Signs
+    ensures { λ r. ⌜ r ≡ reversed s ⌝ }
+{
+    if s.swap {
+        return Signs {
+            swap: true,
+            down: s.across,
+            across: s.down,
+        };
+    }
+    s
+}
+
+// The place that a row of the table turns to (y,x).
+fn apply_back(row: usize, y: i32, x: i32) -> Pair
+    requires { ⌜ (row < 8) × Small y × Small x ⌝ }
+    ensures { λ r. ⌜ apply (turnAt row) (pointOf r) ≡ pointAt y x ⌝ }
+{
+    turn(reversed(signs_at(row)), y, x)
+}
+
 // Whether the place `p` is a cell of the image of unit `g` by a row: whether the way back leads to a cell of the unit.
-fn of_image(ids: &[u16; 1024], h: usize, w: usize, g: usize, row: usize, p: Pair) -> bool
+fn of_image(
+    ids: &[u16; Board::CELL_LIMIT],
+    h: usize,
+    w: usize,
+    g: usize,
+    row: usize,
+    p: Pair,
+) -> bool
     requires { ⌜ (row < 8) × Sized h w × (length (now ids) ≡ 1024) × SmallPair p ⌝ }
     ensures { λ r. ⌜ r ≡ ofImage h w (entry (now (ids .entry))) g row (pointOf p) ⌝ }
 {
-    let q = shapes::apply(UNDONE[row], p.y, p.x);
+    let q = apply_back(row, p.y, p.x);
     has_cell(ids, h, w, g, q.y, q.x)
 }
 
@@ -99,7 +129,7 @@ fn of_image(ids: &[u16; 1024], h: usize, w: usize, g: usize, row: usize, p: Pair
 fn put_cell(
     memory: &mut [i32],
     at: usize,
-    ids: &[u16; 1024],
+    ids: &[u16; Board::CELL_LIMIT],
     h: usize,
     w: usize,
     g: usize,
@@ -123,7 +153,7 @@ fn put_cell(
 // Gives the next number's place.
 fn put_cells(
     memory: &mut [i32],
-    ids: &[u16; 1024],
+    ids: &[u16; Board::CELL_LIMIT],
     h: usize,
     w: usize,
     g: usize,
@@ -173,12 +203,12 @@ fn put_joints<'a>(
 // Writes the image of unit `g` by a row: its `n` cells, then its `k` connections.
 fn put_image<'a>(
     memory: &mut [i32],
-    ids: &'a [u16; 1024],
+    ids: &'a [u16; Board::CELL_LIMIT],
     h: usize,
     w: usize,
     g: usize,
-    rows: &'a [u16; 1024],
-    columns: &'a [u16; 1024],
+    rows: &'a [u16; Board::CELL_LIMIT],
+    columns: &'a [u16; Board::CELL_LIMIT],
     n: usize,
     down: &'a [u16; 2048],
     across: &'a [u16; 2048],
@@ -217,12 +247,12 @@ fn wide(x: u16) -> usize
 // Writes transform `k` of unit `g`, whose `n` cells stand in rows and columns, and whose listed rows are given.
 fn put_listed<'a>(
     memory: &mut [i32],
-    ids: &'a [u16; 1024],
+    ids: &'a [u16; Board::CELL_LIMIT],
     h: usize,
     w: usize,
     g: usize,
-    rows: &'a [u16; 1024],
-    columns: &'a [u16; 1024],
+    rows: &'a [u16; Board::CELL_LIMIT],
+    columns: &'a [u16; Board::CELL_LIMIT],
     n: usize,
     listed: Listed,
     k: usize,
@@ -267,8 +297,8 @@ fn put_transform<'a>(
     memory: &mut [i32],
     h: usize,
     w: usize,
-    colours: &'a [u8; 1024],
-    borders: &'a [u8; 1984],
+    colours: &'a [u8; Board::CELL_LIMIT],
+    borders: &'a [u8; Board::BORDER_LIMIT],
     u: usize,
     k: usize,
 ) -> Answer
@@ -284,8 +314,8 @@ fn put_transform<'a>(
     }
     let first = wide(units.offs[u]);
     let last = wide(units.offs[u + 1]);
-    let mut rows = [0u16; 1024];
-    let mut columns = [0u16; 1024];
+    let mut rows = [0u16; Board::CELL_LIMIT];
+    let mut columns = [0u16; Board::CELL_LIMIT];
     let n = places(&units.cells, first, last, w, &mut rows, &mut columns);
     let ids = units.ids;
     let listed = list_rows(&ids, h, w, u, &rows, &columns, n);
