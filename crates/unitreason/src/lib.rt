@@ -15,6 +15,7 @@ ghost use Rattle.units.specs.Fitting.{Lent, Rows};
 ghost use Rattle.units.specs.Stuck.{potentialIn};
 ghost use Rattle.unitreason.specs.Writing.{Arranged, Imaged, Asked, blocksListed, clued};
 use crate::walls::walls_of;
+use board::Board;
 use planes::draw_mask;
 use planes::survivors::block_mates;
 use planes::survivors::draw_colours;
@@ -45,20 +46,20 @@ fn block_rows<'a>(
     start: usize,
     h: usize,
     w: usize,
-    colours: &'a [u8; 1024],
-    borders: &'a [u8; 1984],
+    colours: &'a [u8; Board::CELL_LIMIT],
+    borders: &'a [u8; Board::BORDER_LIMIT],
     listed: Listed,
-    rows: &'a [u16; 1024],
-    columns: &'a [u16; 1024],
+    rows: &'a [u16; Board::CELL_LIMIT],
+    columns: &'a [u16; Board::CELL_LIMIT],
     n: usize,
     down: &'a [u16; 2048],
     across: &'a [u16; 2048],
     k: usize,
     ys: &mut [u8; 2048],
     xs: &mut [u8; 2048],
-    cells: &'a [u16; 1024],
+    cells: &'a [u16; Board::CELL_LIMIT],
     offs: &'a [u16; 1025],
-    mates: &'a [u16; 1024],
+    mates: &'a [u16; Board::CELL_LIMIT],
     from: usize,
     to: usize,
 ) -> usize
@@ -77,7 +78,7 @@ fn block_rows<'a>(
     draw_colours(h, w, colours, &mut same);
     let mut mask = [0u64; 33];
     draw_mask(h, w, cells, offs, mates, from, to, 0, &mut mask);
-    let mut spread = [0u16; 1024];
+    let mut spread = [0u16; Board::CELL_LIMIT];
     draw_places(h, w, &mut spread);
     let mut left = [0u64; 32];
     let count = listed.count;
@@ -117,19 +118,19 @@ pub fn write_unit<'a>(
     memory: &mut [u16],
     h: usize,
     w: usize,
-    colours: &'a [u8; 1024],
-    borders: &'a [u8; 1984],
-    ids: &'a [u16; 1024],
-    units: &'a [u16; 1024],
+    colours: &'a [u8; Board::CELL_LIMIT],
+    borders: &'a [u8; Board::BORDER_LIMIT],
+    ids: &'a [u16; Board::CELL_LIMIT],
+    units: &'a [u16; Board::CELL_LIMIT],
     unit_offs: &'a [u16; 1025],
-    potential: &'a [u16; 1024],
-    cells: &'a [u16; 1024],
+    potential: &'a [u16; Board::CELL_LIMIT],
+    cells: &'a [u16; Board::CELL_LIMIT],
     offs: &'a [u16; 1025],
-    mates: &'a [u16; 1024],
+    mates: &'a [u16; Board::CELL_LIMIT],
     count: usize,
     listed: Listed,
-    rows: &'a [u16; 1024],
-    columns: &'a [u16; 1024],
+    rows: &'a [u16; Board::CELL_LIMIT],
+    columns: &'a [u16; Board::CELL_LIMIT],
     n: usize,
     down: &'a [u16; 2048],
     across: &'a [u16; 2048],
@@ -197,18 +198,18 @@ pub fn write_stuck<'a>(
     memory: &mut [u16],
     h: usize,
     w: usize,
-    colours: &'a [u8; 1024],
-    borders: &'a [u8; 1984],
-    ids: &'a [u16; 1024],
-    units: &'a [u16; 1024],
+    colours: &'a [u8; Board::CELL_LIMIT],
+    borders: &'a [u8; Board::BORDER_LIMIT],
+    ids: &'a [u16; Board::CELL_LIMIT],
+    units: &'a [u16; Board::CELL_LIMIT],
     unit_offs: &'a [u16; 1025],
-    potential: &'a [u16; 1024],
-    cells: &'a [u16; 1024],
+    potential: &'a [u16; Board::CELL_LIMIT],
+    cells: &'a [u16; Board::CELL_LIMIT],
     offs: &'a [u16; 1025],
     u: usize,
-    mates: &mut [u16; 1024],
-    rows: &mut [u16; 1024],
-    columns: &mut [u16; 1024],
+    mates: &mut [u16; Board::CELL_LIMIT],
+    rows: &mut [u16; Board::CELL_LIMIT],
+    columns: &mut [u16; Board::CELL_LIMIT],
     down: &mut [u16; 2048],
     across: &mut [u16; 2048],
     ys: &mut [u8; 2048],

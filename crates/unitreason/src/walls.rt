@@ -7,6 +7,7 @@ ghost use Rattle.reasons.specs.Arrays.{Arrays, Cells, part};
 ghost use Rattle.reasons.specs.Memory.{Wrote};
 ghost use Rattle.unitreason.specs.Writing.{Numbered, Low, Mated, flagsOf, edgesIn, farIn, wallsIn};
 use crate::wide;
+use board::Board;
 use reasons::edge;
 use reasons::scan;
 use rules::Side;
@@ -18,12 +19,12 @@ fn edges_of<'a>(
     start: usize,
     h: usize,
     w: usize,
-    colours: &'a [u8; 1024],
-    borders: &'a [u8; 1984],
-    ids: &'a [u16; 1024],
-    cells: &'a [u16; 1024],
+    colours: &'a [u8; Board::CELL_LIMIT],
+    borders: &'a [u8; Board::BORDER_LIMIT],
+    ids: &'a [u16; Board::CELL_LIMIT],
+    cells: &'a [u16; Board::CELL_LIMIT],
     offs: &'a [u16; 1025],
-    mates: &'a [u16; 1024],
+    mates: &'a [u16; Board::CELL_LIMIT],
     from: usize,
     to: usize,
 ) -> usize
@@ -60,11 +61,11 @@ fn edges_of<'a>(
 }
 
 // 1 at the number of each group that the list of mates has from the place `from` to the place `to`, 0 elsewhere.
-fn marks_of(mates: &[u16; 1024], from: usize, to: usize) -> [u8; 1024]
+fn marks_of(mates: &[u16; Board::CELL_LIMIT], from: usize, to: usize) -> [u8; Board::CELL_LIMIT]
     requires { ⌜ Low (now mates) from to ⌝ }
     ensures { λ r. ⌜ r ≡ flagsOf (part (now (mates .entry)) from to) ⌝ }
 {
-    let mut marked = [0u8; 1024];
+    let mut marked = [0u8; Board::CELL_LIMIT];
     let mut i = from;
     while i < to {
         let q = wide(mates[i]);
@@ -81,13 +82,13 @@ fn far_walls<'a>(
     start: usize,
     h: usize,
     w: usize,
-    colours: &'a [u8; 1024],
-    borders: &'a [u8; 1984],
-    ids: &'a [u16; 1024],
-    cells: &'a [u16; 1024],
+    colours: &'a [u8; Board::CELL_LIMIT],
+    borders: &'a [u8; Board::BORDER_LIMIT],
+    ids: &'a [u16; Board::CELL_LIMIT],
+    cells: &'a [u16; Board::CELL_LIMIT],
     first: usize,
     last: usize,
-    mates: &'a [u16; 1024],
+    mates: &'a [u16; Board::CELL_LIMIT],
     from: usize,
     to: usize,
 ) -> usize
@@ -124,12 +125,12 @@ pub fn walls_of<'a>(
     start: usize,
     h: usize,
     w: usize,
-    colours: &'a [u8; 1024],
-    borders: &'a [u8; 1984],
-    ids: &'a [u16; 1024],
-    cells: &'a [u16; 1024],
+    colours: &'a [u8; Board::CELL_LIMIT],
+    borders: &'a [u8; Board::BORDER_LIMIT],
+    ids: &'a [u16; Board::CELL_LIMIT],
+    cells: &'a [u16; Board::CELL_LIMIT],
     offs: &'a [u16; 1025],
-    mates: &'a [u16; 1024],
+    mates: &'a [u16; Board::CELL_LIMIT],
     from: usize,
     to: usize,
     p: usize,
