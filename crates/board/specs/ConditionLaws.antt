@@ -10,12 +10,9 @@ use lib.Dec.{leb, ltb, eqb}
 use lib.ListN.{length, getD, set}
 use lib.Seq.{getD-set-same, getD-set-other}
 use Rattle.lists.specs.Tests.{and-left, and-right, any-none, any-more, all-at}
-use Rattle.rules.specs.declared.Side.the-variants.{Open}
-use Rattle.rules.specs.Page.{undecided, decided, isUndecided}
 use Rattle.rules.specs.Flat.{Sized, borderCount}
 use Rattle.rules.specs.FlatLaws.{borders-le}
 use Rattle.board.specs.Alien.{sizeRight, cellsOf, bordersOf, stacked, entriesRight, borderRight}
-use Rattle.board.specs.View.{isFree}
 
 pub sized : {h w : ℕ} → sizeRight h w ≡ true → Sized h w
 unfolding sizeRight
@@ -92,13 +89,3 @@ border-decided v false p q = rw (ne-eqb v 0 p, le-leb v 2 q)
 
 pub border-far : (v : ℕ) (on : Bool) → 2 < v → false ≡ borderRight v on
 border-far v on p = rw (lt-leb v 2 p)
-
-pub free-wall : (v : ℕ) → v ≡ 1 → false ≡ isFree v
-free-wall v p = rw p
-
-pub free-open : (v : ℕ) → (v ≡ 1 → ⊥) → not (eqb v 2) ≡ isFree v
-free-open v p = rw (ne-eqb v 1 p) (go (eqb v 2))
-  where
-    go : (t : Bool) → not t ≡ isUndecided (cond t (decided Open) undecided)
-    go true = refl
-    go false = refl

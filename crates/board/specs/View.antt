@@ -5,31 +5,26 @@
 --   marksOf b            its borders
 --   sideIn v             the side that a decided border's place v stands for
 --   literalsOf b         its stack with the sides, oldest first
---   isFree v             the place v stands for an undecided border
---   freeIn bs n          how many of the first n borders are undecided
 --   replyOf o            an outcome of a decide or an undo as the book's reply
---   undecidedOf b        how many borders of the board are undecided; 0 where its size is no page's
 --
 -- Beyond the page a colour and a clue read as those of a place that is 0. No rule reads them: Rules and Check ask only
 -- for cells below the page's count. So the puzzle of a fresh board is the puzzle it was made from, as a whole record.
-use mathlib.Core.Bool.{Bool, cond}
+use mathlib.Core.Bool.{cond}
 use mathlib.Core.List.{List}
 use Prim.Native.Nat.{ℕ}
 use lib.Dec.{eqb}
 use lib.IntN.{ℤ}
 use lib.ListN.{getD}
-use Rattle.lists.specs.Count.{countBelow}
 use Rattle.lists.specs.Table.{table}
 use Rattle.rules.specs.declared.Side.{Side}
 use Rattle.rules.specs.declared.Side.the-variants.{Wall, Open}
 use Rattle.rules.specs.declared.Literal.{Literal}
-use Rattle.rules.specs.Page.{Puzzle, Mark, isUndecided}
+use Rattle.rules.specs.Page.{Puzzle, Mark}
 use Rattle.rules.specs.Flat.{flat}
-use Rattle.rules.specs.Codes.{markOf, marksIn, coloursIn, cluesIn}
+use Rattle.rules.specs.Codes.{marksIn, coloursIn, cluesIn}
 use Rattle.rules.specs.Book.{Reply, refused, done}
 use Rattle.board.specs.declared.Board.{Board}
 use Rattle.board.specs.declared.Outcome.{Outcome}
-use Rattle.board.specs.Alien.{bordersOf}
 use Rattle.board.specs.Board.{numberOf}
 
 unfoldable pub puzzleIn : ℕ → ℕ → List ℕ → List ℤ → Puzzle
@@ -51,15 +46,5 @@ literalIn bs n = record { border = n; side = sideIn (getD bs n 0) }
 unfoldable pub literalsOf : Board → List Literal
 literalsOf b = table (b .count) (λ i. literalIn (b .borders) (getD (b .stack) i 0))
 
-abbrev pub isFree : ℕ → Bool
-isFree v = isUndecided (markOf v)
-
-unfoldable pub freeIn : List ℕ → ℕ → ℕ
-freeIn bs n = countBelow n (λ i. isUndecided (marksIn bs i))
-
 abbrev pub replyOf : Outcome → Reply
 replyOf o = cond (eqb (numberOf o) 0) done (refused (numberOf o))
-
--- "the count of undecided borders"
-unfoldable pub undecidedOf : Board → ℕ
-undecidedOf b = freeIn (b .borders) (bordersOf (b .height) (b .width))

@@ -27,9 +27,7 @@ use Rattle.board.specs.declared.Outcome.the-variants.{Done}
 use Rattle.board.specs.ListExtras.{any-fails, getD-padded}
 use Rattle.board.specs.Alien.{stacked}
 use Rattle.board.specs.Board.{freshBoard, returned, decideOf, undoOf}
-use Rattle.board.specs.View.{puzzleIn, puzzleOf, marksOf, sideIn, literalIn, literalsOf, isFree, freeIn}
-use Rattle.board.specs.View.{undecidedOf}
-use Rattle.board.specs.ConditionLaws.{borders-of}
+use Rattle.board.specs.View.{puzzleIn, puzzleOf, marksOf, sideIn, literalIn, literalsOf}
 use Rattle.board.specs.NativeLaws.{Native, free-count}
 use Rattle.board.specs.DecideLaws.{decided-is, undone-is}
 use Rattle.board.specs.SequenceLaws.{names-table, marks-all}
@@ -45,7 +43,7 @@ mark-side (suc zero) h k = refl
 mark-side (suc (suc zero)) h k = refl
 mark-side (suc (suc (suc v))) h k = absurd (let z : suc (suc (suc v)) ≤ 2 = h in omega arith)
 
-pub free-zero : (v : ℕ) → v ≤ 2 → isFree v ≡ eqb v 0
+free-zero : (v : ℕ) → v ≤ 2 → isUndecided (markOf v) ≡ eqb v 0
 free-zero zero h = refl
 free-zero (suc zero) h = refl
 free-zero (suc (suc zero)) h = refl
@@ -158,14 +156,9 @@ module _ (b : Board) (N : Native b) where
           (not-false (eqb (getD (b .borders) x 0) 0) (sym (names-decided x) ∙ e))))
 
   -- ---- the count of undecided borders
-  pub undecided-rules : undecidedOf b ≡ undecidedCount (puzzleOf b) (marksOf b)
-  unfolding undecidedOf freeIn undecidedCount puzzleOf puzzleIn marksOf flat
-  undecided-rules = rw (borders-of (N .size))
-
-  pub undecided-is : undecidedOf b ≡ borderCount (b .height) (b .width) - b .count
-  unfolding undecidedOf freeIn marksIn
+  pub undecided-is : undecidedCount (puzzleOf b) (marksOf b) ≡ borderCount (b .height) (b .width) - b .count
+  unfolding undecidedCount puzzleOf puzzleIn marksOf marksIn flat
   undecided-is =
-      rw (borders-of (N .size))
-      (count-cong (borderCount (b .height) (b .width)) (λ x. isUndecided (marksIn (b .borders) x))
+      count-cong (borderCount (b .height) (b .width)) (λ x. isUndecided (marksIn (b .borders) x))
       (λ x. eqb (getD (b .borders) x 0) 0) (λ x h. free-zero (getD (b .borders) x 0) (code-small x))
-      ∙ free-count b N)
+      ∙ free-count b N

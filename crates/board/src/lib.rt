@@ -1,4 +1,4 @@
-// The board: its limits, making one, decide and undo, the count of undecided borders, and the test for alien boards.
+// The board: its limits, making one, decide and undo, and the test for alien boards.
 ghost use mathlib.Core.Path.{_≡_};
 ghost use Prim.Native.Nat.{_-_, _<_, _≤_};
 ghost use lib.ListN.{getD};
@@ -7,13 +7,11 @@ ghost use Rattle.rules.specs.Flat.{Sized};
 ghost use Rattle.board.specs.Board.{numberOf, zeroBoard, returned, freshOf};
 ghost use Rattle.board.specs.Board.{pushed, popped, decideOf, undoOf, countAfter};
 ghost use Rattle.board.specs.Alien.{cellsOf, bordersOf, cellsIn, decisionsIn, unusedIn, boardOf, isAlien};
-ghost use Rattle.board.specs.View.{undecidedOf};
 use rules::Literal;
 use rules::Side;
 
 mod conditions; // conditions.rt: the conditions on sizes, colours, clues, stack entries, borders and unused places
 mod padding; // padding.rt: a puzzle's lists as arrays
-mod counting; // counting.rt: the count of undecided borders
 
 pub struct Board {
     pub height: usize,
@@ -392,13 +390,5 @@ impl Board {
             outcome: Outcome::Done,
             board: self.pop(),
         }
-    }
-
-    // How many borders are undecided; 0 where the size is no page's.
-    pub fn undecided(self) -> usize
-        ensures { λ r. ⌜ r ≡ undecidedOf self ⌝ }
-    {
-        let total = border_count(self.height, self.width);
-        counting::undecided_in(&self.borders, total)
     }
 }

@@ -15,11 +15,11 @@ use Rattle.rules.specs.Codes.{marksIn}
 use Rattle.rules.specs.Check.{Reason, Answer as Found, hit, check, answerOf, undecidedCount}
 use Rattle.board.specs.declared.Board.{Board}
 use Rattle.board.specs.Alien.{isAlien, bordersOf}
-use Rattle.board.specs.View.{puzzleOf, marksOf, undecidedOf}
+use Rattle.board.specs.View.{puzzleOf, marksOf}
 use Rattle.board.specs.View as view
 use Rattle.board.specs.ConditionLaws.{borders-of}
 use Rattle.board.specs.NativeLaws.{native-has}
-use Rattle.board.specs.ViewLaws.{undecided-rules, undecided-is}
+use Rattle.board.specs.ViewLaws.{undecided-is}
 use Rattle.checker.specs.Bridges.{puzzleIn}
 use Rattle.search.specs.Placing.{Drawn}
 use Rattle.hits.specs.declared.Found.the-variants.{Nothing, Reason as Given}
@@ -31,6 +31,10 @@ use Rattle.calls.specs.Known.{foundIn}
 -- what Check gives of a board's arrays
 abbrev foundOn : Board → Found
 foundOn b = foundIn (b .height) (b .width) (b .colours) (b .clues) (b .borders)
+
+-- the count of a pass
+abbrev freeOn : Board → ℕ
+freeOn b = undecidedCount (puzzleOf b) (marksOf b)
 
 pub same-found : (b : Board) → foundOn b ≡ check (puzzleOf b) (marksOf b)
 unfolding puzzleOf marksOf view.puzzleIn
@@ -54,7 +58,7 @@ module _ (b : Board) (t : isAlien b ≡ false) where
   pub stack-few : {n : ℕ} → n ≡ bordersOf (b .height) (b .width) → b .count ≤ n
   stack-few e = let N = native-has b t in omega (arith, e ∙ borders-of (N .size), N .few)
 
-  pub left-free : {n : ℕ} → n ≡ bordersOf (b .height) (b .width) → n - b .count ≡ undecidedOf b
+  pub left-free : {n : ℕ} → n ≡ bordersOf (b .height) (b .width) → n - b .count ≡ freeOn b
   left-free e =
       let N = native-has b t in
       ap (λ (k : ℕ). k - b .count) (e ∙ borders-of (N .size)) ∙ sym (undecided-is b N)
@@ -62,21 +66,20 @@ module _ (b : Board) (t : isAlien b ≡ false) where
   abbrev hitOf : Option Reason
   hitOf = hit (puzzleIn (b .height) (b .width) (b .colours) (b .clues)) (marksIn (b .borders))
 
-  checked : (o : Option Reason) → hitOf ≡ o
-      → foundOn b ≡ answerOf (undecidedCount (puzzleOf b) (marksOf b)) o
+  checked : (o : Option Reason) → hitOf ≡ o → foundOn b ≡ answerOf (freeOn b) o
   unfolding check puzzleOf marksOf view.puzzleIn
-  checked o e = ap (answerOf (undecidedCount (puzzleOf b) (marksOf b))) e
+  checked o e = ap (answerOf (freeOn b)) e
 
   module _ (m after : List ℕ) where
     pub nothing-found : Answers hitOf m after Nothing
-        → (Pass (undecidedOf b) ≡ asAnswer (foundOn b)) × (after ≡ written m (foundOn b))
+        → (Pass (freeOn b) ≡ asAnswer (foundOn b)) × (after ≡ written m (foundOn b))
     unfolding foundOf writtenBy
     nothing-found a = go hitOf refl (a .found) (a .memory)
       where
         go : (o : Option Reason) → hitOf ≡ o → Nothing ≡ foundOf o → after ≡ writtenBy o m
-            → (Pass (undecidedOf b) ≡ asAnswer (foundOn b)) × (after ≡ written m (foundOn b))
+            → (Pass (freeOn b) ≡ asAnswer (foundOn b)) × (after ≡ written m (foundOn b))
         go none e f g = (
-          ap Pass (undecided-rules b (native-has b t)) ∙ sym (ap asAnswer (checked none e)),
+          sym (ap asAnswer (checked none e)),
           g ∙ sym (ap (written m) (checked none e)),
         )
         go (some r) e f g = let z : _≡_ {A = ℕ} 0 1 = cc in absurd (omega arith)
