@@ -13,6 +13,7 @@ ghost use Rattle.groups.specs.Forests.{Forest, Rep, Linked};
 ghost use Rattle.groups.specs.Ties.{leftAt, aboveAt, markAt, Marked, Scanned, joined};
 ghost use Rattle.groups.specs.Arrays.{Blank};
 use crate::Kind;
+use board::Board;
 
 // Whether two cells have one colour: both are 1, or neither is.
 fn one_colour(a: u8, b: u8) -> bool
@@ -33,7 +34,7 @@ fn joins(kind: Kind, v: u8, a: u8, b: u8) -> bool
 }
 
 // The root of cell a.
-fn find(p: &[u16; 1024], a: usize) -> usize
+fn find(p: &[u16; Board::CELL_LIMIT], a: usize) -> usize
     requires { ⌜ (a < 1024) × Forest (now p) ⌝ }
     ensures { λ r. ⌜ (r ≤ a) × (getD (now (p .entry)) r 0 ≡ r)
         × ((n : ℕ) (L : List ℕ) → a < n → Rep n (now (p .entry)) L → r ≡ getD L a 0) ⌝ }
@@ -46,7 +47,7 @@ fn find(p: &[u16; 1024], a: usize) -> usize
 }
 
 // The trees of cells a and b become one: the later root is put below the earlier.
-fn join(p: &mut [u16; 1024], a: usize, b: usize)
+fn join(p: &mut [u16; Board::CELL_LIMIT], a: usize, b: usize)
     requires { ⌜ (a < 1024) × (b < 1024) × Forest (now p) ⌝ }
     ensures { λ r. ⌜ Forest (now (p .exit))
         × ((n : ℕ) (L : List ℕ) → n ≤ 1024 → a < n → b < n → Rep n (now (p .entry)) L
@@ -74,11 +75,11 @@ fn row<'a>(
     kind: Kind,
     h: usize,
     w: usize,
-    colours: &'a [u8; 1024],
-    borders: &'a [u8; 1984],
+    colours: &'a [u8; Board::CELL_LIMIT],
+    borders: &'a [u8; Board::BORDER_LIMIT],
     y: usize,
     count: usize,
-    lefts: &mut [bool; 1024],
+    lefts: &mut [bool; Board::CELL_LIMIT],
 )
     requires { ⌜ Sized h w × (y < h) × (w ≤ count + 1) × (count ≤ w) × (y * w + count < h * w)
         × Marked (y * w) (leftAt h w (joinsIn kind h w (now colours) (now borders))) (now lefts) ⌝ }
@@ -101,9 +102,9 @@ fn across<'a>(
     kind: Kind,
     h: usize,
     w: usize,
-    colours: &'a [u8; 1024],
-    borders: &'a [u8; 1984],
-    lefts: &mut [bool; 1024],
+    colours: &'a [u8; Board::CELL_LIMIT],
+    borders: &'a [u8; Board::BORDER_LIMIT],
+    lefts: &mut [bool; Board::CELL_LIMIT],
 )
     requires { ⌜ Sized h w × (length (now lefts) ≡ 1024) ⌝ }
     ensures { λ r. ⌜ Marked (h * w) (leftAt h w (joinsIn kind h w (now (colours .entry)) (now (borders .entry))))
@@ -122,9 +123,9 @@ fn down<'a>(
     kind: Kind,
     h: usize,
     w: usize,
-    colours: &'a [u8; 1024],
-    borders: &'a [u8; 1984],
-    aboves: &mut [bool; 1024],
+    colours: &'a [u8; Board::CELL_LIMIT],
+    borders: &'a [u8; Board::BORDER_LIMIT],
+    aboves: &mut [bool; Board::CELL_LIMIT],
 )
     requires { ⌜ Sized h w × (now aboves ≡ replicate 1024 false) ⌝ }
     ensures { λ r. ⌜ Marked (h * w) (aboveAt h w (joinsIn kind h w (now (colours .entry)) (now (borders .entry))))
@@ -154,7 +155,7 @@ fn clash(left: bool, above: bool, root: u16, over: u16) -> usize
 }
 
 // The parents of the first row: a cell that is joined to the one left of it has that one's, any other is its own.
-fn first_row(p: &mut [u16; 1024], w: usize, lefts: &[bool; 1024])
+fn first_row(p: &mut [u16; Board::CELL_LIMIT], w: usize, lefts: &[bool; Board::CELL_LIMIT])
     requires { ⌜ (1 ≤ w) × (w ≤ 32) × Forest (now p) ⌝ }
     ensures { λ r. ⌜ Forest (now (p .exit)) × ((above : ℕ → Bool) (list : List ℕ)
         → Scanned w w (markAt (now (lefts .entry))) above (now (p .exit)) list 0) ⌝ }
@@ -172,12 +173,12 @@ fn first_row(p: &mut [u16; 1024], w: usize, lefts: &[bool; 1024])
 // The parents of the later rows: a cell that is joined to the one above it has that one's; otherwise as in the first
 // row. Where a cell is joined to both, and their parents differ, it goes to the list. Gives the length of the list.
 fn later_rows<'a>(
-    p: &mut [u16; 1024],
+    p: &mut [u16; Board::CELL_LIMIT],
     w: usize,
     n: usize,
-    lefts: &'a [bool; 1024],
-    aboves: &'a [bool; 1024],
-    list: &mut [u16; 1024],
+    lefts: &'a [bool; Board::CELL_LIMIT],
+    aboves: &'a [bool; Board::CELL_LIMIT],
+    list: &mut [u16; Board::CELL_LIMIT],
 ) -> usize
     requires { ⌜ (1 ≤ w) × (w ≤ n) × (n ≤ 1024) × Forest (now p) × Blank 1024 n (now list)
         × Scanned w w (markAt (now lefts)) (markAt (now aboves)) (now p) (now list) 0 ⌝ }
@@ -202,7 +203,7 @@ fn later_rows<'a>(
 }
 
 // The trees of the first k cells of the list and of the cells left of them become one.
-fn settle(p: &mut [u16; 1024], list: &[u16; 1024], k: usize)
+fn settle(p: &mut [u16; Board::CELL_LIMIT], list: &[u16; Board::CELL_LIMIT], k: usize)
     requires { ⌜ (k ≤ 1024) × ((i : ℕ) → i < k → (1 ≤ getD (now list) i 0) × (getD (now list) i 0 < 1024))
         × Forest (now p) ⌝ }
     ensures { λ r. ⌜ Forest (now (p .exit)) × ((n : ℕ) (L : List ℕ) → n ≤ 1024
@@ -221,18 +222,18 @@ fn settle(p: &mut [u16; 1024], list: &[u16; 1024], k: usize)
 pub fn link<'a>(
     h: usize,
     w: usize,
-    colours: &'a [u8; 1024],
-    borders: &'a [u8; 1984],
+    colours: &'a [u8; Board::CELL_LIMIT],
+    borders: &'a [u8; Board::BORDER_LIMIT],
     kind: Kind,
-    p: &mut [u16; 1024],
-    list: &mut [u16; 1024],
+    p: &mut [u16; Board::CELL_LIMIT],
+    list: &mut [u16; Board::CELL_LIMIT],
 )
     requires { ⌜ Sized h w × Forest (now p) × Blank 1024 (h * w) (now list) ⌝ }
     ensures { λ r. ⌜ Linked h w (joinsIn kind h w (now (colours .entry)) (now (borders .entry))) (now (p .exit))
         × Blank 1024 (h * w) (now (list .exit)) ⌝ }
 {
-    let mut lefts = [false; 1024];
-    let mut aboves = [false; 1024];
+    let mut lefts = [false; Board::CELL_LIMIT];
+    let mut aboves = [false; Board::CELL_LIMIT];
     across(kind, h, w, colours, borders, &mut lefts);
     down(kind, h, w, colours, borders, &mut aboves);
     first_row(p, w, &lefts);
