@@ -1,3 +1,5 @@
 pub mod Probe
 pub mod ProbeLaws
 pub mod ProbeTransform
+pub mod ProbeAsked
+pub mod ProbeAskedLaws

@@ -108,6 +108,19 @@ parts m ids cells offs count i c o =
           );
     }
 
+-- the lengths of a page's groups
+pub groups-long : {h w : ℕ} → Sized h w → (link : ℕ → Bool) → Long (groupsOf (flat h w) link)
+unfolding flat
+groups-long {h} {w} z link =
+    let G = flat h w in
+    let c = counts z in
+    record {
+      ids = ids-length G link (c .some) (c .cells);
+      count = le-trans (count-le G link (c .some) (c .cells)) (c .cells);
+      cells = cells-long G link (c .some) (c .cells);
+      offs = offs-length G link (c .some) (c .cells);
+    }
+
 -- a page's groups
 module _ {h w : ℕ} (z : Sized h w) (cs bs : List ℕ) (k : ℕ) where
   abbrev link : ℕ → Bool
@@ -127,13 +140,7 @@ module _ {h w : ℕ} (z : Sized h w) (cs bs : List ℕ) (k : ℕ) where
 
   pub long : Long (groupsIn h w cs bs k)
   unfolding groupsIn
-  long =
-      record {
-        ids = ids-length (flat h w) link some small;
-        count = le-trans (count-le (flat h w) link some small) small;
-        cells = cells-long (flat h w) link some small;
-        offs = offs-length (flat h w) link some small;
-      }
+  long = groups-long z link
 
   -- the part that reasons ask for
   pub group-part : (g : ℕ) → g < groupsIn h w cs bs k .count

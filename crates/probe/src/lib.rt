@@ -10,10 +10,12 @@ ghost use Rattle.rules.specs.Flat.{Sized};
 ghost use Rattle.rules.specs.Groups.{entry};
 ghost use Rattle.probe.specs.Probe.{places, isFit, kindOf, sideOf, groupsIn};
 ghost use Rattle.probe.specs.Probe.{Long, groupWords, reasonWords, pathWords, Written, Answered};
+use board::Board;
 use groups::Groups;
 use groups::Kind;
 use rules::Side;
 
+mod asked; // asked.rt: the groups asked of a board, and their parts
 mod transform; // transform.rt: the transforms of a board's units
 
 // The least memory that is lent to a call.
@@ -51,19 +53,19 @@ fn copy(out: &mut [u8], s: &[u8])
 }
 
 // The colours of a page's cells.
-fn colours_in(s: &[u8]) -> [u8; 1024]
+fn colours_in(s: &[u8]) -> [u8; Board::CELL_LIMIT]
     ensures { λ r. ⌜ r ≡ places 1024 (now (s .entry)) ⌝ }
 {
-    let mut out = [0u8; 1024];
+    let mut out = [0u8; Board::CELL_LIMIT];
     copy(&mut out, s);
     out
 }
 
 // A page's borders.
-fn borders_in(s: &[u8]) -> [u8; 1984]
+fn borders_in(s: &[u8]) -> [u8; Board::BORDER_LIMIT]
     ensures { λ r. ⌜ r ≡ places 1984 (now (s .entry)) ⌝ }
 {
-    let mut out = [0u8; 1984];
+    let mut out = [0u8; Board::BORDER_LIMIT];
     copy(&mut out, s);
     out
 }

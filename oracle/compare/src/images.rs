@@ -83,6 +83,36 @@ impl Lent {
     }
 }
 
+/// The kinds of damage that `damage` does.
+pub const DAMAGES: usize = 10;
+
+/// Damage of one kind. Many keep the image good, or nearly so; an exchange of two entries of the stack
+/// (5) always does.
+pub fn damage(random: &mut Random, bytes: &mut [u8], kind: usize) {
+    let count = usize::from(u16::from_le_bytes([bytes[7_106], bytes[7_107]]));
+    let entry = |random: &mut Random| 7_108 + 2 * random.below(count.clamp(1, 1_984));
+    let low = |random: &mut Random| random.below(4) as u8;
+    match kind {
+        0 => bytes[random.below(2)] = random.below(40) as u8,
+        1 => bytes[2 + random.below(64)] = low(random),
+        2 => bytes[1_026 + random.below(256)] = *random.pick(&[0, 1, 127, 128, 254, 255]),
+        3 => bytes[5_122 + random.below(128)] = low(random),
+        4 => bytes[7_106] = bytes[7_106].wrapping_add(*random.pick(&[1, 255])),
+        5 => {
+            let (a, b) = (entry(random), entry(random));
+            bytes.swap(a, b);
+            bytes.swap(a + 1, b + 1);
+        }
+        6 => bytes[entry(random)] = random.below(128) as u8,
+        7 => {
+            let (a, b) = (random.below(128), random.below(128));
+            bytes.swap(5_122 + a, 5_122 + b);
+        }
+        8 => bytes[entry(random) + 1] = low(random),
+        _ => bytes[random.below(11_076)] = random.word() as u8,
+    }
+}
+
 /// A call on an image.
 #[derive(Clone, Copy, Debug, PartialEq, Eq)]
 pub enum ImageCall {

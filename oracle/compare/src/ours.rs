@@ -56,6 +56,21 @@ extern "C" {
         memory: *mut i32,
         memory_length: usize,
     );
+    fn probe_asked(
+        image: *const u8,
+        image_length: usize,
+        kind: u32,
+        memory: *mut u16,
+        memory_length: usize,
+    ) -> usize;
+    fn probe_part(
+        image: *const u8,
+        image_length: usize,
+        which: u32,
+        group: usize,
+        memory: *mut u16,
+        memory_length: usize,
+    ) -> usize;
 }
 
 /// A page with colours and borders as the proved functions take them. Nothing is promised of them.
@@ -200,6 +215,40 @@ pub fn transform(image: &[u8], unit: usize, k: usize, memory: &mut [i32]) -> Cou
         listed,
         cells,
         connections,
+    }
+}
+
+/// The groups of one kind, asked of the board that an image spells: the refusal's number, or as
+/// `Ours::groups`.
+pub fn asked(image: &[u8], kind: Kind, memory: &mut [u16]) -> usize {
+    // SAFETY: addresses and lengths are those of slices that live through the call.
+    unsafe {
+        probe_asked(
+            image.as_ptr(),
+            image.len(),
+            kind_number(kind),
+            memory.as_mut_ptr(),
+            memory.len(),
+        )
+    }
+}
+
+/// The two lists that have parts, by their number.
+pub const PARTED: [Kind; 2] = [Kind::Units, Kind::Potential];
+
+/// The cells of a group of the board that an image spells, as a part of the list with this number in
+/// `PARTED`.
+pub fn part(image: &[u8], which: usize, group: usize, memory: &mut [u16]) -> usize {
+    // SAFETY: addresses and lengths are those of slices that live through the call.
+    unsafe {
+        probe_part(
+            image.as_ptr(),
+            image.len(),
+            which as u32,
+            group,
+            memory.as_mut_ptr(),
+            memory.len(),
+        )
     }
 }
 

@@ -3,7 +3,7 @@
 
 use compare::boards;
 use compare::expected::note_source;
-use compare::images::{compare_calls, ImageCall, Judge, Lent, MEMORY, UNDO};
+use compare::images::{compare_calls, damage, ImageCall, Judge, Lent, DAMAGES, MEMORY, UNDO};
 use oracle::page::{Board, Puzzle};
 use oracle::random::Random;
 use oracle::{bench, generate, image};
@@ -109,32 +109,6 @@ fn every_length_of_an_image() {
 /// Where the parts of an image start, and its end.
 const PARTS: [usize; 7] = [0, 2, 1_026, 5_122, 7_106, 7_108, 11_076];
 
-/// One damage. Many keep the image good, or nearly so.
-fn damage(random: &mut Random, bytes: &mut [u8]) {
-    let count = usize::from(u16::from_le_bytes([bytes[7_106], bytes[7_107]]));
-    let entry = |random: &mut Random| 7_108 + 2 * random.below(count.clamp(1, 1_984));
-    let low = |random: &mut Random| random.below(4) as u8;
-    match random.below(10) {
-        0 => bytes[random.below(2)] = random.below(40) as u8,
-        1 => bytes[2 + random.below(64)] = low(random),
-        2 => bytes[1_026 + random.below(256)] = *random.pick(&[0, 1, 127, 128, 254, 255]),
-        3 => bytes[5_122 + random.below(128)] = low(random),
-        4 => bytes[7_106] = bytes[7_106].wrapping_add(*random.pick(&[1, 255])),
-        5 => {
-            let (a, b) = (entry(random), entry(random));
-            bytes.swap(a, b);
-            bytes.swap(a + 1, b + 1);
-        }
-        6 => bytes[entry(random)] = random.below(128) as u8,
-        7 => {
-            let (a, b) = (random.below(128), random.below(128));
-            bytes.swap(5_122 + a, 5_122 + b);
-        }
-        8 => bytes[entry(random) + 1] = low(random),
-        _ => bytes[random.below(11_076)] = random.word() as u8,
-    }
-}
-
 #[test]
 fn damaged_by_chance() {
     note_source();
@@ -145,7 +119,8 @@ fn damaged_by_chance() {
         let board = generate::board(&mut random, 8, 8);
         let mut bytes = image::write(&board);
         for _ in 0..random.between(1, 3) {
-            damage(&mut random, &mut bytes);
+            let kind = random.below(DAMAGES);
+            damage(&mut random, &mut bytes, kind);
         }
         three_calls(&mut random, &mut seen, &bytes, &mut memory);
     }

@@ -1,0 +1,86 @@
+// For tests alone: the groups asked of a board, and a group's part of the unit list or of the potential list. The board
+// is given as an image; an image of another length is alien. As in lib.rt, words are written from the start of the
+// memory, and where it has under 16,384 places a call gives 65,535 and leaves it.
+ghost use mathlib.Core.Path.{_≡_};
+ghost use Rattle.board.specs.Board.{numberOf};
+ghost use Rattle.probe.specs.Probe.{kindOf, groupWords};
+ghost use Rattle.probe.specs.ProbeAsked.{whichOf, askedIn, partIn, Told};
+use crate::ROOM;
+use crate::UNFIT;
+use crate::kind_of;
+use crate::put_groups;
+use crate::write;
+use board::Board;
+use groups::Answer;
+use groups::Kind;
+use groups::Which;
+
+// 0 is the unit list, any other number the potential list.
+fn which_of(which: u32) -> Which
+    ensures { λ r. ⌜ r ≡ whichOf which ⌝ }
+{
+    if which == 0 {
+        Which::Units
+    } else {
+        Which::Potential
+    }
+}
+
+// What the board that the image s spells gives, asked for its groups of one kind.
+fn asked_in(s: &[u8], kind: Kind) -> Answer
+    ensures { λ r. ⌜ r ≡ askedIn (now (s .entry)) kind ⌝ }
+{
+    if s.len() != image::LENGTH {
+        // the all-zero board is alien
+        return groups::asked(Board::zero(), kind);
+    }
+    groups::asked(image::reading::board(s), kind)
+}
+
+// The groups of one kind, as `probe_groups` writes them; of an alien image the refusal's number, and the memory stays.
+#[no_mangle]
+pub extern "C" fn probe_asked(s: &[u8], kind: u32, memory: &mut [u16]) -> usize
+    ensures { λ r. ⌜ Told (numberOf (askedIn (now (s .entry)) (kindOf kind) .outcome)) (now (memory .entry))
+        (groupWords (askedIn (now (s .entry)) (kindOf kind) .groups)) (now (memory .exit)) r ⌝ }
+{
+    let a = asked_in(s, kind_of(kind));
+    let outcome = a.outcome;
+    let refusal = board::number(outcome) as usize;
+    if refusal != 0 {
+        return refusal;
+    }
+    if memory.len() < ROOM {
+        return UNFIT;
+    }
+    let g = a.groups;
+    put_groups(memory, g)
+}
+
+// The cells of group g, as the part of the chosen list. There are none where no group has the number, and so of an
+// alien image.
+#[no_mangle]
+pub extern "C" fn probe_part(s: &[u8], which: u32, g: usize, memory: &mut [u16]) -> usize
+    ensures { λ r. ⌜ Told 0 (now (memory .entry)) (partIn (now (s .entry)) (whichOf which) g) (now (memory .exit)) r ⌝ }
+{
+    if memory.len() < ROOM {
+        return UNFIT;
+    }
+    let a = asked_in(s, Kind::Units);
+    let b = asked_in(s, Kind::Potential);
+    let us = a.groups;
+    let ps = b.groups;
+    let units = us.cells;
+    let unit_offs = us.offs;
+    let potential = ps.cells;
+    let potential_offs = ps.offs;
+    let words = groups::part(
+        &units,
+        &unit_offs,
+        &potential,
+        &potential_offs,
+        which_of(which),
+        g,
+    );
+    write(memory, 0, words);
+    words.len()
+}
