@@ -17,7 +17,7 @@ use Rattle.board.specs.Alien.{isAlien}
 use Rattle.board.specs.Board.{numberOf, returned, pushed, popped, decideOf, undoOf, Typed}
 use Rattle.board.specs.NativeLaws.{native-has, borders-fit, room}
 use Rattle.board.specs.DecideLaws.{Decided, decided-is, done-returned, Undone, undone-is}
-use Rattle.image.specs.Image.{boardOf, imageOf, rightLength, Bytes, sideOf, decideLiteral, ImageCall, decide}
+use Rattle.image.specs.Image.{spelledBoard, imageOf, rightLength, Bytes, sideOf, decideLiteral, ImageCall, decide}
 use Rattle.image.specs.Image.{undo, imageAlien, numberBy, boardBy, imageNumber, imageAfter, written}
 use Rattle.image.specs.LayoutLaws.{written-image}
 use Rattle.image.specs.RoundLaws.{image-board, board-typed, long-is}
@@ -70,12 +70,12 @@ pub alien-length : (s : List ℕ) → (length s ≡ 11076 → ⊥) → true ≡ 
 unfolding imageAlien rightLength
 alien-length s h = rw (ne-eqb (length s) 11076 h)
 
-pub alien-board : (s : List ℕ) → length s ≡ 11076 → isAlien (boardOf s) ≡ imageAlien s
+pub alien-board : (s : List ℕ) → length s ≡ 11076 → isAlien (spelledBoard s) ≡ imageAlien s
 unfolding imageAlien
 alien-board s e = rw (long-is s e)
 
 -- ---- an image of the right length, whose board is b
-module _ (s : List ℕ) (h : Bytes s) (e : length s ≡ 11076) (b : Board) (q : b ≡ boardOf s) where
+module _ (s : List ℕ) (h : Bytes s) (e : length s ≡ 11076) (b : Board) (q : b ≡ spelledBoard s) where
   pub number-is : (a : ImageCall) → numberBy b a ≡ imageNumber s a
   unfolding imageNumber
   number-is a = rw (long-is s e, q)

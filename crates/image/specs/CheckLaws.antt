@@ -18,7 +18,7 @@ use Rattle.rules.specs.Codes.{marksIn, coloursIn, cluesIn}
 use Rattle.rules.specs.Check.{Answer as Found, pass, conflict, check}
 use Rattle.argument.specs.FlatDemand.{flat-bound}
 use Rattle.board.specs.declared.Board.{Board}
-use Rattle.board.specs.Alien.{isAlien, boardOf as boardWith}
+use Rattle.board.specs.Alien.{isAlien, boardOf}
 use Rattle.board.specs.View.{puzzleOf, marksOf}
 use Rattle.board.specs.NativeLaws.{native-has}
 use Rattle.calls.specs.declared.Answer.{Answer}
@@ -28,7 +28,8 @@ use Rattle.calls.specs.AnswerLaws.{length-written}
 use Rattle.calls.specs.Known.{Known, foundIn}
 use Rattle.calls.specs.CheckLaws.{same-found}
 use Rattle.calls.specs.NumberLaws.{InRange, found-range}
-use Rattle.image.specs.Image.{boardOf, rightLength, putCodes, isShort, places, bytesAfter, bytesBy, checkNumber}
+use Rattle.image.specs.Image.{spelledBoard, rightLength, putCodes, isShort, places, bytesAfter, bytesBy}
+use Rattle.image.specs.Image.{checkNumber}
 use Rattle.image.specs.Image.{checkBytes}
 use Rattle.image.specs.RoundLaws.{long-is}
 use Rattle.image.specs.MemoryLaws.{codes-put}
@@ -48,7 +49,7 @@ module _ (s m : List ℕ) (h : length s ≡ 11076 → ⊥) where
   other-bytes = rw other
 
 -- ---- an image of the right length, whose board is b
-module _ (s m : List ℕ) (e : length s ≡ 11076) (b : Board) (q : b ≡ boardOf s) where
+module _ (s m : List ℕ) (e : length s ≡ 11076) (b : Board) (q : b ≡ spelledBoard s) where
   number-is : answerNumber (checkAnswer b (places m)) ≡ checkNumber s m
   unfolding checkNumber
   number-is = rw (long-is s e, q)
@@ -122,7 +123,7 @@ pub record Checks (m codes : List ℕ) (f : Found) (a : Answer) : Type 0 where
 module _ {h w : ℕ} {cs : List ℕ} {ks : List ℤ} {bs : List ℕ} {n : ℕ} (K : Known h w cs ks bs n) (m before : List ℕ)
     (room : 14 * (h * w) < length before) where
   abbrev b : Board
-  b = boardWith h w cs ks bs (K .stack) n
+  b = boardOf h w cs ks bs (K .stack) n
 
   abbrev f : Found
   f = foundIn h w cs ks bs

@@ -3,7 +3,7 @@
 --   pair s k           the number of two bytes of s, from place k on
 --   quad s k           the number of four bytes
 --   signed n           the signed number of 32 bits
---   boardOf s          the board that the image s spells
+--   spelledBoard s     the board that the image s spells
 --   twoBytes v         two bytes of a number
 --   fourBytes v        four bytes of a number
 --   bitsOf k           the 32 bits of a signed number
@@ -64,8 +64,8 @@ signed n = cond (ltb n 2147483648) (pos n) (negsuc (4294967295 - n))
 
 -- "height, width; 1,024 colours; 1,024 clues of 4 bytes, two's complement; 1,984 borders; stack count, 2 bytes; 1,984
 -- stack entries of 2 bytes"
-unfoldable pub boardOf : List ℕ → Board
-boardOf s =
+unfoldable pub spelledBoard : List ℕ → Board
+spelledBoard s =
     record {
       height = getD s 0 0;
       width = getD s 1 0;
@@ -106,7 +106,7 @@ unfoldable pub rightLength : List ℕ → Bool
 rightLength s = eqb (length s) 11076
 
 unfoldable pub imageAlien : List ℕ → Bool
-imageAlien s = cond (rightLength s) (isAlien (boardOf s)) true
+imageAlien s = cond (rightLength s) (isAlien (spelledBoard s)) true
 
 abbrev pub Bytes : List ℕ → Type 0
 Bytes s = (i : ℕ) → getD s i 0 < 256
@@ -137,11 +137,11 @@ boardBy b (decide n d) = decideOf b (decideLiteral n d) .board
 boardBy b undo = undoOf b .board
 
 unfoldable pub imageNumber : List ℕ → ImageCall → ℕ
-imageNumber s a = cond (rightLength s) (numberBy (boardOf s) a) 5
+imageNumber s a = cond (rightLength s) (numberBy (spelledBoard s) a) 5
 
 -- "Decide and undo rewrite the image"
 unfoldable pub imageAfter : List ℕ → ImageCall → List ℕ
-imageAfter s a = cond (rightLength s) (imageOf (boardBy (boardOf s) a)) s
+imageAfter s a = cond (rightLength s) (imageOf (boardBy (spelledBoard s) a)) s
 
 -- the image s with the border n set to v, the count to c, and the entry i of the stack to e: five bytes
 unfoldable pub written : List ℕ → ℕ → ℕ → ℕ → ℕ → ℕ → List ℕ
@@ -176,8 +176,8 @@ bytesBy b m =
 
 -- "the refusal number; 32 plus the undecided count for a pass; 65,536 plus the literal count for a conflict"
 unfoldable pub checkNumber : List ℕ → List ℕ → ℕ
-checkNumber s m = cond (rightLength s) (answerNumber (checkAnswer (boardOf s) (places m))) 5
+checkNumber s m = cond (rightLength s) (answerNumber (checkAnswer (spelledBoard s) (places m))) 5
 
 -- "lent memory stays"
 unfoldable pub checkBytes : List ℕ → List ℕ → List ℕ
-checkBytes s m = cond (rightLength s) (bytesBy (boardOf s) m) m
+checkBytes s m = cond (rightLength s) (bytesBy (spelledBoard s) m) m

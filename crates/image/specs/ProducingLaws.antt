@@ -26,7 +26,7 @@ use Rattle.reach.specs.Produced.{Produced}
 use Rattle.reach.specs.Reach.{produced-known, known-produced}
 use Rattle.calls.specs.declared.Answer.the-variants.{Refused}
 use Rattle.calls.specs.Answers.{answerNumber, asAnswer, checkAnswer}
-use Rattle.image.specs.Image.{boardOf, imageOf, imageAlien, Bytes, Proper, ImageCall, decide, undo}
+use Rattle.image.specs.Image.{spelledBoard, imageOf, imageAlien, Bytes, Proper, ImageCall, decide, undo}
 use Rattle.image.specs.Image.{sideOf, rightLength, numberBy, boardBy, imageNumber, imageAfter, places}
 use Rattle.image.specs.Image.{checkNumber}
 use Rattle.image.specs.Producing.{ImageProduced, begun, called}
@@ -117,11 +117,11 @@ check-else b k n = rw k (go (ltb n 16384) (check (puzzleOf b) (marksOf b)))
 
 check-alien : (s m : List ℕ) → imageAlien s ≡ true → checkNumber s m ≡ 5
 unfolding imageAlien checkNumber checkAnswer
-check-alien s m k = go (rightLength s) (isAlien (boardOf s)) k
+check-alien s m k = go (rightLength s) (isAlien (spelledBoard s)) k
   where
     go : (x y : Bool) → cond x y true ≡ true
         → cond x (answerNumber (cond y (Refused Alien) (cond (ltb (places m) 16384) (Refused Short)
-        (asAnswer (check (puzzleOf (boardOf s)) (marksOf (boardOf s))))))) 5 ≡ 5
+        (asAnswer (check (puzzleOf (spelledBoard s)) (marksOf (spelledBoard s))))))) 5 ≡ 5
     go true true e = refl
     go true false e = absurd (false≢true e)
     go false y e = refl
@@ -131,10 +131,10 @@ module _ (s : List ℕ) (h : Bytes s) where
   unfolding imageNumber
   call-five a =
       exactly-by s h (imageNumber s a) (λ k. alien-number s k a)
-      (λ k. let r = known-board s k in rw (long-is s (r .0)) (call-else (boardOf s) (r .1 .known) a))
+      (λ k. let r = known-board s k in rw (long-is s (r .0)) (call-else (spelledBoard s) (r .1 .known) a))
 
   pub check-five : (m : List ℕ) → (checkNumber s m ≡ 5) ↔ (ImageProduced s → ⊥)
   unfolding checkNumber
   check-five m =
       exactly-by s h (checkNumber s m) (check-alien s m)
-      (λ k. let r = known-board s k in rw (long-is s (r .0)) (check-else (boardOf s) (r .1 .known) (places m)))
+      (λ k. let r = known-board s k in rw (long-is s (r .0)) (check-else (spelledBoard s) (r .1 .known) (places m)))

@@ -19,7 +19,7 @@ use Rattle.board.specs.Alien.{isAlien}
 use Rattle.board.specs.Board.{Typed}
 use Rattle.board.specs.NativeLaws.{Native, native-has, borders-fit}
 use Rattle.image.specs.ListExtras.{drop-split, flat-part, table-part}
-use Rattle.image.specs.Image.{pair, quad, signed, boardOf, twoBytes, fourBytes, bitsOf, clueBytes, imageOf}
+use Rattle.image.specs.Image.{pair, quad, signed, spelledBoard, twoBytes, fourBytes, bitsOf, clueBytes, imageOf}
 use Rattle.image.specs.Image.{rightLength, imageAlien, Bytes, Proper}
 use Rattle.image.specs.ByteLaws.{pair-of, quad-of, two-of, four-of, quad-small, bits-signed, signed-small}
 use Rattle.image.specs.ByteLaws.{bits-small, signed-bits}
@@ -43,8 +43,8 @@ module _ (s : List ℕ) (h : Bytes s) (e : length s ≡ 11076) where
       flat-part twoBytes 2 7108 1984 (λ i. pair s (7108 + 2 * i)) s (λ i l. two-of s h (7108 + 2 * i) (omega arith))
       ∙ take-all 3968 (drop 7108 s) (omega (arith, length-drop 7108 s))
 
-  pub image-board : imageOf (boardOf s) ≡ s
-  unfolding imageOf boardOf
+  pub image-board : imageOf (spelledBoard s) ≡ s
+  unfolding imageOf spelledBoard
   image-board =
       let a : List ℕ = getD s 0 0 ∷ getD s 1 0 ∷ [] in
       let p = table-part 2 1024 0 s (omega arith) in
@@ -59,8 +59,8 @@ module _ (s : List ℕ) (h : Bytes s) (e : length s ≡ 11076) where
       ∙ sym front
 
 -- the board of an image is a value of the code's type
-pub board-typed : (s : List ℕ) → Typed (boardOf s)
-unfolding boardOf
+pub board-typed : (s : List ℕ) → Typed (spelledBoard s)
+unfolding spelledBoard
 board-typed s =
     record {
       colours = length-table 1024 _;
@@ -110,8 +110,8 @@ module _ (b : Board) (T : Typed b) (N : Native b) where
       sym
       (pair-of (imageOf b) (7108 + 2 * i) (getD (b .stack) i 0) (λ j m. entry-at b T i j l m) (entry-small i))
 
-  written-read : boardOf (imageOf b) ≡ b
-  unfolding boardOf imageOf
+  written-read : spelledBoard (imageOf b) ≡ b
+  unfolding spelledBoard imageOf
   written-read =
       sym
       (λ i.
@@ -128,7 +128,7 @@ module _ (b : Board) (T : Typed b) (N : Native b) where
       few : b .count < 65536
       few = omega (arith, N .few, borders-fit b N)
 
-pub board-image : (b : Board) → Proper b → boardOf (imageOf b) ≡ b
+pub board-image : (b : Board) → Proper b → spelledBoard (imageOf b) ≡ b
 board-image b P = written-read b (P .typed) (native-has b (P .known))
 
 -- ---- which images are alien
@@ -140,18 +140,18 @@ pub image-known : (b : Board) → Proper b → imageAlien (imageOf b) ≡ false
 unfolding imageAlien
 image-known b P = rw (long-is (imageOf b) (image-long b (P .typed)), board-image b P) (P .known)
 
-pub known-board : (s : List ℕ) → imageAlien s ≡ false → (length s ≡ 11076) × Proper (boardOf s)
+pub known-board : (s : List ℕ) → imageAlien s ≡ false → (length s ≡ 11076) × Proper (spelledBoard s)
 unfolding imageAlien rightLength
 known-board s a = go (eqb (length s) 11076) refl a
   where
-    go : (t : Bool) → eqb (length s) 11076 ≡ t → cond t (isAlien (boardOf s)) true ≡ false
-        → (length s ≡ 11076) × Proper (boardOf s)
+    go : (t : Bool) → eqb (length s) 11076 ≡ t → cond t (isAlien (spelledBoard s)) true ≡ false
+        → (length s ≡ 11076) × Proper (spelledBoard s)
     go true p q = (eqb-true (length s) 11076 p, record { known = q; typed = board-typed s })
     go false p q = absurd (false≢true (sym q))
 
 -- an image is not alien exactly if it is the image of a board that is not
 pub alien-image : (s : List ℕ) → Bytes s → (imageAlien s ≡ false) ↔ ((b : Board) × Proper b × (s ≡ imageOf b))
 alien-image s h = (
-  λ a. let r = known-board s a in (boardOf s, r .1, sym (image-board s h (r .0))),
+  λ a. let r = known-board s a in (spelledBoard s, r .1, sym (image-board s h (r .0))),
   λ r. ap imageAlien (r .2) ∙ image-known (r .0) (r .1),
 )

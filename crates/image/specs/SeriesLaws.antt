@@ -17,7 +17,7 @@ use Rattle.board.specs.Board.{numberOf, decideOf}
 use Rattle.board.specs.Cases.{decide-alien, undo-alien, decide-border, decide-taken, decide-done, undo-bare, undo-done}
 use Rattle.board.specs.ConditionLaws.{borders-of, borders-of-le}
 use Rattle.board.specs.NativeLaws.{native-has}
-use Rattle.image.specs.Image.{pair, boardOf, Bytes, Proper, decideLiteral, ImageCall, decide, undo, numberBy}
+use Rattle.image.specs.Image.{pair, spelledBoard, Bytes, Proper, decideLiteral, ImageCall, decide, undo, numberBy}
 use Rattle.image.specs.Image.{boardBy, rightLength, imageAlien, imageNumber, imageAfter, written}
 use Rattle.image.specs.RoundLaws.{long-is, known-board, image-known}
 use Rattle.image.specs.CallLaws.{number-is, after-refused, decide-fits, decide-after, undo-fits, undo-after}
@@ -29,39 +29,40 @@ module _ (s : List ℕ) (h : Bytes s) (k : imageAlien s ≡ false) where
   pub long : length s ≡ 11076
   long = known-board s k .0
 
-  proper : Proper (boardOf s)
+  proper : Proper (spelledBoard s)
   proper = known-board s k .1
 
   -- a call leaves it so
   pub after-known : (a : ImageCall) → imageAlien (imageAfter s a) ≡ false
   unfolding imageAfter
-  after-known a = rw (long-is s long) (image-known (boardBy (boardOf s) a) (proper-after (boardOf s) a proper))
+  after-known a =
+      rw (long-is s long) (image-known (boardBy (spelledBoard s) a) (proper-after (spelledBoard s) a proper))
 
   -- the number of a call is that of what the board returns
-  by-board : (a : ImageCall) → numberBy (boardOf s) a ≡ imageNumber s a
-  by-board a = number-is s h long (boardOf s) refl a
+  by-board : (a : ImageCall) → numberBy (spelledBoard s) a ≡ imageNumber s a
+  by-board a = number-is s h long (spelledBoard s) refl a
 
-  borders-are : bordersOf (getD s 0 0) (getD s 1 0) ≡ borderCount (boardOf s .height) (boardOf s .width)
-  unfolding boardOf
-  borders-are = borders-of (native-has (boardOf s) (proper .known) .size)
+  borders-are : bordersOf (getD s 0 0) (getD s 1 0) ≡ borderCount (spelledBoard s .height) (spelledBoard s .width)
+  unfolding spelledBoard
+  borders-are = borders-of (native-has (spelledBoard s) (proper .known) .size)
 
-  border-is : (n : ℕ) → n < 1984 → getD (boardOf s .borders) n 0 ≡ getD s (5122 + n) 0
-  unfolding boardOf
+  border-is : (n : ℕ) → n < 1984 → getD (spelledBoard s .borders) n 0 ≡ getD s (5122 + n) 0
+  unfolding spelledBoard
   border-is n l = getD-table 1984 (λ i. getD s (5122 + i) 0) n 0 l
 
-  count-is : boardOf s .count ≡ pair s 7106
-  unfolding boardOf
+  count-is : spelledBoard s .count ≡ pair s 7106
+  unfolding spelledBoard
   count-is = refl
 
-  entry-is : (i : ℕ) → i < 1984 → getD (boardOf s .stack) i 0 ≡ pair s (7108 + 2 * i)
-  unfolding boardOf
+  entry-is : (i : ℕ) → i < 1984 → getD (spelledBoard s .stack) i 0 ≡ pair s (7108 + 2 * i)
+  unfolding spelledBoard
   entry-is i l = getD-table 1984 (λ j. pair s (7108 + 2 * j)) i 0 l
 
   refused : (a : ImageCall) → (imageNumber s a ≡ 0 → ⊥) → Stepped s a s false
   refused a f =
       record {
         done = sym (ne-eqb (imageNumber s a) 0 f);
-        after = after-refused s h long (boardOf s) refl a f;
+        after = after-refused s h long (spelledBoard s) refl a f;
       }
 
   stepped : {a : ImageCall} {t : List ℕ} → imageNumber s a ≡ 0 → t ≡ imageAfter s a → Stepped s a t true
@@ -70,7 +71,7 @@ module _ (s : List ℕ) (h : Bytes s) (k : imageAlien s ≡ false) where
   -- a decide, from what the code has: its literal l, and the count m of the page's borders
   module _ (n d : ℕ) (l : Literal) (y : l ≡ decideLiteral n d) (m : ℕ)
       (q : m ≡ bordersOf (getD s 0 0) (getD s 1 0)) where
-    number : {r : Returned} → r ≡ decideOf (boardOf s) (decideLiteral n d)
+    number : {r : Returned} → r ≡ decideOf (spelledBoard s) (decideLiteral n d)
         → numberOf (r .outcome) ≡ imageNumber s (decide n d)
     number e = ap (λ (r : Returned). numberOf (r .outcome)) e ∙ by-board (decide n d)
 
@@ -83,11 +84,12 @@ module _ (s : List ℕ) (h : Bytes s) (k : imageAlien s ≡ false) where
     pub decide-far : m ≤ l .border → Stepped s (decide n d) s false
     decide-far g =
         let e =
-        number (decide-border (boardOf s) (decideLiteral n d) (proper .known) (rw (← borders-are, ← q, ← named) g)) in
+        number
+        (decide-border (spelledBoard s) (decideLiteral n d) (proper .known) (rw (← borders-are, ← q, ← named) g)) in
         refused (decide n d) (λ z. let f : 6 ≡ 0 = e ∙ z in omega arith)
 
     module _ (g : l .border < m) where
-      free : (v : ℕ) → getD s (5122 + l .border) 0 ≡ v → getD (boardOf s .borders) n 0 ≡ v
+      free : (v : ℕ) → getD s (5122 + l .border) 0 ≡ v → getD (spelledBoard s .borders) n 0 ≡ v
       free v e =
           let c = few in
           let x = named in
@@ -97,7 +99,7 @@ module _ (s : List ℕ) (h : Bytes s) (k : imageAlien s ≡ false) where
       decide-held f =
           let e =
           number
-          (decide-taken (boardOf s) (decideLiteral n d) (proper .known) (rw (← borders-are, ← q, ← named) g)
+          (decide-taken (spelledBoard s) (decideLiteral n d) (proper .known) (rw (← borders-are, ← q, ← named) g)
           (λ z. f (sym (free (getD s (5122 + l .border) 0) refl) ∙ z))) in
           refused (decide n d) (λ z. let o : 7 ≡ 0 = e ∙ z in omega arith)
 
@@ -107,12 +109,12 @@ module _ (s : List ℕ) (h : Bytes s) (k : imageAlien s ≡ false) where
         decided =
             sym
             (number
-            (decide-done (boardOf s) (decideLiteral n d) (proper .known) (rw (← borders-are, ← q, ← named) g)
+            (decide-done (spelledBoard s) (decideLiteral n d) (proper .known) (rw (← borders-are, ← q, ← named) g)
             (free 0 f)))
 
         pub decide-room : (l .border < 1984) × (c < 1984)
         decide-room =
-            let r = decide-fits s h long (boardOf s) refl n d decided in
+            let r = decide-fits s h long (spelledBoard s) refl n d decided in
             let x = few in
             (omega arith, omega (arith, r .1, count-is))
 
@@ -120,7 +122,7 @@ module _ (s : List ℕ) (h : Bytes s) (k : imageAlien s ≡ false) where
             → t ≡ written s (l .border) v (c + 1) c (l .border) → Stepped s (decide n d) t true
         decide-step {v} {t} x w =
             stepped decided
-            (decide-after s h long (boardOf s) refl n d decided l v t y x
+            (decide-after s h long (spelledBoard s) refl n d decided l v t y x
             (w ∙ ap (λ j. written s (l .border) v (j + 1) j (l .border)) (e ∙ sym count-is)))
 
   -- an undo, where the image has the count m
@@ -128,40 +130,40 @@ module _ (s : List ℕ) (h : Bytes s) (k : imageAlien s ≡ false) where
     pub undo-none : m ≡ 0 → Stepped s undo s false
     undo-none z =
         let q =
-        ap (λ (r : Returned). numberOf (r .outcome)) (undo-bare (boardOf s) (proper .known) (count-is ∙ sym e ∙ z))
+        ap (λ (r : Returned). numberOf (r .outcome)) (undo-bare (spelledBoard s) (proper .known) (count-is ∙ sym e ∙ z))
         ∙ by-board undo in
         refused undo (λ x. let g : 8 ≡ 0 = q ∙ x in omega arith)
 
     module _ (f : m ≡ 0 → ⊥) where
-      counted : boardOf s .count ≡ m
+      counted : spelledBoard s .count ≡ m
       counted = count-is ∙ sym e
 
       undone : imageNumber s undo ≡ 0
       undone =
           sym
           (ap (λ (r : Returned). numberOf (r .outcome))
-          (undo-done (boardOf s) (proper .known) (λ z. f (sym counted ∙ z)))
+          (undo-done (spelledBoard s) (proper .known) (λ z. f (sym counted ∙ z)))
           ∙ by-board undo)
 
       pub undo-low : m ≤ 1984
-      undo-low = rw (← counted) (undo-fits s h long (boardOf s) refl undone .1)
+      undo-low = rw (← counted) (undo-fits s h long (spelledBoard s) refl undone .1)
 
       -- its entry n
       module _ (n : ℕ) (x : n ≡ pair s (7108 + 2 * (m - 1))) where
-        entry : n ≡ getD (boardOf s .stack) (boardOf s .count - 1) 0
+        entry : n ≡ getD (spelledBoard s .stack) (spelledBoard s .count - 1) 0
         entry =
             let o = undo-low in
             x
             ∙ sym (entry-is (m - 1) (omega arith))
-            ∙ ap (λ j. getD (boardOf s .stack) (j - 1) 0) (sym counted)
+            ∙ ap (λ j. getD (spelledBoard s .stack) (j - 1) 0) (sym counted)
 
         pub undo-room : n < 1984
-        undo-room = rw entry (undo-fits s h long (boardOf s) refl undone .2)
+        undo-room = rw entry (undo-fits s h long (spelledBoard s) refl undone .2)
 
         pub undo-step : {t : List ℕ} → t ≡ written s n 0 (m - 1) (m - 1) 0 → Stepped s undo t true
         undo-step {t} w =
             stepped undone
-            (undo-after s h long (boardOf s) refl undone n t entry
+            (undo-after s h long (spelledBoard s) refl undone n t entry
             (w ∙ ap (λ j. written s n 0 (j - 1) (j - 1) 0) (sym counted)))
 
 -- ---- a list of calls
@@ -170,11 +172,11 @@ pub alien-number : (s : List ℕ) → imageAlien s ≡ true → (a : ImageCall) 
 unfolding imageAlien imageNumber
 alien-number s k a = go (rightLength s) k a
   where
-    go : (x : Bool) → cond x (isAlien (boardOf s)) true ≡ true → (c : ImageCall)
-        → cond x (numberBy (boardOf s) c) 5 ≡ 5
+    go : (x : Bool) → cond x (isAlien (spelledBoard s)) true ≡ true → (c : ImageCall)
+        → cond x (numberBy (spelledBoard s) c) 5 ≡ 5
     go true e (decide n d) =
-        sym (ap (λ (r : Returned). numberOf (r .outcome)) (decide-alien (boardOf s) (decideLiteral n d) e))
-    go true e undo = sym (ap (λ (r : Returned). numberOf (r .outcome)) (undo-alien (boardOf s) e))
+        sym (ap (λ (r : Returned). numberOf (r .outcome)) (decide-alien (spelledBoard s) (decideLiteral n d) e))
+    go true e undo = sym (ap (λ (r : Returned). numberOf (r .outcome)) (undo-alien (spelledBoard s) e))
     go false e c = refl
 
 pub alien-none : (s codes : List ℕ) → imageAlien s ≡ true → (0 ≡ doneOf s codes) × (s ≡ imageDone s codes)
@@ -236,5 +238,5 @@ module _ {start codes : List ℕ} {i : ℕ} {s : List ℕ} (R : Running start co
   running-stop S =
       let e = sym (S .done) in
       let n = eqb-false (imageNumber s call) 0 e in
-      let f = after-refused s (R .bytes) (long s (R .bytes) (R .known)) (boardOf s) refl call n in
+      let f = after-refused s (R .bytes) (long s (R .bytes) (R .known)) (spelledBoard s) refl call n in
       (sym (R .number ∙ rw (here, e) (omega arith)), S .after ∙ sym f ∙ sym (R .image ∙ rw (here, e)))

@@ -3,7 +3,7 @@ ghost use mathlib.Core.Path.{_≡_};
 ghost use Prim.Native.Nat.{_+_, _*_, _<_, _≤_};
 ghost use lib.ListN.{length, getD};
 ghost use Rattle.lists.specs.Table.{table};
-ghost use Rattle.image.specs.Image.{pair, quad, signed, boardOf};
+ghost use Rattle.image.specs.Image.{pair, quad, signed, spelledBoard};
 use crate::BORDERS;
 use crate::CLUES;
 use crate::COLOURS;
@@ -95,7 +95,7 @@ fn stack(s: &[u8]) -> [u16; Board::BORDER_LIMIT]
 // The board of an image of the right length.
 pub fn board(s: &[u8]) -> Board
     requires { ⌜ length (now s) ≡ 11076 ⌝ }
-    ensures { λ r. ⌜ r ≡ boardOf (now (s .entry)) ⌝ }
+    ensures { λ r. ⌜ r ≡ spelledBoard (now (s .entry)) ⌝ }
 {
     let mut colours = [0u8; Board::CELL_LIMIT];
     copy(&mut colours, s, COLOURS);

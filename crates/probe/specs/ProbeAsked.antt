@@ -23,14 +23,14 @@ use Rattle.groups.specs.declared.Groups.{Groups}
 use Rattle.groups.specs.declared.Answer.{Answer}
 use Rattle.groups.specs.Asked.{noGroups, answered, askedOf}
 use Rattle.groups.specs.Parts.{partOf, partFrom}
-use Rattle.image.specs.Image.{rightLength, boardOf}
+use Rattle.image.specs.Image.{rightLength, spelledBoard}
 
 unfoldable pub whichOf : ℕ → Which
 whichOf n = cond (eqb n 0) Units Potential
 
 -- "Groups or transforms asked of an alien board give 5 and none"
 unfoldable pub askedIn : List ℕ → Kind → Answer
-askedIn s k = cond (rightLength s) (askedOf (boardOf s) k) (answered Alien noGroups)
+askedIn s k = cond (rightLength s) (askedOf (spelledBoard s) k) (answered Alien noGroups)
 
 -- "A group's cells are handed back as a part of the unit list or of the potential list"
 unfoldable pub partIn : List ℕ → Which → ℕ → List ℕ

@@ -22,7 +22,7 @@ use Rattle.groups.specs.declared.Answer.{Answer}
 use Rattle.groups.specs.Asked.{noGroups, answered, askedOf}
 use Rattle.groups.specs.AskedLaws.{asked-alien, asked-done}
 use Rattle.groups.specs.Parts.{partOf, partFrom}
-use Rattle.image.specs.Image.{rightLength, boardOf}
+use Rattle.image.specs.Image.{rightLength, spelledBoard}
 use Rattle.image.specs.RoundLaws.{long-is}
 use Rattle.probe.specs.Probe.{Long, Written}
 use Rattle.probe.specs.ProbeLaws.{groups-long}
@@ -34,7 +34,7 @@ module _ (s : List ℕ) (k : Kind) where
   unfolding askedIn rightLength
   asked-other e = sym (asked-alien zeroBoard k zero-alien) ∙ rw (ne-eqb (length s) 11076 e)
 
-  pub asked-right : length s ≡ 11076 → askedOf (boardOf s) k ≡ askedIn s k
+  pub asked-right : length s ≡ 11076 → askedOf (spelledBoard s) k ≡ askedIn s k
   unfolding askedIn
   asked-right e = rw (long-is s e)
 
@@ -59,8 +59,8 @@ pub asked-long : (s : List ℕ) (k : Kind) → Long (askedIn s k .groups)
 unfolding askedIn
 asked-long s k = go (rightLength s)
   where
-    go : (v : Bool) → Long (cond v (askedOf (boardOf s) k) (answered Alien noGroups) .groups)
-    go true = board-long (boardOf s) k
+    go : (v : Bool) → Long (cond v (askedOf (spelledBoard s) k) (answered Alien noGroups) .groups)
+    go true = board-long (spelledBoard s) k
     go false = none-long
 
 -- a part is no longer than its list

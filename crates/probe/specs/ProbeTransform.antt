@@ -14,7 +14,7 @@ use lib.ListN.{length, set}
 use lib.Seq.{sets}
 use Rattle.board.specs.Board.{numberOf}
 use Rattle.board.specs.declared.Outcome.the-variants.{Alien}
-use Rattle.image.specs.Image.{rightLength, boardOf}
+use Rattle.image.specs.Image.{rightLength, spelledBoard}
 use Rattle.image.specs.RoundLaws.{long-is}
 use Rattle.transforms.specs.declared.Answer.{Answer}
 use Rattle.transforms.specs.Transforms.{nothing, answered, transformOf, memoryAfter}
@@ -23,10 +23,10 @@ unfoldable pub countsOf : Answer → List ℕ
 countsOf a = numberOf (a .outcome) ∷ a .listed ∷ a .cells ∷ a .connections ∷ []
 
 unfoldable pub answerIn : List ℕ → ℕ → ℕ → ℕ → Answer
-answerIn s u k n = cond (rightLength s) (transformOf (boardOf s) u k n) (answered Alien 0 nothing)
+answerIn s u k n = cond (rightLength s) (transformOf (spelledBoard s) u k n) (answered Alien 0 nothing)
 
 unfoldable pub memoryIn : List ℕ → ℕ → ℕ → List ℤ → List ℤ
-memoryIn s u k m = cond (rightLength s) (memoryAfter (boardOf s) u k m) m
+memoryIn s u k m = cond (rightLength s) (memoryAfter (spelledBoard s) u k m) m
 
 -- a store past the end
 pub set-past : (l : List ℕ) (i v : ℕ) → length l ≤ i → l ≡ set l i v
@@ -51,10 +51,10 @@ module _ (s : List ℕ) (u k : ℕ) (m : List ℤ) where
   unfolding memoryIn rightLength
   other-memory e = rw (ne-eqb (length s) 11076 e)
 
-  pub right-answer : length s ≡ 11076 → transformOf (boardOf s) u k (length m) ≡ answerIn s u k (length m)
+  pub right-answer : length s ≡ 11076 → transformOf (spelledBoard s) u k (length m) ≡ answerIn s u k (length m)
   unfolding answerIn
   right-answer e = rw (long-is s e)
 
-  pub right-memory : length s ≡ 11076 → memoryAfter (boardOf s) u k m ≡ memoryIn s u k m
+  pub right-memory : length s ≡ 11076 → memoryAfter (spelledBoard s) u k m ≡ memoryIn s u k m
   unfolding memoryIn
   right-memory e = rw (long-is s e)

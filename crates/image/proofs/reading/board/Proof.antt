@@ -1,7 +1,7 @@
 -- `board` meets its contract: each field is what its reader returns.
 use mathlib.Core.Path.{_∙_}
 use borrow.Author.Needs.{needs}
-use Rattle.image.specs.Image.{boardOf}
+use Rattle.image.specs.Image.{spelledBoard}
 use Rattle.image.proofs.reading.board.Statement.{statement}
 use Rattle.image.proofs.reading.board.Tie as tie
 
@@ -42,7 +42,7 @@ wide-requires : tie.Need-wide-requires
 wide-requires c κs = search needs
 
 returns : tie.Need-returns
-unfolding boardOf
+unfolding spelledBoard
 returns c =
     λ i.
     record {
