@@ -28,14 +28,14 @@
  * REASON MEMORY is at least 32,768 bytes, which is enough for every reason. A literal takes 2 bytes, low byte first:
  * twice the border's number, plus 1 for wall.
  *
- * EVERY CALL but dbchoco_calls returns one number. If it is from 1 to 9 the call was refused, and image and memory are as
- * they were: making an image is refused with 1 to 5, a call on an image with 5 to 9. Where several refusals apply the
- * lowest number is given.
+ * EVERY CALL but dbchoco_calls returns one number. If it is from 1 to 9 the call was refused, and image and memory are
+ * as they were: making an image is refused with 1 to 5, a call on an image with 5 to 9. Where several refusals apply
+ * the lowest number is given.
  *
  * Images, memory and lists pass as their address and their length, a list's length being the count of its numbers. The
- * address must be valid for that many and a multiple of one number's size. What a call writes must not overlap what else
- * is lent to it, and nothing else may write any of it during the call; a length of 0 takes any such address that is not
- * null. Nothing beyond the length is read or written.
+ * address must be valid for that many, and a multiple of one number's size. What a call writes must not overlap what
+ * else is lent to it, and nothing else may write any of it during the call; a length of 0 takes any such address that
+ * is not null. Nothing beyond the length is read or written.
  */
 #ifndef DBCHOCO_H
 #define DBCHOCO_H

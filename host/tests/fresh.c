@@ -1,6 +1,6 @@
 /*
- * Making an image from C: a host that writes a fresh image itself gets the same bytes as dbchoco_fresh, and goes on from
- * its own; each refusal has its number and leaves the bytes. Prints "right", or the first line at fault.
+ * Making an image from C: a host that writes a fresh image itself gets the same bytes as dbchoco_fresh, and goes on
+ * from its own; each refusal has its number and leaves the bytes. Prints "right", or the first line at fault.
  */
 #include <stdio.h>
 #include <string.h>

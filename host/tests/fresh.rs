@@ -1,5 +1,5 @@
-//! Making an image in lent bytes by the exported call: bytes of any content become exactly the image, and a refused call
-//! leaves them. An image that a host writes itself is as good.
+//! Making an image in lent bytes by the exported call: bytes of any content become exactly the image, and a refused
+//! call leaves them. An image that a host writes itself is as good.
 
 use dbchoco::{Answer, Board, Refusal, Side, IMAGE_LENGTH};
 

@@ -76,6 +76,21 @@ pub fn read(image: &[u8]) -> Option<Board> {
     (write(&board) == image).then_some(board)
 }
 
+/// Makes the fresh image of a puzzle in lent bytes.
+pub fn fresh(image: &mut [u8], puzzle: &Puzzle) -> u32 {
+    if let Some(number) = book::refusal(puzzle) {
+        return number;
+    }
+    if image.len() != LENGTH {
+        return ALIEN;
+    }
+    image.copy_from_slice(&write(&Board {
+        puzzle: puzzle.clone(),
+        decided: vec![],
+    }));
+    0
+}
+
 pub fn decide(image: &mut [u8], border: u32, side: u32) -> u32 {
     let Some(mut board) = read(image) else {
         return ALIEN;

@@ -11,6 +11,16 @@ use oracle::random::Random;
 
 // A slice goes over as its address and its length.
 extern "C" {
+    fn dbchoco_fresh(
+        image: *mut u8,
+        image_length: usize,
+        height: u32,
+        width: u32,
+        colours: *const u8,
+        colours_length: usize,
+        clues: *const i32,
+        clues_length: usize,
+    ) -> u32;
     fn dbchoco_decide(image: *mut u8, image_length: usize, border: u32, side: u32) -> u32;
     fn dbchoco_undo(image: *mut u8, image_length: usize) -> u32;
     fn dbchoco_check(
@@ -159,6 +169,60 @@ pub fn compare_calls(image: &mut Lent, codes: &[u16]) -> usize {
     assert!(image.content() == wanted_image, "image after {codes:?}");
     image.look_at_guards();
     made
+}
+
+/// A page as it is handed over to be made an image of. Nothing is promised of it.
+#[derive(Clone, Debug)]
+pub struct Page {
+    pub h: u32,
+    pub w: u32,
+    pub colours: Vec<u8>,
+    pub clues: Vec<i32>,
+}
+
+impl Page {
+    /// The page as a puzzle.
+    fn puzzle(&self) -> Puzzle {
+        Puzzle {
+            h: self.h as usize,
+            w: self.w as usize,
+            colours: self
+                .colours
+                .iter()
+                .map(|&colour| i32::from(colour))
+                .collect(),
+            clues: self.clues.clone(),
+        }
+    }
+}
+
+/// The compiled call that makes a fresh image.
+pub fn our_fresh(image: &mut [u8], h: u32, w: u32, colours: &[u8], clues: &[i32]) -> u32 {
+    // SAFETY: addresses and lengths are those of three slices that live through the call.
+    unsafe {
+        dbchoco_fresh(
+            image.as_mut_ptr(),
+            image.len(),
+            h,
+            w,
+            colours.as_ptr(),
+            colours.len(),
+            clues.as_ptr(),
+            clues.len(),
+        )
+    }
+}
+
+/// An image made in lent bytes, compared with the plain writer, every byte and the guards. Gives the number.
+pub fn compare_fresh(image: &mut Lent, page: &Page) -> u32 {
+    let mut wanted_image = image.content().to_vec();
+    let wanted = image::fresh(&mut wanted_image, &page.puzzle());
+    let (colours, clues) = (&page.colours[..], &page.clues[..]);
+    let number = our_fresh(image.content_mut(), page.h, page.w, colours, clues);
+    assert_eq!(number, wanted, "{page:?}");
+    assert!(image.content() == wanted_image, "bytes after {page:?}");
+    image.look_at_guards();
+    number
 }
 
 /// The published check, with its last answer, which the book and the plain image calls both ask for.

@@ -1,9 +1,9 @@
 //! The exported calls between memory that may not be touched: a byte read or written before the start
-//! or past the end of an image or of reason memory ends the test program.
+//! or past the end of an image, of reason memory or of a list ends the test program.
 
 #![cfg(target_os = "linux")]
 
-use compare::images::{ours, ImageCall};
+use compare::images::{our_fresh, ours, ImageCall};
 use oracle::page::{Board, Puzzle};
 use oracle::random::Random;
 use oracle::{bench, generate, image};
@@ -50,6 +50,15 @@ impl Fenced {
         let part = unsafe { slice::from_raw_parts_mut(self.0.add(from), bytes.len()) };
         part.copy_from_slice(bytes);
         part
+    }
+
+    /// Clues, laid so.
+    fn lay_clues(&mut self, clues: &[i32], at_end: bool) -> &[i32] {
+        let bytes: Vec<u8> = clues.iter().flat_map(|clue| clue.to_ne_bytes()).collect();
+        // SAFETY: any four bytes are a number.
+        let (before, laid, behind) = unsafe { self.lay(&bytes, at_end).align_to() };
+        assert!(before.is_empty() && behind.is_empty());
+        laid
     }
 }
 
@@ -100,4 +109,27 @@ fn nothing_past_an_image_of_any_length_is_touched() {
             assert_eq!(number == 5, length != image::LENGTH, "{length} {call:?}");
         }
     }
+}
+
+#[test]
+fn nothing_beside_what_an_image_is_made_of_is_touched() {
+    let (mut image, mut colours, mut clues) = (Fenced::new(), Fenced::new(), Fenced::new());
+    let mut made = 0;
+    for (h, w) in [(1, 1), (1, 2), (3, 5), (32, 32), (33, 32), (0, 7), (257, 1)] {
+        let cells = (h * w) as usize;
+        for (few, less) in [(0, 0), (1, 0), (0, 1), (cells, cells)] {
+            let (many_colours, many_clues) =
+                (cells.saturating_sub(few), cells.saturating_sub(less));
+            for length in [image::LENGTH, image::LENGTH - 1, image::LENGTH + 1, 1, 0] {
+                for at_end in [true, false] {
+                    let image = image.lay(&vec![7; length], at_end);
+                    let colours = colours.lay(&vec![1; many_colours], at_end);
+                    let clues = clues.lay_clues(&vec![-1; many_clues], at_end);
+                    let number = our_fresh(image, h, w, colours, clues);
+                    made += usize::from(number == 0);
+                }
+            }
+        }
+    }
+    assert_eq!(made, 8, "four sizes, laid at both ends");
 }

@@ -19,7 +19,7 @@ fn number(answer: &Answer) -> u32 {
     }
 }
 
-/// The image of a fresh board, as the host writes it.
+/// The image of a fresh board, as the host's crate makes it.
 fn fresh(puzzle: &Puzzle) -> Vec<u8> {
     let colours: Vec<u8> = puzzle.colours.iter().map(|&colour| colour as u8).collect();
     let board = dbchoco::Board::fresh(puzzle.h, puzzle.w, &colours, &puzzle.clues);

@@ -1,11 +1,11 @@
-//! A libFuzzer target over the three exported calls on an image. The input is read as a page and a list of calls and
-//! damages; each call is judged as in `compare::images`, and a difference panics.
+//! A libFuzzer target over the exported calls. The input is read as a page, damages of it, and a list of calls and
+//! damages of its image: an image is made of the damaged page and then of the page, and the calls are made on it. Each
+//! call is judged as in `compare::images`, and a difference panics.
 //!
 //! The judge is instrumented, the published check in it too, and so leads the fuzzer; the library is not.
 
-use compare::images::{ImageCall, Judge, Lent, MEMORY};
+use compare::images::{compare_fresh, ImageCall, Judge, Lent, Page, MEMORY};
 use oracle::image;
-use oracle::page::{Board, Puzzle};
 use oracle::random::Random;
 
 /// The rest of the input.
@@ -29,27 +29,56 @@ impl Input<'_> {
 }
 
 /// A page of at most 8 by 8, or 32 by 32 in one case of eight; a clue on some cells.
-fn page(input: &mut Input) -> Puzzle {
+fn page(input: &mut Input) -> Page {
     let size = input.byte();
     let most = if size % 8 == 0 { 32 } else { 8 };
-    let (h, w) = (
-        1 + usize::from(size / 8) % most,
-        1 + usize::from(input.byte()) % most,
-    );
-    let mut puzzle = Puzzle::without_clues(h, w, vec![0; h * w]);
+    let (h, w) = (1 + size / 8 % most, 1 + input.byte() % most);
+    let cells = usize::from(h) * usize::from(w);
+    let mut page = Page {
+        h: u32::from(h),
+        w: u32::from(w),
+        colours: vec![0; cells],
+        clues: vec![-1; cells],
+    };
     let (mut bits, mut left) = (0, 0);
-    for colour in &mut puzzle.colours {
+    for colour in &mut page.colours {
         if left == 0 {
             (bits, left) = (input.byte(), 8);
         }
-        *colour = i32::from(bits & 1);
+        *colour = bits & 1;
         (bits, left) = (bits >> 1, left - 1);
     }
     for _ in 0..input.byte() % 4 {
-        let cell = usize::from(input.byte()) % (h * w);
-        puzzle.clues[cell] = i32::from(input.byte() % 8) - 1;
+        let cell = usize::from(input.byte()) % cells;
+        page.clues[cell] = i32::from(input.byte() % 8) - 1;
     }
-    puzzle
+    page
+}
+
+/// The page with up to three damages: a side, the length of a list, a colour or a clue.
+fn damaged(input: &mut Input, page: &Page) -> Page {
+    let mut page = page.clone();
+    for _ in 0..input.byte() % 4 {
+        let (kind, number) = (input.byte(), input.word());
+        let cell = number % 1_024;
+        match kind % 6 {
+            0 => page.h = (number as u32) << (kind / 6 % 17),
+            1 => page.w = (number as u32) << (kind / 6 % 17),
+            2 => page.colours.resize(number % 1_100, 0),
+            3 => page.clues.resize(number % 1_100, -1),
+            4 => {
+                if let Some(colour) = page.colours.get_mut(cell) {
+                    *colour = kind;
+                }
+            }
+            _ => {
+                if let Some(clue) = page.clues.get_mut(cell) {
+                    *clue -= number as i32;
+                }
+            }
+        }
+    }
+    page
 }
 
 /// The offsets that a damage aims at: the start of each part of an image.
@@ -103,9 +132,10 @@ pub unsafe extern "C" fn LLVMFuzzerTestOneInput(data: *const u8, size: usize) ->
     };
     let mut input = Input(bytes);
     let mut random = Random::new(1);
-    let puzzle = page(&mut input);
-    let decided = vec![];
-    let mut image = Lent::new(&mut random, &image::write(&Board { puzzle, decided }));
+    let page = page(&mut input);
+    let mut image = Lent::memory(&mut random, image::LENGTH);
+    compare_fresh(&mut image, &damaged(&mut input, &page));
+    assert_eq!(compare_fresh(&mut image, &page), 0);
     let mut memory = Lent::memory(&mut random, MEMORY);
     let mut judge = Judge::default();
     while !input.0.is_empty() {

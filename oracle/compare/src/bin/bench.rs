@@ -1,12 +1,12 @@
 //! Times of the proved code and of the published, in one process: `cargo run --release --bin bench`.
-//! Words after `--` take only the parts with that name (groups, check, stream, image-decide,
+//! Words after `--` take only the parts with that name (groups, check, stream, image-fresh, image-decide,
 //! image-undo, image-calls, image-check), and only the boards whose name has one of the other words.
 //!
 //! A part of the work is a line of PARTS: how to make its two sides ready on a board.
 
 use compare::boards;
 use compare::expected::published;
-use compare::images::{self, our_calls, ImageCall, MEMORY, UNDO};
+use compare::images::{self, our_calls, our_fresh, ImageCall, MEMORY, UNDO};
 use compare::ours::{Ours, ROOM};
 use compare::timing::{least, plain, times_of, Run, Side, BATCHES, FEWEST};
 use compare::trial::Trial;
@@ -29,7 +29,7 @@ struct Part {
     units: fn(&Board) -> usize,
 }
 
-const PARTS: [Part; 7] = [
+const PARTS: [Part; 8] = [
     Part {
         name: "groups",
         title: "the three groupings",
@@ -50,6 +50,13 @@ const PARTS: [Part; 7] = [
         ready: stream,
         boards: streams,
         units: |board| board.decided.len().max(1),
+    },
+    Part {
+        name: "image-fresh",
+        title: "a fresh image; the Rust makes its board",
+        ready: image_fresh,
+        boards: bench::boards,
+        units: |_| 1,
     },
     Part {
         name: "image-decide",
@@ -120,6 +127,22 @@ fn check(board: &Board) -> [Side; 2] {
         black_box(theirs.check());
     };
     [ours, plain(their_work)]
+}
+
+fn image_fresh(board: &Board) -> [Side; 2] {
+    let mut fresh = board.clone();
+    fresh.decided.clear();
+    let puzzle = board.puzzle.clone();
+    let (h, w) = (puzzle.h as u32, puzzle.w as u32);
+    let colours: Vec<u8> = puzzle.colours.iter().map(|&colour| colour as u8).collect();
+    let mut image = image::write(board);
+    let our_work = move || {
+        black_box(our_fresh(&mut image, h, w, &colours, &puzzle.clues));
+    };
+    let their_work = move || {
+        black_box(published(&fresh));
+    };
+    [plain(our_work), plain(their_work)]
 }
 
 /// Our call on a board's image, which is put back after it: at most three places of two bytes.
