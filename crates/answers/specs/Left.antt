@@ -3,20 +3,28 @@
 --   startBoard p        the board of an accepted page
 --   boardAt p           the board that the code makes of a page
 --   callsText b m cs    the lines of the calls cs from the board b on, with the memory m lent, and the last line
+--   firstMemory b m cs  the memory m after the first of the calls cs on the board b; m where there is none
 --   verdictText m v     what is printed after the first line, by the verdict on the page
 --   literalsText m a e  the literals of the memory m from place a up to place e
 --   lineOf a            the line of an answer, or its part before the literals
 --   stageOf a           what is printed after that
 --   firstRun            the run of a page of which nothing is printed yet
 --   goesOn g            something is left to print
---   left s r m          what is left to print of the page s at the run r
---   steps s r           a number that falls with every piece; 0 where all is printed
---   Goes s t k r m out  at the run r the piece put into `out` and what is left are the text t, and fewer than k steps
---   Next s q m r m' out what a call of `next` does to the run q
+--   linesFrom s b at m  the lines of the calls from a place of the page s on, and the last line
+--   leftAt s g b at m   what is left to print of the page s at the stage g
+--   left s r m          what is left to print at the run r
+--   stepsAt s g at      a number that falls with every piece; 0 where all is printed
+--   steps s r           that number at the run r
+--   memoryAt s g b at m the memory m after the piece of the stage g
+--   memoryNext s q n m  the memory m after a call of `next` on the run q with a buffer of n bytes
+--   Goes s t k o r m out       at the run r the piece put into the buffer o, which is `out` then, and what is left are
+--                              the text t, the bytes beyond the piece are as they were, and fewer than k steps are left
+--   Next s q m o r m' out      what a call of `next` does to the run q, the memory m and the buffer o
 use mathlib.Core.Path.{_≡_}
-use mathlib.Core.Bool.{Bool, true, false}
+use mathlib.Core.Bool.{Bool, true, false, cond}
 use mathlib.Core.List.{List, [], _∷_, _++_}
 use Prim.Native.Nat.{ℕ, _+_, _-_, _*_, _<_, _≤_}
+use lib.Dec.{ltb}
 use lib.ListN.{length, take, drop}
 use Rattle.rules.specs.declared.Call.{Call}
 use Rattle.rules.specs.Check.{pass}
@@ -53,6 +61,11 @@ callsText b m [] = endWord
 callsText b m (c ∷ cs) =
     showReply (told (callOf b c m .answer) (callMemory b c m))
     ++ callsText (callOf b c m .board) (callMemory b c m) cs
+
+-- one call is made at a time
+unfoldable pub firstMemory : Board → List ℕ → List Call → List ℕ
+firstMemory b m [] = m
+firstMemory b m (c ∷ cs) = callMemory b c m
 
 -- "A page that makes no board prints just that line between these"
 unfoldable pub verdictText : List ℕ → Verdict → List ℕ
@@ -113,14 +126,31 @@ module _ (s : List ℕ) where
   abbrev pub steps : Run → ℕ
   steps r = stepsAt (r .stage) (r .at)
 
-  pub record Goes (text : List ℕ) (most : ℕ) (r : Run) (m out : List ℕ) : Type 0 where
+  -- only the line of a call makes one
+  unfoldable pub memoryAt : Stage → Board → ℕ → List ℕ → List ℕ
+  memoryAt Begin b at m = m
+  memoryAt (Refused n) b at m = m
+  memoryAt Calls b at m = firstMemory b m (allFrom call s at)
+  memoryAt (Reason a e) b at m = m
+  memoryAt Last b at m = m
+  memoryAt Over b at m = m
+
+  -- a buffer of fewer than 32 bytes takes no piece, and no call is made
+  unfoldable pub memoryNext : Run → ℕ → List ℕ → List ℕ
+  memoryNext q n m = cond (ltb n 32) m (memoryAt (q .stage) (q .board) (q .at) m)
+
+  pub record Goes (text : List ℕ) (most : ℕ) (before : List ℕ) (r : Run) (m out : List ℕ) : Type 0 where
     pub fits : r .count ≤ length out
     pub prints : take (r .count) out ++ left r m ≡ text
+    pub kept : drop (r .count) out ≡ drop (r .count) before
     pub less : steps r < most
 
-  pub record Next (q : Run) (m : List ℕ) (r : Run) (after out : List ℕ) : Type 0 where
+  pub record Next (q : Run) (m before : List ℕ) (r : Run) (after out : List ℕ) : Type 0 where
     pub fits : r .count ≤ length out
     -- the piece, and what is left after it, are what was left
     pub prints : take (r .count) out ++ left r after ≡ left q m
+    -- the bytes beyond the piece are as they were
+    pub kept : drop (r .count) out ≡ drop (r .count) before
+    pub memory : after ≡ memoryNext q (length before) m
     -- a buffer of 32 bytes or more takes a piece
-    pub less : 32 ≤ length out → goesOn (q .stage) ≡ true → steps r < steps q
+    pub less : 32 ≤ length before → goesOn (q .stage) ≡ true → steps r < steps q

@@ -3,11 +3,13 @@
 --   put-goes            a line was put
 --   literals-more, literals-none   some literals of a reason, or none, are left
 --   lines-none, lines-more         no call is left, or one is read
+--   memory-none, memory-more       the memory then
 --   line-left           the line of an answer and what is left after it
 --   turn-less           a call takes a step
 --   refused-left, accepted-left    what is left after the first line
 --   reason-more, reason-end, turn-end, turn-goes   a piece of a reason, its end, no call, a call
 --   next-goes, next-over           a piece, and no piece, at a stage of the run
+--   next-short          no piece, where the buffer is too short
 use mathlib.Core.Path.{_≡_, refl, sym, ap, ap₂, _∙_}
 use mathlib.Core.Bool.{Bool, true, false, cond}
 use mathlib.Core.List.{List, [], _∷_, _++_, map, append-assoc}
@@ -15,6 +17,7 @@ use mathlib.Core.Option.{none, some}
 use Prim.Native.Nat.{ℕ, zero, suc, _+_, _-_, _*_, _/_, _%_, _<_, _≤_}
 use native.Mathlib.Decide.{decLt}
 use native.Mathlib.Omega.{arith}
+use borrow.Author.Tests.{lt-ltb, le-ltb}
 use lib.Dec.{eqb, ltb}
 use lib.ListN.{length, take, drop, getD, length-take}
 use lib.Seq.{drop-cons, getD-take}
@@ -41,28 +44,31 @@ use Rattle.page.specs.Judge as judgement
 use Rattle.page.specs.Judge.{judge}
 use Rattle.page.specs.Many.{showAll, passes}
 use Rattle.page.specs.PageText.{counted, call-takes}
-use Rattle.page.specs.Places.{sheetAt}
+use Rattle.page.specs.Places.{sheetAt, allFrom}
 use Rattle.page.specs.Readers.{rest}
 use Rattle.page.specs.ReaderLaws.{rest-past}
 use Rattle.print.specs.declared.Line.{Line}
 use Rattle.print.specs.declared.Piece.{Piece}
 use Rattle.print.specs.Answers.{letter, showLiteral, showReply, codeText, textOf, conflictWord}
-use Rattle.print.specs.Lines.{Holds, Written}
-use Rattle.print.specs.Pieces.{codesIn, Put, codes-none, codes-more, show-append}
+use Rattle.print.specs.Lines.{Holds, Written, written-length, written-front, written-rest, holds-text, holds-short}
+use Rattle.print.specs.Pieces.{codesIn, Put, codes-none, codes-more, show-append, put-none}
 use Rattle.answers.specs.declared.Stage.{Stage}
 use Rattle.answers.specs.declared.Stage.the-variants.{Refused, Calls, Reason, Last, Over}
 use Rattle.answers.specs.declared.Run.{Run}
 use Rattle.answers.specs.Left.{boardAt, callsText, verdictText, literalsText, lineOf, stageOf, goesOn}
 use Rattle.answers.specs.Left.{linesFrom, leftAt, left, stepsAt, steps, Goes, Next}
+use Rattle.answers.specs.Left.{firstMemory, memoryAt, memoryNext}
 use Rattle.answers.specs.BoardLaws.{page-board}
 
 pub put-goes : (s : List ℕ) (r : Run) {line : Line} {ds text m before out : List ℕ} {most : ℕ} → Holds line ds
     → Written before 0 (textOf line) out (r .count) → 32 ≤ length before → ds ++ left s r m ≡ text
-    → steps s r < most → Goes s text most r m out
-put-goes s r {ds = ds} {m = m} h w l e k =
+    → steps s r < most → Goes s text most before r m out
+put-goes s r {m = m} {before} h w l e k =
+    let f : r .count ≤ length before = omega (arith, w .next, holds-short h) in
     record {
-      fits = omega (arith, w .next, w .length);
-      prints = ap (λ (t : List ℕ). t ++ left s r m) (w .text ∙ h .text) ∙ e;
+      fits = omega (arith, written-length w);
+      prints = ap (λ (t : List ℕ). t ++ left s r m) (written-front w f ∙ holds-text h) ∙ e;
+      kept = written-rest w f;
       less = k;
     }
 
@@ -128,6 +134,15 @@ module _ (s : List ℕ) (b : Board) (at : ℕ) (m : List ℕ) where
       ++ linesFrom s (callOf b c m .board) next (callMemory b c m)
   unfolding linesFrom callsText
   lines-more c next e = rw (from-more call-takes s at c next e)
+
+  pub memory-none : call (rest s at) ≡ none → m ≡ firstMemory b m (allFrom call s at)
+  unfolding firstMemory
+  memory-none e = rw (from-none call-takes s at e)
+
+  pub memory-more : (c : Call) (next : ℕ) → call (rest s at) ≡ some (c, rest s next)
+      → callMemory b c m ≡ firstMemory b m (allFrom call s at)
+  unfolding firstMemory
+  memory-more c next e = rw (from-more call-takes s at c next e)
 
   pub line-left : (a : Answer)
       → lineOf a ++ leftAt s (stageOf a) b at m ≡ showReply (told a m) ++ linesFrom s b at m
@@ -200,76 +215,112 @@ module _ (s m : List ℕ) where
 
 -- ---- pieces of a reason
 module _ (s : List ℕ) (b : Board) (at : ℕ) (m : List ℕ) (from to : ℕ) where
-  module _ (p : Piece) (out : List ℕ) (P : Put m from to out p) where
+  module _ (p : Piece) (before out : List ℕ) (P : Put m from to before out p) where
     pub reason-more : from < p .next
         → Goes s (literalsText m from to ++ (endWord ++ linesFrom s b at m)) ((length s - at) * 20000 + 3 + (to - from))
-        (record { board = b; at = at; stage = Reason (p .next) to; count = p .count }) m out
+        before (record { board = b; at = at; stage = Reason (p .next) to; count = p .count }) m out
     unfolding leftAt stepsAt
     reason-more h =
-        let w = P .within h in
+        let Q = P .putting in
+        let w = Q .within h in
         let rest = endWord ++ linesFrom s b at m in
         record {
-          fits = P .fits;
+          fits = omega (arith, Q .fits, written-length (Q .written));
           prints =
               sym (append-assoc (take (p .count) out) (literalsText m (p .next) to) rest)
               ∙ ap (λ (t : List ℕ). t ++ rest)
-              (ap (λ (t : List ℕ). t ++ literalsText m (p .next) to) (P .text)
-              ∙ literals-more m from (p .next) to (P .from) (w .0) (w .1));
+              (ap (λ (t : List ℕ). t ++ literalsText m (p .next) to) (written-front (Q .written) (Q .fits))
+              ∙ literals-more m from (p .next) to (Q .from) (w .0) (w .1));
+          kept = written-rest (Q .written) (Q .fits);
           less = omega arith;
         }
 
     pub reason-end : {line : Line} {after : List ℕ} {n : ℕ} → p .next ≤ from → Holds line endWord
-        → Written out 0 (textOf line) after n → 32 ≤ length out
+        → Written out 0 (textOf line) after n → 32 ≤ length before
         → Goes s (literalsText m from to ++ (endWord ++ linesFrom s b at m)) ((length s - at) * 20000 + 3 + (to - from))
-        (record { board = b; at = at; stage = Calls; count = n }) m after
+        before (record { board = b; at = at; stage = Calls; count = n }) m after
     unfolding leftAt stepsAt
     reason-end {n = n} h k w l =
-        put-goes s (record { board = b; at = at; stage = Calls; count = n }) k w l
+        put-goes s (record { board = b; at = at; stage = Calls; count = n }) k (rw (put-none P h) at w) l
         (rw (literals-none m from to (λ x y. let z = P .moves x y l in omega arith))) (omega arith)
 
 -- ---- calls
 module _ (s : List ℕ) (b : Board) (at : ℕ) (m : List ℕ) where
   pub turn-end : (out : List ℕ) → call (rest s at) ≡ none
-      → Goes s (linesFrom s b at m) ((length s - at) * 20000 + 2)
+      → Goes s (linesFrom s b at m) ((length s - at) * 20000 + 2) out
       (record { board = b; at = at; stage = Last; count = 0 }) m out
+      × (m ≡ firstMemory b m (allFrom call s at))
   unfolding leftAt stepsAt
-  turn-end out e =
-      record { fits = omega arith; prints = sym (lines-none s b at m e); less = omega arith }
+  turn-end out e = (
+    record { fits = omega arith; prints = sym (lines-none s b at m e); kept = refl; less = omega arith },
+    memory-none s b at m e,
+  )
 
   pub turn-goes : (c : Call) (next : ℕ) {t : Stepped} {after : List ℕ} {g : Stage} {line : Line} {before out : List ℕ}
       {n : ℕ} → call (rest s at) ≡ some (c, rest s next) → (t ≡ callOf b c m) × (after ≡ callMemory b c m)
       → g ≡ stageOf (t .answer) → Holds line (lineOf (t .answer)) → Written before 0 (textOf line) out n
       → 32 ≤ length before
-      → Goes s (linesFrom s b at m) ((length s - at) * 20000 + 2)
+      → Goes s (linesFrom s b at m) ((length s - at) * 20000 + 2) before
       (record { board = t .board; at = next; stage = g; count = n }) after out
+      × (after ≡ firstMemory b m (allFrom call s at))
   turn-goes c next {t} {after} {g} {n = n} e p q h w l =
       let z : stepsAt s g next ≡ stepsAt s (stageOf (callOf b c m .answer)) next =
-      ap (λ (k : Stage). stepsAt s k next) (q ∙ ap (λ (u : Stepped). stageOf (u .answer)) (p .0)) in
-      put-goes s (record { board = t .board; at = next; stage = g; count = n }) h w l
-      (ap (λ (k : Stage). lineOf (t .answer) ++ leftAt s k (t .board) next after) q
-      ∙ line-left s (t .board) next after (t .answer)
-      ∙ ap₂ (λ (u : Stepped) (k : List ℕ). showReply (told (u .answer) k) ++ linesFrom s (u .board) next k)
-      (p .0) (p .1)
-      ∙ sym (lines-more s b at m c next e))
-      (omega (arith, turn-less s b c m at next (passes call-takes s at next c e)))
+      ap (λ (k : Stage). stepsAt s k next) (q ∙ ap (λ (u : Stepped). stageOf (u .answer)) (p .0)) in (
+        put-goes s (record { board = t .board; at = next; stage = g; count = n }) h w l
+            (ap (λ (k : Stage). lineOf (t .answer) ++ leftAt s k (t .board) next after) q
+            ∙ line-left s (t .board) next after (t .answer)
+            ∙ ap₂ (λ (u : Stepped) (k : List ℕ). showReply (told (u .answer) k) ++ linesFrom s (u .board) next k)
+            (p .0) (p .1)
+            ∙ sym (lines-more s b at m c next e))
+            (omega (arith, turn-less s b c m at next (passes call-takes s at next c e))),
+        p .1 ∙ memory-more s b at m c next e,
+      )
 
 -- ---- a run at a stage
-module _ (s : List ℕ) (q : Run) (m : List ℕ) where
-  pub next-goes : (g : Stage) {r : Run} {after out : List ℕ} → q .stage ≡ g
-      → Goes s (leftAt s g (q .board) (q .at) m) (stepsAt s g (q .at)) r after out → Next s q m r after out
-  next-goes g e G =
+module _ (s : List ℕ) (q : Run) (m before : List ℕ) where
+  memory-short : length before < 32 → m ≡ memoryNext s q (length before) m
+  unfolding memoryNext
+  memory-short h = rw (lt-ltb (length before) 32 h)
+
+  memory-stage : (g : Stage) {after : List ℕ} → q .stage ≡ g → 32 ≤ length before
+      → after ≡ memoryAt s g (q .board) (q .at) m → after ≡ memoryNext s q (length before) m
+  unfolding memoryNext
+  memory-stage g e h a = rw (le-ltb (length before) 32 h, e) a
+
+  pub next-goes : (g : Stage) {r : Run} {after out : List ℕ} → q .stage ≡ g → 32 ≤ length before
+      → after ≡ memoryAt s g (q .board) (q .at) m
+      → Goes s (leftAt s g (q .board) (q .at) m) (stepsAt s g (q .at)) before r after out
+      → Next s q m before r after out
+  next-goes g e l a G =
       record {
         fits = G .fits;
         prints = G .prints ∙ ap (λ (k : Stage). leftAt s k (q .board) (q .at) m) (sym e);
+        kept = G .kept;
+        memory = memory-stage g e l a;
         less = λ h o. let z = ap (λ (k : Stage). stepsAt s k (q .at)) e in omega (arith, G .less);
       }
 
-  pub next-over : (out : List ℕ) → q .stage ≡ Over
-      → Next s q m (record { board = q .board; at = q .at; stage = Over; count = 0 }) m out
-  next-over out e =
+  -- a buffer that is too short
+  pub next-short : length before < 32
+      → Next s q m before (record { board = q .board; at = q .at; stage = q .stage; count = 0 }) m before
+  next-short h =
+      record {
+        fits = omega arith;
+        prints = refl;
+        kept = refl;
+        memory = memory-short h;
+        less = λ l o. absurd (omega arith);
+      }
+
+  pub next-over : q .stage ≡ Over → 32 ≤ length before
+      → Next s q m before (record { board = q .board; at = q .at; stage = Over; count = 0 }) m before
+  unfolding memoryAt
+  next-over e l =
       record {
         fits = omega arith;
         prints = ap (λ (k : Stage). leftAt s k (q .board) (q .at) m) (sym e);
+        kept = refl;
+        memory = memory-stage Over e l refl;
         less =
             λ h o.
             let y : goesOn (q .stage) ≡ false = ap goesOn e in

@@ -71,7 +71,7 @@ module _ (s m : List ℕ) (l : length m ≡ 16384) where
 -- the run goes from piece to piece as `next` says, with the memory that it left, and each piece has a buffer
 pub data Pieces (s : List ℕ) : Run → List ℕ → List ℕ → Type 0 where
   over : {q : Run} {m : List ℕ} → q .stage ≡ Over → Pieces s q m []
-  piece : {q r : Run} {m after out text : List ℕ} → Next s q m r after out → Pieces s r after text
+  piece : {q r : Run} {m before after out text : List ℕ} → Next s q m before r after out → Pieces s r after text
       → Pieces s q m (take (r .count) out ++ text)
 
 pieces-left : {s : List ℕ} {q : Run} {m text : List ℕ} → Pieces s q m text → text ≡ left s q m

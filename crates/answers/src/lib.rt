@@ -8,11 +8,11 @@ ghost use Rattle.rules.specs.Book.{refused};
 ghost use Rattle.board.specs.Board.{numberOf};
 ghost use Rattle.print.specs.Answers.{answersWord, showReply};
 ghost use Rattle.print.specs.Lines.{Holds};
-ghost use Rattle.page.specs.Grammar.{endWord};
+ghost use Rattle.page.specs.Grammar.{endWord, call};
 ghost use Rattle.page.specs.Judge.{judge};
-ghost use Rattle.page.specs.Places.{sheetAt};
+ghost use Rattle.page.specs.Places.{sheetAt, allFrom};
 ghost use Rattle.answers.specs.Left.{firstRun, goesOn, boardAt, verdictText, linesFrom, literalsText};
-ghost use Rattle.answers.specs.Left.{lineOf, stageOf, Goes, Next};
+ghost use Rattle.answers.specs.Left.{lineOf, stageOf, firstMemory, Goes, Next};
 use board::Board;
 use board::Outcome;
 use calls::Answer;
@@ -83,7 +83,7 @@ fn begin(s: &[u8], out: &mut [u8]) -> Run
     requires { ⌜ 32 ≤ length (now out) ⌝ }
     ensures { λ r.
         ⌜ ((m : List ℕ) → Goes (now (s .entry)) (answersWord ++ verdictText m (judge (now (s .entry))))
-        (length (now (s .entry)) * 20000 + 3) r m (now (out .exit))) ⌝ }
+        (length (now (s .entry)) * 20000 + 3) (now (out .entry)) r m (now (out .exit))) ⌝ }
 {
     let count = print::put_line(out, 0, print::answers_line());
     let judged = page::judge(s);
@@ -147,7 +147,8 @@ fn turn(s: &[u8], board: Board, at: usize, memory: &mut [u16], out: &mut [u8]) -
     requires { ⌜ 32 ≤ length (now out) ⌝ }
     ensures { λ r.
         ⌜ Goes (now (s .entry)) (linesFrom (now (s .entry)) board at (now (memory .entry)))
-        ((length (now (s .entry)) - at) * 20000 + 2) r (now (memory .exit)) (now (out .exit)) ⌝ }
+        ((length (now (s .entry)) - at) * 20000 + 2) (now (out .entry)) r (now (memory .exit)) (now (out .exit))
+        × (now (memory .exit) ≡ firstMemory board (now (memory .entry)) (allFrom call (now (s .entry)) at)) ⌝ }
 {
     let CallRead::Got(call, next) = page::call_at(s, at) else {
         return Run {
@@ -176,7 +177,8 @@ fn reason(board: Board, at: usize, memory: &[u16], out: &mut [u8], from: usize, 
     ensures { λ r.
         ⌜ ((s : List ℕ) → Goes s (literalsText (now (memory .entry)) from to
         ++ (endWord ++ linesFrom s board at (now (memory .entry))))
-        ((length s - at) * 20000 + 3 + (to - from)) r (now (memory .entry)) (now (out .exit))) ⌝ }
+        ((length s - at) * 20000 + 3 + (to - from)) (now (out .entry)) r (now (memory .entry))
+        (now (out .exit))) ⌝ }
 {
     let piece = print::put_literals(out, memory, from, to);
     let next = piece.next;
@@ -198,10 +200,12 @@ fn reason(board: Board, at: usize, memory: &[u16], out: &mut [u8], from: usize, 
     }
 }
 
-// Puts the next piece of the output into `out`: the run afterwards, whose count says how many bytes it has.
+// Puts the next piece of the output into `out`: the run afterwards, whose count says how many bytes it has. The bytes
+// beyond them stay, and so does the memory where no call is made.
 pub fn next(s: &[u8], run: Run, memory: &mut [u16], out: &mut [u8]) -> Run
     ensures { λ r.
-        ⌜ Next (now (s .entry)) run (now (memory .entry)) r (now (memory .exit)) (now (out .exit)) ⌝ }
+        ⌜ Next (now (s .entry)) run (now (memory .entry)) (now (out .entry)) r (now (memory .exit))
+        (now (out .exit)) ⌝ }
 {
     let board = run.board;
     let at = run.at;

@@ -1,7 +1,12 @@
 -- The text of a reason's literals, written piece by piece.
 --
 --   codesIn ks a e      the numbers of reason memory from place a up to place e
---   Put ks a e m r      the memory m begins with the texts of the literals from a up to r's next
+--   Putting ks a e m after next count   `after` is m with the texts of the literals from a up to next, count bytes
+--   Put ks a e m after r                so it is for the piece r, and some literal is put where there is room
+--   show-append         the texts of two lists
+--   codes-none, codes-more, codes-append, codes-front   no literal, one more, two parts, and the memory's front
+--   putting-none, putting-more, putting-stop            no literal, one more, and the end
+--   put-none            where no literal is put, the memory is as it was
 use mathlib.Core.Path.{_≡_, refl, sym, ap, _∙_}
 use mathlib.Core.List.{List, [], _∷_, _++_, append-assoc, append-nil}
 use Prim.Native.Nat.{ℕ, zero, suc, _+_, _-_, _<_, _≤_}
@@ -12,18 +17,22 @@ use lib.Seq.{length-take-le, getD-take}
 use Rattle.lists.specs.Table.{table, table-is}
 use Rattle.page.specs.Many.{showAll}
 use Rattle.print.specs.declared.Piece.{Piece}
-use Rattle.print.specs.Answers.{codeText}
-use Rattle.print.specs.Lines.{Written}
+use Rattle.print.specs.declared.Line.{Line}
+use Rattle.print.specs.Answers.{codeText, textOf}
+use Rattle.print.specs.Lines.{Written, Holds, written-none, written-more, written-length, holds-text, holds-short}
 
 unfoldable pub codesIn : List ℕ → ℕ → ℕ → List ℕ
 codesIn ks a e = table (e - a) (λ i. getD ks (a + i) 0)
 
-pub record Put (ks : List ℕ) (a e : ℕ) (m : List ℕ) (r : Piece) : Type 0 where
-  pub from : a ≤ r .next
-  pub fits : r .count ≤ length m
-  pub text : take (r .count) m ≡ showAll codeText (codesIn ks a (r .next))
+pub record Putting (ks : List ℕ) (a e : ℕ) (m after : List ℕ) (next count : ℕ) : Type 0 where
+  pub from : a ≤ next
   -- none past the last one asked for, none past the memory
-  pub within : a < r .next → (r .next ≤ e) × (r .next ≤ length ks)
+  pub within : a < next → (next ≤ e) × (next ≤ length ks)
+  pub fits : count ≤ length m
+  pub written : Written m 0 (showAll codeText (codesIn ks a next)) after count
+
+pub record Put (ks : List ℕ) (a e : ℕ) (m after : List ℕ) (r : Piece) : Type 0 where
+  pub putting : Putting ks a e m after (r .next) (r .count)
   -- a buffer of 32 bytes or more takes one literal at least
   pub moves : a < e → a < length ks → 32 ≤ length m → a < r .next
 
@@ -77,47 +86,45 @@ show-one ks a p h =
       append-nil (codeText (getD ks p 0)),
     )
 
--- so many literals are written
-pub record Putting (ks : List ℕ) (a e : ℕ) (m₀ m : List ℕ) (next count : ℕ) : Type 0 where
-  pub from : a ≤ next
-  pub fits : count ≤ length m
-  pub within : a < next → (next ≤ e) × (next ≤ length ks)
-  pub length : length m ≡ length m₀
-  pub text : take count m ≡ showAll codeText (codesIn ks a next)
-  pub fresh : next ≡ a → count ≡ 0
-
 pub putting-none : (ks : List ℕ) (a e : ℕ) (m : List ℕ) → Putting ks a e m m a 0
 unfolding showAll
 putting-none ks a e m =
     record {
       from = omega arith;
-      fits = omega arith;
-      length = refl;
-      text = rw (codes-none ks a);
       within = λ h. absurd (omega arith);
-      fresh = λ z. refl;
+      fits = omega arith;
+      written = rw (codes-none ks a) (written-none m 0);
     }
 
-pub putting-more : {ks m₀ m ds m₁ : List ℕ} {a e next count r : ℕ} → Putting ks a e m₀ m next count
-    → next < e → next < length ks → Written m count ds m₁ r → ds ≡ codeText (getD ks next 0) → count + 32 ≤ length m
-    → Putting ks a e m₀ m₁ (next + 1) r
-putting-more {ks} {ds = ds} {a = a} {next = next} p l k w q h =
+pub putting-more : {ks m after more : List ℕ} {line : Line} {a e next count r : ℕ} → Putting ks a e m after next count
+    → next < e → next < length ks → Holds line (codeText (getD ks next 0)) → count + 32 ≤ length after
+    → Written after count (textOf line) more r → Putting ks a e m more (next + 1) r
+putting-more {ks} {a = a} {next = next} p l k h o w =
     record {
       from = omega (arith, p .from);
       within = λ z. (omega arith, omega arith);
-      fits = omega (arith, w .next, w .length);
-      length = w .length ∙ p .length;
-      text =
-          rw (show-one ks a next (p .from), ← q) (w .text ∙ ap (λ (l : List ℕ). l ++ ds) (p .text));
-      fresh = λ z. absurd (omega (arith, p .from));
+      fits = omega (arith, w .next, holds-short h, written-length (p .written));
+      written = rw (show-one ks a next (p .from), ← holds-text h) (written-more (p .written) w);
     }
 
-pub putting-stop : {ks m₀ m : List ℕ} {a e next count : ℕ} → Putting ks a e m₀ m next count
-    → (next ≡ a → count ≡ 0 → a < e → a < length ks → 32 ≤ length m → ⊥)
-    → Put ks a e m (record { next = next; count = count })
-putting-stop {ks} {m₀} {m} {a} {e} {next} {count} p stop =
-    record { from = p .from; fits = p .fits; text = p .text; within = p .within; moves = go (ℕ-discrete next a) }
+-- nothing is put where the next literal is still the first
+module _ {ks m after : List ℕ} {a e next count : ℕ} (p : Putting ks a e m after next count) (q : next ≡ a) where
+  none-written : Written m 0 [] after count
+  unfolding showAll
+  none-written = rw (q, codes-none ks a) at (p .written)
+
+pub putting-stop : {ks m after : List ℕ} {a e next count : ℕ} → Putting ks a e m after next count
+    → (next ≡ a → count ≡ 0 → a < e → a < length ks → 32 ≤ length after → ⊥)
+    → Put ks a e m after (record { next = next; count = count })
+putting-stop {ks} {m} {after} {a} {e} {next} {count} p stop =
+    record { putting = p; moves = go (ℕ-discrete next a) }
   where
     go : Dec (next ≡ a) → a < e → a < length ks → 32 ≤ length m → a < next
-    go (yes q) x y z = absurd (stop q (p .fresh q) x y z)
+    go (yes q) x y z =
+        absurd (stop q (omega (arith, none-written p q .next)) x y (omega (arith, written-length (p .written))))
     go (no q) x y z = omega (arith, p .from)
+
+pub put-none : {ks m after : List ℕ} {a e : ℕ} {r : Piece} → Put ks a e m after r → r .next ≤ a → after ≡ m
+put-none {a = a} {r = r} P h =
+    let q : r .next ≡ a = omega (arith, P .putting .from) in
+    none-written (P .putting) q .memory

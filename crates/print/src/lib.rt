@@ -134,7 +134,7 @@ pub fn literal_text(code: u16) -> Line
     with_byte(b, 111)
 }
 
-// The line's bytes, written into `out` from `at` on: the place after them.
+// The line's bytes, written into `out` from `at` on: the place after them. No other byte changes.
 pub fn put_line(out: &mut [u8], at: usize, line: Line) -> usize
     requires { ⌜ (line .count ≤ 32) × (at + 32 ≤ length (now out)) ⌝ }
     ensures { λ r. ⌜ Written (now (out .entry)) at (textOf line) (now (out .exit)) r ⌝ }
@@ -154,9 +154,10 @@ pub struct Piece {
     pub count: usize,
 }
 
-// Writes the literals of `codes` from `from` up to `to` into `out`, as many as surely fit.
+// Writes the literals of `codes` from `from` up to `to` into `out`, as many as surely fit. No byte beyond
+// them changes.
 pub fn put_literals(out: &mut [u8], codes: &[u16], from: usize, to: usize) -> Piece
-    ensures { λ r. ⌜ Put (now (codes .entry)) from to (now (out .exit)) r ⌝ }
+    ensures { λ r. ⌜ Put (now (codes .entry)) from to (now (out .entry)) (now (out .exit)) r ⌝ }
 {
     let mut next = from;
     let mut count = 0;

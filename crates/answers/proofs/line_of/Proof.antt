@@ -1,9 +1,8 @@
 -- `line_of` meets its contract, answer by answer.
-use mathlib.Core.Path.{refl, sym, ap}
+use mathlib.Core.Path.{sym, ap}
 use mathlib.Core.List.{[]}
 use native.Mathlib.Omega.{arith}
-use Rattle.print.specs.Answers.{textOf}
-use Rattle.print.specs.Lines.{Holds, start, holds-as}
+use Rattle.print.specs.Lines.{Holds, start, written-none, holds-as}
 use Rattle.answers.specs.Left.{lineOf}
 use borrow.Author.Needs.{needs}
 use Rattle.answers.proofs.line_of.Statement.{statement}
@@ -31,9 +30,9 @@ refusal-requires : tie.Need-refusal-requires
 refusal-requires c κs = search needs
 
 returns : tie.Need-returns
-unfolding lineOf textOf
+unfolding lineOf
 returns c =
-    let h : Holds start [] = record { text = refl; small = omega arith } in
+    let h : Holds start [] = record { written = written-none _ _; small = omega arith } in
     holds-as h (sym (ap lineOf (c .enum-told .given .1)))
 
 returns-2 : tie.Need-returns-2

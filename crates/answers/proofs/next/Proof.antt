@@ -1,15 +1,15 @@
 -- `next` meets its contract, stage by stage.
 use mathlib.Core.Path.{refl}
 use native.Mathlib.Omega.{arith}
-use Rattle.answers.specs.Left.{leftAt, stepsAt}
+use Rattle.answers.specs.Left.{leftAt, stepsAt, memoryAt}
 use Rattle.answers.specs.declared.Stage.the-variants.{Begin, Refused, Calls, Reason, Last}
-use Rattle.answers.specs.LeftLaws.{put-goes, next-goes, next-over}
+use Rattle.answers.specs.LeftLaws.{put-goes, next-goes, next-short, next-over}
 use borrow.Author.Needs.{needs}
 use Rattle.answers.proofs.next.Statement.{statement}
 use Rattle.answers.proofs.next.Tie as tie
 
 returns : tie.Need-returns
-returns c = search needs
+returns c = next-short _ _ _ _ (search needs)
 
 enum-told : tie.Need-enum-told
 enum-told c = search needs
@@ -54,16 +54,18 @@ same-length : tie.Need-same-length
 same-length c = search needs
 
 returns-2 : tie.Need-returns-2
-unfolding leftAt stepsAt
-returns-2 c = next-goes _ _ _ Begin (c .before .before .before .before .enum-told .given .1)
+unfolding leftAt stepsAt memoryAt
+returns-2 c = next-goes _ _ _ _ Begin (c .before .before .before .before .enum-told .given .1)
+    (search needs) refl
     (c .before .before .begin .ensures _)
 
 same-length-2 : tie.Need-same-length-2
 same-length-2 c = search needs
 
 returns-3 : tie.Need-returns-3
-unfolding leftAt stepsAt
-returns-3 c = next-goes _ _ _ (Refused _) (c .before .before .before .before .before .before .stage .given .1)
+unfolding leftAt stepsAt memoryAt
+returns-3 c = next-goes _ _ _ _ (Refused _) (c .before .before .before .before .before .before .stage .given .1)
+    (search needs) refl
     (put-goes _ _ (c .before .before .before .refused-line .ensures) (c .before .before .put-line .ensures)
     (search needs) refl
     (omega arith))
@@ -75,9 +77,10 @@ same-length-4 : tie.Need-same-length-4
 same-length-4 c = search needs
 
 returns-4 : tie.Need-returns-4
-unfolding leftAt stepsAt
-returns-4 c = next-goes _ _ _ Calls (c .before .before .before .before .before .before .before .enum-told2 .given .1)
-    (c .before .before .before .before .turn .ensures)
+unfolding leftAt stepsAt memoryAt
+returns-4 c = next-goes _ _ _ _ Calls (c .before .before .before .before .before .before .before .enum-told2 .given .1)
+    (search needs) (c .before .before .before .before .turn .ensures .1)
+    (c .before .before .before .before .turn .ensures .0)
 
 same-length-5 : tie.Need-same-length-5
 same-length-5 c = search needs
@@ -86,22 +89,24 @@ same-length-6 : tie.Need-same-length-6
 same-length-6 c = search needs
 
 returns-5 : tie.Need-returns-5
-unfolding leftAt stepsAt
-returns-5 c = next-goes _ _ _ (Reason _ _) (c .before .before .before .before .before .before .stage2 .given .1)
+unfolding leftAt stepsAt memoryAt
+returns-5 c = next-goes _ _ _ _ (Reason _ _) (c .before .before .before .before .before .before .stage2 .given .1)
+    (search needs) refl
     (c .before .before .reason .ensures _)
 
 same-length-7 : tie.Need-same-length-7
 same-length-7 c = search needs
 
 returns-6 : tie.Need-returns-6
-unfolding leftAt stepsAt
-returns-6 c = next-goes _ _ _ Last (c .before .before .before .before .before .enum-told3 .given .1)
+unfolding leftAt stepsAt memoryAt
+returns-6 c = next-goes _ _ _ _ Last (c .before .before .before .before .before .enum-told3 .given .1)
+    (search needs) refl
     (put-goes _ _ (c .before .before .before .end-line .ensures) (c .before .before .put-line2 .ensures)
     (search needs) refl
     (omega arith))
 
 returns-7 : tie.Need-returns-7
-returns-7 c = next-over _ _ _ _ (c .enum-told4 .given .1)
+returns-7 c = next-over _ _ _ _ (c .enum-told4 .given .1) (search needs)
 
 pub next-spec : {M : Type 1} → statement M
 next-spec =

@@ -11,7 +11,7 @@ same-length : tie.Need-same-length
 same-length c = search needs
 
 returns : tie.Need-returns
-returns c = λ s. reason-more s _ _ _ _ _ _ _ (c .before .before .before .put-literals .ensures) (c .if1 .taken)
+returns c = λ s. reason-more s _ _ _ _ _ _ _ _ (c .before .before .before .put-literals .ensures) (c .if1 .taken)
 
 end-line-requires : tie.Need-end-line-requires
 end-line-requires c κs = search needs
@@ -26,7 +26,7 @@ returns-2 : tie.Need-returns-2
 returns-2 c =
     let d = c .before .before .before in
     λ s.
-    reason-end s _ _ _ _ _ _ _ (d .before .before .before .before .before .put-literals .ensures)
+    reason-end s _ _ _ _ _ _ _ _ (d .before .before .before .before .before .put-literals .ensures)
     (d .before .before .if1 .left) (d .end-line .ensures)
     (c .before .before .put-line .ensures) (search needs)
 

@@ -4,7 +4,7 @@ use native.Mathlib.Omega.{arith}
 use borrow.Author.Needs.{needs}
 use lib.ListN.{length}
 use Rattle.page.specs.NumberText.{decimal-one}
-use Rattle.print.specs.Lines.{decimal-last, decimal-long, longer-more}
+use Rattle.print.specs.Lines.{decimal-last, decimal-long, written-more}
 use Prim.Native.Nat.{ℕ, _<_}
 use borrow.Fn.Kinds.{In}
 use borrow.Fn.PlainCycle.{Measures, is, falls, and}
@@ -91,7 +91,7 @@ with-number-with-byte-requires-2 : (t : ℕ) → with-number-lts.Need-with-byte-
   with-number.Post,
 ) (with-number-at t) with-number.Post
 with-number-with-byte-requires-2 t c κs =
-    omega (arith, c .with-number .ensures .count, decimal-long _ (c .before .if1 .left), c .before .before .pre .1)
+    omega (arith, c .with-number .ensures .next, decimal-long _ (c .before .if1 .left), c .before .before .pre .1)
 
 with-number-returns-2 : (t : ℕ) → with-number-lts.Need-returns-2 (
   with-byte-reads.Asked,
@@ -101,7 +101,7 @@ with-number-returns-2 : (t : ℕ) → with-number-lts.Need-returns-2 (
 ) (with-number-at t) with-number.Post
 with-number-returns-2 t c =
     rw (decimal-last _ (c .before .before .if1 .left))
-    (longer-more (c .before .with-number .ensures) (c .with-byte2 .ensures))
+    (written-more (c .before .with-number .ensures) (c .with-byte2 .ensures))
 
 pub +with-number-spec : {M : Type 1} → statement M
 +with-number-spec = close μ-with-number λ t. with-number-lts.spec (

@@ -1,7 +1,7 @@
 -- `literal_text` meets its contract: a space, the border and the side's letter.
 use Prim.Native.Nat.{_/_}
 use Rattle.print.specs.Answers.{codeText}
-use Rattle.print.specs.Lines.{longer-start, longer-more, decimal-16}
+use Rattle.print.specs.Lines.{holds-more, decimal-16}
 use borrow.Author.Needs.{needs}
 use borrow.Author.Tests.{eq-eqb, ne-eqb}
 use native.Mathlib.Omega.{arith}
@@ -13,14 +13,14 @@ with-byte-requires c κs = search needs
 
 with-number-requires : tie.Need-with-number-requires
 with-number-requires c κs = omega
-    (arith, c .with-byte .ensures .count, decimal-16 (c .before .args .code / 2) (search needs))
+    (arith, c .with-byte .ensures .next, decimal-16 (c .before .args .code / 2) (search needs))
 
 with-byte-requires-2 : tie.Need-with-byte-requires-2
 with-byte-requires-2 c κs =
     omega (
       arith,
-      c .before .with-number .ensures .count,
-      c .before .before .with-byte .ensures .count,
+      c .before .with-number .ensures .next,
+      c .before .before .with-byte .ensures .next,
       decimal-16 (c .before .before .before .args .code / 2) (search needs),
     )
 
@@ -28,14 +28,13 @@ returns : tie.Need-returns
 unfolding codeText
 returns c =
     rw (eq-eqb _ _ (c .before .if1 .taken))
-    (longer-start
-    (longer-more (longer-more (c .before .before .before .with-byte .ensures)
-    (c .before .before .with-number .ensures)) (c .with-byte2 .ensures))
+    (holds-more (c .before .before .before .with-byte .ensures) (c .before .before .with-number .ensures)
+    (c .with-byte2 .ensures)
     (omega (
       arith,
-      c .with-byte2 .ensures .count,
-      c .before .before .with-number .ensures .count,
-      c .before .before .before .with-byte .ensures .count,
+      c .with-byte2 .ensures .next,
+      c .before .before .with-number .ensures .next,
+      c .before .before .before .with-byte .ensures .next,
       decimal-16 (c .before .before .before .before .args .code / 2) (search needs),
     )))
 
@@ -43,8 +42,8 @@ with-byte-requires-3 : tie.Need-with-byte-requires-3
 with-byte-requires-3 c κs =
     omega (
       arith,
-      c .before .with-number .ensures .count,
-      c .before .before .with-byte .ensures .count,
+      c .before .with-number .ensures .next,
+      c .before .before .with-byte .ensures .next,
       decimal-16 (c .before .before .before .args .code / 2) (search needs),
     )
 
@@ -52,14 +51,13 @@ returns-2 : tie.Need-returns-2
 unfolding codeText
 returns-2 c =
     rw (ne-eqb _ _ (c .before .if1 .left))
-    (longer-start
-    (longer-more (longer-more (c .before .before .before .with-byte .ensures)
-    (c .before .before .with-number .ensures)) (c .with-byte3 .ensures))
+    (holds-more (c .before .before .before .with-byte .ensures) (c .before .before .with-number .ensures)
+    (c .with-byte3 .ensures)
     (omega (
       arith,
-      c .with-byte3 .ensures .count,
-      c .before .before .with-number .ensures .count,
-      c .before .before .before .with-byte .ensures .count,
+      c .with-byte3 .ensures .next,
+      c .before .before .with-number .ensures .next,
+      c .before .before .before .with-byte .ensures .next,
       decimal-16 (c .before .before .before .before .args .code / 2) (search needs),
     )))
 

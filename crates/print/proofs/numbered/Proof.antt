@@ -1,6 +1,6 @@
 -- `numbered` meets its contract: the three parts follow each other, 31 bytes at most.
 use Rattle.page.specs.Decimal.{decimal}
-use Rattle.print.specs.Lines.{longer-start, longer-more, holds-as, decimal-64, numbered-text}
+use Rattle.print.specs.Lines.{holds-more, holds-as, decimal-64, numbered-text}
 use borrow.Author.Needs.{needs}
 use native.Mathlib.Omega.{arith}
 use Rattle.print.proofs.numbered.Statement.{statement}
@@ -11,7 +11,7 @@ with-word-requires c κs = search needs
 
 with-number-requires : tie.Need-with-number-requires
 with-number-requires c κs = omega
-    (arith, c .with-word .ensures .count, decimal-64 (c .before .before .args .n) (search needs))
+    (arith, c .with-word .ensures .next, decimal-64 (c .before .before .args .n) (search needs))
 
 slice-aggregate-with-word : tie.Need-slice-aggregate-with-word
 slice-aggregate-with-word c = search needs
@@ -20,22 +20,21 @@ with-word-requires-2 : tie.Need-with-word-requires-2
 with-word-requires-2 c κs =
     omega (
       arith,
-      c .before .with-number .ensures .count,
-      c .before .before .with-word .ensures .count,
+      c .before .with-number .ensures .next,
+      c .before .before .with-word .ensures .next,
       decimal-64 (c .before .before .before .before .args .n) (search needs),
     )
 
 returns : tie.Need-returns
 returns c =
     holds-as
-    (longer-start
-    (longer-more (longer-more (c .before .before .before .with-word .ensures)
-    (c .before .before .with-number .ensures)) (c .with-word2 .ensures))
+    (holds-more (c .before .before .before .with-word .ensures) (c .before .before .with-number .ensures)
+    (c .with-word2 .ensures)
     (omega (
       arith,
-      c .with-word2 .ensures .count,
-      c .before .before .with-number .ensures .count,
-      c .before .before .before .with-word .ensures .count,
+      c .with-word2 .ensures .next,
+      c .before .before .with-number .ensures .next,
+      c .before .before .before .with-word .ensures .next,
       decimal-64 (c .before .before .before .before .before .args .n) (search needs),
     )))
     (numbered-text (c .before .before .before .before .before .args .word .now)

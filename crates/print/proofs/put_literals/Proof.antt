@@ -1,5 +1,6 @@
 -- `put_literals` meets its contract, literal by literal.
 use Prim.Native.Nat.{_-_}
+use Rattle.print.specs.Lines.{written-length}
 use Rattle.print.specs.Pieces.{Putting, putting-none, putting-more, putting-stop}
 use borrow.Author.Needs.{needs}
 use native.Mathlib.Omega.{arith}
@@ -16,16 +17,16 @@ loop-holds : tie.Need-loop-holds Inv-loop μ-loop
 loop-holds c = putting-none _ _ _ _
 
 same-length : tie.Need-same-length Inv-loop μ-loop
-same-length c = c .before .before .loop .inv .length
+same-length c = written-length (c .before .before .loop .inv .written)
 
 returns : tie.Need-returns Inv-loop μ-loop
 returns c = putting-stop (c .before .before .loop .inv) (λ a b x y z. omega arith)
 
 sub-if2 : tie.Need-sub-if2 Inv-loop μ-loop
-sub-if2 c = c .before .before .loop .inv .fits
+sub-if2 c = let i = c .before .before .loop .inv in omega (arith, i .fits, written-length (i .written))
 
 same-length-2 : tie.Need-same-length-2 Inv-loop μ-loop
-same-length-2 c = c .before .before .before .loop .inv .length
+same-length-2 c = written-length (c .before .before .before .loop .inv .written)
 
 returns-2 : tie.Need-returns-2 Inv-loop μ-loop
 returns-2 c = putting-stop (c .before .before .before .loop .inv) (λ a b x y z. omega arith)
@@ -42,7 +43,8 @@ literal-text-requires c κs = search needs
 put-line-requires : tie.Need-put-line-requires Inv-loop μ-loop
 put-line-requires c κs = (
   c .before .literal-text .ensures .small,
-  omega (arith, c .before .before .before .before .before .before .loop .inv .fits),
+  let i = c .before .before .before .before .before .before .loop .inv in
+      omega (arith, i .fits, written-length (i .written)),
 )
 
 add-next : tie.Need-add-next Inv-loop μ-loop
@@ -54,11 +56,12 @@ loop-less c = search needs
 loop-again : tie.Need-loop-again Inv-loop μ-loop
 loop-again c =
     let d = c .before .before .before .before .before .before .before .before .before in
-    putting-more (d .loop .inv) (omega arith) (omega arith) (c .before .before .put-line .ensures)
-    (c .before .before .before .before .literal-text .ensures .text) (omega (arith, d .loop .inv .fits))
+    let i = d .loop .inv in
+    putting-more i (omega arith) (omega arith) (c .before .before .before .before .literal-text .ensures)
+    (omega (arith, i .fits, written-length (i .written))) (c .before .before .put-line .ensures)
 
 same-length-3 : tie.Need-same-length-3 Inv-loop μ-loop
-same-length-3 c = c .before .loop .inv .length
+same-length-3 c = written-length (c .before .loop .inv .written)
 
 returns-3 : tie.Need-returns-3 Inv-loop μ-loop
 returns-3 c = putting-stop (c .before .loop .inv) (λ a b x y z. omega arith)

@@ -1,6 +1,6 @@
 -- `with_word` meets its contract, byte by byte.
 use Prim.Native.Nat.{_-_, _≤_}
-use Rattle.print.specs.Lines.{Longer, longer-none, longer-word, longer-end}
+use Rattle.print.specs.Lines.{Longer, written-none, written-word, written-end}
 use borrow.Author.Needs.{needs}
 use lib.ListN.{length, take}
 use lib.Seq.{length-take-le}
@@ -15,7 +15,7 @@ abbrev μ-loop : tie.MeasureT-loop
 μ-loop word out₀ i₀ out i = length word - i
 
 loop-holds : tie.Need-loop-holds Inv-loop μ-loop
-loop-holds c = (search needs, longer-none _)
+loop-holds c = (search needs, written-none _ _)
 
 shared-slice-read-with-byte : tie.Need-shared-slice-read-with-byte Inv-loop μ-loop
 shared-slice-read-with-byte c = search needs
@@ -23,7 +23,7 @@ shared-slice-read-with-byte c = search needs
 with-byte-requires : tie.Need-with-byte-requires Inv-loop μ-loop
 with-byte-requires c κs = omega (
   arith,
-  c .before .before .loop .inv .1 .count,
+  c .before .before .loop .inv .1 .next,
   length-take-le (c .before .before .loop .i) (c .before .before .before .before .args .word .now)
       (c .before .before .loop .inv .0),
 )
@@ -37,13 +37,13 @@ loop-less c = search needs
 loop-again : tie.Need-loop-again Inv-loop μ-loop
 loop-again c = (
   search needs,
-  longer-word (c .before .before .before .before .before .args .word .now)
+  written-word (c .before .before .before .before .before .args .word .now)
       (c .before .before .before .loop .i) (search needs) (c .before .before .before .loop .inv .1)
       (c .with-byte .ensures),
 )
 
 returns : tie.Need-returns Inv-loop μ-loop
-returns c = longer-end _ _ (c .before .loop .inv .0) (search needs) (c .before .loop .inv .1)
+returns c = written-end _ _ (c .before .loop .inv .0) (search needs) (c .before .loop .inv .1)
 
 pub with-word-spec : {M : Type 1} → statement M
 with-word-spec =
