@@ -5,6 +5,6 @@
 mod staticlib;
 
 fn main() {
-    let library = staticlib::link("image");
+    let library = staticlib::link(&["image"]).join("libimage.a");
     println!("cargo::rustc-env=DBCHOCO_LIBRARY={}", library.display());
 }

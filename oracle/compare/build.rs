@@ -5,6 +5,5 @@
 mod staticlib;
 
 fn main() {
-    staticlib::link("probe");
-    staticlib::link("trial");
+    staticlib::link(&["probe", "trial"]);
 }
