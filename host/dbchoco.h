@@ -2,9 +2,9 @@
  * The Double Choco border checker: a call that makes a board image, three calls on one, and lists of decides and undos
  * in one call.
  *
- * Link with libimage.a, which `rt staticlib image` writes to target/staticlib. The library keeps no state, allocates
- * nothing and calls nothing but memcpy and memset: calls on different images may run at the same time. A check takes
- * up to 192 KiB of stack, any other call up to 64 KiB.
+ * Link with libimage.a: a release has it beside this file, and in the repository `tools/build library image` writes it
+ * to target/staticlib. The library keeps no state, allocates nothing and calls nothing but memcpy and memset: calls on
+ * different images may run at the same time. A check takes up to 192 KiB of stack, any other call up to 64 KiB.
  *
  * THE IMAGE is 11,076 bytes that the host owns. Numbers of more than one byte have their low byte first.
  *

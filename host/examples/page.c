@@ -3,6 +3,8 @@
  * prints for the same calls:
  *
  *     cc -std=c99 -Wall -Wextra -pedantic -I host host/examples/page.c target/staticlib/libimage.a -o page && ./page
+ *
+ * In a release, where all three files stand in one folder: cc -I . page.c libimage.a -o example && ./example
  */
 #include <stdio.h>
 
