@@ -10,7 +10,7 @@ use Rattle.lists.specs.ListLaws.{T-dec}
 use borrow.Author.Tests.{lt-ltb, le-ltb}
 use lib.Dec.{T, ltb, ltb→lt, nltb→le}
 use lib.Signed.{mag, ltZ}
-use mir.Syntax.{w32}
+use mir.Syntax.{w8, w32}
 use mir.Val.{SFits, toZ, ofZ}
 use mir.Facts.{toZ-ofZ}
 use Rattle.rules.specs.Page.{Point}
@@ -61,6 +61,11 @@ read-small r p n a b c =
 -- a small number read back from its 32 bits, and a sign times one
 pub small-back : (z : ℤ) → Small z → toZ w32 (ofZ w32 z) ≡ z
 small-back z h = toZ-ofZ {w = w32} {z = z} (record { sfits = omega arith })
+
+-- a sign read back from its 8 bits
+pub sign-back : {s d : ℤ} → Sign s → d ≡ toZ w8 (ofZ w8 s) → d ≡ s
+sign-back (inl e) f = f ∙ rw e
+sign-back (inr e) f = f ∙ rw e
 
 sign-small : (s : ℤ) → Sign s → Small s
 sign-small s (inl e) = rw e (omega arith)

@@ -26,8 +26,8 @@ pub struct Pair {
 // A row of the table: whether the coordinates change places, and the signs of the new ones, 1 or -1.
 pub struct Signs {
     pub swap: bool,
-    pub down: i32,
-    pub across: i32,
+    pub down: i8,
+    pub across: i8,
 }
 
 // "Every transform is read from eight rows of signs and swaps": the one table, each row with what it makes of (y,x).
@@ -85,20 +85,29 @@ pub fn signs_at(row: usize) -> Signs
     TABLE[row]
 }
 
+// The sign as a factor of coordinates.
+fn factor(sign: i8) -> i32
+    ensures { λ r. ⌜ r ≡ sign ⌝ }
+{
+    sign as i32
+}
+
 // The place (y,x), its coordinates swapped or not, the new ones times a sign.
 pub fn turn(s: Signs, y: i32, x: i32) -> Pair
     requires { ⌜ BothSigns s × Small y × Small x ⌝ }
     ensures { λ r. ⌜ r ≡ turnBy s y x ⌝ }
 {
+    let down = factor(s.down);
+    let across = factor(s.across);
     if s.swap {
         Pair {
-            y: s.down * x,
-            x: s.across * y,
+            y: down * x,
+            x: across * y,
         }
     } else {
         Pair {
-            y: s.down * y,
-            x: s.across * x,
+            y: down * y,
+            x: across * x,
         }
     }
 }

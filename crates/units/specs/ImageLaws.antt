@@ -8,7 +8,7 @@ use borrow.Author.Tests.{le-ltb}
 use lib.IntN.{ℤ, pos, negsuc, negℤ, _+ℤ_, _-ℤ_, +ℤ-comm, +ℤ-negℤ-cancel}
 use lib.Signed.{mag, ltZ}
 use lib.ListN.{length, getD}
-use mir.Syntax.{w32}
+use mir.Syntax.{w8}
 use mir.Val.{toZ, ofZ}
 use Rattle.lists.specs.Table.{table-find}
 use Rattle.lists.specs.Lists.{_∈_}
@@ -89,7 +89,7 @@ row-turn (suc (suc (suc (suc (suc (suc (suc (suc r)))))))) = refl
 
 -- the sign of a coordinate changes where the code's sign is below 0
 abbrev pub below : ℤ → Bool
-below z = ltZ (toZ w32 (ofZ w32 z)) (pos 0)
+below z = ltZ (toZ w8 (ofZ w8 z)) (pos 0)
 
 sign-below : (minus : Bool) → below (signOf minus) ≡ minus
 sign-below true = refl
