@@ -119,15 +119,15 @@ def literal(code):
 def theorem(i, board, unfolding):
     h, w = board["size"]
     puzzle = f"(puzzle {h} {w} {listed(board['colours'])} {listed(map(integer, board['clues']))})"
-    marks = f"(marksIn {listed(board['borders'])})"
+    states = f"(statesIn {listed(board['borders'])})"
     if "pass" in board:
         answer = f"pass {board['pass'][0]}"
     else:
         answer = f"conflict {listed(map(literal, board['conflict']))}"
-    facts = [f"(check {puzzle} {marks} ≡ {answer})", f"(unitCount {puzzle} {marks} ≡ {len(board['units'])})"]
+    facts = [f"(check {puzzle} {states} ≡ {answer})", f"(unitCount {puzzle} {states} ≡ {len(board['units'])})"]
     for unit, part in enumerate(board["units"] + [{"shapes": []}]):
         shapes = listed(f"shape {points(cells)} {points(links)}" for cells, links in part["shapes"])
-        facts.append(f"(transformsOf {puzzle} {marks} {unit} ≡ {shapes})")
+        facts.append(f"(transformsOf {puzzle} {states} {unit} ≡ {shapes})")
     proof = ", ".join("refl" for _ in facts)
     return f"\nboard{i} : {' × '.join(facts)}\nunfolding {unfolding}\nboard{i} = ({proof})\n"
 

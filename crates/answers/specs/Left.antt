@@ -13,12 +13,12 @@
 --   linesFrom s b at m  the lines of the calls from a place of the page s on, and the last line
 --   leftAt s g b at m   what is left to print of the page s at the stage g
 --   left s r m          what is left to print at the run r
---   stepsAt s g at      a number that falls with every piece; 0 where all is printed
+--   stepsAt s g at      a number that falls with every chunk; 0 where all is printed
 --   steps s r           that number at the run r
---   memoryAt s g b at m the memory m after the piece of the stage g
+--   memoryAt s g b at m the memory m after the chunk of the stage g
 --   memoryNext s q n m  the memory m after a call of `next` on the run q with a buffer of n bytes
---   Goes s t k o r m out       at the run r the piece put into the buffer o, which is `out` then, and what is left are
---                              the text t, the bytes beyond the piece are as they were, and fewer than k steps are left
+--   Goes s t k o r m out       at the run r the chunk put into the buffer o, which is `out` then, and what is left are
+--                              the text t, the bytes beyond the chunk are as they were, and fewer than k steps are left
 --   Next s q m o r m' out      what a call of `next` does to the run q, the memory m and the buffer o
 use mathlib.Core.Path.{_≡_}
 use mathlib.Core.Bool.{Bool, true, false, cond}
@@ -55,7 +55,7 @@ boardAt p =
     let n = cellsOf (p .height) (p .width) in
     startOf (p .height) (p .width) (take n (colourArray (p .rows))) (take n (clueArray (p .width) (p .clues)))
 
--- "one line a check or refused call, )": each call is given the board and the memory that the last one returned
+-- "one line a check or refused call, `)`": each call is given the board and the memory that the last one returned
 unfoldable pub callsText : Board → List ℕ → List Call → List ℕ
 callsText b m [] = endWord
 callsText b m (c ∷ cs) =
@@ -135,7 +135,7 @@ module _ (s : List ℕ) where
   memoryAt Last b at m = m
   memoryAt Over b at m = m
 
-  -- a buffer of fewer than 32 bytes takes no piece, and no call is made
+  -- a buffer of fewer than 32 bytes takes no chunk, and no call is made
   unfoldable pub memoryNext : Run → ℕ → List ℕ → List ℕ
   memoryNext q n m = cond (ltb n 32) m (memoryAt (q .stage) (q .board) (q .at) m)
 
@@ -147,10 +147,10 @@ module _ (s : List ℕ) where
 
   pub record Next (q : Run) (m before : List ℕ) (r : Run) (after out : List ℕ) : Type 0 where
     pub fits : r .count ≤ length out
-    -- the piece, and what is left after it, are what was left
+    -- the chunk, and what is left after it, are what was left
     pub prints : take (r .count) out ++ left r after ≡ left q m
-    -- the bytes beyond the piece are as they were
+    -- the bytes beyond the chunk are as they were
     pub kept : drop (r .count) out ≡ drop (r .count) before
     pub memory : after ≡ memoryNext q (length before) m
-    -- a buffer of 32 bytes or more takes a piece
+    -- a buffer of 32 bytes or more takes a chunk
     pub less : 32 ≤ length before → goesOn (q .stage) ≡ true → steps r < steps q

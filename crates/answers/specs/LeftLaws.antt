@@ -7,9 +7,9 @@
 --   line-left           the line of an answer and what is left after it
 --   turn-less           a call takes a step
 --   refused-left, accepted-left    what is left after the first line
---   reason-more, reason-end, turn-end, turn-goes   a piece of a reason, its end, no call, a call
---   next-goes, next-over           a piece, and no piece, at a stage of the run
---   next-short          no piece, where the buffer is too short
+--   reason-more, reason-end, turn-end, turn-goes   a chunk of a reason, its end, no call, a call
+--   next-goes, next-over           a chunk, and no chunk, at a stage of the run
+--   next-short          no chunk, where the buffer is too short
 use mathlib.Core.Path.{_≡_, refl, sym, ap, ap₂, _∙_}
 use mathlib.Core.Bool.{Bool, true, false, cond}
 use mathlib.Core.List.{List, [], _∷_, _++_, map, append-assoc}
@@ -31,7 +31,7 @@ use Rattle.board.specs.declared.Outcome.{Outcome}
 use Rattle.board.specs.declared.Outcome.the-variants.{Alien, Short}
 use Rattle.board.specs.Alien.{isAlien}
 use Rattle.board.specs.Board.{numberOf, decideOf, undoOf}
-use Rattle.board.specs.View.{puzzleOf, marksOf}
+use Rattle.board.specs.View.{puzzleOf, statesOf}
 use Rattle.calls.specs.declared.Answer.{Answer}
 use Rattle.calls.specs.declared.Stepped.{Stepped}
 use Rattle.calls.specs.declared.Answer.the-variants as answer
@@ -45,13 +45,13 @@ use Rattle.page.specs.Judge.{judge}
 use Rattle.page.specs.Many.{showAll, passes}
 use Rattle.page.specs.PageText.{counted, call-takes}
 use Rattle.page.specs.Places.{sheetAt, allFrom}
-use Rattle.page.specs.Readers.{rest}
-use Rattle.page.specs.ReaderLaws.{rest-past}
+use Rattle.page.specs.Parsers.{rest}
+use Rattle.page.specs.ParserLaws.{rest-past}
 use Rattle.print.specs.declared.Line.{Line}
-use Rattle.print.specs.declared.Piece.{Piece}
+use Rattle.print.specs.declared.Chunk.{Chunk}
 use Rattle.print.specs.Answers.{letter, showLiteral, showReply, codeText, textOf, conflictWord}
 use Rattle.print.specs.Lines.{Holds, Written, written-length, written-front, written-rest, holds-text, holds-short}
-use Rattle.print.specs.Pieces.{codesIn, Put, codes-none, codes-more, show-append, put-none}
+use Rattle.print.specs.Chunks.{codesIn, Put, codes-none, codes-more, show-append, put-none}
 use Rattle.answers.specs.declared.Stage.{Stage}
 use Rattle.answers.specs.declared.Stage.the-variants.{Refused, Calls, Reason, Last, Over}
 use Rattle.answers.specs.declared.Run.{Run}
@@ -172,9 +172,9 @@ ended-few o = go (eqb (numberOf o) 0)
 
 check-few : (b : Board) (n : ℕ) → Few (checkAnswer b n)
 unfolding checkAnswer Few
-check-few b n = go (isAlien b) refl (ltb n 16384) (check (puzzleOf b) (marksOf b)) refl
+check-few b n = go (isAlien b) refl (ltb n 16384) (check (puzzleOf b) (statesOf b)) refl
   where
-    go : (x : Bool) → isAlien b ≡ x → (y : Bool) (f : Found) → check (puzzleOf b) (marksOf b) ≡ f
+    go : (x : Bool) → isAlien b ≡ x → (y : Bool) (f : Found) → check (puzzleOf b) (statesOf b) ≡ f
         → Few (cond x (answer.Refused Alien) (cond y (answer.Refused Short) (asAnswer f)))
     go true t y f e = tt
     go false t true f e = tt
@@ -213,9 +213,9 @@ module _ (s m : List ℕ) where
       ap (λ (d : Board). callsText d m (sheetAt s p .calls)) (q ∙ page-board s (sheetAt s p) e)
       ∙ ap (verdictText m) (sym e)
 
--- ---- pieces of a reason
+-- ---- chunks of a reason
 module _ (s : List ℕ) (b : Board) (at : ℕ) (m : List ℕ) (from to : ℕ) where
-  module _ (p : Piece) (before out : List ℕ) (P : Put m from to before out p) where
+  module _ (p : Chunk) (before out : List ℕ) (P : Put m from to before out p) where
     pub reason-more : from < p .next
         → Goes s (literalsText m from to ++ (endWord ++ linesFrom s b at m)) ((length s - at) * 20000 + 3 + (to - from))
         before (record { board = b; at = at; stage = Reason (p .next) to; count = p .count }) m out

@@ -25,6 +25,6 @@ unfoldable pub pageReplies : Verdict → List Reply
 pageReplies (judgement.refused n) = refused n ∷ []
 pageReplies (judgement.accepted p) = replies (puzzleOn p) (map ask (p .calls))
 
--- "It prints (answers, one line a check or refused call, )"
+-- "It prints `(answers`, one line a check or refused call, `)`"
 unfoldable pub pageText : List ℕ → List ℕ
 pageText s = showAnswers (pageReplies (judge s))

@@ -1,9 +1,9 @@
--- The page program's output: what `next` puts, piece after piece, is the book's text.
+-- The page program's output: what `next` puts, chunk after chunk, is the book's text.
 --
 --   lentFrom b m cs     the calls cs from the board b on, each with the memory that the last one left
---   Pieces s q m t      the pieces that `next` puts from the run q on, until all is printed, are the text t
---   first-left          before the first piece, what is left to print is the page's text
---   printed             the pieces from the first run on are the page's text
+--   Chunks s q m t      the chunks that `next` puts from the run q on, until all is printed, are the text t
+--   first-left          before the first chunk, what is left to print is the page's text
+--   printed             the chunks from the first run on are the page's text
 use mathlib.Core.Path.{_≡_, refl, sym, ap, ap₂, _∙_}
 use mathlib.Core.List.{List, [], _∷_, _++_, map, append-assoc, append-nil}
 use Prim.Native.Nat.{ℕ}
@@ -68,19 +68,19 @@ module _ (s m : List ℕ) (l : length m ≡ 16384) where
   unfolding leftAt pageText showAnswers
   first-left = ap (λ (t : List ℕ). answersWord ++ t) (verdict-book (judge s) refl)
 
--- the run goes from piece to piece as `next` says, with the memory that it left, and each piece has a buffer
-pub data Pieces (s : List ℕ) : Run → List ℕ → List ℕ → Type 0 where
-  over : {q : Run} {m : List ℕ} → q .stage ≡ Over → Pieces s q m []
-  piece : {q r : Run} {m before after out text : List ℕ} → Next s q m before r after out → Pieces s r after text
-      → Pieces s q m (take (r .count) out ++ text)
+-- the run goes from chunk to chunk as `next` says, with the memory that it left, and each chunk has a buffer
+pub data Chunks (s : List ℕ) : Run → List ℕ → List ℕ → Type 0 where
+  over : {q : Run} {m : List ℕ} → q .stage ≡ Over → Chunks s q m []
+  chunk : {q r : Run} {m before after out text : List ℕ} → Next s q m before r after out → Chunks s r after text
+      → Chunks s q m (take (r .count) out ++ text)
 
-pieces-left : {s : List ℕ} {q : Run} {m text : List ℕ} → Pieces s q m text → text ≡ left s q m
+chunks-left : {s : List ℕ} {q : Run} {m text : List ℕ} → Chunks s q m text → text ≡ left s q m
 unfolding leftAt
-pieces-left {s} {q} {m} (over e) = ap (λ (g : Stage). leftAt s g (q .board) (q .at) m) (sym e)
-pieces-left (piece {r = r} {out = out} n p) =
-    ap (λ (t : List ℕ). take (r .count) out ++ t) (pieces-left p) ∙ n .prints
+chunks-left {s} {q} {m} (over e) = ap (λ (g : Stage). leftAt s g (q .board) (q .at) m) (sym e)
+chunks-left (chunk {r = r} {out = out} n p) =
+    ap (λ (t : List ℕ). take (r .count) out ++ t) (chunks-left p) ∙ n .prints
 
--- "It prints (answers, one line a check or refused call, )": what is written for the bytes s, with reason memory for
+-- "It prints `(answers`, one line a check or refused call, `)`": what is written for the bytes s, with reason memory for
 -- 16,384 literals, is the text of the book's answers to the page's calls; or its refusal alone
-pub printed : (s m text : List ℕ) → length m ≡ 16384 → Pieces s firstRun m text → text ≡ pageText s
-printed s m text l p = pieces-left p ∙ first-left s m l
+pub printed : (s m text : List ℕ) → length m ≡ 16384 → Chunks s firstRun m text → text ≡ pageText s
+printed s m text l p = chunks-left p ∙ first-left s m l

@@ -1,5 +1,5 @@
-// What the page program prints, one piece after another. A run says how far a page's answers are printed; `next` puts
-// the next piece into a lent buffer. The program only reads the page, calls `next` and writes what it put.
+// What the page program prints, one chunk after another. A run says how far a page's answers are printed; `next` puts
+// the next chunk into a lent buffer. The program only reads the page, calls `next` and writes what it put.
 ghost use mathlib.Core.Path.{_≡_};
 ghost use mathlib.Core.List.{List, _++_};
 ghost use Prim.Native.Nat.{ℕ, _+_, _-_, _*_, _≤_};
@@ -32,7 +32,7 @@ pub enum Stage {
     Over,
 }
 
-// The board, the place of the next call, what is printed next, and how many bytes the piece has that was just put.
+// The board, the place of the next call, what is printed next, and how many bytes the chunk has that was just put.
 pub struct Run {
     pub board: Board,
     pub at: usize,
@@ -180,10 +180,10 @@ fn reason(board: Board, at: usize, memory: &[u16], out: &mut [u8], from: usize, 
         ((length s - at) * 20000 + 3 + (to - from)) (now (out .entry)) r (now (memory .entry))
         (now (out .exit))) ⌝ }
 {
-    let piece = print::put_literals(out, memory, from, to);
-    let next = piece.next;
+    let chunk = print::put_literals(out, memory, from, to);
+    let next = chunk.next;
     if from < next {
-        let count = piece.count;
+        let count = chunk.count;
         return Run {
             board,
             at,
@@ -200,7 +200,7 @@ fn reason(board: Board, at: usize, memory: &[u16], out: &mut [u8], from: usize, 
     }
 }
 
-// Puts the next piece of the output into `out`: the run afterwards, whose count says how many bytes it has. The bytes
+// Puts the next chunk of the output into `out`: the run afterwards, whose count says how many bytes it has. The bytes
 // beyond them stay, and so does the memory where no call is made.
 pub fn next(s: &[u8], run: Run, memory: &mut [u16], out: &mut [u8]) -> Run
     ensures { λ r.

@@ -4,17 +4,17 @@
 --   solution-agrees     if the one is a solution, so is the other
 use mathlib.Core.Path.{_∙_, sym}
 use Prim.Native.Nat.{ℕ, _<_}
-use Rattle.rules.specs.Page.{Puzzle, Mark}
+use Rattle.rules.specs.Page.{Puzzle, State}
 use Rattle.rules.specs.Rules.{joinsBlock, joinsUnit, SameBlock, SameUnit, Congruent, Solution}
 use Rattle.argument.specs.PageLaws.{Bordered}
 use Rattle.argument.specs.Demand.{SameSides}
 use Rattle.argument.specs.Joins.{join-map, join-in}
 
-pub sides-sym : (Z : Puzzle) (s σ : ℕ → Mark) → SameSides Z s σ → SameSides Z σ s
+pub sides-sym : (Z : Puzzle) (s σ : ℕ → State) → SameSides Z s σ → SameSides Z σ s
 unfolding SameSides
 sides-sym Z s σ e b h = sym (e b h)
 
-module _ (Z : Puzzle) (K : Bordered (Z .page)) (s σ : ℕ → Mark) (e : SameSides Z s σ) where
+module _ (Z : Puzzle) (K : Bordered (Z .page)) (s σ : ℕ → State) (e : SameSides Z s σ) where
   block-there : {x y : ℕ} → x < Z .page .cells → SameBlock Z s x y → SameBlock Z σ x y
   unfolding joinsBlock SameSides
   block-there h j = join-map (Z .page) _ _ K (λ b k t. rw (e b k) at t) h j
@@ -23,7 +23,7 @@ module _ (Z : Puzzle) (K : Bordered (Z .page)) (s σ : ℕ → Mark) (e : SameSi
   unfolding joinsUnit SameSides
   unit-there h j = join-map (Z .page) _ _ K (λ b k t. rw (e b k) at t) h j
 
-module _ (Z : Puzzle) (K : Bordered (Z .page)) (s σ : ℕ → Mark) (e : SameSides Z s σ) where
+module _ (Z : Puzzle) (K : Bordered (Z .page)) (s σ : ℕ → State) (e : SameSides Z s σ) where
   block-back : {x y : ℕ} → x < Z .page .cells → SameBlock Z σ x y → SameBlock Z s x y
   block-back h j = block-there Z K σ s (sides-sym Z s σ e) h j
 

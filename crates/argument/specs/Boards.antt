@@ -12,7 +12,7 @@ use lib.ListN.{length}
 use Rattle.lists.specs.Lists.{filter, any, orElse, flatMap, firstHit}
 use Rattle.lists.specs.Count.{countBelow}
 use Rattle.rules.specs.Page.{Puzzle, wallAt, openAt, _⊕_, opposite}
-use Rattle.rules.specs.Codes.{marksIn, coloursIn, cluesIn}
+use Rattle.rules.specs.Codes.{statesIn, coloursIn, cluesIn}
 use Rattle.rules.specs.Rules.{oneColour, joinsBlock, joinsUnit}
 use Rattle.rules.specs.Groups.{labels, entry, isFirst, numbers, groupCount, members, joinsPotential}
 use Rattle.rules.specs.Reasons.{gather, insideAt, inside, edgeAt, edge, isFound, trace, look, hunt, path}
@@ -30,10 +30,10 @@ abbrev pub puzzle : ℕ → ℕ → List ℕ → List ℤ → Puzzle
 puzzle h w cs ks = record { page = flat h w; colour = coloursIn cs; clue = cluesIn ks }
 
 abbrev pub Says : Puzzle → List ℕ → Answer → Type 0
-Says Z bs a = check Z (marksIn bs) ≡ a
+Says Z bs a = check Z (statesIn bs) ≡ a
 
 abbrev pub Lists : Puzzle → List ℕ → ℕ → Type 0
-Lists Z bs n = length (transformsOf Z (marksIn bs) 0) ≡ n
+Lists Z bs n = length (transformsOf Z (statesIn bs) 0) ≡ n
 
 abbrev noClue : ℤ
 noClue = negsuc 0
@@ -80,7 +80,7 @@ pub record Boards : Type 0 where
       (2 ∷ 0 ∷ 2 ∷ 0 ∷ []) 4
 
 pub boards : Boards
-unfolding filter any orElse flatMap firstHit countBelow _⊕_ opposite marksIn coloursIn cluesIn oneColour joinsBlock
+unfolding filter any orElse flatMap firstHit countBelow _⊕_ opposite statesIn coloursIn cluesIn oneColour joinsBlock
     joinsUnit labels entry isFirst numbers groupCount members joinsPotential gather insideAt inside edgeAt edge isFound
     trace look hunt path apply samePoints insert sort shiftBy normal turned connectionsAt shapeOf withHalf quarters
     withQuarter withFlip flatTransforms check hitIf blockClue insideBlock insideUnit edgeOf sizeOf coloured strayFrom

@@ -14,7 +14,7 @@ use Rattle.rules.specs.declared.Call.{Call}
 use Rattle.rules.specs.declared.Call.the-variants.{Decide, Undo, Check}
 use Rattle.rules.specs.Page.{Puzzle}
 use Rattle.rules.specs.Check.{Answer, check}
-use Rattle.rules.specs.Book.{Asked, Reply, refused, done, answered, marks, names, withLast, bareOr, decideReply}
+use Rattle.rules.specs.Book.{Asked, Reply, refused, done, answered, states, names, withLast, bareOr, decideReply}
 use Rattle.rules.specs.Book.{decideAfter, replyTo, reply, afterCall, after, sequenceFrom, repliesFrom, sequence}
 use Rattle.rules.specs.Book.{replies}
 use Rattle.argument.specs.Sequences.{Clean, clean-none, clean-with, clean-without}
@@ -72,27 +72,27 @@ replies-append Z calls a more =
 
 module _ (Z : Puzzle) (ls : List Literal) where
   call-answered : (n : ℕ) (c : Call) (r : Answer) → replyTo Z ls n c ≡ answered r
-      → (c ≡ Check) × (check Z (marks ls) ≡ r)
+      → (c ≡ Check) × (check Z (states ls) ≡ r)
   unfolding replyTo decideReply
   call-answered n (Decide l) r e = go (ltb (l .border) (Z .page .borders)) (names ls (l .border)) e
     where
       go : (b c : Bool) → cond b (cond c (refused 7) done) (refused 6) ≡ answered r
-          → (Decide l ≡ Check) × (check Z (marks ls) ≡ r)
+          → (Decide l ≡ Check) × (check Z (states ls) ≡ r)
       go true true f = let z : _≡_ {A = ℕ} 0 1 = cc in absurd (omega arith)
       go true false f = let z : _≡_ {A = ℕ} 0 1 = cc in absurd (omega arith)
       go false c f = let z : _≡_ {A = ℕ} 0 1 = cc in absurd (omega arith)
   call-answered n Undo r e = go ls e
     where
-      go : (ks : List Literal) → bareOr ks done ≡ answered r → (Undo ≡ Check) × (check Z (marks ls) ≡ r)
+      go : (ks : List Literal) → bareOr ks done ≡ answered r → (Undo ≡ Check) × (check Z (states ls) ≡ r)
       go [] f = let z : _≡_ {A = ℕ} 0 1 = cc in absurd (omega arith)
       go (k ∷ ks) f = let z : _≡_ {A = ℕ} 0 1 = cc in absurd (omega arith)
   call-answered n Check r e = go (ltb n 16384) e
     where
-      go : (b : Bool) → cond b (refused 9) (answered (check Z (marks ls))) ≡ answered r
-          → (Check ≡ Check) × (check Z (marks ls) ≡ r)
+      go : (b : Bool) → cond b (refused 9) (answered (check Z (states ls))) ≡ answered r
+          → (Check ≡ Check) × (check Z (states ls) ≡ r)
       go true f = let z : _≡_ {A = ℕ} 0 1 = cc in absurd (omega arith)
-      go false f = let u : check Z (marks ls) ≡ r = cc in (refl, u)
+      go false f = let u : check Z (states ls) ≡ r = cc in (refl, u)
 
   pub answered-check : (a : Asked) (r : Answer) → reply Z ls a ≡ answered r
-      → (a .call ≡ Check) × (check Z (marks ls) ≡ r)
+      → (a .call ≡ Check) × (check Z (states ls) ≡ r)
   answered-check a r e = call-answered (a .places) (a .call) r e

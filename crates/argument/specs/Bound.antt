@@ -20,7 +20,7 @@ use Rattle.rules.specs.declared.Side.{Side}
 use Rattle.rules.specs.declared.Literal.{Literal}
 use Rattle.rules.specs.declared.Placement.{Placement}
 use Rattle.rules.specs.declared.Placement.the-variants.{Fits, Blocked, Cannot}
-use Rattle.rules.specs.Page.{Hop, Shape, Puzzle, Mark, isWall, isOpen, wallAt}
+use Rattle.rules.specs.Page.{Hop, Shape, Puzzle, State, isWall, isOpen, wallAt}
 use Rattle.rules.specs.Rules.{Joined}
 use Rattle.rules.specs.Groups.{members, joinsPotential, blockOf, unitOf, unitCount, potentialOf, potentialCount}
 use Rattle.rules.specs.Reasons.{gather, insideAt, inside, edgeAt, edge, Found, Search, isFound, visitIf, trace, look}
@@ -31,7 +31,7 @@ use Rattle.rules.specs.Check.{blockers, transformsOf, placements, farWallsAt, f
 use Rattle.argument.specs.PageLaws.{Bordered}
 use Rattle.argument.specs.ListExtras.{length-rangeFrom, flat-le, filter-two, flat-two}
 use Rattle.argument.specs.Numbers.{number-joined, members-in, members-number, potentialCells}
-use Rattle.argument.specs.Marks.{eq-beq}
+use Rattle.argument.specs.States.{eq-beq}
 use Rattle.argument.specs.Hits.{Each, each-some}
 use Rattle.argument.specs.Crossings.{joined-colour}
 use Rattle.argument.specs.Forms.{Forms, each-form}
@@ -46,7 +46,7 @@ gather-two s u p q hs d = let a = filter-two p q hs d in
     let c = length-map {B = Literal} (filter q hs) (λ (h : Hop). record { border = h .border; side = u }) in omega arith
 
 -- D hops ahead, A around, M transforms
-module _ (Z : Puzzle) (K : Bordered (Z .page)) (s : ℕ → Mark) (D A M : ℕ)
+module _ (Z : Puzzle) (K : Bordered (Z .page)) (s : ℕ → State) (D A M : ℕ)
     (aheads : (x : ℕ) → length (Z .page .ahead x) ≤ D) (arounds : (x : ℕ) → length (Z .page .around x) ≤ A)
     (listed : (t : Shape) → length (Z .page .transforms t) ≤ M) where
   abbrev n : ℕ

@@ -13,13 +13,13 @@ use native.Mathlib.Omega.{arith}
 use lib.Dec.{eqb, T, eqb→eq}
 use Rattle.lists.specs.Lists.{_∈_, filter, any, head?}
 use Rattle.lists.specs.ListLaws.{T-and, T-dec, filter-mem, filter-test, any-mem, first-find}
-use Rattle.rules.specs.Page.{Puzzle, Mark}
+use Rattle.rules.specs.Page.{Puzzle, State}
 use Rattle.rules.specs.Groups.{potentialOf}
 use Rattle.rules.specs.Check.{hitIf, clash, blockClue, insideBlock, edgeOf, coloured, strayFrom, cellHit, cellHits}
-use Rattle.argument.specs.Marks.{beq-eq, eq-beq}
+use Rattle.argument.specs.States.{beq-eq, eq-beq}
 use Rattle.argument.specs.Hits.{hit-misses, else-none}
 
-module _ (Z : Puzzle) (s : ℕ → Mark) where
+module _ (Z : Puzzle) (s : ℕ → State) where
   -- cells that step 1 has passed: one potential unit a colour, one clue
   pub record Agree (y x : ℕ) : Type 0 where
     pub pots : Z .colour y ≡ Z .colour x → potentialOf Z s y ≡ potentialOf Z s x

@@ -11,7 +11,7 @@ use mathlib.Core.Option.{Option, some, none}
 use Prim.Native.Nat.{ℕ}
 use native.Mathlib.Omega.{arith}
 use Rattle.lists.specs.ListLaws.{first-none, mem-range, range-lt}
-use Rattle.rules.specs.Page.{Puzzle, Mark, Contains}
+use Rattle.rules.specs.Page.{Puzzle, State, Contains}
 use Rattle.rules.specs.Rules.{Solution}
 use Rattle.rules.specs.Check.{Reason, Answer, pass, conflict, hit, undecidedCount, answerOf, check}
 use Rattle.argument.specs.PageLaws.{Bordered, Placed, Listed}
@@ -37,31 +37,31 @@ pub check-kind : (r : Answer) → Passes r ⊎ ((q : Reason) × (r ≡ conflict 
 check-kind (pass n) = inl (n, refl)
 check-kind (conflict q) = inr (q, refl)
 
-pub check-each : (Q : Reason → Type 0) (Z : Puzzle) (s : ℕ → Mark) → Each Q (hit Z s) → (r : Reason)
+pub check-each : (Q : Reason → Type 0) (Z : Puzzle) (s : ℕ → State) → Each Q (hit Z s) → (r : Reason)
     → check Z s ≡ conflict r → Q r
 unfolding check
 check-each Q Z s h r e =
     each-some Q r (subst (Each Q) (answer-hit (undecidedCount Z s) (hit Z s) r e) h)
 
 module _ (Z : Puzzle) (K : Bordered (Z .page)) (P : Placed (Z .page)) (I : Listed (Z .page)) where
-  pub check-holds : (s : ℕ → Mark) (r : Reason) → check Z s ≡ conflict r → Contains s r
+  pub check-holds : (s : ℕ → State) (r : Reason) → check Z s ≡ conflict r → Contains s r
   check-holds s r e =
       check-each (Contains s) Z s (each-form Z s (Contains s) (held-forms Z K s)) r e
 
-  hit-sound : (s : ℕ → Mark) → Each (Sound Z) (hit Z s)
+  hit-sound : (s : ℕ → State) → Each (Sound Z) (hit Z s)
   unfolding hit
   hit-sound s =
       each-or (Sound Z) _ _ (each-first (Sound Z) _ _ (λ B m. sound-block Z K P s B))
       (each-or (Sound Z) _ _ (each-first (Sound Z) _ _ (λ x m. sound-walls Z K P s x (range-lt _ m)))
       (each-first (Sound Z) _ _ (λ U m. sound-unit Z K P I s U)))
 
-  pub check-sound : (s : ℕ → Mark) (r : Reason) → check Z s ≡ conflict r → (σ : ℕ → Mark) → Solution Z σ
+  pub check-sound : (s : ℕ → State) (r : Reason) → check Z s ≡ conflict r → (σ : ℕ → State) → Solution Z σ
       → Contains σ r → ⊥
   unfolding Sound
   check-sound s r e =
       check-each (Sound Z) Z s (hit-sound s) r e
 
-  check-solved : (s : ℕ → Mark) → Full Z s → Passes (check Z s) → Solution Z s
+  check-solved : (s : ℕ → State) → Full Z s → Passes (check Z s) → Solution Z s
   unfolding check hit
   check-solved s full p =
       let a = else-none _ _ (answer-none (undecidedCount Z s) (hit Z s) (p .0) (p .1)) in
@@ -71,12 +71,12 @@ module _ (Z : Puzzle) (K : Bordered (Z .page)) (P : Placed (Z .page)) (I : Liste
       (λ x h. first-none _ _ (b .0) (mem-range _ h))
       (λ U h. first-none _ _ (b .1) (mem-range _ h))
 
-  check-passes : (s : ℕ → Mark) → Solution Z s → Passes (check Z s)
+  check-passes : (s : ℕ → State) → Solution Z s → Passes (check Z s)
   check-passes s sol = go (check-kind (check Z s))
     where
       go : Passes (check Z s) ⊎ ((q : Reason) × (check Z s ≡ conflict q)) → Passes (check Z s)
       go (inl p) = p
       go (inr q) = absurd (check-sound s (q .0) (q .1) s sol (check-holds s (q .0) (q .1)))
 
-  pub check-full : (s : ℕ → Mark) → Full Z s → (Passes (check Z s) ↔ Solution Z s)
+  pub check-full : (s : ℕ → State) → Full Z s → (Passes (check Z s) ↔ Solution Z s)
   check-full s full = (check-solved s full, check-passes s)

@@ -14,7 +14,7 @@ use lib.Dec.{eqb, T, eqb-refl}
 use Rattle.lists.specs.Lists.{_∈_}
 use Rattle.lists.specs.ListLaws.{T-and, T-dec, first-none}
 use Rattle.rules.specs.declared.Side.the-variants.{Wall}
-use Rattle.rules.specs.Page.{Hop, Puzzle, Mark, decided, isWall}
+use Rattle.rules.specs.Page.{Hop, Puzzle, State, decided, isWall}
 use Rattle.rules.specs.Rules.{stay, step, joinsBlock, joinsUnit, SameBlock, Congruent, Solution}
 use Rattle.rules.specs.Groups.{blockOf, blockCount, unitOf, unitCount}
 use Rattle.rules.specs.Shapes.{shapeOf}
@@ -23,7 +23,7 @@ use Rattle.argument.specs.PageLaws.{Bordered, Placed, Listed}
 use Rattle.argument.specs.Demand.{Full}
 use Rattle.argument.specs.Joins.{join-trans, join-in, join-sym}
 use Rattle.argument.specs.Numbers.{joined-number, mem-members}
-use Rattle.argument.specs.Marks.{beq-eq, not-both}
+use Rattle.argument.specs.States.{beq-eq, not-both}
 use Rattle.argument.specs.Hits.{hit-misses}
 use Rattle.argument.specs.Copies.{shape-based, copy}
 use Rattle.argument.specs.Crossings.{unit-colour, unit-block}
@@ -32,7 +32,7 @@ use Rattle.argument.specs.Passes.{one-unit, same-size, clue-kept}
 use Rattle.argument.specs.Fits.{Fit, fit}
 use Rattle.argument.specs.Lays.{congruent-to}
 
-module _ (Z : Puzzle) (K : Bordered (Z .page)) (P : Placed (Z .page)) (I : Listed (Z .page)) (s : ℕ → Mark)
+module _ (Z : Puzzle) (K : Bordered (Z .page)) (P : Placed (Z .page)) (I : Listed (Z .page)) (s : ℕ → State)
     (full : Full Z s)
     (pass1 : (B : ℕ) → B < blockCount Z s → blockHit Z s B ≡ none)
     (pass2 : (x : ℕ) → x < Z .page .cells → wallHits Z s x ≡ none)

@@ -10,15 +10,15 @@ use Prim.Native.Nat.{ℕ, _<_}
 use lib.Dec.{T}
 use Rattle.lists.specs.Lists.{_∈_}
 use Rattle.lists.specs.ListLaws.{T-and-l, T-and-r, T-and, T-dec}
-use Rattle.rules.specs.Page.{Hop, Puzzle, Mark, isOpen}
+use Rattle.rules.specs.Page.{Hop, Puzzle, State, isOpen}
 use Rattle.rules.specs.Rules.{Joined, stay, step, oneColour, joinsBlock, joinsUnit, SameBlock, SameUnit}
 use Rattle.argument.specs.PageLaws.{Bordered}
 use Rattle.argument.specs.Joins.{join-weaken}
-use Rattle.argument.specs.Marks.{beq-eq, not-both, not-self}
+use Rattle.argument.specs.States.{beq-eq, not-both, not-self}
 use Rattle.argument.specs.Keeps.{hop-colour, colour-hop}
 
 -- units of a setting
-module _ (Z : Puzzle) (K : Bordered (Z .page)) (σ : ℕ → Mark) where
+module _ (Z : Puzzle) (K : Bordered (Z .page)) (σ : ℕ → State) where
   pub joined-colour : (link : ℕ → Bool) → ((b : ℕ) → T (link b) → T (oneColour Z b)) → {x y : ℕ} → x < Z .page .cells
       → Joined (Z .page) link y x → Z .colour x ≡ Z .colour y
   joined-colour link f h (stay e) = ap (Z .colour) e

@@ -7,10 +7,10 @@ use mathlib.Core.Logic.{_⊎_, inl, inr, _↔_}
 use mathlib.Core.List.{List, _∷_, _++_, append-assoc}
 use Prim.Native.Nat.{ℕ}
 use Rattle.rules.specs.declared.Literal.{Literal}
-use Rattle.rules.specs.Page.{Puzzle, Mark, Contains}
+use Rattle.rules.specs.Page.{Puzzle, State, Contains}
 use Rattle.rules.specs.Rules.{Solution}
 use Rattle.rules.specs.Check.{Reason, Answer, pass, conflict, check}
-use Rattle.rules.specs.Book.{Asked, marks, sequence}
+use Rattle.rules.specs.Book.{Asked, states, sequence}
 use Rattle.argument.specs.PageLaws.{Bordered, Placed, Listed}
 use Rattle.argument.specs.Demand.{SameSides, Answered, RuledOut, StoodAt, Passes, BookDemand}
 use Rattle.argument.specs.Agrees.{sides-sym, solution-agrees}
@@ -30,7 +30,7 @@ module _ (Z : Puzzle) where
     answer = a .answer;
   }
 
-  pub ruled-longer : (calls more : List Asked) (σ : ℕ → Mark) → RuledOut Z calls σ → RuledOut Z (calls ++ more) σ
+  pub ruled-longer : (calls more : List Asked) (σ : ℕ → State) → RuledOut Z calls σ → RuledOut Z (calls ++ more) σ
   ruled-longer calls more σ q = record {
     sequence = q .sequence;
     reason = q .reason;
@@ -38,7 +38,7 @@ module _ (Z : Puzzle) where
     contains = q .contains;
   }
 
-  pub stood-longer : (calls more : List Asked) (σ : ℕ → Mark) (r : Answer) → StoodAt Z calls σ r
+  pub stood-longer : (calls more : List Asked) (σ : ℕ → State) (r : Answer) → StoodAt Z calls σ r
       → StoodAt Z (calls ++ more) σ r
   stood-longer calls more σ r q = record {
     sequence = q .sequence;
@@ -47,13 +47,13 @@ module _ (Z : Puzzle) where
     sides = q .sides;
   }
 
-  -- the answer is check's, on the marks of the sequence
-  checked : (calls : List Asked) (ls : List Literal) (r : Answer) → Answered Z calls ls r → check Z (marks ls) ≡ r
+  -- the answer is check's, on the states of the sequence
+  checked : (calls : List Asked) (ls : List Literal) (r : Answer) → Answered Z calls ls r → check Z (states ls) ≡ r
   checked calls ls r a = answered-check Z ls (a .call) r (a .answer) .1
 
   -- the setting that stood has the literals of a reason that holds there
-  stood-contains : (calls : List Asked) (σ : ℕ → Mark) (r : Answer) (q : StoodAt Z calls σ r) (reason : Reason)
-      → Contains (marks (q .sequence)) reason → Contains σ reason
+  stood-contains : (calls : List Asked) (σ : ℕ → State) (r : Answer) (q : StoodAt Z calls σ r) (reason : Reason)
+      → Contains (states (q .sequence)) reason → Contains σ reason
   unfolding Contains SameSides
   stood-contains calls σ r q reason c l m =
       let a = q .check in
@@ -62,23 +62,23 @@ module _ (Z : Puzzle) where
       sym (q .sides (l .border) h) ∙ c l m
 
 module _ (Z : Puzzle) (K : Bordered (Z .page)) (P : Placed (Z .page)) (I : Listed (Z .page)) where
-  none-ruled : (calls : List Asked) (σ : ℕ → Mark) → Solution Z σ → RuledOut Z calls σ → ⊥
+  none-ruled : (calls : List Asked) (σ : ℕ → State) → Solution Z σ → RuledOut Z calls σ → ⊥
   none-ruled calls σ sol q =
-      check-sound Z K P I (marks (q .sequence)) (q .reason)
+      check-sound Z K P I (states (q .sequence)) (q .reason)
       (checked Z calls (q .sequence) (conflict (q .reason)) (q .given)) σ sol (q .contains)
 
-  verdicts : (calls : List Asked) (σ : ℕ → Mark) (r : Answer) → StoodAt Z calls σ r → (Passes r ↔ Solution Z σ)
+  verdicts : (calls : List Asked) (σ : ℕ → State) (r : Answer) → StoodAt Z calls σ r → (Passes r ↔ Solution Z σ)
   verdicts calls σ r q =
       let e = checked Z calls (q .sequence) r (q .check) in
-      let c = check-full Z K P I (marks (q .sequence)) (q .full) in (
-        λ p. solution-agrees Z K (marks (q .sequence)) σ (q .sides) (c .0 (p .0, e ∙ p .1)),
+      let c = check-full Z K P I (states (q .sequence)) (q .full) in (
+        λ p. solution-agrees Z K (states (q .sequence)) σ (q .sides) (c .0 (p .0, e ∙ p .1)),
         λ sol.
-            let p = c .1 (solution-agrees Z K σ (marks (q .sequence)) (sides-sym Z (marks (q .sequence)) σ (q .sides))
+            let p = c .1 (solution-agrees Z K σ (states (q .sequence)) (sides-sym Z (states (q .sequence)) σ (q .sides))
             sol) in
             (p .0, sym e ∙ p .1),
       )
 
-  failed : (calls : List Asked) (σ : ℕ → Mark) (r : Answer) → StoodAt Z calls σ r → (Passes r → ⊥) → RuledOut Z calls σ
+  failed : (calls : List Asked) (σ : ℕ → State) (r : Answer) → StoodAt Z calls σ r → (Passes r → ⊥) → RuledOut Z calls σ
   failed calls σ r q n = go (check-kind r)
     where
       go : Passes r ⊎ ((reason : Reason) × (r ≡ conflict reason)) → RuledOut Z calls σ
@@ -89,12 +89,12 @@ module _ (Z : Puzzle) (K : Bordered (Z .page)) (P : Placed (Z .page)) (I : Liste
             sequence = q .sequence;
             reason = c .0;
             given = subst (Answered Z calls (q .sequence)) (c .1) (q .check);
-            contains = stood-contains Z calls σ r q (c .0) (check-holds Z K P I (marks (q .sequence)) (c .0) e);
+            contains = stood-contains Z calls σ r q (c .0) (check-holds Z K P I (states (q .sequence)) (c .0) e);
           }
 
   pub book-demand : (calls : List Asked) → BookDemand Z calls
   book-demand calls = record {
-    held = λ ls r a. check-holds Z K P I (marks ls) r (checked Z calls ls (conflict r) a);
+    held = λ ls r a. check-holds Z K P I (states ls) r (checked Z calls ls (conflict r) a);
     noSolution = none-ruled calls;
     verdict = verdicts calls;
     otherwise = failed calls;

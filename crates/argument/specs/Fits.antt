@@ -15,7 +15,7 @@ use Rattle.lists.specs.Lists.{_∈_, any, flatMap, range}
 use Rattle.lists.specs.ListLaws.{T-and-l, T-and-r, filter-test, any-find, map-find, flat-find}
 use Rattle.rules.specs.declared.Placement.{Placement}
 use Rattle.rules.specs.declared.Placement.the-variants.{Fits, Blocked, Cannot}
-use Rattle.rules.specs.Page.{Hop, Shape, Puzzle, Mark, isWall, isOpen}
+use Rattle.rules.specs.Page.{Hop, Shape, Puzzle, State, isWall, isOpen}
 use Rattle.rules.specs.Rules.{oneColour, joinsUnit, SameUnit}
 use Rattle.rules.specs.Groups.{unitOf, unitCount, potentialOf, potentialCount}
 use Rattle.rules.specs.Shapes.{shapeOf}
@@ -25,13 +25,13 @@ use Rattle.argument.specs.PageLaws.{Bordered}
 use Rattle.argument.specs.Demand.{Full}
 use Rattle.argument.specs.Numbers.{number-lt, mem-members, members-in, members-number, unitCells}
 use Rattle.argument.specs.Numbers.{potentialCells, ownPotential}
-use Rattle.argument.specs.Marks.{not-both}
+use Rattle.argument.specs.States.{not-both}
 use Rattle.argument.specs.Hits.{hit-misses}
 use Rattle.argument.specs.Sizes.{mem-unit}
 use Rattle.argument.specs.Mates.{transforms-listed}
 use Rattle.argument.specs.Fulls.{open-of, pot-unit, unit-pot}
 
-module _ (Z : Puzzle) (s : ℕ → Mark) where
+module _ (Z : Puzzle) (s : ℕ → State) where
   fit-is : (q : Placement) → T (isFit Z s q) → q ≡ Fits
   fit-is Fits t = refl
   fit-is Cannot t = absurd t
@@ -85,7 +85,7 @@ module _ (Z : Puzzle) (s : ℕ → Mark) where
   yes-hit true r e = tt
   yes-hit false r e = hit-misses true r e tt
 
-module _ (Z : Puzzle) (K : Bordered (Z .page)) (s : ℕ → Mark) (full : Full Z s)
+module _ (Z : Puzzle) (K : Bordered (Z .page)) (s : ℕ → State) (full : Full Z s)
     (pass3 : (U : ℕ) → U < unitCount Z s → unitHit Z s U ≡ none) where
   -- the first listed cell of a unit
   on-none : (U : ℕ) (xs : List ℕ) (x : ℕ) → x ∈ xs → unitHitOn Z s U xs ≡ none

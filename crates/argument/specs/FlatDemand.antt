@@ -14,7 +14,7 @@ use mathlib.Core.Option.{Option}
 use Prim.Native.Nat.{ℕ, _+_, _*_, _<_, _≤_}
 use native.Mathlib.Omega.{arith}
 use lib.ListN.{length}
-use Rattle.rules.specs.Page.{Mark, Contains, Shape}
+use Rattle.rules.specs.Page.{State, Contains, Shape}
 use Rattle.rules.specs.Rules.{Solution}
 use Rattle.rules.specs.Flat.{Sized, flat}
 use Rattle.rules.specs.FlatLaws.{counts}
@@ -31,14 +31,14 @@ module _ (h w : ℕ) (hw : 0 < w) (colour : ℕ → Bool) (clue : ℕ → Option
   pub flat-demand : (calls : List Asked) → BookDemand (flatPuzzle h w colour clue) calls
   flat-demand = book-demand (flatPuzzle h w colour clue) (flat-bordered h w hw) (flat-placed h w hw) (flat-listed h w)
 
-  pub flat-holds : (s : ℕ → Mark) (r : Reason) → check (flatPuzzle h w colour clue) s ≡ conflict r → Contains s r
+  pub flat-holds : (s : ℕ → State) (r : Reason) → check (flatPuzzle h w colour clue) s ≡ conflict r → Contains s r
   flat-holds = check-holds (flatPuzzle h w colour clue) (flat-bordered h w hw) (flat-placed h w hw) (flat-listed h w)
 
-  pub flat-sound : (s : ℕ → Mark) (r : Reason) → check (flatPuzzle h w colour clue) s ≡ conflict r
-      → (σ : ℕ → Mark) → Solution (flatPuzzle h w colour clue) σ → Contains σ r → ⊥
+  pub flat-sound : (s : ℕ → State) (r : Reason) → check (flatPuzzle h w colour clue) s ≡ conflict r
+      → (σ : ℕ → State) → Solution (flatPuzzle h w colour clue) σ → Contains σ r → ⊥
   flat-sound = check-sound (flatPuzzle h w colour clue) (flat-bordered h w hw) (flat-placed h w hw) (flat-listed h w)
 
-  pub flat-full : (s : ℕ → Mark) → Full (flatPuzzle h w colour clue) s
+  pub flat-full : (s : ℕ → State) → Full (flatPuzzle h w colour clue) s
       → (Passes (check (flatPuzzle h w colour clue) s) ↔ Solution (flatPuzzle h w colour clue) s)
   flat-full = check-full (flatPuzzle h w colour clue) (flat-bordered h w hw) (flat-placed h w hw) (flat-listed h w)
 
@@ -51,13 +51,13 @@ module _ (h w : ℕ) (hw : 0 < w) (colour : ℕ → Bool) (clue : ℕ → Option
   cells-are = refl
 
   -- at most 8 blockers, 2 and 4 literals for each cell, and the wall of step 2
-  pub flat-bound : (s : ℕ → Mark) (r : Reason) → check (flatPuzzle h w colour clue) s ≡ conflict r
+  pub flat-bound : (s : ℕ → State) (r : Reason) → check (flatPuzzle h w colour clue) s ≡ conflict r
       → length r ≤ 14 * (h * w) + 1
   flat-bound s r e =
       let few = check-short (flatPuzzle h w colour clue) (flat-bordered h w hw) s 2 4 8 (flat-ahead h w)
       (flat-around h w) images-eight r e in
       omega (arith, few, cells-are)
 
-  pub flat-short : Sized h w → (s : ℕ → Mark) (r : Reason) → check (flatPuzzle h w colour clue) s ≡ conflict r
+  pub flat-short : Sized h w → (s : ℕ → State) (r : Reason) → check (flatPuzzle h w colour clue) s ≡ conflict r
       → length r ≤ 16120
   flat-short z s r e = omega (arith, flat-bound s r e, counts z)

@@ -14,7 +14,7 @@ use lib.ListN.{length, length-append, length-map}
 use Rattle.lists.specs.Lengths.{rangeFrom-ge}
 use Rattle.lists.specs.Lists.{_∈_, Distinct, filter, keep, any, rangeFrom}
 use Rattle.lists.specs.ListLaws.{T-dec, map-find, filter-mem}
-use Rattle.rules.specs.Page.{Puzzle, Shape, Mark}
+use Rattle.rules.specs.Page.{Puzzle, Shape, State}
 use Rattle.rules.specs.Groups.{members, unitOf, unitCount}
 use Rattle.rules.specs.Check.{transformsOf}
 use Rattle.rules.specs.Turns.{Turn, apply, half, quarter, flip}
@@ -142,7 +142,7 @@ abbrev pub flatPuzzle : ℕ → ℕ → (ℕ → Bool) → (ℕ → Option ℕ) 
 flatPuzzle h w colour clue = record { page = flat h w; colour = colour; clue = clue }
 
 -- the same of a unit's transforms, on any board
-module _ (h w : ℕ) (hw : 0 < w) (colour : ℕ → Bool) (clue : ℕ → Option ℕ) (s : ℕ → Mark) (U : ℕ) where
+module _ (h w : ℕ) (hw : 0 < w) (colour : ℕ → Bool) (clue : ℕ → Option ℕ) (s : ℕ → State) (U : ℕ) where
   abbrev Z : Puzzle
   Z = flatPuzzle h w colour clue
 

@@ -9,7 +9,7 @@ use Prim.Native.Nat.{ℕ, _<_}
 use lib.Dec.{T}
 use Rattle.lists.specs.Lists.{_∈_, any}
 use Rattle.lists.specs.ListLaws.{T-and-l, range-lt}
-use Rattle.rules.specs.Page.{Hop, Puzzle, Mark, isWall, wallAt}
+use Rattle.rules.specs.Page.{Hop, Puzzle, State, isWall, wallAt}
 use Rattle.rules.specs.Groups.{members, unitOf, potentialOf}
 use Rattle.rules.specs.Reasons.{path}
 use Rattle.rules.specs.Check.{Reason, isSome, insideBlock, edgeOf, coloured, cellHit, cellHits, smallHit, bigHit}
@@ -17,7 +17,7 @@ use Rattle.rules.specs.Check.{clueHit, blockHitOn, blockHit, wallHit, wallHits,
 use Rattle.rules.specs.Check.{unitHit, hit}
 use Rattle.argument.specs.Hits.{Each, each-none, each-hit, each-or, each-first}
 
-pub record Forms (Z : Puzzle) (s : ℕ → Mark) (Q : Reason → Type 0) : Type 0 where
+pub record Forms (Z : Puzzle) (s : ℕ → State) (Q : Reason → Type 0) : Type 0 where
   -- step 1: (a), and a potential unit that is too small; (b), and a clue that is too small; a clue that is too large
   pub inEdge : (B P : ℕ) → Q (insideBlock Z s B ++ edgeOf Z s P)
   pub inOnly : (B : ℕ) → Q (insideBlock Z s B)
@@ -29,7 +29,7 @@ pub record Forms (Z : Puzzle) (s : ℕ → Mark) (Q : Reason → Type 0) : Type 
   -- step 3
   pub unit : (U P : ℕ) → Q (unitReason Z s U P)
 
-module _ (Z : Puzzle) (s : ℕ → Mark) (Q : Reason → Type 0) (F : Forms Z s Q) where
+module _ (Z : Puzzle) (s : ℕ → State) (Q : Reason → Type 0) (F : Forms Z s Q) where
   cells-form : (B : ℕ) (earlier xs : List ℕ) → Each Q (cellHits Z s B earlier xs)
   unfolding cellHits cellHit
   cells-form B earlier [] = each-none Q

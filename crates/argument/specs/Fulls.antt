@@ -15,7 +15,7 @@ use Rattle.lists.specs.Lists.{_∈_}
 use Rattle.lists.specs.ListLaws.{T-and-l, T-and-r, T-and, mem-filter}
 use Rattle.lists.specs.Lengths.{subset-le}
 use Rattle.rules.specs.declared.Side.the-variants.{Wall, Open}
-use Rattle.rules.specs.Page.{Puzzle, Mark, undecided, decided, isWall, isOpen}
+use Rattle.rules.specs.Page.{Puzzle, State, undecided, decided, isWall, isOpen}
 use Rattle.rules.specs.Rules.{Joined, joinsBlock, joinsUnit, SameBlock, SameUnit}
 use Rattle.rules.specs.Groups.{joinsPotential, blockOf, unitOf, potentialOf}
 use Rattle.rules.specs.Check.{sizeOf, coloured}
@@ -24,21 +24,21 @@ use Rattle.argument.specs.Demand.{Full}
 use Rattle.argument.specs.Joins.{join-weaken, join-map, join-in}
 use Rattle.argument.specs.Numbers.{number-joined, joined-number, mem-members, members-in, members-number}
 use Rattle.argument.specs.Numbers.{members-distinct, ownBlock, ownUnit, ownPotential}
-use Rattle.argument.specs.Marks.{eq-beq}
+use Rattle.argument.specs.States.{eq-beq}
 use Rattle.argument.specs.Sizes.{unitSize}
 use Rattle.argument.specs.Crossings.{unit-colour, unit-block}
 
-module _ (Z : Puzzle) (K : Bordered (Z .page)) (s : ℕ → Mark) (full : Full Z s) where
+module _ (Z : Puzzle) (K : Bordered (Z .page)) (s : ℕ → State) (full : Full Z s) where
   pub open-of : (b : ℕ) → b < Z .page .borders → T (not (isWall (s b))) → T (isOpen (s b))
   unfolding Full
   open-of b h t = go (s b) refl t
     where
-      go : (m : Mark) → s b ≡ m → T (not (isWall m)) → T (isOpen m)
+      go : (m : State) → s b ≡ m → T (not (isWall m)) → T (isOpen m)
       go undecided e u = absurd (full b h e)
       go (decided Wall) e u = absurd u
       go (decided Open) e u = tt
 
-  open-free : (m : Mark) → T (isOpen m) → T (not (isWall m))
+  open-free : (m : State) → T (isOpen m) → T (not (isWall m))
   open-free undecided t = absurd t
   open-free (decided Wall) t = absurd t
   open-free (decided Open) t = tt

@@ -16,18 +16,18 @@ use Rattle.rules.specs.declared.Side.{Side}
 use Rattle.rules.specs.declared.Side.the-variants.{Wall, Open}
 use Rattle.rules.specs.declared.Placement.{Placement}
 use Rattle.rules.specs.declared.Placement.the-variants.{Fits, Blocked, Cannot}
-use Rattle.rules.specs.Page.{Hop, Shape, Puzzle, Mark, decided, Has, Contains, isWall, wallAt, openAt}
+use Rattle.rules.specs.Page.{Hop, Shape, Puzzle, State, decided, Has, Contains, isWall, wallAt, openAt}
 use Rattle.rules.specs.Rules.{oneColour}
 use Rattle.rules.specs.Groups.{members, blockOf, unitOf, potentialOf}
 use Rattle.rules.specs.Reasons.{gather, insideAt, inside, edgeAt, edge, Found, trace, path}
 use Rattle.rules.specs.Check.{Reason, insideBlock, insideUnit, edgeOf, judge, laid, blockers, placements, farWallsAt}
 use Rattle.rules.specs.Check.{farWalls, unitReason}
 use Rattle.argument.specs.PageLaws.{Bordered}
-use Rattle.argument.specs.Marks.{open-is, wall-is}
+use Rattle.argument.specs.States.{open-is, wall-is}
 use Rattle.argument.specs.Paths.{Chain, found-all, path-traced}
 use Rattle.argument.specs.Forms.{Forms}
 
-module _ (Z : Puzzle) (K : Bordered (Z .page)) (s : ℕ → Mark) where
+module _ (Z : Puzzle) (K : Bordered (Z .page)) (s : ℕ → State) where
   held-append : (r q : Reason) → Contains s r → Contains s q → Contains s (r ++ q)
   unfolding Contains
   held-append r q a b l m = go (List·Memᴰ·append-cases r m)

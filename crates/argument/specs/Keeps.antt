@@ -15,14 +15,14 @@ use Rattle.lists.specs.Lists.{_∈_}
 use Rattle.lists.specs.ListLaws.{T-and-l, T-and-r, T-and, T-dec, neqb→ne, mem-filter, mem-map, mem-flat}
 use Rattle.rules.specs.declared.Side.{Side}
 use Rattle.rules.specs.declared.Side.the-variants.{Wall, Open}
-use Rattle.rules.specs.Page.{Hop, Puzzle, Mark, decided, Contains, isWall, isOpen, wallAt, openAt}
+use Rattle.rules.specs.Page.{Hop, Puzzle, State, decided, Contains, isWall, isOpen, wallAt, openAt}
 use Rattle.rules.specs.Rules.{Joined, stay, step, oneColour, joinsBlock, joinsUnit}
 use Rattle.rules.specs.Groups.{entry, numbers, joinsPotential, blockOf, unitOf, potentialOf}
 use Rattle.rules.specs.Reasons.{gather, insideAt, inside, edgeAt, edge}
 use Rattle.rules.specs.Check.{insideBlock, insideUnit, edgeOf}
 use Rattle.argument.specs.PageLaws.{Bordered}
 use Rattle.argument.specs.Numbers.{hop-number, mem-members}
-use Rattle.argument.specs.Marks.{has, beq-eq, eq-beq, open-not-wall}
+use Rattle.argument.specs.States.{has, beq-eq, eq-beq, open-not-wall}
 
 pub mem-gather : (side : Side) (p : Hop → Bool) (hs : List Hop) (h : Hop) → h ∈ hs → T (p h)
     → record { border = h .border; side = side } ∈ gather side p hs
@@ -30,7 +30,7 @@ unfolding gather
 mem-gather side p hs h m t =
     mem-map (λ (j : Hop). record { border = j .border; side = side }) (mem-filter p hs m t)
 
-module _ (Z : Puzzle) (K : Bordered (Z .page)) (s : ℕ → Mark) where
+module _ (Z : Puzzle) (K : Bordered (Z .page)) (s : ℕ → State) where
   -- the two ends of a border, whichever way it is crossed
   pub hop-colour : (x : ℕ) (h : Hop) → x < Z .page .cells → h ∈ Z .page .around x →
       T (oneColour Z (h .border)) → Z .colour x ≡ Z .colour (h .to)
@@ -75,7 +75,7 @@ module _ (Z : Puzzle) (K : Bordered (Z .page)) (s : ℕ → Mark) where
       go (inr n) = inside-mem number g (h .to) (record { border = h .border; to = x }) (K .hop-in x h hx m) n f e t
 
   -- a joined pair stays joined
-  module _ (σ : ℕ → Mark) (link link′ : ℕ → Bool) (k : ℕ) (opens : (b : ℕ) → T (link b) → T (isOpen (s b)))
+  module _ (σ : ℕ → State) (link link′ : ℕ → Bool) (k : ℕ) (opens : (b : ℕ) → T (link b) → T (isOpen (s b)))
       (goes : (b : ℕ) → T (link b) → σ b ≡ decided Open → T (link′ b))
       (c : Contains σ (inside (Z .page) s (entry (numbers (Z .page) link)) k)) where
     pub inside-keeps : {x y : ℕ} → x < Z .page .cells → entry (numbers (Z .page) link) x ≡ k → Joined (Z .page) link y x
@@ -87,13 +87,13 @@ module _ (Z : Puzzle) (K : Bordered (Z .page)) (s : ℕ → Mark) where
         (inside-open (entry (numbers (Z .page) link)) k x j h m e f (opens (j .border) t))))
         (inside-keeps (K .hop-in x j h m) f r)
 
-  pub block-keeps : (σ : ℕ → Mark) (k : ℕ) → Contains σ (insideBlock Z s k) → {x y : ℕ} → x < Z .page .cells
+  pub block-keeps : (σ : ℕ → State) (k : ℕ) → Contains σ (insideBlock Z s k) → {x y : ℕ} → x < Z .page .cells
       → blockOf Z s x ≡ k →
       Joined (Z .page) (joinsBlock Z s) y x → Joined (Z .page) (joinsBlock Z σ) y x
   unfolding joinsBlock insideBlock
   block-keeps σ k c = inside-keeps σ (joinsBlock Z s) (joinsBlock Z σ) k (λ b t. t) (λ b t e. rw e tt) c
 
-  pub unit-keeps : (σ : ℕ → Mark) (k : ℕ) → Contains σ (insideUnit Z s k) → {x y : ℕ} → x < Z .page .cells
+  pub unit-keeps : (σ : ℕ → State) (k : ℕ) → Contains σ (insideUnit Z s k) → {x y : ℕ} → x < Z .page .cells
       → unitOf Z s x ≡ k →
       Joined (Z .page) (joinsUnit Z s) y x → Joined (Z .page) (joinsUnit Z σ) y x
   unfolding joinsUnit insideUnit
@@ -112,7 +112,7 @@ module _ (Z : Puzzle) (K : Bordered (Z .page)) (s : ℕ → Mark) where
       Bool·beq (Z .colour x) (Z .colour (j .to)) && not (eqb (number (j .to)) g) && isWall (s (j .border)))
       _ h m (search T-and))
 
-  pub edge-stays : (σ : ℕ → Mark) (k : ℕ) → Contains σ (edgeOf Z s k) → {x y : ℕ} → x < Z .page .cells
+  pub edge-stays : (σ : ℕ → State) (k : ℕ) → Contains σ (edgeOf Z s k) → {x y : ℕ} → x < Z .page .cells
       → potentialOf Z s x ≡ k →
       Joined (Z .page) (joinsUnit Z σ) y x → potentialOf Z s y ≡ k
   unfolding joinsUnit joinsPotential edgeOf

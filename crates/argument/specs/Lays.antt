@@ -11,7 +11,7 @@ use Prim.Native.Nat.{ℕ, _≤_, _<_}
 use lib.Dec.{T}
 use Rattle.lists.specs.Lists.{_∈_}
 use Rattle.lists.specs.ListLaws.{T-and, mem-map}
-use Rattle.rules.specs.Page.{Hop, Point, _⊕_, opposite, Puzzle, Mark, isOpen}
+use Rattle.rules.specs.Page.{Hop, Point, _⊕_, opposite, Puzzle, State, isOpen}
 use Rattle.rules.specs.Rules.{stay, step, oneColour, joinsUnit, SameUnit, Congruent}
 use Rattle.rules.specs.Groups.{unitOf}
 use Rattle.rules.specs.Check.{laid}
@@ -29,7 +29,7 @@ use Rattle.argument.specs.Fulls.{open-of}
 use Rattle.argument.specs.Fits.{Reads, fits-all, Fit}
 
 -- a placement that fits, its shape the unit of x turned by g
-module _ (Z : Puzzle) (K : Bordered (Z .page)) (P : Placed (Z .page)) (s : ℕ → Mark) (full : Full Z s)
+module _ (Z : Puzzle) (K : Bordered (Z .page)) (P : Placed (Z .page)) (s : ℕ → State) (full : Full Z s)
     (x : ℕ) (hx : x < Z .page .cells) (F : Fit Z s x) (ho : F .at < Z .page .cells) (g : Point → Point)
     (gm : g ∈ Z .page .turns) (E : Copy (Z .page) (unitOf Z s) (unitOf Z s x) g (F .shape)) where
   abbrev U : ℕ

@@ -10,7 +10,7 @@ pub mod ListExtras
 pub mod Joins
 pub mod Numbers
 -- the three steps are sound
-pub mod Marks
+pub mod States
 pub mod Keeps
 pub mod Hits
 pub mod Sizes

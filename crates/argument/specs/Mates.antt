@@ -23,7 +23,7 @@ use Rattle.lists.specs.ListLaws.{T-and, T-dec, mem-filter, any-mem, mem-map, ma
 use Rattle.rules.specs.declared.Side.the-variants.{Wall}
 use Rattle.rules.specs.declared.Placement.{Placement}
 use Rattle.rules.specs.declared.Placement.the-variants.{Fits, Blocked, Cannot}
-use Rattle.rules.specs.Page.{Hop, Point, _⊕_, opposite, Shape, Puzzle, Mark, decided, Contains, isWall, isOpen}
+use Rattle.rules.specs.Page.{Hop, Point, _⊕_, opposite, Shape, Puzzle, State, decided, Contains, isWall, isOpen}
 use Rattle.rules.specs.Page.{wallAt}
 use Rattle.rules.specs.Rules.{stay, step, oneColour, joinsBlock, joinsUnit, SameBlock, SameUnit, Congruent, Solution}
 use Rattle.rules.specs.Groups.{joinsPotential, unitOf, unitCount, potentialOf, potentialCount}
@@ -36,7 +36,7 @@ use Rattle.argument.specs.PageLaws.{Bordered, Near, Placed, Listed}
 use Rattle.argument.specs.Joins.{join-trans, join-in, join-sym}
 use Rattle.argument.specs.Numbers.{number-joined, number-lt, mem-members, members-in, members-number, unitCells}
 use Rattle.argument.specs.Numbers.{potentialCells}
-use Rattle.argument.specs.Marks.{contains-l, contains-r, has, open-not-wall, unlike-T}
+use Rattle.argument.specs.States.{contains-l, contains-r, has, open-not-wall, unlike-T}
 use Rattle.argument.specs.Keeps.{mem-gather, colour-hop, unit-keeps, edge-stays}
 use Rattle.argument.specs.Hits.{Each, each-none, each-hit}
 use Rattle.argument.specs.Sound.{Sound}
@@ -44,20 +44,20 @@ use Rattle.argument.specs.Copies.{CopyCells, Copy, shape-based, copy-cel
 use Rattle.argument.specs.Nears.{near-turn, near-right, near-left, near-eq}
 use Rattle.argument.specs.Crossings.{unit-colour, unit-block, cross}
 
-pub transforms-listed : (Z : Puzzle) (s : ℕ → Mark) (U : ℕ) → U < unitCount Z s
+pub transforms-listed : (Z : Puzzle) (s : ℕ → State) (U : ℕ) → U < unitCount Z s
     → transformsOf Z s U ≡ Z .page .transforms (shapeOf (Z .page) (unitOf Z s) U)
 unfolding transformsOf
 transforms-listed Z s U h = rw (lt-ltb U (unitCount Z s) h)
 
-module _ (Z : Puzzle) (K : Bordered (Z .page)) (P : Placed (Z .page)) (I : Listed (Z .page)) (s : ℕ → Mark) where
+module _ (Z : Puzzle) (K : Bordered (Z .page)) (P : Placed (Z .page)) (I : Listed (Z .page)) (s : ℕ → State) where
   -- a connection read within a unit of the setting
-  record Fine (σ : ℕ → Mark) (o : Option ℕ) : Type 0 where
+  record Fine (σ : ℕ → State) (o : Option ℕ) : Type 0 where
     border : ℕ
     is : o ≡ some border
     same : T (oneColour Z border)
     free : σ border ≡ decided Wall → ⊥
 
-  judged : (σ : ℕ → Mark) (last : Option ℕ) (os : List (Option ℕ)) → ((o : Option ℕ) → o ∈ os → Fine σ o)
+  judged : (σ : ℕ → State) (last : Option ℕ) (os : List (Option ℕ)) → ((o : Option ℕ) → o ∈ os → Fine σ o)
       → ((b : ℕ) → last ≡ some b → σ b ≡ decided Wall → ⊥) →
       (judge Z s last os ≡ Fits) ⊎ ((b : ℕ) × (judge Z s last os ≡ Blocked b) × (σ b ≡ decided Wall → ⊥))
   unfolding judge
@@ -81,7 +81,7 @@ module _ (Z : Puzzle) (K : Bordered (Z .page)) (P : Placed (Z .page)) (I : Liste
       go true e true d r ih = ih (some b) (λ k u v. r .free (let y = r .is in let q : r .border ≡ k = cc in rw q v))
       go true e false d r ih = ih last g
 
-  module _ (cell : ℕ) (on : cell < Z .page .cells) (σ : ℕ → Mark) (sol : Solution Z σ) where
+  module _ (cell : ℕ) (on : cell < Z .page .cells) (σ : ℕ → State) (sol : Solution Z σ) where
     abbrev U : ℕ
     U = unitOf Z s cell
 

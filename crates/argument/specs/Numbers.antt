@@ -24,7 +24,7 @@ use Rattle.lists.specs.Lists.{_∈_, range, Distinct}
 use Rattle.lists.specs.ListLaws.{mem-filter, filter-mem, filter-test, mem-range, range-lt}
 use Rattle.lists.specs.Lengths.{distinct-range, distinct-filter}
 use Rattle.lists.specs.Count.{countBelow}
-use Rattle.rules.specs.Page.{Hop, Page, Puzzle, Mark}
+use Rattle.rules.specs.Page.{Hop, Page, Puzzle, State}
 use Rattle.rules.specs.Rules.{Joined, stay, step}
 use Rattle.rules.specs.Groups.{entry, labels, isFirst, numbers, groupCount, members, blockOf, unitOf, potentialOf}
 use Rattle.argument.specs.PageLaws.{Bordered}
@@ -166,7 +166,7 @@ module _ (G : Page) (K : Bordered G) (link : ℕ → Bool) where
       let r = number-has g h in
       (r .0, mem-members G (entry (numbers G link)) g (r .0) (r .1) (r .2))
 
-  -- .. and "a number that no group has gives an empty part"
+  -- .. and "A number that no group has gives an empty part"
   pub members-none : (g : ℕ) → groupCount G link ≤ g → members G (entry (numbers G link)) g ≡ []
   members-none g h = go (members G (entry (numbers G link)) g) (λ x m. m)
     where
@@ -178,7 +178,7 @@ module _ (G : Page) (K : Bordered G) (link : ℕ → Bool) where
           let l = number-lt x (members-in G (entry (numbers G link)) g x m) in
           absurd (omega arith)
 
-module _ (Z : Puzzle) (s : ℕ → Mark) where
+module _ (Z : Puzzle) (s : ℕ → State) where
   abbrev pub blockCells : ℕ → List ℕ
   blockCells B = members (Z .page) (blockOf Z s) B
 

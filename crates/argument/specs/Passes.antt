@@ -14,7 +14,7 @@ use lib.Dec.{ltb, nltb→le, not-T}
 use lib.ListN.{length}
 use Rattle.lists.specs.Lists.{_∈_, filter, head?, firstHit}
 use Rattle.lists.specs.ListLaws.{T-or-l, T-or-r, mem-filter, first-none}
-use Rattle.rules.specs.Page.{Puzzle, Mark}
+use Rattle.rules.specs.Page.{Puzzle, State}
 use Rattle.rules.specs.Rules.{stay, joinsBlock, SameBlock, SameUnit, UnitHas}
 use Rattle.rules.specs.Groups.{blockOf, blockCount, potentialOf}
 use Rattle.rules.specs.Check.{Reason, hitIf, blockClue, sizeOf, coloured, smallHit, bigHit, clueHit, blockHitOn}
@@ -23,13 +23,13 @@ use Rattle.argument.specs.PageLaws.{Bordered}
 use Rattle.argument.specs.Demand.{Full}
 use Rattle.argument.specs.Joins.{join-in}
 use Rattle.argument.specs.Numbers.{number-lt, ownBlock}
-use Rattle.argument.specs.Marks.{eq-beq, colour-listed}
+use Rattle.argument.specs.States.{eq-beq, colour-listed}
 use Rattle.argument.specs.Hits.{hit-misses, else-none}
 use Rattle.argument.specs.Sizes.{unit-size-has}
 use Rattle.argument.specs.CellScan.{Agree, pass-cells, head-mem, clue-mem}
 use Rattle.argument.specs.Fulls.{pot-unit, unit-size, in-block, size-count}
 
-module _ (Z : Puzzle) (K : Bordered (Z .page)) (s : ℕ → Mark) (full : Full Z s)
+module _ (Z : Puzzle) (K : Bordered (Z .page)) (s : ℕ → State) (full : Full Z s)
     (pass1 : (B : ℕ) → B < blockCount Z s → blockHit Z s B ≡ none) where
   record Passed (x : ℕ) : Type 0 where
     agree : (y z : ℕ) → y ∈ ownBlock Z s x → z ∈ ownBlock Z s x → Agree Z s y z

@@ -18,14 +18,14 @@ use borrow.Author.Tests.{ne-eqb, lt-ltb}
 use Rattle.lists.specs.Lists.{_∈_, any}
 use Rattle.lists.specs.ListLaws.{T-and-l, T-and-r, T-and, T-or, T-or-l, T-or-r, T-dec}
 use Rattle.lists.specs.Count.{countBelow, count-cong, count-lt, count-more}
-use Rattle.rules.specs.Page.{Hop, Puzzle, Mark, Contains, isOpen, openAt}
+use Rattle.rules.specs.Page.{Hop, Puzzle, State, Contains, isOpen, openAt}
 use Rattle.rules.specs.Rules.{Joined, stay, step, joinsBlock, SameBlock}
 use Rattle.rules.specs.Reasons.{Found, Search, isFound, visitIf, trace, look, hunt, path}
 use Rattle.argument.specs.PageLaws.{Bordered}
 use Rattle.argument.specs.ListExtras.{true-is, or-true, or-false}
 use Rattle.argument.specs.Joins.{join-in}
 
-module _ (Z : Puzzle) (K : Bordered (Z .page)) (s : ℕ → Mark) (a : ℕ) (ha : a < Z .page .cells) where
+module _ (Z : Puzzle) (K : Bordered (Z .page)) (s : ℕ → State) (a : ℕ) (ha : a < Z .page .cells) where
   abbrev pub Reached : List Found → ℕ → Type 0
   Reached f x = T (isFound a f x)
 
@@ -266,7 +266,7 @@ module _ (Z : Puzzle) (K : Bordered (Z .page)) (s : ℕ → Mark) (a : ℕ) (ha 
   joined-found {x} k (step h m t r) = joined-found (found-all .shut x k h m t) r
 
   -- a setting that contains the path joins its ends
-  traced : (σ : ℕ → Mark) (f : List Found) (x : ℕ) → Chain f → Reached f x → Contains σ (trace f x) → SameBlock Z σ x a
+  traced : (σ : ℕ → State) (f : List Found) (x : ℕ) → Chain f → Reached f x → Contains σ (trace f x) → SameBlock Z σ x a
   unfolding trace Contains joinsBlock
   traced σ [] x c k q = stay (reached-nil x k)
   traced σ (e ∷ f) x c k q = go (eqb x (e .cell)) refl q (reached-cases f e x k) (λ k′ q′. traced σ f x (c .1) k′ q′)
@@ -290,7 +290,7 @@ module _ (Z : Puzzle) (K : Bordered (Z .page)) (s : ℕ → Mark) (a : ℕ) (ha 
   unfolding path
   path-traced b hb = rw (lt-ltb a (Z .page .cells) ha, lt-ltb b (Z .page .cells) hb)
 
-  pub path-joins : (σ : ℕ → Mark) (b : ℕ) → SameBlock Z s a b → Contains σ (path (Z .page) s a b) → SameBlock Z σ b a
+  pub path-joins : (σ : ℕ → State) (b : ℕ) → SameBlock Z s a b → Contains σ (path (Z .page) s a b) → SameBlock Z σ b a
   path-joins σ b j c =
       traced σ _ b (found-all .chain) (joined-found (reached-start _) j)
       (subst (Contains σ) (path-traced b (join-in (Z .page) K _ ha j)) c)

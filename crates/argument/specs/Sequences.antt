@@ -1,12 +1,12 @@
--- Sequences of literals, as the book keeps them: what is put last and taken off, and how marks reads them.
+-- Sequences of literals, as the book keeps them: what is put last and taken off, and how states reads them.
 --
 --   bordersOf ls        the borders that a sequence names
 --   Clean Z ls          the sequence names borders of the page, none of them twice
 --   clean-none, clean-with, clean-without   the empty sequence is so; with a literal put last; with the last taken off
 --   without-last, with-without    taking the last literal off undoes putting one last
---   marks-with          what a literal put last changes
---   marks-none   a border that is not named is undecided
---   marks-exact         exactly the sequence's literals are decided
+--   states-with          what a literal put last changes
+--   states-none   a border that is not named is undecided
+--   states-exact         exactly the sequence's literals are decided
 --   undecided-left      so the undecided borders are those that the sequence leaves
 use mathlib.Core.Path.{_≡_, _∙_, refl, ap, sym, subst}
 use mathlib.Core.Logic.{_⊎_, inl, inr, _↔_}
@@ -18,14 +18,14 @@ use native.Mathlib.Omega.{arith}
 use lib.Dec.{eqb, T, eqb→eq, eqb-refl}
 use lib.ListN.{length}
 use borrow.Author.Tests.{eq-eqb, ne-eqb}
-use Rattle.rules.specs.SmallLaws.{marks-none}
+use Rattle.rules.specs.SmallLaws.{states-none}
 use Rattle.lists.specs.Lists.{_∈_, any, Distinct}
 use Rattle.lists.specs.ListLaws.{any-mem, any-find, mem-map, map-find}
 use Rattle.lists.specs.Count.{countBelow, count-cong, count-more}
 use Rattle.rules.specs.declared.Literal.{Literal}
 use Rattle.rules.specs.Page.{Puzzle, decided, Has, isUndecided}
 use Rattle.rules.specs.Check.{undecidedCount}
-use Rattle.rules.specs.Book.{markIf, marks, names, withLast, withoutLast}
+use Rattle.rules.specs.Book.{stateIf, states, names, withLast, withoutLast}
 use Rattle.argument.specs.ListExtras.{or-false}
 
 abbrev pub bordersOf : List Literal → List ℕ
@@ -107,18 +107,18 @@ module _ (Z : Puzzle) where
     once = without-once ls (c .once);
   }
 
-pub marks-with : (ls : List Literal) (l : Literal) (b : ℕ) → names ls (l .border) ≡ false
-    → marks (withLast ls l) b ≡ markIf (eqb (l .border) b) (decided (l .side)) (marks ls b)
-unfolding marks names any
-marks-with [] l b n = refl
-marks-with (k ∷ ls) l b n = go (eqb (k .border) (l .border)) refl n (eqb (k .border) b) refl (marks-with ls l b)
+pub states-with : (ls : List Literal) (l : Literal) (b : ℕ) → names ls (l .border) ≡ false
+    → states (withLast ls l) b ≡ stateIf (eqb (l .border) b) (decided (l .side)) (states ls b)
+unfolding states names any
+states-with [] l b n = refl
+states-with (k ∷ ls) l b n = go (eqb (k .border) (l .border)) refl n (eqb (k .border) b) refl (states-with ls l b)
   where
     go : (t : Bool) → eqb (k .border) (l .border) ≡ t → t || names ls (l .border) ≡ false
         → (u : Bool) → eqb (k .border) b ≡ u
         → (names ls (l .border) ≡ false
-        → marks (withLast ls l) b ≡ markIf (eqb (l .border) b) (decided (l .side)) (marks ls b))
-        → markIf u (decided (k .side)) (marks (withLast ls l) b)
-        ≡ markIf (eqb (l .border) b) (decided (l .side)) (markIf u (decided (k .side)) (marks ls b))
+        → states (withLast ls l) b ≡ stateIf (eqb (l .border) b) (decided (l .side)) (states ls b))
+        → stateIf u (decided (k .side)) (states (withLast ls l) b)
+        ≡ stateIf (eqb (l .border) b) (decided (l .side)) (stateIf u (decided (k .side)) (states ls b))
     go true e f u q ih = let z : _≡_ {A = ℕ} 0 1 = cc in absurd (omega arith)
     go false e f false q ih = ih f
     go false e f true q ih =
@@ -129,13 +129,13 @@ marks-with (k ∷ ls) l b n = go (eqb (k .border) (l .border)) refl n (eqb (k .b
         apart r = let z : T (eqb (k .border) (l .border)) = rw r (eqb-refl (l .border)) in rw e at z
 
 -- a decided border has its literal in the sequence
-pub decided-mem : (ls : List Literal) (l : Literal) → Has (marks ls) l → l ∈ ls
-unfolding marks
+pub decided-mem : (ls : List Literal) (l : Literal) → Has (states ls) l → l ∈ ls
+unfolding states
 decided-mem [] l e = let z : _≡_ {A = ℕ} 0 1 = cc in absurd (omega arith)
 decided-mem (k ∷ ls) l e = go (eqb (k .border) (l .border)) refl e (decided-mem ls l)
   where
     go : (t : Bool) → eqb (k .border) (l .border) ≡ t
-        → markIf t (decided (k .side)) (marks ls (l .border)) ≡ decided (l .side) → (Has (marks ls) l → l ∈ ls)
+        → stateIf t (decided (k .side)) (states ls (l .border)) ≡ decided (l .side) → (Has (states ls) l → l ∈ ls)
         → l ∈ (k ∷ ls)
     go true q f ih =
         let b : k .border ≡ l .border = eqb→eq (k .border) (l .border) (rw q tt) in
@@ -143,8 +143,8 @@ decided-mem (k ∷ ls) l e = go (eqb (k .border) (l .border)) refl e (decided-me
         List·Memᴰ·head (sym (λ i. record { border = b i; side = x i }))
     go false q f ih = List·Memᴰ·tail (ih f)
 
-mem-decided : (ls : List Literal) (l : Literal) → Distinct (bordersOf ls) → l ∈ ls → Has (marks ls) l
-unfolding marks
+mem-decided : (ls : List Literal) (l : Literal) → Distinct (bordersOf ls) → l ∈ ls → Has (states ls) l
+unfolding states
 mem-decided [] l d m = absurd (List·Memᴰ·not-nil m)
 mem-decided (k ∷ ls) l d (List·Memᴰ·head q) =
     rw q (rw (eq-eqb (k .border) (k .border) refl))
@@ -153,8 +153,8 @@ mem-decided (k ∷ ls) l d (List·Memᴰ·tail m) =
     (mem-decided ls l (d .1) m)
 
 -- "the puzzle with exactly the sequence's literals decided"
-pub marks-exact : (Z : Puzzle) (ls : List Literal) (l : Literal) → Clean Z ls → (l ∈ ls ↔ Has (marks ls) l)
-marks-exact Z ls l c = (mem-decided ls l (c .once), decided-mem ls l)
+pub states-exact : (Z : Puzzle) (ls : List Literal) (l : Literal) → Clean Z ls → (l ∈ ls ↔ Has (states ls) l)
+states-exact Z ls l c = (mem-decided ls l (c .once), decided-mem ls l)
 
 -- as many borders are undecided as the sequence leaves out
 count-every : (n : ℕ) → countBelow n (λ b. true) ≡ n
@@ -163,8 +163,8 @@ count-every zero = refl
 count-every (suc n) = let e = count-every n in omega arith
 
 one-decided : (l : Literal) (ls : List Literal) → Distinct (bordersOf (l ∷ ls)) → (b : ℕ)
-    → isUndecided (marks (l ∷ ls) b) || eqb (l .border) b ≡ isUndecided (marks ls b)
-unfolding marks
+    → isUndecided (states (l ∷ ls) b) || eqb (l .border) b ≡ isUndecided (states ls b)
+unfolding states
 one-decided l ls d b = go (eqb (l .border) b) refl
   where
     unnamed : (t : Bool) → names ls (l .border) ≡ t → names ls (l .border) ≡ false
@@ -172,25 +172,25 @@ one-decided l ls d b = go (eqb (l .border) b) refl
     unnamed true e = absurd (d .0 (named-mem ls (l .border) (rw e tt)))
 
     go : (t : Bool) → eqb (l .border) b ≡ t
-        → isUndecided (markIf t (decided (l .side)) (marks ls b)) || t ≡ isUndecided (marks ls b)
+        → isUndecided (stateIf t (decided (l .side)) (states ls b)) || t ≡ isUndecided (states ls b)
     go true e =
         let p : l .border ≡ b = eqb→eq (l .border) b (rw e tt) in
-        rw (← p, marks-none ls (l .border) (unnamed (names ls (l .border)) refl))
-    go false e = or-false (isUndecided (marks ls b))
+        rw (← p, states-none ls (l .border) (unnamed (names ls (l .border)) refl))
+    go false e = or-false (isUndecided (states ls b))
 
 left-count : (n : ℕ) (ls : List Literal) → Distinct (bordersOf ls) → ((l : Literal) → l ∈ ls → l .border < n)
-    → countBelow n (λ b. isUndecided (marks ls b)) + length ls ≡ n
-unfolding marks
+    → countBelow n (λ b. isUndecided (states ls b)) + length ls ≡ n
+unfolding states
 left-count n [] d h = let e = count-every n in omega arith
 left-count n (l ∷ ls) d h =
     let a = left-count n ls (d .1) (λ k m. h k (List·Memᴰ·tail m)) in
-    let here : isUndecided (marks (l ∷ ls) (l .border)) ≡ false = rw (eq-eqb (l .border) (l .border) refl) in
-    let b = count-more n (λ b. isUndecided (marks (l ∷ ls) b)) (l .border) (h l (List·Memᴰ·head refl)) here in
-    let c = count-cong n (λ b. isUndecided (marks (l ∷ ls) b) || eqb (l .border) b) (λ b. isUndecided (marks ls b))
+    let here : isUndecided (states (l ∷ ls) (l .border)) ≡ false = rw (eq-eqb (l .border) (l .border) refl) in
+    let b = count-more n (λ b. isUndecided (states (l ∷ ls) b)) (l .border) (h l (List·Memᴰ·head refl)) here in
+    let c = count-cong n (λ b. isUndecided (states (l ∷ ls) b) || eqb (l .border) b) (λ b. isUndecided (states ls b))
     (λ b k. one-decided l ls d b) in
     omega arith
 
 pub undecided-left : (Z : Puzzle) (ls : List Literal) → Clean Z ls
-    → undecidedCount Z (marks ls) + length ls ≡ Z .page .borders
+    → undecidedCount Z (states ls) + length ls ≡ Z .page .borders
 unfolding undecidedCount
 undecided-left Z ls c = left-count (Z .page .borders) ls (c .once) (c .below)

@@ -17,7 +17,7 @@ use lib.ListN.{length}
 use Rattle.lists.specs.Lists.{_∈_}
 use Rattle.lists.specs.ListLaws.{T-dec}
 use Rattle.lists.specs.Lengths.{inject-le, subset-le}
-use Rattle.rules.specs.Page.{_⊕_, Puzzle, Mark}
+use Rattle.rules.specs.Page.{_⊕_, Puzzle, State}
 use Rattle.rules.specs.Rules.{joinsUnit, SameBlock, SameUnit, UnitHas, Congruent, Solution}
 use Rattle.rules.specs.Groups.{members, unitOf}
 use Rattle.argument.specs.Points.{cancel}
@@ -25,12 +25,12 @@ use Rattle.argument.specs.PageLaws.{Bordered, Placed}
 use Rattle.argument.specs.Joins.{join-in}
 use Rattle.argument.specs.Numbers.{number-joined, joined-number, mem-members, members-in, members-number}
 use Rattle.argument.specs.Numbers.{members-distinct, unitCells, ownUnit}
-use Rattle.argument.specs.Marks.{beq-eq, not-both}
+use Rattle.argument.specs.States.{beq-eq, not-both}
 
-unfoldable pub unitSize : Puzzle → (ℕ → Mark) → ℕ → ℕ
+unfoldable pub unitSize : Puzzle → (ℕ → State) → ℕ → ℕ
 unitSize Z s x = length (ownUnit Z s x)
 
-pub unit-size-unique : (Z : Puzzle) (s : ℕ → Mark) (x m n : ℕ) → UnitHas Z s x m → UnitHas Z s x n → m ≡ n
+pub unit-size-unique : (Z : Puzzle) (s : ℕ → State) (x m n : ℕ) → UnitHas Z s x m → UnitHas Z s x n → m ≡ n
 unit-size-unique Z s x m n u v =
     let a = subset-le (u .cells) (v .cells) (u .once) (λ y k. v .every y (u .each y k)) in
     let b = subset-le (v .cells) (u .cells) (v .once) (λ y k. u .every y (v .each y k)) in
@@ -38,7 +38,7 @@ unit-size-unique Z s x m n u v =
     let q = v .size in
     omega arith
 
-module _ (Z : Puzzle) (K : Bordered (Z .page)) (s : ℕ → Mark) where
+module _ (Z : Puzzle) (K : Bordered (Z .page)) (s : ℕ → State) where
   pub unit-mem : (x y : ℕ) → x < Z .page .cells → SameUnit Z s x y → y ∈ ownUnit Z s x
   unit-mem x y h j =
       mem-members (Z .page) (unitOf Z s) _ y (join-in (Z .page) K _ h j)
@@ -72,7 +72,7 @@ module _ (Z : Puzzle) (K : Bordered (Z .page)) (s : ℕ → Mark) where
   same-unit-size x y h j = ap (λ k. length (unitCells Z s k)) (joined-number (Z .page) K (joinsUnit Z s) h j)
 
 -- what a solution has
-module _ (Z : Puzzle) (K : Bordered (Z .page)) (P : Placed (Z .page)) (σ : ℕ → Mark) where
+module _ (Z : Puzzle) (K : Bordered (Z .page)) (P : Placed (Z .page)) (σ : ℕ → State) where
   pub congruent-size : (x y : ℕ) → x < Z .page .cells → y < Z .page .cells → Congruent Z σ x y
       → unitSize Z σ x ≡ unitSize Z σ y
   unfolding unitSize

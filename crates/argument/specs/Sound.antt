@@ -20,7 +20,7 @@ use lib.ListN.{length}
 use Rattle.lists.specs.Lists.{_∈_, any, head?}
 use Rattle.lists.specs.ListLaws.{T-and-l, T-and-r, T-or, neqb→ne, filter-mem, filter-test, any-find}
 use Rattle.lists.specs.Lengths.{distinct-filter, subset-le}
-use Rattle.rules.specs.Page.{Puzzle, Mark, Contains}
+use Rattle.rules.specs.Page.{Puzzle, State, Contains}
 use Rattle.rules.specs.Rules.{joinsBlock, SameBlock, Solution}
 use Rattle.rules.specs.Groups.{blockOf, potentialOf}
 use Rattle.rules.specs.Check.{Reason, isSome, clash, blockClue, insideBlock, edgeOf, sizeOf, coloured, strayFrom}
@@ -29,7 +29,7 @@ use Rattle.argument.specs.PageLaws.{Bordered, Placed}
 use Rattle.argument.specs.Joins.{join-trans, join-in, join-sym}
 use Rattle.argument.specs.Numbers.{number-joined, mem-members, members-in, members-number, members-distinct}
 use Rattle.argument.specs.Numbers.{blockCells}
-use Rattle.argument.specs.Marks.{contains-l, contains-r, beq-eq}
+use Rattle.argument.specs.States.{contains-l, contains-r, beq-eq}
 use Rattle.argument.specs.Keeps.{block-keeps, edge-stays}
 use Rattle.argument.specs.Hits.{Each, each-hit, each-else, each-first}
 use Rattle.argument.specs.Sizes.{unitSize, unit-mem, mem-unit, unit-size-is, block-size}
@@ -37,12 +37,12 @@ use Rattle.argument.specs.CellScan.{pass-cells, head-mem, clue-mem}
 
 -- no solution contains it
 unfoldable pub Sound : Puzzle → Reason → Type 0
-Sound Z r = (σ : ℕ → Mark) → Solution Z σ → Contains σ r → ⊥
+Sound Z r = (σ : ℕ → State) → Solution Z σ → Contains σ r → ⊥
 
 -- what a board and a solution that contains Inside or Edge have
-module _ (Z : Puzzle) (K : Bordered (Z .page)) (P : Placed (Z .page)) (s : ℕ → Mark) where
+module _ (Z : Puzzle) (K : Bordered (Z .page)) (P : Placed (Z .page)) (s : ℕ → State) where
   -- two cells of B are in one block of the solution
-  pub block-of : (σ : ℕ → Mark) (B x y : ℕ) → Contains σ (insideBlock Z s B) → x ∈ blockCells Z s B
+  pub block-of : (σ : ℕ → State) (B x y : ℕ) → Contains σ (insideBlock Z s B) → x ∈ blockCells Z s B
       → y ∈ blockCells Z s B → SameBlock Z σ x y
   block-of σ B x y c m n = let hx = members-in (Z .page) (blockOf Z s) B x m in
       let hy = members-in (Z .page) (blockOf Z s) B y n in
@@ -51,7 +51,7 @@ module _ (Z : Puzzle) (K : Bordered (Z .page)) (P : Placed (Z .page)) (s : ℕ �
       (members-number (Z .page) (blockOf Z s) B x m ∙ sym (members-number (Z .page) (blockOf Z s) B y n)))
 
   -- the unit of a cell of P has no more cells than P
-  pub edge-size : (σ : ℕ → Mark) → Solution Z σ → (k x : ℕ) → Contains σ (edgeOf Z s k) → x < Z .page .cells
+  pub edge-size : (σ : ℕ → State) → Solution Z σ → (k x : ℕ) → Contains σ (edgeOf Z s k) → x < Z .page .cells
       → potentialOf Z s x ≡ k → unitSize Z σ x ≤ sizeOf Z s k
   unfolding unitSize sizeOf
   edge-size σ sol k x c h e = subset-le _ _ (members-distinct (Z .page) _ _)
@@ -59,7 +59,7 @@ module _ (Z : Puzzle) (K : Bordered (Z .page)) (P : Placed (Z .page)) (s : ℕ �
       (edge-stays Z K s σ k c h e (mem-unit Z K σ x y h m)))
 
   -- B has no more cells of a colour than a unit of the solution's block
-  pub count-size : (σ : ℕ → Mark) → Solution Z σ → (B z : ℕ) (c : Bool) → Contains σ (insideBlock Z s B)
+  pub count-size : (σ : ℕ → State) → Solution Z σ → (B z : ℕ) (c : Bool) → Contains σ (insideBlock Z s B)
       → z ∈ blockCells Z s B → length (coloured Z s c (blockCells Z s B)) ≤ unitSize Z σ z
   unfolding unitSize coloured
   count-size σ sol B z c k m = rw (block-size Z K P σ sol z (w .0) hz (w .1)) sub
@@ -88,7 +88,7 @@ module _ (Z : Puzzle) (K : Bordered (Z .page)) (P : Placed (Z .page)) (s : ℕ �
       d (edge-stays Z K s σ (potentialOf Z s x) (contains-r σ (insideBlock Z s B) _ c) hx refl
       (sol .one x y hx (block-of σ B x y (contains-l σ (insideBlock Z s B) _ c) m n) (sym q)))
 
-  clue-size : (σ : ℕ → Mark) → Solution Z σ → (B x y n : ℕ) → Contains σ (insideBlock Z s B) → x ∈ blockCells Z s B
+  clue-size : (σ : ℕ → State) → Solution Z σ → (B x y n : ℕ) → Contains σ (insideBlock Z s B) → x ∈ blockCells Z s B
       → y ∈ blockCells Z s B → Z .clue x ≡ some n → unitSize Z σ y ≡ n
   clue-size σ sol B x y n c m k e = let hx = members-in (Z .page) (blockOf Z s) B x m in
       sym (block-size Z K P σ sol x y hx (block-of σ B x y c m k)) ∙ unit-size-is Z K σ x n hx (sol .clues x n hx e)

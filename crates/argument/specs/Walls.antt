@@ -5,7 +5,7 @@ use Prim.Native.Nat.{ℕ, _<_}
 use lib.Dec.{eqb→eq}
 use Rattle.lists.specs.Lists.{_∈_}
 use Rattle.lists.specs.ListLaws.{T-and-r}
-use Rattle.rules.specs.Page.{Hop, Puzzle, Mark, isWall, wallAt}
+use Rattle.rules.specs.Page.{Hop, Puzzle, State, isWall, wallAt}
 use Rattle.rules.specs.Rules.{joinsBlock}
 use Rattle.rules.specs.Groups.{blockOf}
 use Rattle.rules.specs.Reasons.{path}
@@ -13,12 +13,12 @@ use Rattle.rules.specs.Check.{wallHit, wallHits}
 use Rattle.argument.specs.PageLaws.{Bordered, Placed}
 use Rattle.argument.specs.Joins.{join-sym}
 use Rattle.argument.specs.Numbers.{number-joined}
-use Rattle.argument.specs.Marks.{contains-l, contains-r, has}
+use Rattle.argument.specs.States.{contains-l, contains-r, has}
 use Rattle.argument.specs.Hits.{Each, each-hit, each-first}
 use Rattle.argument.specs.Sound.{Sound}
 use Rattle.argument.specs.Paths.{path-joins}
 
-module _ (Z : Puzzle) (K : Bordered (Z .page)) (P : Placed (Z .page)) (s : ℕ → Mark) where
+module _ (Z : Puzzle) (K : Bordered (Z .page)) (P : Placed (Z .page)) (s : ℕ → State) where
   sound-wall : (x : ℕ) (h : Hop) → x < Z .page .cells → h ∈ Z .page .ahead x → Each (Sound Z) (wallHit Z s x h)
   unfolding wallHit Sound
   sound-wall x h hx m = each-hit (Sound Z) _ _ (λ t σ sol c.

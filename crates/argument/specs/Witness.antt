@@ -13,14 +13,14 @@ use Rattle.rules.specs.declared.Side.{Side}
 use Rattle.rules.specs.declared.Side.the-variants.{Wall, Open}
 use Rattle.rules.specs.declared.Literal.{Literal}
 use Rattle.rules.specs.declared.Call.the-variants.{Decide, Check}
-use Rattle.rules.specs.Page.{Puzzle, Mark, undecided, decided, Point, _⊕_, opposite, openAt, wallAt}
+use Rattle.rules.specs.Page.{Puzzle, State, undecided, decided, Point, _⊕_, opposite, openAt, wallAt}
 use Rattle.rules.specs.Rules.{Joined, stay, step, oneColour, joinsBlock, joinsUnit, SameBlock, SameUnit, UnitHas}
 use Rattle.rules.specs.Rules.{Congruent, Solution}
 use Rattle.rules.specs.Turns.{apply, keep}
 use Rattle.rules.specs.Codes.{coloursIn, cluesIn}
 use Rattle.rules.specs.Flat.{flat, cellAt, rightOf, borderCount, hopIf, hopAbove, hopBelow, hopLeft, hopRight}
 use Rattle.rules.specs.Flat.{aroundAt, flatFirst, flatSecond}
-use Rattle.rules.specs.Book.{Asked, marks, markIf, names, sequence, replies, done, answered, sequenceFrom}
+use Rattle.rules.specs.Book.{Asked, states, stateIf, names, sequence, replies, done, answered, sequenceFrom}
 use Rattle.rules.specs.Book.{repliesFrom, replyTo, afterCall, decideReply, decideAfter}
 use Rattle.rules.specs.Check.{check}
 use Rattle.argument.specs.Points.{add-assoc, add-comm, add-opposite, add-origin, origin}
@@ -33,11 +33,11 @@ use Rattle.argument.specs.FlatPage.{flat-bordered}
 abbrev pub small : Puzzle
 small = pair (pos 1 ∷ negsuc 0 ∷ [])
 
-abbrev pub opened : ℕ → Mark
-opened = marks (openAt 0 ∷ [])
+abbrev pub opened : ℕ → State
+opened = states (openAt 0 ∷ [])
 
-abbrev pub walled : ℕ → Mark
-walled = marks (wallAt 0 ∷ [])
+abbrev pub walled : ℕ → State
+walled = states (wallAt 0 ∷ [])
 
 -- what holds of both cells
 two : (P : ℕ → Type 0) → P 0 → P 1 → (x : ℕ) → x < 2 → P x
@@ -74,34 +74,34 @@ block-in x y l (step h m t j) = block-in (h .to) y (bordered .hop-in x h l m) j
 
 -- the two cells differ in colour, so each is a unit
 alone : (x p : ℕ) → x < 2 → SameUnit small opened x p → x ≡ p
-unfolding joinsUnit oneColour flat flatFirst flatSecond coloursIn marks cellAt
+unfolding joinsUnit oneColour flat flatFirst flatSecond coloursIn states cellAt
 alone x p l j = single (joinsUnit small opened) (λ t. t) x p l j
 
 open-joins : T (joinsBlock small opened 0)
-unfolding joinsBlock marks
+unfolding joinsBlock states
 open-joins = tt
 
 walls-joins : T (joinsBlock small walled 0) → ⊥
-unfolding joinsBlock marks
+unfolding joinsBlock states
 walls-joins t = t
 
 never : (b : ℕ) → opened b ≡ decided Wall → ⊥
-unfolding marks
+unfolding states
 never b e = go (eqb 0 b) e
   where
-    go : (t : Bool) → markIf t (decided Open) undecided ≡ decided Wall → ⊥
+    go : (t : Bool) → stateIf t (decided Open) undecided ≡ decided Wall → ⊥
     go true q = let z : _≡_ {A = ℕ} 0 1 = cc in omega arith
     go false q = let z : _≡_ {A = ℕ} 0 1 = cc in omega arith
 
-decides : (m : Mark) (side : Side) → m ≡ decided side → m ≡ undecided → ⊥
+decides : (m : State) (side : Side) → m ≡ decided side → m ≡ undecided → ⊥
 decides m side p q = let z : _≡_ {A = ℕ} 0 1 = cc in omega arith
 
 open-full : (b : ℕ) → b < borderCount 1 2 → opened b ≡ undecided → ⊥
-unfolding marks
+unfolding states
 open-full b l = subst (λ (b : ℕ). opened b ≡ undecided → ⊥) (sym (first-only b l)) (decides (opened 0) Open refl)
 
 wall-full : (b : ℕ) → b < borderCount 1 2 → walled b ≡ undecided → ⊥
-unfolding marks
+unfolding states
 wall-full b l = subst (λ (b : ℕ). walled b ≡ undecided → ⊥) (sym (first-only b l)) (decides (walled 0) Wall refl)
 
 both-colours : (x : ℕ) (c : Bool) → x < 2 → (y : ℕ) × SameBlock small opened x y × (small .colour y ≡ c)

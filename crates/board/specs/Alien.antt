@@ -12,7 +12,7 @@
 --   borderRight v on        the border place v is right, where `on` says that its border is on the stack
 --   bordersRight bs s n m   the first m borders are right beside the first n entries of s
 --   bordersBy bs seen m     the same, where a list says which borders are on the stack
---   Marks s n once seen     what a run over n entries finds: whether none is an earlier one, and which borders they are
+--   Flags s n once seen     what a run over n entries finds: whether none is an earlier one, and which borders they are
 --   zerosFrom l from        the places of l from `from` on are 0
 --   clueZero k              k is 0
 --   zeroCluesFrom ks from   the clues from `from` on are 0
@@ -77,9 +77,9 @@ bordersRight bs s n m = allBelow m (λ x. borderRight (getD bs x 0) (stacked s n
 unfoldable pub bordersBy : List ℕ → List Bool → ℕ → Bool
 bordersBy bs seen m = allBelow m (λ x. borderRight (getD bs x 0) (getD seen x false))
 
-pub record Marks (s : List ℕ) (n : ℕ) (once : Bool) (seen : List Bool) : Type 0 where
+pub record Flags (s : List ℕ) (n : ℕ) (once : Bool) (seen : List Bool) : Type 0 where
   pub tells : once ≡ onceEach s n
-  pub marked : (x : ℕ) → x < 1984 → getD seen x false ≡ stacked s n x
+  pub flagged : (x : ℕ) → x < 1984 → getD seen x false ≡ stacked s n x
 
 unfoldable pub zerosFrom : List ℕ → ℕ → Bool
 zerosFrom l from = allFrom from (length l) (λ i. eqb (getD l i 0) 0)

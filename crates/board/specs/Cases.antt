@@ -15,7 +15,7 @@ use Rattle.board.specs.declared.Board.{Board}
 use Rattle.board.specs.declared.Outcome.the-variants.{Done, Size, Ragged, Colour, Clue}
 use Rattle.board.specs.declared.Outcome.the-variants.{Alien, Border, Taken, Bare}
 use Rattle.board.specs.Alien.{sizeRight, coloursRight, cluesRight, entriesRight, onceEach, borderRight}
-use Rattle.board.specs.Alien.{bordersRight, bordersBy, Marks, zerosFrom, zeroCluesFrom, cellsIn, cellsRight}
+use Rattle.board.specs.Alien.{bordersRight, bordersBy, Flags, zerosFrom, zeroCluesFrom, cellsIn, cellsRight}
 use Rattle.board.specs.Alien.{decisionsIn, decisionsRight, unusedIn, unusedZero, isAlien}
 use Rattle.board.specs.Board.{zeroBoard, freshBoard, returned, freshOf, pushed, popped, decideOf, undoOf}
 
@@ -63,11 +63,11 @@ module _ (h w : ℕ) (bs st : List ℕ) (count m : ℕ) (p : m ≡ borderCount h
   decisions-twice t u v = rw (← p, le-leb count m t, u, v)
 
   pub decisions-borders : (vs : List Bool) (a : Bool) → count ≤ m → m ≤ 1984 → entriesRight st m count ≡ true
-      → Marks st count true vs → a ≡ bordersBy bs vs m → a ≡ decisionsIn h w bs st count
+      → Flags st count true vs → a ≡ bordersBy bs vs m → a ≡ decisionsIn h w bs st count
   unfolding decisionsIn bordersBy bordersRight
   decisions-borders vs a t l r u e =
       e
-      ∙ all-cong m _ _ (λ x k. ap (λ (v : Bool). borderRight (getD bs x 0) v) (u .marked x (omega arith)))
+      ∙ all-cong m _ _ (λ x k. ap (λ (v : Bool). borderRight (getD bs x 0) v) (u .flagged x (omega arith)))
       ∙ rw (← p, le-leb count m t, r, ← (u .tells))
 
 module _ (b : Board) where

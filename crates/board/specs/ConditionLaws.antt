@@ -23,12 +23,12 @@ sized {h} {w} e =
       rows = leb-true 1 h (and-left (leb 1 h) (leb h 32) b);
       columns = leb-true 1 w (and-right (leb 1 h && leb h 32) (leb 1 w) a);
       tall = leb-true h 32 (and-right (leb 1 h) (leb h 32) b);
-      wide = leb-true w 32 (and-right (leb 1 h && leb h 32 && leb 1 w) (leb w 32) e);
+      broad = leb-true w 32 (and-right (leb 1 h && leb h 32 && leb 1 w) (leb w 32) e);
     }
 
 pub size-is : {h w : ℕ} → Sized h w → sizeRight h w ≡ true
 unfolding sizeRight
-size-is {h} {w} s = rw (le-leb 1 h (s .rows), le-leb h 32 (s .tall), le-leb 1 w (s .columns), le-leb w 32 (s .wide))
+size-is {h} {w} s = rw (le-leb 1 h (s .rows), le-leb h 32 (s .tall), le-leb 1 w (s .columns), le-leb w 32 (s .broad))
 
 pub cells-of : {h w : ℕ} → Sized h w → cellsOf h w ≡ h * w
 unfolding cellsOf
@@ -55,11 +55,11 @@ pub stacked-more : (s : List ℕ) (k x : ℕ) → stacked s (k + 1) x ≡ stacke
 unfolding stacked
 stacked-more s k x = any-more k (λ j. eqb (getD s j 0) x)
 
--- one more entry is marked
-pub marks-more : (s : List ℕ) (vs : List Bool) (i e : ℕ) → e ≡ getD s i 0 → e < 1984 → length vs ≡ 1984
+-- one more entry is flagged
+pub flags-more : (s : List ℕ) (vs : List Bool) (i e : ℕ) → e ≡ getD s i 0 → e < 1984 → length vs ≡ 1984
     → ((x : ℕ) → x < 1984 → getD vs x false ≡ stacked s i x)
     → (x : ℕ) → x < 1984 → getD (set vs e true) x false ≡ stacked s (i + 1) x
-marks-more s vs i e p k l v x h = go (ℕ-discrete x e) ∙ sym (stacked-more s i x)
+flags-more s vs i e p k l v x h = go (ℕ-discrete x e) ∙ sym (stacked-more s i x)
   where
     go : Dec (x ≡ e) → getD (set vs e true) x false ≡ stacked s i x || eqb (getD s i 0) x
     go (yes d) =
@@ -73,7 +73,7 @@ marks-more s vs i e p k l v x h = go (ℕ-discrete x e) ∙ sym (stacked-more s 
         (ap (λ (t : Bool). stacked s i x || t) (ne-eqb (getD s i 0) x (λ z. d (sym (p ∙ z))))
         ∙ or-false (stacked s i x))
 
--- entries that are right are places of the marks
+-- entries that are right are places of the flags
 pub entries-low : (s : List ℕ) (m n : ℕ) → entriesRight s m n ≡ true → m ≤ 1984 → (i : ℕ) → i < n → getD s i 0 < 1984
 unfolding entriesRight
 entries-low s m n e h i l = omega (arith, ltb-true (getD s i 0) m (all-at n (λ j. ltb (getD s j 0) m) i e l))

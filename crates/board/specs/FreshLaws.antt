@@ -25,7 +25,7 @@ use Rattle.board.specs.Cases.{alien-size}
 use Rattle.board.specs.NativeLaws.{Native, native-of}
 use Rattle.board.specs.DecideLaws.{one-number}
 
--- "the zeros board, itself alien"
+-- "the all-zero board, itself alien"
 pub zero-alien : isAlien zeroBoard ≡ true
 unfolding sizeRight
 zero-alien = sym (alien-size zeroBoard refl)

@@ -10,20 +10,20 @@ use lib.Seq.{getD-set-same, getD-set-other, ext-getD}
 use Rattle.rules.specs.SmallLaws.{without-last}
 use Rattle.lists.specs.Table.{table, getD-table, table-cong}
 use Rattle.rules.specs.declared.Literal.{Literal}
-use Rattle.rules.specs.Page.{Mark, wallAt}
+use Rattle.rules.specs.Page.{State, wallAt}
 use Rattle.rules.specs.Flat.{borderCount}
-use Rattle.rules.specs.Codes.{codeOf, marksIn}
-use Rattle.rules.specs.Book.{marks, withLast, withoutLast}
+use Rattle.rules.specs.Codes.{codeOf, statesIn}
+use Rattle.rules.specs.Book.{states, withLast, withoutLast}
 use Rattle.board.specs.declared.Board.{Board}
 use Rattle.board.specs.declared.Outcome.the-variants.{Done}
 use Rattle.board.specs.ListExtras.{table-more}
 use Rattle.board.specs.Alien.{stacked, isAlien}
 use Rattle.board.specs.Board.{returned, pushed, decideOf, undoOf, Typed}
-use Rattle.board.specs.View.{marksOf, sideIn, literalIn, literalsOf}
+use Rattle.board.specs.View.{statesOf, sideIn, literalIn, literalsOf}
 use Rattle.board.specs.NativeLaws.{Native, native-has, borders-fit, free-unstacked}
 use Rattle.board.specs.DecideLaws.{decided-is, undone-is, new-entry, old-entry, poppedAt}
-use Rattle.board.specs.ViewLaws.{side-in, markCode, mark-code, literals-length, stacked-at, code-small}
-use Rattle.board.specs.ViewLaws.{marks-literals}
+use Rattle.board.specs.ViewLaws.{side-in, stateCode, state-code, literals-length, stacked-at, code-small}
+use Rattle.board.specs.ViewLaws.{states-literals}
 
 -- a literal is the same where its border and its code are
 literal-same : (bs cs : List ℕ) (m n : ℕ) → m ≡ n → getD bs n 0 ≡ getD cs n 0 → literalIn bs m ≡ literalIn cs n
@@ -124,13 +124,13 @@ module _ (b d : Board) (M : Native b) (N : Native d) (S : Typed b) (T : Typed d)
           M .noEntry i (omega arith) ∙ sym (N .noEntry i (omega arith))
 
   same-borders : b .borders ≡ d .borders
-  unfolding marksOf marksIn
+  unfolding statesOf statesIn
   same-borders =
       ext-getD 0 (b .borders) (d .borders) (S .borders ∙ sym (T .borders))
       (λ x h.
-      sym (mark-code (getD (b .borders) x 0) (code-small b M x))
-      ∙ ap (λ (m : ℕ → Mark). markCode (m x)) (marks-literals b M ∙ ap marks e ∙ sym (marks-literals d N))
-      ∙ mark-code (getD (d .borders) x 0) (code-small d N x))
+      sym (state-code (getD (b .borders) x 0) (code-small b M x))
+      ∙ ap (λ (m : ℕ → State). stateCode (m x)) (states-literals b M ∙ ap states e ∙ sym (states-literals d N))
+      ∙ state-code (getD (d .borders) x 0) (code-small d N x))
 
   same : b .height ≡ d .height → b .width ≡ d .width → b .colours ≡ d .colours → b .clues ≡ d .clues → b ≡ d
   same h w c k =

@@ -2,7 +2,7 @@
 --
 --   puzzleIn h w cs ks   the puzzle of that size with the colours cs and the clues ks
 --   puzzleOf b           the puzzle of a board
---   marksOf b            its borders
+--   statesOf b            its borders
 --   sideIn v             the side that a decided border's place v stands for
 --   literalsOf b         its stack with the sides, oldest first
 --   replyOf o            an outcome of a decide or an undo as the book's reply
@@ -19,9 +19,9 @@ use Rattle.lists.specs.Table.{table}
 use Rattle.rules.specs.declared.Side.{Side}
 use Rattle.rules.specs.declared.Side.the-variants.{Wall, Open}
 use Rattle.rules.specs.declared.Literal.{Literal}
-use Rattle.rules.specs.Page.{Puzzle, Mark}
+use Rattle.rules.specs.Page.{Puzzle, State}
 use Rattle.rules.specs.Flat.{flat}
-use Rattle.rules.specs.Codes.{marksIn, coloursIn, cluesIn}
+use Rattle.rules.specs.Codes.{statesIn, coloursIn, cluesIn}
 use Rattle.rules.specs.Book.{Reply, refused, done}
 use Rattle.board.specs.declared.Board.{Board}
 use Rattle.board.specs.declared.Outcome.{Outcome}
@@ -33,8 +33,8 @@ puzzleIn h w cs ks = record { page = flat h w; colour = coloursIn cs; clue = clu
 unfoldable pub puzzleOf : Board → Puzzle
 puzzleOf b = puzzleIn (b .height) (b .width) (b .colours) (b .clues)
 
-unfoldable pub marksOf : Board → ℕ → Mark
-marksOf b = marksIn (b .borders)
+unfoldable pub statesOf : Board → ℕ → State
+statesOf b = statesIn (b .borders)
 
 abbrev pub sideIn : ℕ → Side
 sideIn v = cond (eqb v 1) Wall Open

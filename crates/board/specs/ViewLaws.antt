@@ -9,7 +9,7 @@ use borrow.Author.Tests.{eq-eqb, ne-eqb, eqb-true, eqb-false, not-false}
 use lib.Dec.{eqb}
 use lib.IntN.{ℤ, pos}
 use lib.ListN.{length, getD}
-use Rattle.rules.specs.SmallLaws.{marks-none}
+use Rattle.rules.specs.SmallLaws.{states-none}
 use Rattle.lists.specs.Tests.{any-some}
 use Rattle.lists.specs.Lists.{_∈_}
 use Rattle.lists.specs.Count.{count-cong}
@@ -17,49 +17,49 @@ use Rattle.lists.specs.Table.{table, length-table, table-find}
 use Rattle.rules.specs.declared.Side.{Side}
 use Rattle.rules.specs.declared.Side.the-variants.{Wall, Open}
 use Rattle.rules.specs.declared.Literal.{Literal}
-use Rattle.rules.specs.Page.{Mark, undecided, decided, isUndecided}
+use Rattle.rules.specs.Page.{State, undecided, decided, isUndecided}
 use Rattle.rules.specs.Flat.{flat, borderCount}
-use Rattle.rules.specs.Codes.{markOf, codeOf, marksIn, coloursIn, clueOf, cluesIn}
+use Rattle.rules.specs.Codes.{stateOf, codeOf, statesIn, coloursIn, clueOf, cluesIn}
 use Rattle.rules.specs.Check.{undecidedCount}
-use Rattle.rules.specs.Book.{marks, names}
+use Rattle.rules.specs.Book.{states, names}
 use Rattle.board.specs.declared.Board.{Board}
 use Rattle.board.specs.declared.Outcome.the-variants.{Done}
 use Rattle.board.specs.ListExtras.{any-fails, getD-padded}
 use Rattle.board.specs.Alien.{stacked}
 use Rattle.board.specs.Board.{freshBoard, returned, decideOf, undoOf}
-use Rattle.board.specs.View.{puzzleIn, puzzleOf, marksOf, sideIn, literalIn, literalsOf}
+use Rattle.board.specs.View.{puzzleIn, puzzleOf, statesOf, sideIn, literalIn, literalsOf}
 use Rattle.board.specs.NativeLaws.{Native, free-count}
 use Rattle.board.specs.DecideLaws.{decided-is, undone-is}
-use Rattle.board.specs.SequenceLaws.{names-table, marks-all}
+use Rattle.board.specs.SequenceLaws.{names-table, states-all}
 
 -- ---- codes
 pub side-in : (d : Side) → sideIn (codeOf d) ≡ d
 side-in Wall = refl
 side-in Open = refl
 
-mark-side : (v : ℕ) → v ≤ 2 → (v ≡ 0 → ⊥) → markOf v ≡ decided (sideIn v)
-mark-side zero h k = absurd (k refl)
-mark-side (suc zero) h k = refl
-mark-side (suc (suc zero)) h k = refl
-mark-side (suc (suc (suc v))) h k = absurd (let z : suc (suc (suc v)) ≤ 2 = h in omega arith)
+state-side : (v : ℕ) → v ≤ 2 → (v ≡ 0 → ⊥) → stateOf v ≡ decided (sideIn v)
+state-side zero h k = absurd (k refl)
+state-side (suc zero) h k = refl
+state-side (suc (suc zero)) h k = refl
+state-side (suc (suc (suc v))) h k = absurd (let z : suc (suc (suc v)) ≤ 2 = h in omega arith)
 
-free-zero : (v : ℕ) → v ≤ 2 → isUndecided (markOf v) ≡ eqb v 0
+free-zero : (v : ℕ) → v ≤ 2 → isUndecided (stateOf v) ≡ eqb v 0
 free-zero zero h = refl
 free-zero (suc zero) h = refl
 free-zero (suc (suc zero)) h = refl
 free-zero (suc (suc (suc v))) h = absurd (let z : suc (suc (suc v)) ≤ 2 = h in omega arith)
 
--- the number of a mark, of which `markOf` makes the mark again
-unfoldable pub markCode : Mark → ℕ
-markCode undecided = 0
-markCode (decided d) = codeOf d
+-- the number of a state, of which `stateOf` makes the state again
+unfoldable pub stateCode : State → ℕ
+stateCode undecided = 0
+stateCode (decided d) = codeOf d
 
-pub mark-code : (v : ℕ) → v ≤ 2 → markCode (markOf v) ≡ v
-unfolding markCode
-mark-code zero h = refl
-mark-code (suc zero) h = refl
-mark-code (suc (suc zero)) h = refl
-mark-code (suc (suc (suc v))) h = absurd (let z : suc (suc (suc v)) ≤ 2 = h in omega arith)
+pub state-code : (v : ℕ) → v ≤ 2 → stateCode (stateOf v) ≡ v
+unfolding stateCode
+state-code zero h = refl
+state-code (suc zero) h = refl
+state-code (suc (suc zero)) h = refl
+state-code (suc (suc (suc v))) h = absurd (let z : suc (suc (suc v)) ≤ 2 = h in omega arith)
 
 -- ---- the puzzle
 -- a fresh board has the puzzle that it was made from
@@ -132,33 +132,33 @@ module _ (b : Board) (N : Native b) where
       (sym (Bool·not-not (eqb (getD (b .borders) (getD (b .stack) i 0) 0) 0))
       ∙ ap not (sym (stacked-is (getD (b .stack) i 0)) ∙ stacked-at (b .stack) (b .count) i h))
 
-  literal-holds : (l : Literal) → l ∈ literalsOf b → marksOf b (l .border) ≡ decided (l .side)
-  unfolding literalsOf marksOf marksIn
+  literal-holds : (l : Literal) → l ∈ literalsOf b → statesOf b (l .border) ≡ decided (l .side)
+  unfolding literalsOf statesOf statesIn
   literal-holds l m =
       let r = table-find (b .count) (λ i. literalIn (b .borders) (getD (b .stack) i 0)) m in
       let n : ℕ = getD (b .stack) (r .0) 0 in
-      ap (λ (k : Literal). markOf (getD (b .borders) (k .border) 0)) (r .2)
-      ∙ mark-side (getD (b .borders) n 0) (code-small n) (entry-held (r .0) (r .1))
+      ap (λ (k : Literal). stateOf (getD (b .borders) (k .border) 0)) (r .2)
+      ∙ state-side (getD (b .borders) n 0) (code-small n) (entry-held (r .0) (r .1))
       ∙ ap (λ (k : Literal). decided (k .side)) (sym (r .2))
 
   -- the board's borders are those of the rules' board with exactly the sequence's literals decided
-  pub marks-literals : marksOf b ≡ marks (literalsOf b)
-  unfolding marksOf marksIn
-  marks-literals = λ i x. sym (each x (names (literalsOf b) x) refl) i
+  pub states-literals : statesOf b ≡ states (literalsOf b)
+  unfolding statesOf statesIn
+  states-literals = λ i x. sym (each x (names (literalsOf b) x) refl) i
     where
-      each : (x : ℕ) (t : Bool) → names (literalsOf b) x ≡ t → marks (literalsOf b) x ≡ marksOf b x
-      each x true e = marks-all (marksOf b) (literalsOf b) x literal-holds e
+      each : (x : ℕ) (t : Bool) → names (literalsOf b) x ≡ t → states (literalsOf b) x ≡ statesOf b x
+      each x true e = states-all (statesOf b) (literalsOf b) x literal-holds e
       each x false e =
-          marks-none (literalsOf b) x e
+          states-none (literalsOf b) x e
           ∙ sym
-          (ap markOf
+          (ap stateOf
           (eqb-true (getD (b .borders) x 0) 0
           (not-false (eqb (getD (b .borders) x 0) 0) (sym (names-decided x) ∙ e))))
 
   -- ---- the count of undecided borders
-  pub undecided-is : undecidedCount (puzzleOf b) (marksOf b) ≡ borderCount (b .height) (b .width) - b .count
-  unfolding undecidedCount puzzleOf puzzleIn marksOf marksIn flat
+  pub undecided-is : undecidedCount (puzzleOf b) (statesOf b) ≡ borderCount (b .height) (b .width) - b .count
+  unfolding undecidedCount puzzleOf puzzleIn statesOf statesIn flat
   undecided-is =
-      count-cong (borderCount (b .height) (b .width)) (λ x. isUndecided (marksIn (b .borders) x))
+      count-cong (borderCount (b .height) (b .width)) (λ x. isUndecided (statesIn (b .borders) x))
       (λ x. eqb (getD (b .borders) x 0) 0) (λ x h. free-zero (getD (b .borders) x 0) (code-small x))
       ∙ free-count b N

@@ -4,9 +4,10 @@ ghost use mathlib.Core.Bool.{false};
 ghost use Prim.Native.Nat.{ℕ, _<_, _≤_};
 ghost use lib.Dec.{eqb};
 ghost use lib.ListN.{length, getD, replicate};
-ghost use Rattle.board.specs.Alien.{sizeRight, coloursRight, clueRight, cluesRight, entriesRight, Marks};
+ghost use Rattle.board.specs.Alien.{sizeRight, coloursRight, clueRight, cluesRight, entriesRight, Flags};
 ghost use Rattle.board.specs.Alien.{borderRight, bordersBy, zerosFrom, clueZero, zeroCluesFrom};
 use crate::Board;
+use rules::index;
 
 // Whether height and width are 1 to 32.
 pub fn size_right(h: usize, w: usize) -> bool
@@ -60,13 +61,6 @@ pub fn clues_right(clues: &[i32], n: usize) -> bool
     right
 }
 
-// A stack entry as an index.
-pub fn wide(x: u16) -> usize
-    ensures { λ r. ⌜ r ≡ x ⌝ }
-{
-    x as usize
-}
-
 // Whether the first count entries are numbers of so many borders. They are compared as numbers of 16 bits, of which the
 // loop takes many at a time.
 pub fn entries_right(stack: &[u16; Board::BORDER_LIMIT], borders: usize, count: usize) -> bool
@@ -83,20 +77,20 @@ pub fn entries_right(stack: &[u16; Board::BORDER_LIMIT], borders: usize, count: 
     right
 }
 
-// Whether none of the first count entries is an earlier one; marks which borders they are.
-pub fn mark_stack(
+// Whether none of the first count entries is an earlier one; flags which borders they are.
+pub fn flag_stack(
     stack: &[u16; Board::BORDER_LIMIT],
     count: usize,
     seen: &mut [bool; Board::BORDER_LIMIT],
 ) -> bool
     requires { ⌜ (count ≤ 1984) × ((i : ℕ) → i < count → getD (now stack) i 0 < 1984)
         × (now seen ≡ replicate 1984 false) ⌝ }
-    ensures { λ r. ⌜ Marks (now (stack .entry)) count r (now (seen .exit)) ⌝ }
+    ensures { λ r. ⌜ Flags (now (stack .entry)) count r (now (seen .exit)) ⌝ }
 {
     let mut once = true;
     let mut i: usize = 0;
     while i < count {
-        let e = wide(stack[i]);
+        let e = index(stack[i]);
         once = once & !seen[e];
         seen[e] = true;
         i += 1;
@@ -121,7 +115,7 @@ fn fault(v: u8, on: bool) -> u8
     if border_right(v, on) { 0 } else { 1 }
 }
 
-// Whether the first n borders are right, by the marks of those on the stack.
+// Whether the first n borders are right, by the flags of those on the stack.
 // It gathers faults as numbers, so that the loop takes 16 borders at a time.
 pub fn borders_right<'a>(
     borders: &'a [u8; Board::BORDER_LIMIT],

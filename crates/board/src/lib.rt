@@ -9,6 +9,7 @@ ghost use Rattle.board.specs.Board.{pushed, popped, decideOf, undoOf, co
 ghost use Rattle.board.specs.Alien.{cellsOf, bordersOf, cellsIn, decisionsIn, unusedIn, boardOf, isAlien};
 use rules::Literal;
 use rules::Side;
+use rules::index;
 
 mod conditions; // conditions.rt: the conditions on sizes, colours, clues, stack entries, borders and unused places
 mod padding; // padding.rt: a puzzle's lists as arrays
@@ -137,7 +138,7 @@ fn decisions_right<'a>(
     }
     if conditions::entries_right(stack, total, count) {
         let mut seen = [false; Board::BORDER_LIMIT];
-        if conditions::mark_stack(stack, count, &mut seen) {
+        if conditions::flag_stack(stack, count, &mut seen) {
             return conditions::borders_right(borders, &seen, total);
         }
     }
@@ -332,7 +333,7 @@ impl Board {
         ensures { λ r. ⌜ r ≡ popped self ⌝ }
     {
         let at = self.count - 1;
-        let n = conditions::wide(self.stack[at]);
+        let n = index(self.stack[at]);
         let mut b = self;
         b.borders[n] = 0;
         b.stack[at] = 0;

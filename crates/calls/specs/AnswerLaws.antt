@@ -27,7 +27,7 @@ use Rattle.rules.specs.Check.{Answer as Found, pass, conflict, check}
 use Rattle.board.specs.declared.Board.{Board}
 use Rattle.board.specs.declared.Outcome.the-variants.{Alien, Short}
 use Rattle.board.specs.Alien.{isAlien}
-use Rattle.board.specs.View.{puzzleOf, marksOf}
+use Rattle.board.specs.View.{puzzleOf, statesOf}
 use Rattle.calls.specs.declared.Answer.the-variants.{Refused}
 use Rattle.calls.specs.Answers.{literalOf, reasonIn, asAnswer, written, checkAnswer, checkMemory, callMemory}
 
@@ -97,11 +97,11 @@ module _ (b : Board) (m : List ℕ) where
     unfolding checkMemory
     memory-short h = rw (t, lt-ltb (length m) 16384 h)
 
-    pub check-found : 16384 ≤ length m → asAnswer (check (puzzleOf b) (marksOf b)) ≡ checkAnswer b (length m)
+    pub check-found : 16384 ≤ length m → asAnswer (check (puzzleOf b) (statesOf b)) ≡ checkAnswer b (length m)
     unfolding checkAnswer
     check-found h = rw (t, le-ltb (length m) 16384 h)
 
-    pub memory-found : 16384 ≤ length m → written m (check (puzzleOf b) (marksOf b)) ≡ checkMemory b m
+    pub memory-found : 16384 ≤ length m → written m (check (puzzleOf b) (statesOf b)) ≡ checkMemory b m
     unfolding checkMemory
     memory-found h = rw (t, le-ltb (length m) 16384 h)
 
@@ -110,7 +110,7 @@ unfolding checkMemory
 length-check b m = go (isAlien b) (ltb (length m) 16384)
   where
     f : Found
-    f = check (puzzleOf b) (marksOf b)
+    f = check (puzzleOf b) (statesOf b)
 
     go : (x y : Bool) → length (cond x m (cond y m (written m f))) ≡ length m
     go true y = refl

@@ -30,7 +30,7 @@ use Rattle.board.specs.declared.Outcome.the-variants.{Alien, Short}
 use Rattle.board.specs.declared.Returned.{Returned}
 use Rattle.board.specs.Alien.{isAlien}
 use Rattle.board.specs.Board.{numberOf, decideOf, undoOf}
-use Rattle.board.specs.View.{puzzleOf, marksOf}
+use Rattle.board.specs.View.{puzzleOf, statesOf}
 use Rattle.calls.specs.declared.Answer.{Answer}
 use Rattle.calls.specs.declared.Answer.the-variants.{Done, Pass, Conflict, Refused}
 use Rattle.calls.specs.declared.Stepped.{Stepped}
@@ -72,14 +72,14 @@ unfoldable pub checkAnswer : Board → ℕ → Answer
 checkAnswer b n =
     cond (isAlien b) (Refused Alien)
     (cond (ltb n 16384) (Refused Short)
-    (asAnswer (check (puzzleOf b) (marksOf b))))
+    (asAnswer (check (puzzleOf b) (statesOf b))))
 
 -- "Other refusals return the board given; lent memory stays"
 unfoldable pub checkMemory : Board → List ℕ → List ℕ
 checkMemory b m =
     cond (isAlien b) m
     (cond (ltb (length m) 16384) m
-    (written m (check (puzzleOf b) (marksOf b))))
+    (written m (check (puzzleOf b) (statesOf b))))
 
 -- ---- any call
 abbrev pub ended : Outcome → Answer

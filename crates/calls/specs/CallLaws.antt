@@ -16,16 +16,16 @@ use Rattle.rules.specs.declared.Call.{Call}
 use Rattle.rules.specs.declared.Call.the-variants.{Decide, Undo, Check}
 use Rattle.rules.specs.Codes.{literalCode}
 use Rattle.rules.specs.Check.{Reason, Answer as Found, pass, conflict, check}
-use Rattle.rules.specs.Book.{refused, done, answered, marks, replyTo}
+use Rattle.rules.specs.Book.{refused, done, answered, states, replyTo}
 use Rattle.argument.specs.FlatDemand.{flat-short}
 use Rattle.board.specs.declared.Board.{Board}
 use Rattle.board.specs.declared.Outcome.{Outcome}
 use Rattle.board.specs.declared.Outcome.the-variants.{Short}
 use Rattle.board.specs.Alien.{isAlien}
 use Rattle.board.specs.Board.{numberOf, decideOf, undoOf}
-use Rattle.board.specs.View.{puzzleIn, puzzleOf, marksOf, literalsOf, replyOf}
+use Rattle.board.specs.View.{puzzleIn, puzzleOf, statesOf, literalsOf, replyOf}
 use Rattle.board.specs.NativeLaws.{native-has}
-use Rattle.board.specs.ViewLaws.{marks-literals}
+use Rattle.board.specs.ViewLaws.{states-literals}
 use Rattle.board.specs.StepLaws.{decide-reply, undo-reply}
 use Rattle.calls.specs.declared.Answer.the-variants.{Done, Refused}
 use Rattle.calls.specs.Answers.{reasonIn, told, asAnswer, written, checkAnswer, checkMemory, ended, callOf}
@@ -65,19 +65,19 @@ found-told m (conflict r) h =
     (ap (λ k. reasonIn k (length r)) (put-start m r (h r refl)) ∙ reason-in r (drop (length r) m))
 
 module _ (b : Board) (t : isAlien b ≡ false) where
-  pub reason-short : (r : Reason) → check (puzzleOf b) (marksOf b) ≡ conflict r → length r ≤ 16120
+  pub reason-short : (r : Reason) → check (puzzleOf b) (statesOf b) ≡ conflict r → length r ≤ 16120
   unfolding puzzleOf puzzleIn
   reason-short r e =
       let s = native-has b t .size in
-      flat-short (b .height) (b .width) (omega arith) _ _ s (marksOf b) r e
+      flat-short (b .height) (b .width) (omega arith) _ _ s (statesOf b) r e
 
   module _ (m : List ℕ) where
     found : Found
-    found = check (puzzleOf b) (marksOf b)
+    found = check (puzzleOf b) (statesOf b)
 
-    found-marks : check (puzzleOf b) (marks (literalsOf b)) ≡ found
+    found-states : check (puzzleOf b) (states (literalsOf b)) ≡ found
     unfolding found
-    found-marks = ap (check (puzzleOf b)) (sym (marks-literals b (native-has b t)))
+    found-states = ap (check (puzzleOf b)) (sym (states-literals b (native-has b t)))
 
     fits : ltb (length m) 16384 ≡ false → Fits m found
     unfolding Fits found
@@ -86,7 +86,7 @@ module _ (b : Board) (t : isAlien b ≡ false) where
     check-told : told (checkAnswer b (length m)) (checkMemory b m)
         ≡ replyTo (puzzleOf b) (literalsOf b) (length m) Check
     unfolding checkAnswer checkMemory replyTo found
-    check-told = rw (t, found-marks) (go (ltb (length m) 16384) refl)
+    check-told = rw (t, found-states) (go (ltb (length m) 16384) refl)
       where
         go : (x : Bool) → ltb (length m) 16384 ≡ x
             → told (cond x (Refused Short) (asAnswer found)) (cond x m (written m found))
@@ -96,14 +96,14 @@ module _ (b : Board) (t : isAlien b ≡ false) where
 
     check-memory : checkMemory b m ≡ memoryAs m (replyTo (puzzleOf b) (literalsOf b) (length m) Check)
     unfolding checkMemory replyTo found
-    check-memory = rw (t, found-marks) (go (ltb (length m) 16384) refl)
+    check-memory = rw (t, found-states) (go (ltb (length m) 16384) refl)
       where
         go : (x : Bool) → ltb (length m) 16384 ≡ x
             → cond x m (written m found) ≡ memoryAs m (cond x (refused 9) (answered found))
         go true q = refl
         go false q = found-written m found (fits q)
 
-  pub check-written : (m : List ℕ) (r : Reason) → 16384 ≤ length m → check (puzzleOf b) (marksOf b) ≡ conflict r
+  pub check-written : (m : List ℕ) (r : Reason) → 16384 ≤ length m → check (puzzleOf b) (statesOf b) ≡ conflict r
       → checkMemory b m ≡ map literalCode r ++ drop (length r) m
   check-written m r h e =
       let k = reason-short r e in

@@ -11,11 +11,11 @@ use Prim.Native.Nat.{ℕ, _-_, _*_, _≤_}
 use native.Mathlib.Decide.{decLt}
 use native.Mathlib.Omega.{arith}
 use lib.ListN.{length}
-use Rattle.rules.specs.Codes.{marksIn}
+use Rattle.rules.specs.Codes.{statesIn}
 use Rattle.rules.specs.Check.{Reason, Answer as Found, hit, check, answerOf, undecidedCount}
 use Rattle.board.specs.declared.Board.{Board}
 use Rattle.board.specs.Alien.{isAlien, bordersOf}
-use Rattle.board.specs.View.{puzzleOf, marksOf}
+use Rattle.board.specs.View.{puzzleOf, statesOf}
 use Rattle.board.specs.View as view
 use Rattle.board.specs.ConditionLaws.{borders-of}
 use Rattle.board.specs.NativeLaws.{native-has}
@@ -34,10 +34,10 @@ foundOn b = foundIn (b .height) (b .width) (b .colours) (b .clues) (b .borders)
 
 -- the count of a pass
 abbrev freeOn : Board → ℕ
-freeOn b = undecidedCount (puzzleOf b) (marksOf b)
+freeOn b = undecidedCount (puzzleOf b) (statesOf b)
 
-pub same-found : (b : Board) → foundOn b ≡ check (puzzleOf b) (marksOf b)
-unfolding puzzleOf marksOf view.puzzleIn
+pub same-found : (b : Board) → foundOn b ≡ check (puzzleOf b) (statesOf b)
+unfolding puzzleOf statesOf view.puzzleIn
 same-found b = refl
 
 module _ (b : Board) (t : isAlien b ≡ false) where
@@ -64,10 +64,10 @@ module _ (b : Board) (t : isAlien b ≡ false) where
       ap (λ (k : ℕ). k - b .count) (e ∙ borders-of (N .size)) ∙ sym (undecided-is b N)
 
   abbrev hitOf : Option Reason
-  hitOf = hit (puzzleIn (b .height) (b .width) (b .colours) (b .clues)) (marksIn (b .borders))
+  hitOf = hit (puzzleIn (b .height) (b .width) (b .colours) (b .clues)) (statesIn (b .borders))
 
   checked : (o : Option Reason) → hitOf ≡ o → foundOn b ≡ answerOf (freeOn b) o
-  unfolding check puzzleOf marksOf view.puzzleIn
+  unfolding check puzzleOf statesOf view.puzzleIn
   checked o e = ap (answerOf (freeOn b)) e
 
   module _ (m after : List ℕ) where

@@ -16,14 +16,14 @@ use mathlib.Core.Logic.{_↔_}
 use mathlib.Core.List.{List, _∷_, _++_, map}
 use Prim.Native.Nat.{ℕ}
 use Rattle.rules.specs.declared.Literal.{Literal}
-use Rattle.rules.specs.Page.{Puzzle, Mark, Contains}
+use Rattle.rules.specs.Page.{Puzzle, State, Contains}
 use Rattle.rules.specs.Rules.{Solution}
 use Rattle.rules.specs.Check.{Reason, Answer as Found, pass, conflict}
-use Rattle.rules.specs.Book.{answered, marks, sequence, replies}
+use Rattle.rules.specs.Book.{answered, states, sequence, replies}
 use Rattle.argument.specs.Demand.{Full, SameSides, Passes}
 use Rattle.board.specs.declared.Board.{Board}
 use Rattle.board.specs.Alien.{isAlien}
-use Rattle.board.specs.View.{puzzleOf, marksOf, literalsOf}
+use Rattle.board.specs.View.{puzzleOf, statesOf, literalsOf}
 use Rattle.calls.specs.Runs.{Lent, askedOf, Given, givenBy, toldBy, boardAfter, runFrom, decidesOf}
 use Rattle.calls.specs.Runs.{memories}
 
@@ -31,7 +31,7 @@ pub record Standing (start : Board) (Z : Puzzle) (ls : List Literal) (b : Board)
   -- its stack with the sides, oldest first
   pub stack : literalsOf b ≡ ls
   -- its borders: "exactly the sequence's literals decided"
-  pub borders : marksOf b ≡ marks ls
+  pub borders : statesOf b ≡ states ls
   -- its size, colours and clues
   pub puzzle : puzzleOf b ≡ Z
   pub known : isAlien b ≡ false
@@ -53,20 +53,20 @@ module _ (start : Board) where
   HandedOut calls b r = Answered calls b (conflict r)
 
   -- a full setting is ruled out by the list if it contains all literals of some reason handed out in it
-  pub record RuledOut (calls : List Lent) (σ : ℕ → Mark) : Type 0 where
+  pub record RuledOut (calls : List Lent) (σ : ℕ → State) : Type 0 where
     pub board : Board
     pub reason : Reason
     pub given : HandedOut calls board reason
     pub contains : Contains σ reason
 
   -- "A full setting stood at a check if the board then had no undecided border and the setting's sides"
-  pub record StoodAt (calls : List Lent) (σ : ℕ → Mark) (f : Found) : Type 0 where
+  pub record StoodAt (calls : List Lent) (σ : ℕ → State) (f : Found) : Type 0 where
     pub board : Board
     pub check : Answered calls board f
-    pub full : Full (puzzleOf board) (marksOf board)
-    pub sides : SameSides (puzzleOf board) (marksOf board) σ
+    pub full : Full (puzzleOf board) (statesOf board)
+    pub sides : SameSides (puzzleOf board) (statesOf board) σ
 
-abbrev pub PassedAt : Board → List Lent → (ℕ → Mark) → Type 0
+abbrev pub PassedAt : Board → List Lent → (ℕ → State) → Type 0
 PassedAt start calls σ = (n : ℕ) × StoodAt start calls σ (pass n)
 
 -- start is the board that making the puzzle's board returns, and Z the puzzle
@@ -80,18 +80,18 @@ pub record Demand3 (start : Board) (Z : Puzzle) (calls : List Lent) : Type 0 whe
   pub stack : (earlier later : List Lent) → calls ≡ earlier ++ later
       → Standing start Z (sequence Z (map askedOf earlier)) (boardAfter start earlier)
   -- 3. each reason handed out held on the board it was handed out on
-  pub held : (b : Board) (r : Reason) → HandedOut start calls b r → Contains (marksOf b) r
+  pub held : (b : Board) (r : Reason) → HandedOut start calls b r → Contains (statesOf b) r
   -- 4. a longer list rules out no less
-  pub monotone : (more : List Lent) (σ : ℕ → Mark) → RuledOut start calls σ → RuledOut start (calls ++ more) σ
+  pub monotone : (more : List Lent) (σ : ℕ → State) → RuledOut start calls σ → RuledOut start (calls ++ more) σ
   -- 5. no solution is ruled out
-  pub noSolution : (σ : ℕ → Mark) → Solution Z σ → RuledOut start calls σ → ⊥
+  pub noSolution : (σ : ℕ → State) → Solution Z σ → RuledOut start calls σ → ⊥
   -- 6. a full setting that stood at an answered check passed there exactly when it is a solution ..
-  pub verdict : (σ : ℕ → Mark) (f : Found) → StoodAt start calls σ f → (Passes f ↔ Solution Z σ)
+  pub verdict : (σ : ℕ → State) (f : Found) → StoodAt start calls σ f → (Passes f ↔ Solution Z σ)
   -- .. and otherwise is ruled out
-  pub otherwise : (σ : ℕ → Mark) (f : Found) → StoodAt start calls σ f → (Passes f → ⊥) → RuledOut start calls σ
+  pub otherwise : (σ : ℕ → State) (f : Found) → StoodAt start calls σ f → (Passes f → ⊥) → RuledOut start calls σ
   -- 7. no verdict turns: what passed is ruled out in no longer list, what is ruled out passes in no longer list ..
-  pub staysIn : (more : List Lent) (σ : ℕ → Mark) → PassedAt start calls σ → RuledOut start (calls ++ more) σ → ⊥
-  pub staysOut : (more : List Lent) (σ : ℕ → Mark) → RuledOut start calls σ → PassedAt start (calls ++ more) σ → ⊥
+  pub staysIn : (more : List Lent) (σ : ℕ → State) → PassedAt start calls σ → RuledOut start (calls ++ more) σ → ⊥
+  pub staysOut : (more : List Lent) (σ : ℕ → State) → RuledOut start calls σ → PassedAt start (calls ++ more) σ → ⊥
   -- .. and where the same full setting stood twice, it passed both times or neither time
-  pub sameVerdict : (σ : ℕ → Mark) (f g : Found) → StoodAt start calls σ f → StoodAt start calls σ g
+  pub sameVerdict : (σ : ℕ → State) (f g : Found) → StoodAt start calls σ f → StoodAt start calls σ g
       → (Passes f ↔ Passes g)

@@ -12,21 +12,21 @@ use Prim.Native.Nat.{ℕ}
 use native.Mathlib.Omega.{arith}
 use lib.IntN.{ℤ}
 use Rattle.rules.specs.declared.Literal.{Literal}
-use Rattle.rules.specs.Page.{Mark, Contains}
+use Rattle.rules.specs.Page.{State, Contains}
 use Rattle.rules.specs.Rules.{Solution}
 use Rattle.rules.specs.Codes.{coloursIn, cluesIn}
 use Rattle.rules.specs.Check.{Reason, Answer as Found, pass, conflict}
-use Rattle.rules.specs.Book.{Asked, marks, reply, sequence}
+use Rattle.rules.specs.Book.{Asked, states, reply, sequence}
 use Rattle.argument.specs.Demand.{Passes, BookDemand}
 use Rattle.argument.specs.Demand.{Answered as BookAnswered, RuledOut as BookRuledOut, StoodAt as BookStoodAt}
 use Rattle.argument.specs.FlatDemand.{flat-demand}
 use Rattle.board.specs.declared.Board.{Board}
 use Rattle.board.specs.declared.Outcome.{Outcome}
 use Rattle.board.specs.Board.{returned}
-use Rattle.board.specs.View.{puzzleIn, puzzleOf, marksOf, literalsOf}
+use Rattle.board.specs.View.{puzzleIn, puzzleOf, statesOf, literalsOf}
 use Rattle.board.specs.NativeLaws.{native-has}
 use Rattle.board.specs.FreshLaws.{Made, made-is, made-keeps, made-typed}
-use Rattle.board.specs.ViewLaws.{fresh-puzzle, literals-fresh, marks-literals}
+use Rattle.board.specs.ViewLaws.{fresh-puzzle, literals-fresh, states-literals}
 use Rattle.calls.specs.Runs.{Accepted, startOf, Lent, askedOf, givenBy, toldBy, boardAfter}
 use Rattle.calls.specs.Demand3.{Standing, Answered, RuledOut, StoodAt, Demand3}
 use Rattle.calls.specs.RunLaws.{Built, none, Facts, Bare, built-facts, built-after, step-told, run-told}
@@ -75,8 +75,8 @@ module _ (start : Board) (S : Bare start) where
       → Facts start (sequence (puzzleOf start) (map askedOf calls)) (boardAfter start calls)
   after-facts calls = built-facts start S (after-built calls)
 
-  facts-marks : (ls : List Literal) (b : Board) → Facts start ls b → marksOf b ≡ marks ls
-  facts-marks ls b f = marks-literals b (native-has b (f .known)) ∙ ap marks (f .stack)
+  facts-states : (ls : List Literal) (b : Board) → Facts start ls b → statesOf b ≡ states ls
+  facts-states ls b f = states-literals b (native-has b (f .known)) ∙ ap states (f .stack)
 
   -- ---- what the run answers is what the book answers
   module _ (calls : List Lent) where
@@ -129,7 +129,7 @@ module _ (start : Board) (S : Bare start) where
         )
 
     -- ---- ruled out
-    pub ruled-book : (σ : ℕ → Mark) → RuledOut start calls σ → BookRuledOut (puzzleOf start) (map askedOf calls) σ
+    pub ruled-book : (σ : ℕ → State) → RuledOut start calls σ → BookRuledOut (puzzleOf start) (map askedOf calls) σ
     ruled-book σ q =
         record {
           sequence = literalsOf (q .board);
@@ -138,17 +138,17 @@ module _ (start : Board) (S : Bare start) where
           contains = q .contains;
         }
 
-    pub ruled-run : (σ : ℕ → Mark) → BookRuledOut (puzzleOf start) (map askedOf calls) σ → RuledOut start calls σ
+    pub ruled-run : (σ : ℕ → State) → BookRuledOut (puzzleOf start) (map askedOf calls) σ → RuledOut start calls σ
     ruled-run σ q =
         let r = answered-run (q .given) in
         record { board = r .0; reason = q .reason; given = r .1; contains = q .contains }
 
     -- ---- stood
-    pub stood-book : (σ : ℕ → Mark) (f : Found) → StoodAt start calls σ f
+    pub stood-book : (σ : ℕ → State) (f : Found) → StoodAt start calls σ f
         → BookStoodAt (puzzleOf start) (map askedOf calls) σ f
     stood-book σ f q =
         let g = answered-facts (q .check) in
-        let e = facts-marks (literalsOf (q .board)) (q .board) g in
+        let e = facts-states (literalsOf (q .board)) (q .board) g in
         record {
           sequence = literalsOf (q .board);
           check = answered-book (q .check);
@@ -156,11 +156,11 @@ module _ (start : Board) (S : Bare start) where
           sides = rw (← e, ← (g .puzzle)) (q .sides);
         }
 
-    pub stood-run : (σ : ℕ → Mark) (f : Found) → BookStoodAt (puzzleOf start) (map askedOf calls) σ f
+    pub stood-run : (σ : ℕ → State) (f : Found) → BookStoodAt (puzzleOf start) (map askedOf calls) σ f
         → StoodAt start calls σ f
     stood-run σ f q =
         let r = answered-run (q .check) in
-        let e = facts-marks (q .sequence) (r .0) (r .2) in
+        let e = facts-states (q .sequence) (r .0) (r .2) in
         record {
           board = r .0;
           check = r .1;
@@ -181,7 +181,7 @@ answered-longer start calls more a =
       answer = a .answer;
     }
 
-ruled-longer : (start : Board) (calls more : List Lent) (σ : ℕ → Mark) → RuledOut start calls σ
+ruled-longer : (start : Board) (calls more : List Lent) (σ : ℕ → State) → RuledOut start calls σ
     → RuledOut start (calls ++ more) σ
 ruled-longer start calls more σ q =
     record {
@@ -199,21 +199,21 @@ module _ (start : Board) (S : Bare start) (D : (asked : List Asked) → BookDema
       let f = after-facts start S calls in
       record {
         stack = f .stack;
-        borders = facts-marks start S _ _ f;
+        borders = facts-states start S _ _ f;
         puzzle = f .puzzle;
         known = f .known;
         only = f .only;
       }
 
-  holds : (calls : List Lent) (b : Board) (r : Reason) → Answered start calls b (conflict r) → Contains (marksOf b) r
+  holds : (calls : List Lent) (b : Board) (r : Reason) → Answered start calls b (conflict r) → Contains (statesOf b) r
   holds calls b r a =
-      let e = facts-marks start S (literalsOf b) b (answered-facts start S calls a) in
+      let e = facts-states start S (literalsOf b) b (answered-facts start S calls a) in
       rw e (D (map askedOf calls) .held (literalsOf b) r (answered-book start S calls a))
 
-  none-ruled : (calls : List Lent) (σ : ℕ → Mark) → Solution (puzzleOf start) σ → RuledOut start calls σ → ⊥
+  none-ruled : (calls : List Lent) (σ : ℕ → State) → Solution (puzzleOf start) σ → RuledOut start calls σ → ⊥
   none-ruled calls σ s q = D (map askedOf calls) .noSolution σ s (ruled-book start S calls σ q)
 
-  verdicts : (calls : List Lent) (σ : ℕ → Mark) (f : Found) → StoodAt start calls σ f
+  verdicts : (calls : List Lent) (σ : ℕ → State) (f : Found) → StoodAt start calls σ f
       → (Passes f ↔ Solution (puzzleOf start) σ)
   verdicts calls σ f q = D (map askedOf calls) .verdict σ f (stood-book start S calls σ f q)
 

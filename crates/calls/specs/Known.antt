@@ -7,7 +7,7 @@ use mathlib.Core.Bool.{false}
 use mathlib.Core.List.{List}
 use Prim.Native.Nat.{ℕ}
 use lib.IntN.{ℤ}
-use Rattle.rules.specs.Codes.{marksIn}
+use Rattle.rules.specs.Codes.{statesIn}
 use Rattle.rules.specs.Check.{Answer as Found, check}
 use Rattle.board.specs.Alien.{boardOf, isAlien}
 use Rattle.checker.specs.Bridges.{puzzleIn}
@@ -17,4 +17,4 @@ pub record Known (h w : ℕ) (cs : List ℕ) (ks : List ℤ) (bs : List ℕ) (n 
   pub native : isAlien (boardOf h w cs ks bs stack n) ≡ false
 
 abbrev pub foundIn : ℕ → ℕ → List ℕ → List ℤ → List ℕ → Found
-foundIn h w cs ks bs = check (puzzleIn h w cs ks) (marksIn bs)
+foundIn h w cs ks bs = check (puzzleIn h w cs ks) (statesIn bs)

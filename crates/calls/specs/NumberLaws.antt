@@ -20,7 +20,7 @@ use lib.ListN.{length, getD}
 use Rattle.lists.specs.Count.{count-le}
 use Rattle.rules.specs.declared.Call.{Call}
 use Rattle.rules.specs.declared.Call.the-variants.{Decide, Undo, Check}
-use Rattle.rules.specs.Page.{Puzzle, Mark, isUndecided}
+use Rattle.rules.specs.Page.{Puzzle, State, isUndecided}
 use Rattle.rules.specs.Flat.{flat}
 use Rattle.rules.specs.FlatLaws.{borders-le}
 use Rattle.rules.specs.Check.{Reason, Answer as Found, pass, conflict, hit, undecidedCount, answerOf, check}
@@ -30,7 +30,7 @@ use Rattle.board.specs.declared.Outcome.the-variants.{Done as Fine, Size, Ragge
 use Rattle.board.specs.declared.Outcome.the-variants.{Alien, Border, Taken, Bare, Short}
 use Rattle.board.specs.Alien.{isAlien}
 use Rattle.board.specs.Board.{numberOf, decideOf, undoOf}
-use Rattle.board.specs.View.{puzzleIn, puzzleOf, marksOf}
+use Rattle.board.specs.View.{puzzleIn, puzzleOf, statesOf}
 use Rattle.board.specs.NativeLaws.{native-has}
 use Rattle.calls.specs.declared.Answer.{Answer}
 use Rattle.calls.specs.declared.Answer.the-variants.{Done, Pass, Conflict, Refused}
@@ -55,7 +55,7 @@ InRange (Conflict n) = n ≤ 16120
 InRange (Refused o) = 0 < numberOf o
 
 -- ---- what a call answers is in range
-pub check-count : (Z : Puzzle) (s : ℕ → Mark) (n : ℕ) → check Z s ≡ pass n → n ≡ undecidedCount Z s
+pub check-count : (Z : Puzzle) (s : ℕ → State) (n : ℕ) → check Z s ≡ pass n → n ≡ undecidedCount Z s
 unfolding check
 check-count Z s n e = go (hit Z s) e
   where
@@ -70,18 +70,18 @@ ended-range o = go (eqb (numberOf o) 0) refl
     go true e = tt
     go false e = let h = eqb-false (numberOf o) 0 e in omega arith
 
-pass-range : (b : Board) → isAlien b ≡ false → (n : ℕ) → check (puzzleOf b) (marksOf b) ≡ pass n → n ≤ 1984
+pass-range : (b : Board) → isAlien b ≡ false → (n : ℕ) → check (puzzleOf b) (statesOf b) ≡ pass n → n ≤ 1984
 unfolding puzzleOf puzzleIn undecidedCount flat
 pass-range b t n e =
-    let c = check-count (puzzleOf b) (marksOf b) n e in
+    let c = check-count (puzzleOf b) (statesOf b) n e in
     omega (
       arith,
       c,
-      count-le (puzzleOf b .page .borders) (λ x. isUndecided (marksOf b x)),
+      count-le (puzzleOf b .page .borders) (λ x. isUndecided (statesOf b x)),
       borders-le (native-has b t .size),
     )
 
-pub found-range : (b : Board) → isAlien b ≡ false → (f : Found) → check (puzzleOf b) (marksOf b) ≡ f
+pub found-range : (b : Board) → isAlien b ≡ false → (f : Found) → check (puzzleOf b) (statesOf b) ≡ f
     → InRange (asAnswer f)
 found-range b t (pass n) e = pass-range b t n e
 found-range b t (conflict r) e = reason-short b t r e
@@ -91,10 +91,10 @@ unfolding checkAnswer
 check-range b n = go (isAlien b) (ltb n 16384) refl
   where
     go : (x y : Bool) → isAlien b ≡ x
-        → InRange (cond x (Refused Alien) (cond y (Refused Short) (asAnswer (check (puzzleOf b) (marksOf b)))))
+        → InRange (cond x (Refused Alien) (cond y (Refused Short) (asAnswer (check (puzzleOf b) (statesOf b)))))
     go true y e = omega arith
     go false true e = omega arith
-    go false false e = found-range b e (check (puzzleOf b) (marksOf b)) refl
+    go false false e = found-range b e (check (puzzleOf b) (statesOf b)) refl
 
 pub call-range : (b : Board) (c : Call) (m : List ℕ) → InRange (callOf b c m .answer)
 unfolding callOf

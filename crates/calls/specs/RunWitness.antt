@@ -11,10 +11,10 @@ use Rattle.lists.specs.Tests.{allBelow}
 use Rattle.rules.specs.declared.Side.{Side}
 use Rattle.rules.specs.declared.Side.the-variants.{Wall, Open}
 use Rattle.rules.specs.declared.Call.the-variants.{Decide, Check}
-use Rattle.rules.specs.Page.{Puzzle, Mark, undecided}
+use Rattle.rules.specs.Page.{Puzzle, State, undecided}
 use Rattle.rules.specs.Flat.{flat, borderCount}
 use Rattle.rules.specs.Check.{Answer as Found, check}
-use Rattle.rules.specs.Book.{Asked, marks, names, decideReply, decideAfter, replyTo, afterCall, sequenceFrom}
+use Rattle.rules.specs.Book.{Asked, states, names, decideReply, decideAfter, replyTo, afterCall, sequenceFrom}
 use Rattle.argument.specs.Demand.{Full, SameSides, Passes, StoodAt as BookStoodAt}
 use Rattle.argument.specs.Witness.{open-solves, wall-fails}
 use Rattle.board.specs.declared.Board.{Board}
@@ -41,8 +41,8 @@ unfolding all freshOf sizeRight coloursRight cluesRight allBelow
 accepted = record { small = small-clues ks refl; made = refl }
 
 -- the border's side, as a setting
-abbrev pub setting : Side → ℕ → Mark
-setting d = marks (record { border = 0; side = d } ∷ [])
+abbrev pub setting : Side → ℕ → State
+setting d = states (record { border = 0; side = d } ∷ [])
 
 -- a decide of that side and a check, with the memory m
 abbrev pub deciding : Side → List ℕ → List Lent
@@ -58,7 +58,7 @@ asked d n =
     record { call = Decide (record { border = 0; side = d }); places = n } ∷ record { call = Check; places = n } ∷ []
 
 side-full : (d : Side) (b : ℕ) → b < 1 → setting d b ≡ undecided → ⊥
-unfolding marks
+unfolding states
 side-full d zero h e = let z : _≡_ {A = ℕ} 0 1 = cc in omega arith
 side-full d (suc b) h e = omega arith
 

@@ -16,7 +16,7 @@ use Rattle.lists.specs.Count.{countBelow}
 use Rattle.rules.specs.declared.Call.{Call}
 use Rattle.rules.specs.declared.Call.the-variants.{Decide, Undo, Check}
 use Rattle.rules.specs.Page.{wallAt, openAt, _⊕_, opposite}
-use Rattle.rules.specs.Codes.{marksIn, coloursIn, cluesIn}
+use Rattle.rules.specs.Codes.{statesIn, coloursIn, cluesIn}
 use Rattle.rules.specs.Rules.{oneColour, joinsBlock, joinsUnit}
 use Rattle.rules.specs.Groups.{labels, entry, isFirst, numbers, groupCount, members, joinsPotential}
 use Rattle.rules.specs.Reasons.{gather, insideAt, inside, edgeAt, edge, isFound, trace, look, hunt, path}
@@ -29,8 +29,8 @@ use Rattle.rules.specs.Check.{wallHit, wallHits, touches, adjacent, mates, judg
 use Rattle.rules.specs.Check.{farWallsAt, farWalls, unitReason, unitHitIn, unitHitOn, unitHit, hit, undecidedCount}
 use Rattle.rules.specs.Flat.{flat, cellAt, rightOf, belowOf, borderCount, hopIf, hopAbove, hopBelow, hopLeft}
 use Rattle.rules.specs.Flat.{hopRight, aroundAt, aheadAt, flatFirst, flatSecond, flatPlace, flatReadsAt, flatReads}
-use Rattle.rules.specs.Book.{Asked, Reply, refused, done, answered, marks, names, withoutLast, decideReply, decideAfter}
-use Rattle.rules.specs.Book.{replyTo, afterCall, repliesFrom, replies}
+use Rattle.rules.specs.Book.{Asked, Reply, refused, done, answered, states, names, withoutLast, decideReply}
+use Rattle.rules.specs.Book.{decideAfter, replyTo, afterCall, repliesFrom, replies}
 use Rattle.board.specs.declared.Outcome.the-variants.{Done}
 use Rattle.board.specs.Alien.{sizeRight, coloursRight, cluesRight}
 use Rattle.board.specs.Board.{freshOf, Small}
@@ -115,14 +115,14 @@ pub record SmallRuns : Type 0 where
       (refused 8 ∷ refused 6 ∷ done ∷ refused 7 ∷ answered (pass 0) ∷ [])
 
 pub small-runs : SmallRuns
-unfolding filter any all orElse flatMap firstHit countBelow _⊕_ opposite marksIn coloursIn cluesIn oneColour joinsBlock
+unfolding filter any all orElse flatMap firstHit countBelow _⊕_ opposite statesIn coloursIn cluesIn oneColour joinsBlock
     joinsUnit labels entry isFirst numbers groupCount members joinsPotential gather insideAt inside edgeAt edge isFound
     trace look hunt path apply samePoints insert sort shiftBy normal turned connectionsAt shapeOf withHalf quarters
     withQuarter withFlip flatTransforms check hitIf blockClue insideBlock insideUnit edgeOf sizeOf coloured strayFrom
     cellHit cellHits smallHit bigHit clueHit blockHitOn blockHit wallHit wallHits touches adjacent mates judge laid
     transformsOf placements farWallsAt farWalls unitReason unitHitIn unitHitOn unitHit hit undecidedCount flat cellAt
     rightOf belowOf borderCount hopIf hopAbove hopBelow hopLeft hopRight aroundAt aheadAt flatFirst flatSecond
-    flatPlace flatReadsAt flatReads puzzleIn marks names withoutLast decideReply decideAfter replyTo afterCall
+    flatPlace flatReadsAt flatReads puzzleIn states names withoutLast decideReply decideAfter replyTo afterCall
     repliesFrom freshOf sizeRight coloursRight cluesRight allBelow
 small-runs =
     record {

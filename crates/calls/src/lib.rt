@@ -69,7 +69,7 @@ pub fn answer_known<'a>(
 {
     // as slices, so that the proof knows their lengths
     let cells: &[u8] = colours;
-    let marks: &[u8] = borders;
+    let states: &[u8] = borders;
     let found = hits::find(h, w, colours, clues, borders, memory);
     match found {
         Found::Nothing => Answer::Pass(board::border_count(h, w) - count),

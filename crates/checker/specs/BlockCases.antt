@@ -14,8 +14,8 @@ use Rattle.rules.specs.Check.{isSome}
 use Rattle.checker.specs.declared.Clue.{Clue}
 use Rattle.checker.specs.declared.Clue.the-variants.{Free, Is}
 use Rattle.checker.specs.declared.Part.{Part}
-use Rattle.checker.specs.declared.Tally.{Tally}
-use Rattle.checker.specs.Tallies.{optionOf, clueIn, firstClue, nextPart, nextTally}
+use Rattle.checker.specs.declared.Census.{Census}
+use Rattle.checker.specs.Censuses.{optionOf, clueIn, firstClue, nextPart, nextCensus}
 
 pub clue-is : (z : ℤ) → leZ (pos 0) z ≡ true → Is (natAbs z) ≡ clueIn (clueOf z)
 clue-is (pos n) e = refl
@@ -40,13 +40,13 @@ module _ (p : Part) (u : ℕ) (k b : Bool) (e : b ≡ (p .clued || k)) where
   unfolding nextPart
   part-later h = rw (e, ne-eqb (p .size) 0 h)
 
-module _ (t : Tally) (c u : ℕ) (k : Clue) where
-  pub tally-one : (p : Part) (f : Clue) → c ≡ 1 → p ≡ nextPart (t .one) u (isSome (optionOf k))
-      → f ≡ firstClue (t .clue) k → record { zero = t .zero; one = p; clue = f } ≡ nextTally t (eqb c 1) u k
-  unfolding nextTally
-  tally-one p f e a b = rw (a, b, eq-eqb c 1 e)
+module _ (t : Census) (c u : ℕ) (k : Clue) where
+  pub census-one : (p : Part) (f : Clue) → c ≡ 1 → p ≡ nextPart (t .one) u (isSome (optionOf k))
+      → f ≡ firstClue (t .clue) k → record { zero = t .zero; one = p; clue = f } ≡ nextCensus t (eqb c 1) u k
+  unfolding nextCensus
+  census-one p f e a b = rw (a, b, eq-eqb c 1 e)
 
-  pub tally-zero : (p : Part) (f : Clue) → (c ≡ 1 → ⊥) → p ≡ nextPart (t .zero) u (isSome (optionOf k))
-      → f ≡ firstClue (t .clue) k → record { zero = p; one = t .one; clue = f } ≡ nextTally t (eqb c 1) u k
-  unfolding nextTally
-  tally-zero p f e a b = rw (a, b, ne-eqb c 1 e)
+  pub census-zero : (p : Part) (f : Clue) → (c ≡ 1 → ⊥) → p ≡ nextPart (t .zero) u (isSome (optionOf k))
+      → f ≡ firstClue (t .clue) k → record { zero = p; one = t .one; clue = f } ≡ nextCensus t (eqb c 1) u k
+  unfolding nextCensus
+  census-zero p f e a b = rw (a, b, ne-eqb c 1 e)

@@ -12,9 +12,9 @@ use lib.ListN.{length, length-append}
 use Rattle.lists.specs.Lists.{range}
 use Rattle.lists.specs.Appends.{length-filter}
 use Rattle.rules.specs.declared.Literal.{Literal}
-use Rattle.rules.specs.Page.{Mark, wallAt}
+use Rattle.rules.specs.Page.{State, wallAt}
 use Rattle.rules.specs.Flat.{Sized, flat, hopIf}
-use Rattle.rules.specs.Codes.{marksIn, coloursIn}
+use Rattle.rules.specs.Codes.{statesIn, coloursIn}
 use Rattle.rules.specs.Groups.{entry, members}
 use Rattle.rules.specs.Reasons.{path}
 use Rattle.rules.specs.Check.{clash}
@@ -26,14 +26,14 @@ use Rattle.reasons.specs.Lengths.{inside-le, edge-le, path-le}
 use Rattle.checker.specs.declared.Clue.{Clue}
 use Rattle.checker.specs.declared.Clue.the-variants.{Free, Is}
 use Rattle.checker.specs.declared.Part.{Part}
-use Rattle.checker.specs.declared.Tally.{Tally}
+use Rattle.checker.specs.declared.Census.{Census}
 use Rattle.checker.specs.declared.Fault.{Fault}
 use Rattle.checker.specs.declared.Fault.the-variants.{Clear, InsideEdge, Inside, Edge, EdgeInside}
 use Rattle.checker.specs.declared.Faulty.{Faulty}
 use Rattle.checker.specs.declared.Breach.{Breach}
-use Rattle.checker.specs.Tallies.{headOf, ofColour, ownUnit, partOf, tallyOf}
+use Rattle.checker.specs.Censuses.{headOf, ofColour, ownUnit, partOf, censusOf}
 use Rattle.checker.specs.Faults.{isClear, orFault, firstFault, scanFault, smallFault, bigFault, clueFault}
-use Rattle.checker.specs.Faults.{tallyFault, cellFault, scanOn, faultOn}
+use Rattle.checker.specs.Faults.{censusFault, cellFault, scanOn, faultOn}
 use Rattle.checker.specs.Faulty.{at, faultyFrom, firstFaulty}
 use Rattle.checker.specs.Breaches.{noBreach, orBreach, isBreach, hopBreach, breachOn, breachFrom, firstBreach}
 use Rattle.checker.specs.WallCases.{breachAt, cell-split}
@@ -78,9 +78,9 @@ module _ (n : ℕ) (some : 0 < n) where
       cond-under (ltb m (p .size) || ltb m (q .size)) Inside (orFault (bigFault m p a) (bigFault m q b)) some
       (or-under (bigFault m p a) (bigFault m q b) (big-under m p a h) (big-under m q b l))
 
-  tally-under : (t : Tally) (a b : ℕ) → t .zero .unit < n → t .one .unit < n → Under (tallyFault t a b)
-  unfolding tallyFault
-  tally-under t a b h l =
+  census-under : (t : Census) (a b : ℕ) → t .zero .unit < n → t .one .unit < n → Under (censusFault t a b)
+  unfolding censusFault
+  census-under t a b h l =
       or-under (smallFault (t .zero) (t .one) a)
       (orFault (smallFault (t .one) (t .zero) b) (clueFault (t .clue) (t .zero) (t .one) a b))
       (small-under (t .zero) (t .one) a h)
@@ -104,10 +104,10 @@ module _ (n : ℕ) (some : 0 < n) where
         (cond-under d Inside Clear some some) (below x)
 
     pub fault-under : (sizeAt : ℕ → ℕ) (xs : List ℕ) → faultUnit (faultOn colourAt clueAt unitAt sizeAt xs) < n
-    unfolding faultOn scanOn tallyOf partOf
+    unfolding faultOn scanOn censusOf partOf
     fault-under sizeAt xs =
         or-under _ _ (first-under _ xs (cell-under _ _))
-        (tally-under (tallyOf colourAt clueAt unitAt xs) _ _ (own-under xs false) (own-under xs true))
+        (census-under (censusOf colourAt clueAt unitAt xs) _ _ (own-under xs false) (own-under xs true))
 
 -- what is found is a number below n, and what is wrong at it
 module _ (f : ℕ → Fault) where
@@ -165,13 +165,13 @@ reason-short h w cs bs blocks units f =
     omega (
       arith,
       literals-le (insideIn h w bs blocks (f .block)) (edgeIn h w cs bs units) (f .fault),
-      inside-le h w (marksIn bs) (entry blocks) (f .block),
-      edge-le h w (marksIn bs) (entry units) (faultUnit (f .fault)) (coloursIn cs),
+      inside-le h w (statesIn bs) (entry blocks) (f .block),
+      edge-le h w (statesIn bs) (entry units) (faultUnit (f .fault)) (coloursIn cs),
       members-le h w (entry blocks) (f .block),
       members-le h w (entry units) (faultUnit (f .fault)),
     )
 
-pub breach-short : {h w : ℕ} → Sized h w → (s : ℕ → Mark) (b : Breach)
+pub breach-short : {h w : ℕ} → Sized h w → (s : ℕ → State) (b : Breach)
     → length (breachLiterals (flat h w) s b) ≤ h * w + 1
 unfolding breachLiterals
 breach-short {h} {w} z s b =
@@ -190,7 +190,7 @@ or-small a b p q = go (a .found)
     go true = p
     go false = q
 
-hop-small : {h w y x d : ℕ} (s : ℕ → Mark) (block : ℕ → ℕ) (c : ℕ) (r : Neighbour) → Stepped h w y x d r
+hop-small : {h w y x d : ℕ} (s : ℕ → State) (block : ℕ → ℕ) (c : ℕ) (r : Neighbour) → Stepped h w y x d r
     → breachOn s block c (hopsIn r) .border < 1984
 unfolding hopsIn hopIf breachOn hopBreach
 hop-small s block c r p = go (r .some) refl
@@ -223,6 +223,6 @@ module _ {h w : ℕ} (z : Sized h w) (bs ids : List ℕ) where
       or-small (breachAt h w bs ids i) (breachFrom (breachAt h w bs ids) k (suc i)) (cell-small i (omega arith))
       (from-small k (suc i) (omega arith))
 
-  pub breach-small : firstBreach (flat h w) (marksIn bs) (entry ids) .border < 1984
+  pub breach-small : firstBreach (flat h w) (statesIn bs) (entry ids) .border < 1984
   unfolding firstBreach breachAt flat
   breach-small = from-small (h * w) 0 (omega arith)

@@ -14,7 +14,7 @@ use mathlib.Core.Option.{Option}
 use Prim.Native.Nat.{ℕ, zero, suc, _+_}
 use lib.Dec.{eqb}
 use Rattle.lists.specs.Lists.{firstHit, orElse, rangeFrom, range}
-use Rattle.rules.specs.Page.{Page, Puzzle, Mark, Hop, isWall, wallAt}
+use Rattle.rules.specs.Page.{Page, Puzzle, State, Hop, isWall, wallAt}
 use Rattle.rules.specs.Groups.{blockOf}
 use Rattle.rules.specs.Reasons.{path}
 use Rattle.rules.specs.Check.{Reason, hitIf, wallHit, wallHits}
@@ -27,7 +27,7 @@ unfoldable pub orBreach : Breach → Breach → Breach
 orBreach a b = cond (a .found) a b
 
 -- s gives the borders, block the cells' blocks
-module _ (s : ℕ → Mark) (block : ℕ → ℕ) where
+module _ (s : ℕ → State) (block : ℕ → ℕ) where
   unfoldable pub isBreach : ℕ → Hop → Bool
   isBreach x h = isWall (s (h .border)) && eqb (block x) (block (h .to))
 
@@ -43,10 +43,10 @@ unfoldable pub breachFrom : (ℕ → Breach) → ℕ → ℕ → Breach
 breachFrom f zero i = noBreach
 breachFrom f (suc k) i = orBreach (f i) (breachFrom f k (suc i))
 
-unfoldable pub firstBreach : Page → (ℕ → Mark) → (ℕ → ℕ) → Breach
+unfoldable pub firstBreach : Page → (ℕ → State) → (ℕ → ℕ) → Breach
 firstBreach G s block = breachFrom (λ x. breachOn s block x (G .ahead x)) (G .cells) 0
 
-module _ (Z : Puzzle) (s : ℕ → Mark) where
+module _ (Z : Puzzle) (s : ℕ → State) where
   unfoldable pub breachReason : Breach → Option Reason
   breachReason b = hitIf (b .found) (path (Z .page) s (b .cell) (b .to) ++ (wallAt (b .border) ∷ []))
 

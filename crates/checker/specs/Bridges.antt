@@ -11,10 +11,10 @@ use native.Mathlib.Decide.{decLt}
 use native.Mathlib.Omega.{arith}
 use lib.IntN.{ℤ}
 use lib.ListN.{length, getD, List·getD-eq-default}
-use Rattle.rules.specs.Page.{Puzzle, Mark}
+use Rattle.rules.specs.Page.{Puzzle, State}
 use Rattle.rules.specs.Flat.{Sized, flat}
 use Rattle.rules.specs.FlatLaws.{counts}
-use Rattle.rules.specs.Codes.{marksIn, coloursIn, cluesIn}
+use Rattle.rules.specs.Codes.{statesIn, coloursIn, cluesIn}
 use Rattle.rules.specs.Rules.{oneColour, joinsBlock, joinsUnit}
 use Rattle.rules.specs.Groups.{entry, numbers, groupCount, members, joinsPotential}
 use Rattle.rules.specs.Groups.{blockOf, blockCount, unitOf, unitCount, potentialOf, potentialCount}
@@ -40,12 +40,12 @@ puzzleIn h w cs ks = record { page = flat h w; colour = coloursIn cs; clue = clu
 abbrev pub groupsIn : Kind → ℕ → ℕ → List ℕ → List ℕ → Groups
 groupsIn kind h w cs bs = groupsOf (flat h w) (joinsIn kind h w cs bs)
 
-abbrev pub numberOf : Kind → Puzzle → (ℕ → Mark) → ℕ → ℕ
+abbrev pub numberOf : Kind → Puzzle → (ℕ → State) → ℕ → ℕ
 numberOf Blocks Z s = blockOf Z s
 numberOf Units Z s = unitOf Z s
 numberOf Potential Z s = potentialOf Z s
 
-abbrev pub countOf : Kind → Puzzle → (ℕ → Mark) → ℕ
+abbrev pub countOf : Kind → Puzzle → (ℕ → State) → ℕ
 countOf Blocks Z s = blockCount Z s
 countOf Units Z s = unitCount Z s
 countOf Potential Z s = potentialCount Z s
@@ -161,8 +161,8 @@ module _ {h w : ℕ} (z : Sized h w) (cs : List ℕ) (ks : List ℤ) (bs : List 
   abbrev Z : Puzzle
   Z = puzzleIn h w cs ks
 
-  abbrev s : ℕ → Mark
-  s = marksIn bs
+  abbrev s : ℕ → State
+  s = statesIn bs
 
   number-is : (kind : Kind) → entry (numbers (flat h w) (joinsIn kind h w cs bs)) ≡ numberOf kind Z s
   unfolding joinsIn linkOf coloured joinsBlock joinsUnit joinsPotential oneColour

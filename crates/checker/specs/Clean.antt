@@ -11,7 +11,7 @@ use native.Mathlib.Omega.{arith}
 use borrow.Author.Tests.{ltb-true}
 use lib.Dec.{eqb, ltb, eqb→eq}
 use Rattle.lists.specs.ListLaws.{T-dec, neqb→ne}
-use Rattle.rules.specs.Page.{Mark}
+use Rattle.rules.specs.Page.{State}
 use Rattle.rules.specs.Flat.{flat, aheadAt, hopBelow, hopRight, belowOf, rightOf, cellAt, hopIf}
 use Rattle.rules.specs.FlatLaws.{Spot, spot}
 use Rattle.reasons.specs.StepLaws.{row-of}
@@ -29,7 +29,7 @@ below-more P n h e j l =
     ⊎-elim (λ t. let q : j ≡ n = eqb→eq j n t in rw q e)
     (λ t. let q : j ≡ n → ⊥ = neqb→ne j n t in h j (omega arith)) (T-dec (eqb j n))
 
-module _ (s : ℕ → Mark) (block : ℕ → ℕ) where
+module _ (s : ℕ → State) (block : ℕ → ℕ) where
   abbrev pub Apart : ℕ → ℕ → ℕ → ℕ → Type 0
   Apart b c d n = (j : ℕ) → j < n → isBreach s block (c + j) (record { border = b + j; to = d + j }) ≡ false
 

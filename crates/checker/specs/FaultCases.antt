@@ -13,12 +13,12 @@ use Rattle.rules.specs.Groups.{entry}
 use Rattle.checker.specs.declared.Clue.{Clue}
 use Rattle.checker.specs.declared.Clue.the-variants.{Free, Is}
 use Rattle.checker.specs.declared.Part.{Part}
-use Rattle.checker.specs.declared.Tally.{Tally}
+use Rattle.checker.specs.declared.Census.{Census}
 use Rattle.checker.specs.declared.Fault.{Fault}
 use Rattle.checker.specs.declared.Fault.the-variants.{Clear, InsideEdge, Inside, Edge, EdgeInside}
 use Rattle.checker.specs.Arrays.{Parted}
-use Rattle.checker.specs.Tallies.{headOf, ofColour, ownUnit, partOf, tallyOf}
-use Rattle.checker.specs.Faults.{orFault, isClear, scanFault, smallFault, bigFault, clueFault, tallyFault}
+use Rattle.checker.specs.Censuses.{headOf, ofColour, ownUnit, partOf, censusOf}
+use Rattle.checker.specs.Faults.{orFault, isClear, scanFault, smallFault, bigFault, clueFault, censusFault}
 use Rattle.checker.specs.Faults.{scanOn, faultOn}
 
 some-size : (n : ℕ) → (n ≡ 0 → ⊥) → ltb 0 n ≡ true
@@ -104,12 +104,12 @@ module _ (q : Bool → ℕ) (n : Option ℕ) (c : Bool) (u : ℕ) (k : Option �
   unfolding scanFault
   scan-clear e h = rw (eq-eqb (q c) u e, h)
 
--- where no cell is wrong, the tally tells
+-- where no cell is wrong, the census tells
 module _ (colourAt : ℕ → Bool) (clueAt : ℕ → Option ℕ) (unitAt sizeAt : ℕ → ℕ) (xs : List ℕ) where
-  pub fault-tally : (t : Tally) → t ≡ tallyOf colourAt clueAt unitAt xs → scanOn colourAt clueAt unitAt xs ≡ Clear
-      → tallyFault t (sizeAt (t .zero .unit)) (sizeAt (t .one .unit)) ≡ faultOn colourAt clueAt unitAt sizeAt xs
-  unfolding faultOn orFault tallyOf partOf
-  fault-tally t e h = rw (e, h)
+  pub fault-census : (t : Census) → t ≡ censusOf colourAt clueAt unitAt xs → scanOn colourAt clueAt unitAt xs ≡ Clear
+      → censusFault t (sizeAt (t .zero .unit)) (sizeAt (t .one .unit)) ≡ faultOn colourAt clueAt unitAt sizeAt xs
+  unfolding faultOn orFault censusOf partOf
+  fault-census t e h = rw (e, h)
 
 -- the potential unit of a block's first cell has a size
 module _ (colourAt : ℕ → Bool) (clueAt : ℕ → Option ℕ) (ids offs xs : List ℕ) (p : Parted ids offs) where

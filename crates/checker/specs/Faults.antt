@@ -4,7 +4,7 @@
 --   orFault f g         f, or g where f is Clear
 --   firstFault f xs     the first fault that f gives
 --   scanFault q k u c j the fault at a cell of colour c, potential unit u and clue j
---   tallyFault t a b    the fault that a tally shows; a and b are the sizes of the two potential units
+--   censusFault t a b    the fault that a census shows; a and b are the sizes of the two potential units
 --   scanOn xs           the first fault at one of the cells xs
 --   faultOn xs          the fault of the cells xs
 --   blockFault B        the fault of block B
@@ -19,18 +19,18 @@ use lib.Dec.{eqb, ltb}
 use lib.ListN.{length}
 use borrow.Author.Tests.{lt-ltb}
 use Rattle.lists.specs.Lists.{any, firstHit, orElse, head?}
-use Rattle.rules.specs.Page.{Puzzle, Mark}
+use Rattle.rules.specs.Page.{Puzzle, State}
 use Rattle.rules.specs.Groups.{members, blockOf, potentialOf}
 use Rattle.rules.specs.Check.{Reason, hitIf, isSome, clash, blockClue, insideBlock, edgeOf, sizeOf, coloured}
 use Rattle.rules.specs.Check.{smallHit, bigHit, clueHit, blockHitOn, blockHit}
 use Rattle.checker.specs.declared.Clue.{Clue}
 use Rattle.checker.specs.declared.Clue.the-variants.{Free, Is}
 use Rattle.checker.specs.declared.Part.{Part}
-use Rattle.checker.specs.declared.Tally.{Tally}
+use Rattle.checker.specs.declared.Census.{Census}
 use Rattle.checker.specs.declared.Fault.{Fault}
 use Rattle.checker.specs.declared.Fault.the-variants.{Clear, InsideEdge, Inside, Edge, EdgeInside}
 use Rattle.checker.specs.Scan.{scanHit, scan-cells}
-use Rattle.checker.specs.Tallies.{headOf, clueIn, ofColour, ownUnit, hasClue, partOf, tallyOf}
+use Rattle.checker.specs.Censuses.{headOf, clueIn, ofColour, ownUnit, hasClue, partOf, censusOf}
 
 unfoldable pub orFault : Fault → Fault → Fault
 orFault Clear g = g
@@ -66,8 +66,8 @@ clueFault Free p q a b = Clear
 clueFault (Is n) p q a b =
     cond (ltb n (p .size) || ltb n (q .size)) Inside (orFault (bigFault n p a) (bigFault n q b))
 
-unfoldable pub tallyFault : Tally → ℕ → ℕ → Fault
-tallyFault t a b =
+unfoldable pub censusFault : Census → ℕ → ℕ → Fault
+censusFault t a b =
     orFault (smallFault (t .zero) (t .one) a)
     (orFault (smallFault (t .one) (t .zero) b) (clueFault (t .clue) (t .zero) (t .one) a b))
 
@@ -82,11 +82,11 @@ module _ (colourAt : ℕ → Bool) (clueAt : ℕ → Option ℕ) (unitAt : ℕ �
   unfoldable pub faultOn : (ℕ → ℕ) → List ℕ → Fault
   faultOn sizeAt xs =
       orFault (scanOn xs)
-      (tallyFault (tallyOf colourAt clueAt unitAt xs)
+      (censusFault (censusOf colourAt clueAt unitAt xs)
       (sizeAt (ownUnit colourAt clueAt unitAt xs false))
       (sizeAt (ownUnit colourAt clueAt unitAt xs true)))
 
-module _ (Z : Puzzle) (s : ℕ → Mark) where
+module _ (Z : Puzzle) (s : ℕ → State) where
   unfoldable pub faultReason : ℕ → Fault → Option Reason
   faultReason B Clear = none
   faultReason B (InsideEdge p) = some (insideBlock Z s B ++ edgeOf Z s p)
@@ -247,7 +247,7 @@ module _ (Z : Puzzle) (s : ℕ → Mark) where
 
   pub block-on : (B : ℕ) (xs : List ℕ)
       → blockHitOn Z s B xs ≡ faultReason B (faultOn (Z .colour) (Z .clue) (potentialOf Z s) (sizeOf Z s) xs)
-  unfolding blockHitOn faultOn scanOn tallyFault tallyOf smallAt
+  unfolding blockHitOn faultOn scanOn censusFault censusOf smallAt
   block-on B xs =
       rw (scan-cells Z s B xs, first-reason B _ (faultAt xs) (scan-reason B xs) xs, small-pair B xs, clue-reason B xs)
       (simp or-reason)

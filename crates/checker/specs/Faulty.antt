@@ -9,7 +9,7 @@ use mathlib.Core.Option.{Option, none}
 use Prim.Native.Nat.{ℕ, zero, suc, _+_, _-_, _<_, _≤_}
 use native.Mathlib.Omega.{arith}
 use Rattle.lists.specs.Lists.{firstHit, orElse, rangeFrom, range}
-use Rattle.rules.specs.Page.{Puzzle, Mark}
+use Rattle.rules.specs.Page.{Puzzle, State}
 use Rattle.rules.specs.Groups.{blockCount}
 use Rattle.rules.specs.Check.{Reason, blockHit}
 use Rattle.checker.specs.declared.Fault.{Fault}
@@ -43,7 +43,7 @@ module _ (f : ℕ → Fault) (n i : ℕ) where
   unfolding faultyFrom
   faulty-end h g = let k : n - i ≡ 0 = omega arith in let e : i ≡ n = omega arith in rw (k, e)
 
-module _ (Z : Puzzle) (s : ℕ → Mark) where
+module _ (Z : Puzzle) (s : ℕ → State) where
   pub clear-none : (B : ℕ) (f : Fault) → isClear f ≡ true → faultReason Z s B f ≡ none
   unfolding faultReason
   clear-none B Clear e = refl

@@ -1,10 +1,10 @@
 pub mod Arrays
 pub mod ArrayLaws
-pub mod Tallies
+pub mod Censuses
 pub mod Scan
 pub mod Faults
 pub mod BlockCases
-pub mod Tallied
+pub mod Surveyed
 pub mod FaultCases
 pub mod LoneCases
 pub mod Looks

@@ -18,9 +18,9 @@ use Rattle.checker.specs.declared.Fault.{Fault}
 use Rattle.checker.specs.declared.Fault.the-variants.{Clear, Inside, Edge}
 use Rattle.reasons.specs.Arrays.{part}
 use Rattle.checker.specs.ArrayLaws.{part-first, part-end}
-use Rattle.checker.specs.Tallies.{ofColour, ownUnit, hasClue, partOf, tallyOf}
+use Rattle.checker.specs.Censuses.{ofColour, ownUnit, hasClue, partOf, censusOf}
 use Rattle.checker.specs.Faults.{orFault, firstFault, scanFault, smallFault, bigFault, clueFault}
-use Rattle.checker.specs.Faults.{cellFault, tallyFault, scanOn, faultOn}
+use Rattle.checker.specs.Faults.{cellFault, censusFault, scanOn, faultOn}
 
 unfoldable pub onlyFault : Option ℕ → ℕ → ℕ → Fault
 onlyFault none u size = Clear
@@ -48,9 +48,9 @@ module _ (clueAt : ℕ → Option ℕ) (unitAt sizeAt : ℕ → ℕ) where
   lone-big x n e h k = rw (e, le-ltb n 1 (omega arith), lt-ltb (sizeAt (unitAt x)) n k)
 
   pub lone-fault : (colourAt : ℕ → Bool) (x : ℕ) → loneFault x ≡ faultOn colourAt clueAt unitAt sizeAt (x ∷ [])
-  unfolding loneFault onlyFault faultOn scanOn tallyOf partOf ownUnit ofColour filter hasClue any blockClue firstHit
+  unfolding loneFault onlyFault faultOn scanOn censusOf partOf ownUnit ofColour filter hasClue any blockClue firstHit
       orElse
-      firstFault cellFault scanFault tallyFault smallFault clueFault bigFault orFault
+      firstFault cellFault scanFault censusFault smallFault clueFault bigFault orFault
   lone-fault colourAt x = go (colourAt x)
     where
       same : eqb (unitAt x) (unitAt x) ≡ true
@@ -68,15 +68,15 @@ module _ (clueAt : ℕ → Option ℕ) (unitAt sizeAt : ℕ → ℕ) where
 
       one : (k : Option ℕ)
           → onlyFault k (unitAt x) (sizeAt (unitAt x)) ≡ faultOn (λ _. true) (λ _. k) unitAt sizeAt (x ∷ [])
-      one none = rw (same, tallyFault, none-less (sizeAt (unitAt x)))
+      one none = rw (same, censusFault, none-less (sizeAt (unitAt x)))
       one (some n) =
-          rw (same, eq-eqb n n refl, tallyFault, none-less (sizeAt (unitAt x)), none-less n, bigFault)
+          rw (same, eq-eqb n n refl, censusFault, none-less (sizeAt (unitAt x)), none-less n, bigFault)
 
       zero : (k : Option ℕ)
           → onlyFault k (unitAt x) (sizeAt (unitAt x)) ≡ faultOn (λ _. false) (λ _. k) unitAt sizeAt (x ∷ [])
-      zero none = rw (same, tallyFault, none-less (sizeAt (unitAt x)))
+      zero none = rw (same, censusFault, none-less (sizeAt (unitAt x)))
       zero (some n) =
-          rw (same, eq-eqb n n refl, tallyFault, none-less (sizeAt (unitAt x)), none-less n, bigFault)
+          rw (same, eq-eqb n n refl, censusFault, none-less (sizeAt (unitAt x)), none-less n, bigFault)
           (ends (ltb n 1) (ltb (sizeAt (unitAt x)) n))
 
       go : (c : Bool) → loneFault x ≡ faultOn (λ _. c) clueAt unitAt sizeAt (x ∷ [])

@@ -28,7 +28,7 @@ use Rattle.checker.specs.declared.Fault.the-variants.{Clear, InsideEdge,
 use Rattle.checker.specs.declared.Look.{Look}
 use Rattle.checker.specs.Arrays.{Parted, sizeIn}
 use Rattle.checker.specs.ArrayLaws.{part-none, part-more, part-at, part-length, part-count}
-use Rattle.checker.specs.Tallies.{optionOf, clueIn, option-clue, ofColour}
+use Rattle.checker.specs.Censuses.{optionOf, clueIn, option-clue, ofColour}
 use Rattle.checker.specs.BlockCases.{clue-free}
 use Rattle.checker.specs.Faults.{scanOn, faultOn}
 use Rattle.checker.specs.FaultCases.{own-parted}

@@ -30,14 +30,14 @@ use Rattle.rules.specs.Check.{clash, blockClue}
 use Rattle.checker.specs.declared.Clue.{Clue}
 use Rattle.checker.specs.declared.Clue.the-variants.{Free, Is}
 use Rattle.checker.specs.declared.Part.{Part}
-use Rattle.checker.specs.declared.Tally.{Tally}
+use Rattle.checker.specs.declared.Census.{Census}
 use Rattle.checker.specs.declared.Fault.{Fault}
 use Rattle.checker.specs.declared.Fault.the-variants.{Clear, InsideEdge, Inside}
-use Rattle.checker.specs.Tallies.{headOf, optionOf, clueIn, firstClue, option-clue, ofColour, ownUnit, partOf}
-use Rattle.checker.specs.Tallies.{tallyOf, coloured-more, clue-more}
+use Rattle.checker.specs.Censuses.{headOf, optionOf, clueIn, firstClue, option-clue, ofColour, ownUnit, partOf}
+use Rattle.checker.specs.Censuses.{censusOf, coloured-more, clue-more}
 use Rattle.checker.specs.Scan.{beq-eq, beq-refl, clash-none, clash-self, clash-cases}
 use Rattle.checker.specs.Faults.{orFault, isClear, firstFault, cellFault, smallFault, bigFault, clueFault}
-use Rattle.checker.specs.Faults.{tallyFault, scanOn, faultOn}
+use Rattle.checker.specs.Faults.{censusFault, scanOn, faultOn}
 use Rattle.checker.specs.FaultCases.{or-found, scan-stray, scan-clash, scan-clear, small-none, small-fits}
 use Rattle.checker.specs.FaultCases.{big-none, big-fits, clue-none, clue-big}
 
@@ -78,11 +78,11 @@ module _ (p : Part) (o : ℕ) (k : Clue) (a : ℕ) where
   below-clue n e (inl h) = omega arith
   below-clue n e (inr r) = r .2 n e .0
 
--- a tally whose two colours have room
-tally-clear : (t : Tally) (a b : ℕ) → Room (t .zero .size) (t .one .size) (t .clue) a
-    → Room (t .one .size) (t .zero .size) (t .clue) b → Clear ≡ tallyFault t a b
-unfolding tallyFault orFault
-tally-clear t a b r s =
+-- a census whose two colours have room
+census-clear : (t : Census) (a b : ℕ) → Room (t .zero .size) (t .one .size) (t .clue) a
+    → Room (t .one .size) (t .zero .size) (t .clue) b → Clear ≡ censusFault t a b
+unfolding censusFault orFault
+census-clear t a b r s =
     rw (← small-clear (t .zero) _ (t .clue) a (t .one) refl r, ← small-clear (t .one) _ (t .clue) b (t .zero) refl s)
     (go (t .clue) refl)
   where
@@ -319,9 +319,9 @@ module _ (colourAt : ℕ → Bool) (clueAt : ℕ → Option ℕ) (unitAt : ℕ �
 
     pub seen-clear : (sizeAt : ℕ → ℕ) → Room (length xs - n) n k (sizeAt (getD own 0 0))
         → Room n (length xs - n) k (sizeAt (getD own 1 0)) → Clear ≡ faultOn colourAt clueAt unitAt sizeAt xs
-    unfolding faultOn orFault tallyOf partOf
+    unfolding faultOn orFault censusOf partOf
     seen-clear sizeAt r q =
         rw seen-scan
-        (tally-clear (tallyOf colourAt clueAt unitAt xs) _ _
+        (census-clear (censusOf colourAt clueAt unitAt xs) _ _
         (rw (zeros-are, s .count) at (room-own sizeAt false _ _ zeros-are r))
         (rw (zeros-are, s .count) at (room-own sizeAt true _ _ (s .count) q)))

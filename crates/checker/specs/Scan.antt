@@ -15,9 +15,9 @@ use lib.Dec.{T, eqb, eqb→eq, eqb-refl, T-not}
 use Rattle.lists.specs.Tests.{same-test}
 use Rattle.lists.specs.Lists.{_∈_, keep, filter, any, firstHit, orElse}
 use Rattle.lists.specs.ListLaws.{any-mem, any-find, T-dec, T-and, T-and-l, T-and-r, neqb→ne}
-use Rattle.rules.specs.Page.{Puzzle, Mark}
+use Rattle.rules.specs.Page.{Puzzle, State}
 use Rattle.rules.specs.Groups.{potentialOf}
-use Rattle.checker.specs.Tallies.{headOf, ofColour, ownUnit}
+use Rattle.checker.specs.Censuses.{headOf, ofColour, ownUnit}
 use Rattle.rules.specs.Check.{Reason, hitIf, isSome, clash, blockClue, insideBlock, edgeOf, strayFrom}
 use Rattle.rules.specs.Check.{cellHit, cellHits}
 
@@ -55,7 +55,7 @@ clash-cases (some n) none e f = inl refl
 clash-cases (some n) (some o) e f =
     inr (⊎-elim (λ u. ap some (sym (eqb→eq n o u))) (λ u. absurd (rw e at u)) (T-dec (eqb n o)))
 
-module _ (Z : Puzzle) (s : ℕ → Mark) where
+module _ (Z : Puzzle) (s : ℕ → State) where
   -- the potential unit of the first cell of a colour
   abbrev own : List ℕ → Bool → ℕ
   own xs c = ownUnit (Z .colour) (Z .clue) (potentialOf Z s) xs c

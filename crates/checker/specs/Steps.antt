@@ -12,7 +12,7 @@ use native.Mathlib.Omega.{arith}
 use lib.IntN.{ℤ}
 use Rattle.lists.specs.Lists.{firstHit, range}
 use Rattle.rules.specs.Flat.{Sized, flat}
-use Rattle.rules.specs.Codes.{marksIn, coloursIn, cluesIn}
+use Rattle.rules.specs.Codes.{statesIn, coloursIn, cluesIn}
 use Rattle.rules.specs.Groups.{entry, blockCount}
 use Rattle.rules.specs.Reasons.{inside, edge}
 use Rattle.rules.specs.Check.{hitIf, insideBlock, edgeOf, blockHit, wallHits}
@@ -53,59 +53,59 @@ module _ {h w : ℕ} (z : Sized h w) (cs : List ℕ) (ks : List ℤ) (bs : List 
       fault-under (groupsIn Potential h w cs bs .count) some (coloursIn cs) (cluesIn ks)
       (entry (groupsIn Potential h w cs bs .ids)) (id-under z link) _ _))
 
-  step-one : firstHit (blockHit (puzzleIn h w cs ks) (marksIn bs))
-      (range (blockCount (puzzleIn h w cs ks) (marksIn bs)))
-      ≡ faultReason (puzzleIn h w cs ks) (marksIn bs) (faultyIn .block) (faultyIn .fault)
+  step-one : firstHit (blockHit (puzzleIn h w cs ks) (statesIn bs))
+      (range (blockCount (puzzleIn h w cs ks) (statesIn bs)))
+      ≡ faultReason (puzzleIn h w cs ks) (statesIn bs) (faultyIn .block) (faultyIn .fault)
   step-one =
-      faulty-hits (puzzleIn h w cs ks) (marksIn bs)
-      ∙ ap (λ (f : Faulty). faultReason (puzzleIn h w cs ks) (marksIn bs) (f .block) (f .fault))
+      faulty-hits (puzzleIn h w cs ks) (statesIn bs)
+      ∙ ap (λ (f : Faulty). faultReason (puzzleIn h w cs ks) (statesIn bs) (f .block) (f .fault))
       (sym (faulty-is z cs ks bs))
 
   -- Inside of a block and Edge of a potential unit, from the arrays
   pub inside-is : (B : ℕ)
-      → insideIn h w bs (groupsIn Blocks h w cs bs .ids) B ≡ insideBlock (puzzleIn h w cs ks) (marksIn bs) B
+      → insideIn h w bs (groupsIn Blocks h w cs bs .ids) B ≡ insideBlock (puzzleIn h w cs ks) (statesIn bs) B
   unfolding insideIn insideBlock
-  inside-is B = ap (λ (f : ℕ → ℕ). inside (flat h w) (marksIn bs) f B) (ids-are z cs ks bs Blocks)
+  inside-is B = ap (λ (f : ℕ → ℕ). inside (flat h w) (statesIn bs) f B) (ids-are z cs ks bs Blocks)
 
-  pub edge-is : edgeIn h w cs bs (groupsIn Potential h w cs bs .ids) ≡ edgeOf (puzzleIn h w cs ks) (marksIn bs)
+  pub edge-is : edgeIn h w cs bs (groupsIn Potential h w cs bs .ids) ≡ edgeOf (puzzleIn h w cs ks) (statesIn bs)
   unfolding edgeIn edgeOf
   edge-is =
-      fun-ext (λ P. ap (λ (f : ℕ → ℕ). edge (flat h w) (coloursIn cs) (marksIn bs) f P) (ids-are z cs ks bs Potential))
+      fun-ext (λ P. ap (λ (f : ℕ → ℕ). edge (flat h w) (coloursIn cs) (statesIn bs) f P) (ids-are z cs ks bs Potential))
 
   reason-is : (f : Faulty)
       → reasonIn h w cs bs (groupsIn Blocks h w cs bs .ids) (groupsIn Potential h w cs bs .ids) f
-      ≡ faultLiterals (insideBlock (puzzleIn h w cs ks) (marksIn bs) (f .block))
-      (edgeOf (puzzleIn h w cs ks) (marksIn bs)) (f .fault)
+      ≡ faultLiterals (insideBlock (puzzleIn h w cs ks) (statesIn bs) (f .block))
+      (edgeOf (puzzleIn h w cs ks) (statesIn bs)) (f .fault)
   unfolding reasonIn
   reason-is f = rw (inside-is (f .block), edge-is)
 
   pub one-hit : isClear (faultyIn .fault) ≡ false
-      → firstHit (blockHit (puzzleIn h w cs ks) (marksIn bs)) (range (blockCount (puzzleIn h w cs ks) (marksIn bs)))
+      → firstHit (blockHit (puzzleIn h w cs ks) (statesIn bs)) (range (blockCount (puzzleIn h w cs ks) (statesIn bs)))
       ≡ some (reasonIn h w cs bs (groupsIn Blocks h w cs bs .ids) (groupsIn Potential h w cs bs .ids) faultyIn)
   one-hit e =
-      step-one ∙ fault-some (puzzleIn h w cs ks) (marksIn bs) (faultyIn .block) (faultyIn .fault) e
+      step-one ∙ fault-some (puzzleIn h w cs ks) (statesIn bs) (faultyIn .block) (faultyIn .fault) e
       ∙ ap some (sym (reason-is faultyIn))
 
   pub one-none : isClear (faultyIn .fault) ≡ true
-      → firstHit (blockHit (puzzleIn h w cs ks) (marksIn bs)) (range (blockCount (puzzleIn h w cs ks) (marksIn bs)))
+      → firstHit (blockHit (puzzleIn h w cs ks) (statesIn bs)) (range (blockCount (puzzleIn h w cs ks) (statesIn bs)))
       ≡ none
-  one-none e = step-one ∙ clear-none (puzzleIn h w cs ks) (marksIn bs) (faultyIn .block) (faultyIn .fault) e
+  one-none e = step-one ∙ clear-none (puzzleIn h w cs ks) (statesIn bs) (faultyIn .block) (faultyIn .fault) e
 
   abbrev pub breachIn : Breach
-  breachIn = firstBreach (flat h w) (marksIn bs) (entry (groupsIn Blocks h w cs bs .ids))
+  breachIn = firstBreach (flat h w) (statesIn bs) (entry (groupsIn Blocks h w cs bs .ids))
 
-  step-two : firstHit (wallHits (puzzleIn h w cs ks) (marksIn bs)) (range (flat h w .cells))
-      ≡ breachReason (puzzleIn h w cs ks) (marksIn bs) breachIn
+  step-two : firstHit (wallHits (puzzleIn h w cs ks) (statesIn bs)) (range (flat h w .cells))
+      ≡ breachReason (puzzleIn h w cs ks) (statesIn bs) breachIn
   step-two =
-      breach-hits (puzzleIn h w cs ks) (marksIn bs)
-      ∙ ap (breachReason (puzzleIn h w cs ks) (marksIn bs)) (sym (breach-is z cs ks bs))
+      breach-hits (puzzleIn h w cs ks) (statesIn bs)
+      ∙ ap (breachReason (puzzleIn h w cs ks) (statesIn bs)) (sym (breach-is z cs ks bs))
 
   pub two-hit : breachIn .found ≡ true
-      → firstHit (wallHits (puzzleIn h w cs ks) (marksIn bs)) (range (flat h w .cells))
-      ≡ some (breachLiterals (flat h w) (marksIn bs) breachIn)
-  two-hit e = step-two ∙ breach-some (puzzleIn h w cs ks) (marksIn bs) breachIn e
+      → firstHit (wallHits (puzzleIn h w cs ks) (statesIn bs)) (range (flat h w .cells))
+      ≡ some (breachLiterals (flat h w) (statesIn bs) breachIn)
+  two-hit e = step-two ∙ breach-some (puzzleIn h w cs ks) (statesIn bs) breachIn e
 
   pub two-none : breachIn .found ≡ false
-      → firstHit (wallHits (puzzleIn h w cs ks) (marksIn bs)) (range (flat h w .cells)) ≡ none
+      → firstHit (wallHits (puzzleIn h w cs ks) (statesIn bs)) (range (flat h w .cells)) ≡ none
   unfolding breachReason hitIf
   two-none e = step-two ∙ rw e

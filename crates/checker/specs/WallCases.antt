@@ -7,10 +7,10 @@ use mathlib.Core.List.{List, [], _∷_, _++_}
 use Prim.Native.Nat.{ℕ, zero, suc, _+_, _-_, _*_, _<_, _≤_}
 use native.Mathlib.Nat.{mul-le-mul-right, add-mul}
 use native.Mathlib.Omega.{arith}
-use Rattle.rules.specs.Page.{Mark, Hop}
+use Rattle.rules.specs.Page.{State, Hop}
 use Rattle.rules.specs.Flat.{flat, aheadAt, hopIf}
 use Rattle.rules.specs.FlatLaws.{spot}
-use Rattle.rules.specs.Codes.{marksIn}
+use Rattle.rules.specs.Codes.{statesIn}
 use Rattle.rules.specs.Groups.{entry}
 use Rattle.reasons.specs.declared.Neighbour.{Neighbour}
 use Rattle.reasons.specs.Arrays.{Stepped, hopAt, hopsIn, hopOf}
@@ -18,7 +18,7 @@ use Rattle.checker.specs.declared.Breach.{Breach}
 use Rattle.checker.specs.Breaches.{noBreach, orBreach, isBreach, hopBreach, breachOn, breachFrom, firstBreach}
 
 unfoldable pub breachAt : ℕ → ℕ → List ℕ → List ℕ → ℕ → Breach
-breachAt h w bs ids c = breachOn (marksIn bs) (entry ids) c (flat h w .ahead c)
+breachAt h w bs ids c = breachOn (statesIn bs) (entry ids) c (flat h w .ahead c)
 
 -- r is what the code has of the first
 pub or-found : (r a b : Breach) → r ≡ a → r .found ≡ true → r ≡ orBreach a b
@@ -29,7 +29,7 @@ pub or-missed : (r a b : Breach) → r ≡ a → r .found ≡ false → orBreach
 unfolding orBreach
 or-missed r a b e f = rw (← e, f)
 
-module _ (s : ℕ → Mark) (block : ℕ → ℕ) (c : ℕ) where
+module _ (s : ℕ → State) (block : ℕ → ℕ) (c : ℕ) where
   pub on-append : (hs ks : List Hop) → breachOn s block c (hs ++ ks) ≡ orBreach (breachOn s block c hs)
       (breachOn s block c ks)
   unfolding breachOn orBreach
@@ -73,13 +73,13 @@ module _ (s : ℕ → Mark) (block : ℕ → ℕ) (c : ℕ) where
 module _ (h w y x : ℕ) (hy : y < h) (hx : x < w) (bs ids : List ℕ) (n k : Neighbour) (p : Stepped h w y x 1 n)
     (q : Stepped h w y x 3 k) where
   abbrev on : Neighbour → Breach
-  on r = breachOn (marksIn bs) (entry ids) (y * w + x) (hopsIn r)
+  on r = breachOn (statesIn bs) (entry ids) (y * w + x) (hopsIn r)
 
   pub cell-split : orBreach (on n) (on k) ≡ breachAt h w bs ids (y * w + x)
   unfolding breachAt flat aheadAt hopAt
   cell-split =
       rw (spot h w y x hy hx .row, spot h w y x hy hx .column, p .is, q .is)
-      (sym (on-append (marksIn bs) (entry ids) (y * w + x) (hopAt h w y x 1) (hopAt h w y x 3)))
+      (sym (on-append (statesIn bs) (entry ids) (y * w + x) (hopAt h w y x 1) (hopAt h w y x 3)))
 
 -- some cells, and then the others
 module _ (f : ℕ → Breach) where
@@ -120,7 +120,7 @@ module _ (f : ℕ → Breach) where
       rw (e, from-append w (h * w - (y + 1) * w) (y * w), n)
 
 pub page-start : (h w : ℕ) (bs ids : List ℕ)
-    → firstBreach (flat h w) (marksIn bs) (entry ids) ≡ breachFrom (breachAt h w bs ids) (h * w - 0 * w) (0 * w)
+    → firstBreach (flat h w) (statesIn bs) (entry ids) ≡ breachFrom (breachAt h w bs ids) (h * w - 0 * w) (0 * w)
 unfolding firstBreach breachAt flat
 page-start h w bs ids =
     let z : 0 * w ≡ 0 = omega arith in

@@ -13,7 +13,7 @@ use mathlib.Core.Option.{some}
 use Prim.Native.Nat.{ℕ}
 use native.Mathlib.Omega.{arith}
 use Rattle.rules.specs.declared.Literal.{Literal}
-use Rattle.rules.specs.Page.{Page, Puzzle, Mark, wallAt}
+use Rattle.rules.specs.Page.{Page, Puzzle, State, wallAt}
 use Rattle.rules.specs.Reasons.{path}
 use Rattle.rules.specs.Check.{hitIf, insideBlock, edgeOf}
 use Rattle.reasons.specs.Arrays.{insideIn, edgeIn}
@@ -42,10 +42,10 @@ unfoldable pub reasonIn : ℕ → ℕ → List ℕ → List ℕ → List ℕ →
 reasonIn h w cs bs blocks units f =
     faultLiterals (insideIn h w bs blocks (f .block)) (edgeIn h w cs bs units) (f .fault)
 
-unfoldable pub breachLiterals : Page → (ℕ → Mark) → Breach → List Literal
+unfoldable pub breachLiterals : Page → (ℕ → State) → Breach → List Literal
 breachLiterals G s b = path G s (b .cell) (b .to) ++ (wallAt (b .border) ∷ [])
 
-module _ (Z : Puzzle) (s : ℕ → Mark) where
+module _ (Z : Puzzle) (s : ℕ → State) where
   pub fault-some : (B : ℕ) (f : Fault) → isClear f ≡ false
       → faultReason Z s B f ≡ some (faultLiterals (insideBlock Z s B) (edgeOf Z s) f)
   unfolding faultReason faultLiterals

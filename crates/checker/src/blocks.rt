@@ -7,25 +7,25 @@ ghost use lib.ListN.{getD};
 ghost use Rattle.rules.specs.Codes.{coloursIn, cluesIn};
 ghost use Rattle.rules.specs.Groups.{entry};
 ghost use Rattle.rules.specs.Check.{clash};
-ghost use Rattle.checker.specs.Tallies.{optionOf};
+ghost use Rattle.checker.specs.Censuses.{optionOf};
 ghost use Rattle.groups.specs.Parts.{partOf};
 ghost use Rattle.reasons.specs.Arrays.{part};
 ghost use Rattle.checker.specs.Arrays.{Listed, Lists, Parted, sizeIn};
-ghost use Rattle.checker.specs.Faults.{orFault, isClear, smallFault, bigFault, clueFault, tallyFault};
+ghost use Rattle.checker.specs.Faults.{orFault, isClear, smallFault, bigFault, clueFault, censusFault};
 ghost use Rattle.checker.specs.Faults.{scanOn, faultOn};
 ghost use Rattle.checker.specs.Faulty.{firstFaulty};
 ghost use Rattle.checker.specs.LoneCases.{loneFault};
 ghost use Rattle.checker.specs.Looks.{bitOf, Room};
+use crate::Census;
 use crate::Clue;
 use crate::Fault;
 use crate::Faulty;
 use crate::Look;
 use crate::Part;
-use crate::Tally;
-use crate::tallies::clue_at;
-use crate::tallies::first_clue;
-use crate::tallies::tally;
-use crate::wide;
+use crate::censuses::census;
+use crate::censuses::clue_at;
+use crate::censuses::first_clue;
+use rules::index;
 
 // Whether two cells have clues that differ.
 fn clash(a: Clue, b: Clue) -> bool
@@ -108,9 +108,9 @@ fn clue_fault(clue: Clue, p: Part, q: Part, a: usize, b: usize) -> Fault
     or_fault(big_fault(n, p, a), big_fault(n, q, b))
 }
 
-// What a tally shows; a and b are the sizes of the two potential units.
-fn tally_fault(t: Tally, a: usize, b: usize) -> Fault
-    ensures { λ r. ⌜ r ≡ tallyFault t a b ⌝ }
+// What a census shows; a and b are the sizes of the two potential units.
+fn census_fault(t: Census, a: usize, b: usize) -> Fault
+    ensures { λ r. ⌜ r ≡ censusFault t a b ⌝ }
 {
     let zero = t.zero;
     let one = t.one;
@@ -124,7 +124,7 @@ fn size_of(offs: &[u16; 1025], g: usize) -> usize
     requires { ⌜ (g < 1024) × (getD (now offs) g 0 ≤ getD (now offs) (g + 1) 0) ⌝ }
     ensures { λ r. ⌜ r ≡ sizeIn (now (offs .entry)) g ⌝ }
 {
-    wide(offs[g + 1]) - wide(offs[g])
+    index(offs[g + 1]) - index(offs[g])
 }
 
 // What is wrong with a block of the one cell c; ids and offs are those of the potential units.
@@ -145,7 +145,7 @@ fn lone_fault<'a>(
     if n == 0 {
         return Fault::Inside;
     }
-    let unit = wide(ids[c]);
+    let unit = index(ids[c]);
     if n <= size_of(offs, unit) {
         return Fault::Clear;
     }
@@ -195,7 +195,7 @@ fn settled(f: Fault) -> Look
 }
 
 // One look at the cells from..to. It ends at the first cell at which something is wrong. Where there is none, nothing
-// is wrong if both colours have room; else a tally is to tell. The first potential unit of a colour is kept at the
+// is wrong if both colours have room; else a census is to tell. The first potential unit of a colour is kept at the
 // colour's place, where 1,024 stands for none.
 fn look<'a>(
     colours: &'a [u8; 1024],
@@ -218,8 +218,8 @@ fn look<'a>(
     let mut ones = 0;
     let mut i = from;
     while i < to {
-        let c = wide(cells[i]);
-        let unit = wide(ids[c]);
+        let c = index(cells[i]);
+        let unit = index(ids[c]);
         let one = bit(colours[c]);
         if own[one] != unit {
             if own[one] != 1024 {
@@ -266,16 +266,16 @@ pub fn block_fault<'a>(
         (part (now (cells .entry)) from to) ⌝ }
 {
     if to == from + 1 {
-        return lone_fault(clues, ids, offs, wide(cells[from]));
+        return lone_fault(clues, ids, offs, index(cells[from]));
     }
     let seen = look(colours, clues, ids, offs, cells, from, to);
     if seen.settled {
         return seen.fault;
     }
-    let t = tally(colours, clues, ids, cells, from, to);
+    let t = census(colours, clues, ids, cells, from, to);
     let zero = t.zero;
     let one = t.one;
-    tally_fault(t, size_of(offs, zero.unit), size_of(offs, one.unit))
+    census_fault(t, size_of(offs, zero.unit), size_of(offs, one.unit))
 }
 
 // The first of `count` blocks with which something is wrong; ids and offs are those of the potential units, cells and
@@ -304,8 +304,8 @@ pub fn first_faulty<'a>(
             ids,
             offs,
             cells,
-            wide(starts[b]),
-            wide(starts[b + 1]),
+            index(starts[b]),
+            index(starts[b + 1]),
         );
         if is_clear(fault) {
             b += 1;

@@ -1,17 +1,10 @@
 // Check: the three steps of 01's Check, over the arrays of a board and its groups.
 pub mod blocks; // blocks.rt: step 1
-mod tallies; // tallies.rt: what it asks of a block's cells
+mod censuses; // censuses.rt: what it asks of a block's cells
 pub mod walls; // walls.rt: step 2
 pub mod write; // write.rt: their reasons
 
 ghost use mathlib.Core.Path.{_≡_};
-
-// A number of a list as an index.
-fn wide(x: u16) -> usize
-    ensures { λ r. ⌜ r ≡ x ⌝ }
-{
-    x as usize
-}
 
 // A cell's clue.
 pub enum Clue {
@@ -27,7 +20,7 @@ pub struct Part {
 }
 
 // What step 1 asks of a block's cells: those of each colour, and the first clue.
-pub struct Tally {
+pub struct Census {
     pub zero: Part,
     pub one: Part,
     pub clue: Clue,

@@ -4,7 +4,7 @@ ghost use mathlib.Core.Bool.{true, _&&_};
 ghost use Prim.Native.Nat.{_+_, _*_, _<_, _≤_};
 ghost use lib.Dec.{eqb};
 ghost use Rattle.rules.specs.Flat.{Sized, flat};
-ghost use Rattle.rules.specs.Codes.{marksIn};
+ghost use Rattle.rules.specs.Codes.{statesIn};
 ghost use Rattle.rules.specs.Groups.{entry};
 ghost use Rattle.reasons.specs.Arrays.{Arrays, Fits, hopsIn, hopOf};
 ghost use Rattle.checker.specs.Breaches.{noBreach, isBreach, breachOn, breachFrom, firstBreach};
@@ -17,7 +17,7 @@ use reasons::Neighbour;
 // The border to the neighbour n of the cell c is wall, and n is in the block of c. False if there is no neighbour.
 fn is_breach<'a>(borders: &'a [u8; 1984], ids: &'a [u16; 1024], c: usize, n: Neighbour) -> bool
     requires { ⌜ Arrays (now borders) (now ids) × (c < 1024) × (n .some ≡ true → Fits n) ⌝ }
-    ensures { λ r. ⌜ r ≡ (n .some && isBreach (marksIn (now (borders .entry))) (entry (now (ids .entry))) c
+    ensures { λ r. ⌜ r ≡ (n .some && isBreach (statesIn (now (borders .entry))) (entry (now (ids .entry))) c
         (hopOf n)) ⌝ }
 {
     if !n.some {
@@ -46,7 +46,7 @@ fn nothing() -> Breach
 // The breach over the border to the neighbour n of the cell c, if there is one.
 fn hop_breach<'a>(borders: &'a [u8; 1984], ids: &'a [u16; 1024], c: usize, n: Neighbour) -> Breach
     requires { ⌜ Arrays (now borders) (now ids) × (c < 1024) × (n .some ≡ true → Fits n) ⌝ }
-    ensures { λ r. ⌜ r ≡ breachOn (marksIn (now (borders .entry))) (entry (now (ids .entry))) c (hopsIn n) ⌝ }
+    ensures { λ r. ⌜ r ≡ breachOn (statesIn (now (borders .entry))) (entry (now (ids .entry))) c (hopsIn n) ⌝ }
 {
     if is_breach(borders, ids, c, n) {
         return Breach {
@@ -102,10 +102,10 @@ fn row_breach<'a>(
 }
 
 // 1 for a wall between two cells of one block, else 0.
-fn hit(mark: u8, a: u16, b: u16) -> u16
-    ensures { λ r. ⌜ r ≡ bitOf (eqb mark 1 && eqb a b) ⌝ }
+fn hit(state: u8, a: u16, b: u16) -> u16
+    ensures { λ r. ⌜ r ≡ bitOf (eqb state 1 && eqb a b) ⌝ }
 {
-    if mark != 1 {
+    if state != 1 {
         return 0;
     }
     if a != b {
@@ -125,7 +125,7 @@ fn count_hits<'a>(
     n: usize,
 ) -> u16
     requires { ⌜ Arrays (now borders) (now ids) × (at + n ≤ 1984) × (c + n ≤ 1024) × (d + n ≤ 1024) ⌝ }
-    ensures { λ r. ⌜ (r ≡ 0 → Apart (marksIn (now (borders .entry))) (entry (now (ids .entry))) at c d n) ⌝ }
+    ensures { λ r. ⌜ (r ≡ 0 → Apart (statesIn (now (borders .entry))) (entry (now (ids .entry))) at c d n) ⌝ }
 {
     let mut hits: u16 = 0;
     let mut i = 0;
@@ -139,7 +139,7 @@ fn count_hits<'a>(
 // Whether there is no breach: none over the borders below, and none over those on the right of each row.
 fn is_clean<'a>(h: usize, w: usize, borders: &'a [u8; 1984], ids: &'a [u16; 1024]) -> bool
     requires { ⌜ Sized h w × Arrays (now borders) (now ids) ⌝ }
-    ensures { λ r. ⌜ (r ≡ true → noBreach ≡ firstBreach (flat h w) (marksIn (now (borders .entry)))
+    ensures { λ r. ⌜ (r ≡ true → noBreach ≡ firstBreach (flat h w) (statesIn (now (borders .entry)))
         (entry (now (ids .entry)))) ⌝ }
 {
     if count_hits(borders, ids, h * (w - 1), 0, w, (h - 1) * w) != 0 {
@@ -158,7 +158,7 @@ fn is_clean<'a>(h: usize, w: usize, borders: &'a [u8; 1984], ids: &'a [u16; 1024
 // The first breach, row by row; ids are the blocks' numbers.
 pub fn first_breach<'a>(h: usize, w: usize, borders: &'a [u8; 1984], ids: &'a [u16; 1024]) -> Breach
     requires { ⌜ Sized h w × Arrays (now borders) (now ids) ⌝ }
-    ensures { λ r. ⌜ r ≡ firstBreach (flat h w) (marksIn (now (borders .entry))) (entry (now (ids .entry))) ⌝ }
+    ensures { λ r. ⌜ r ≡ firstBreach (flat h w) (statesIn (now (borders .entry))) (entry (now (ids .entry))) ⌝ }
 {
     if is_clean(h, w, borders, ids) {
         return nothing();

@@ -3,7 +3,7 @@ ghost use mathlib.Core.Path.{_≡_};
 ghost use Prim.Native.Nat.{_+_, _<_, _≤_};
 ghost use lib.ListN.{length};
 ghost use Rattle.rules.specs.Flat.{Sized, flat};
-ghost use Rattle.rules.specs.Codes.{marksIn};
+ghost use Rattle.rules.specs.Codes.{statesIn};
 ghost use Rattle.reasons.specs.Memory.{Wrote};
 ghost use Rattle.reasons.specs.Arrays.{insideIn, edgeIn};
 ghost use Rattle.checker.specs.Arrays.{Numbered};
@@ -11,7 +11,7 @@ ghost use Rattle.checker.specs.Written.{faultUnit, reasonIn, breachLiter
 use crate::Breach;
 use crate::Fault;
 use crate::Faulty;
-use crate::wide;
+use rules::index;
 
 // Inside of the group g, from the place `from`; gives the next place. offs are the places where the groups start.
 fn write_inside<'a>(
@@ -30,8 +30,8 @@ fn write_inside<'a>(
     ensures { λ r. ⌜ Wrote (now (memory .entry)) from (insideIn h w (now (borders .entry)) (now (ids .entry)) g)
         (now (memory .exit)) r ⌝ }
 {
-    let start = wide(offs[g]);
-    let end = wide(offs[g + 1]);
+    let start = index(offs[g]);
+    let end = index(offs[g + 1]);
     reasons::inside(memory, from, h, w, borders, ids, cells, start, end, g)
 }
 
@@ -54,8 +54,8 @@ fn write_edge<'a>(
     ensures { λ r. ⌜ Wrote (now (memory .entry)) from (edgeIn h w (now (colours .entry)) (now (borders .entry))
         (now (ids .entry)) g) (now (memory .exit)) r ⌝ }
 {
-    let start = wide(offs[g]);
-    let end = wide(offs[g + 1]);
+    let start = index(offs[g]);
+    let end = index(offs[g + 1]);
     reasons::edge(
         memory,
         from,
@@ -120,8 +120,8 @@ pub fn write_breach(
     breach: Breach,
 ) -> usize
     requires { ⌜ Sized h w × (length (now borders) ≡ 1984) × (breach .border < 1984)
-        × (length (breachLiterals (flat h w) (marksIn (now borders)) breach) ≤ length (now memory)) ⌝ }
-    ensures { λ r. ⌜ Wrote (now (memory .entry)) 0 (breachLiterals (flat h w) (marksIn (now (borders .entry))) breach)
+        × (length (breachLiterals (flat h w) (statesIn (now borders)) breach) ≤ length (now memory)) ⌝ }
+    ensures { λ r. ⌜ Wrote (now (memory .entry)) 0 (breachLiterals (flat h w) (statesIn (now (borders .entry))) breach)
         (now (memory .exit)) r ⌝ }
 {
     reasons::paths::wall_reason(memory, h, w, borders, breach.cell, breach.to, breach.border)

@@ -1,10 +1,10 @@
 // The page program: a page on standard input, its answers on standard output. It reads the whole page, and then writes
-// piece after piece as crate answers puts them.
+// chunk after chunk as crate answers puts them.
 //
-// What the pieces are together is proved in crate answers (specs/PageTheorem, `printed`). Here it is proved that the
+// What the chunks are together is proved in crate answers (specs/PageTheorem, `printed`). Here it is proved that the
 // program is safe, keeps to fixed memory, has room for one byte more than a page has and for 16,384 literals, and ends.
 // To be read, and tested: that `answer` begins with `first()`, calls `next` on what the last call left, and writes each
-// piece once. Assumed, since nothing proves C: that `read` and `write` do what POSIX says of them, each returns, and
+// chunk once. Assumed, since nothing proves C: that `read` and `write` do what POSIX says of them, each returns, and
 // their counts lie within the buffer (kit's library libc); that `io::write_all` writes each byte once and in order is
 // tested by the kit, and is not part of its contract.
 ghost use mathlib.Core.Path.{_≡_};

@@ -9,7 +9,7 @@ use Rattle.board.specs.declared.Board.{Board}
 use Rattle.board.specs.declared.Outcome.{Outcome}
 use Rattle.board.specs.declared.Outcome.the-variants.{Done, Alien}
 use Rattle.board.specs.Alien.{isAlien}
-use Rattle.board.specs.View.{puzzleOf, marksOf}
+use Rattle.board.specs.View.{puzzleOf, statesOf}
 use Rattle.groups.specs.declared.Kind.{Kind}
 use Rattle.groups.specs.declared.Groups.{Groups}
 use Rattle.groups.specs.declared.Answer.{Answer}
@@ -27,4 +27,4 @@ unfoldable pub askedOf : Board → Kind → Answer
 askedOf b kind =
     cond (isAlien b)
     (answered Alien noGroups)
-    (answered Done (groupsOf (puzzleOf b .page) (linkOf kind (puzzleOf b) (marksOf b))))
+    (answered Done (groupsOf (puzzleOf b .page) (linkOf kind (puzzleOf b) (statesOf b))))

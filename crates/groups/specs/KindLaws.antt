@@ -11,23 +11,23 @@ use Rattle.rules.specs.Page.{Puzzle, isOpen, isWall}
 use Rattle.rules.specs.Rules.{oneColour, joinsBlock, joinsUnit}
 use Rattle.rules.specs.Groups.{joinsPotential}
 use Rattle.rules.specs.Flat.{flat, flatFirst, flatSecond}
-use Rattle.rules.specs.Codes.{markOf, marksIn, coloursIn}
+use Rattle.rules.specs.Codes.{stateOf, statesIn, coloursIn}
 use Rattle.groups.specs.declared.Kind.{Kind}
 use Rattle.groups.specs.declared.Kind.the-variants.{Blocks, Units, Potential}
 use Rattle.groups.specs.Kinds.{linkOf, coloured, joinsIn, oneColourBy, joinsBy}
 
-open-mark : (v : ℕ) → isOpen (markOf v) ≡ eqb v 2
-open-mark v = go (ℕ-discrete v 1) (ℕ-discrete v 2)
+open-state : (v : ℕ) → isOpen (stateOf v) ≡ eqb v 2
+open-state v = go (ℕ-discrete v 1) (ℕ-discrete v 2)
   where
-    go : Dec (v ≡ 1) → Dec (v ≡ 2) → isOpen (markOf v) ≡ eqb v 2
+    go : Dec (v ≡ 1) → Dec (v ≡ 2) → isOpen (stateOf v) ≡ eqb v 2
     go (yes e) d = rw e
     go (no n) (yes e) = rw e
     go (no n) (no m) = rw (ne-eqb v 1 n, ne-eqb v 2 m)
 
-wall-mark : (v : ℕ) → isWall (markOf v) ≡ eqb v 1
-wall-mark v = go (ℕ-discrete v 1) (ℕ-discrete v 2)
+wall-state : (v : ℕ) → isWall (stateOf v) ≡ eqb v 1
+wall-state v = go (ℕ-discrete v 1) (ℕ-discrete v 2)
   where
-    go : Dec (v ≡ 1) → Dec (v ≡ 2) → isWall (markOf v) ≡ eqb v 1
+    go : Dec (v ≡ 1) → Dec (v ≡ 2) → isWall (stateOf v) ≡ eqb v 1
     go (yes e) d = rw e
     go (no n) (yes e) = rw e
     go (no n) (no m) = rw (ne-eqb v 1 n, ne-eqb v 2 m)
@@ -36,15 +36,15 @@ wall-mark v = go (ℕ-discrete v 1) (ℕ-discrete v 2)
 module _ (v a b : ℕ) where
   pub joins-block : eqb v 2 ≡ joinsBy Blocks v a b
   unfolding joinsBy
-  joins-block = sym (open-mark v)
+  joins-block = sym (open-state v)
 
   pub joins-unit : (eqb v 2 && oneColourBy a b) ≡ joinsBy Units v a b
   unfolding joinsBy
-  joins-unit = rw (open-mark v)
+  joins-unit = rw (open-state v)
 
   pub joins-potential : (not (eqb v 1) && oneColourBy a b) ≡ joinsBy Potential v a b
   unfolding joinsBy
-  joins-potential = rw (wall-mark v)
+  joins-potential = rw (wall-state v)
 
 one-colour-at : (h w : ℕ) (cs : List ℕ) (b : ℕ)
     → oneColour (coloured h w cs) b ≡ oneColourBy (getD cs (flatFirst h w b) 0) (getD cs (flatSecond h w b) 0)
@@ -54,14 +54,14 @@ one-colour-at h w cs b = refl
 -- what joins, read over the arrays
 pub joins-at : (k : Kind) (h w : ℕ) (cs bs : List ℕ) (b : ℕ)
     → joinsIn k h w cs bs b ≡ joinsBy k (getD bs b 0) (getD cs (flatFirst h w b) 0) (getD cs (flatSecond h w b) 0)
-unfolding joinsIn linkOf joinsBlock joinsUnit joinsPotential marksIn joinsBy
+unfolding joinsIn linkOf joinsBlock joinsUnit joinsPotential statesIn joinsBy
 joins-at Blocks h w cs bs b = refl
 joins-at Units h w cs bs b = rw (one-colour-at h w cs b)
 joins-at Potential h w cs bs b = rw (one-colour-at h w cs b)
 
 -- a puzzle's clues do not matter
 pub link-in : (k : Kind) (Z : Puzzle) (h w : ℕ) (cs bs : List ℕ) → Z .page ≡ flat h w → Z .colour ≡ coloursIn cs
-    → linkOf k Z (marksIn bs) ≡ joinsIn k h w cs bs
+    → linkOf k Z (statesIn bs) ≡ joinsIn k h w cs bs
 unfolding joinsIn linkOf coloured joinsBlock joinsUnit joinsPotential oneColour
 link-in Blocks Z h w cs bs p q = refl
 link-in Units Z h w cs bs p q = rw (p, q)

@@ -10,17 +10,17 @@ use mathlib.Core.List.{List}
 use mathlib.Core.Option.{none}
 use Prim.Native.Nat.{ℕ}
 use lib.Dec.{eqb}
-use Rattle.rules.specs.Page.{Puzzle, Mark, isOpen, isWall}
+use Rattle.rules.specs.Page.{Puzzle, State, isOpen, isWall}
 use Rattle.rules.specs.Rules.{joinsBlock, joinsUnit}
 use Rattle.rules.specs.Groups.{joinsPotential}
 use Rattle.rules.specs.Flat.{flat}
-use Rattle.rules.specs.Codes.{markOf, marksIn, coloursIn}
+use Rattle.rules.specs.Codes.{stateOf, statesIn, coloursIn}
 use Rattle.groups.specs.declared.Kind.{Kind}
 use Rattle.groups.specs.declared.Kind.the-variants.{Blocks, Units, Potential}
 
 -- "Blocks join over open borders, units over open borders of one colour, potential units over open or undecided
 -- borders of one colour"
-unfoldable pub linkOf : Kind → Puzzle → (ℕ → Mark) → ℕ → Bool
+unfoldable pub linkOf : Kind → Puzzle → (ℕ → State) → ℕ → Bool
 linkOf Blocks Z s = joinsBlock Z s
 linkOf Units Z s = joinsUnit Z s
 linkOf Potential Z s = joinsPotential Z s
@@ -29,13 +29,13 @@ unfoldable pub coloured : ℕ → ℕ → List ℕ → Puzzle
 coloured h w cs = record { page = flat h w; colour = coloursIn cs; clue = λ c. none }
 
 unfoldable pub joinsIn : Kind → ℕ → ℕ → List ℕ → List ℕ → ℕ → Bool
-joinsIn kind h w cs bs = linkOf kind (coloured h w cs) (marksIn bs)
+joinsIn kind h w cs bs = linkOf kind (coloured h w cs) (statesIn bs)
 
 -- both are 1, or neither is
 unfoldable pub oneColourBy : ℕ → ℕ → Bool
 oneColourBy a b = Bool·beq (eqb a 1) (eqb b 1)
 
 unfoldable pub joinsBy : Kind → ℕ → ℕ → ℕ → Bool
-joinsBy Blocks v a b = isOpen (markOf v)
-joinsBy Units v a b = isOpen (markOf v) && oneColourBy a b
-joinsBy Potential v a b = not (isWall (markOf v)) && oneColourBy a b
+joinsBy Blocks v a b = isOpen (stateOf v)
+joinsBy Units v a b = isOpen (stateOf v) && oneColourBy a b
+joinsBy Potential v a b = not (isWall (stateOf v)) && oneColourBy a b

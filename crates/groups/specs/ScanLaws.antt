@@ -97,7 +97,7 @@ module _ (w : ℕ) (left above : ℕ → Bool) where
     earlier : (i : ℕ) → i < k → (1 ≤ getD cs i 0) × (getD cs i 0 < c + 1)
     earlier i h = let q = s .few i h in (omega arith, omega arith)
 
-    -- a cell that is joined to no earlier one; the first cell, whatever its marks
+    -- a cell that is joined to no earlier one; the first cell, whatever its flags
     pub scan-own : (left c ≡ true → c ≡ 0) → (w ≤ c → above c ≡ false) → Scanned (c + 1) w left above (set p c c) cs k
     scan-own l a =
         scan-set c p cs k f room s c (omega arith) (λ h. absurd (omega arith)) (λ L t. refl) cs k earlier (s .joins)
@@ -208,25 +208,25 @@ module _ (w : ℕ) (left above : ℕ → Bool) where
         rw (add-zero k)
         (scan-own c p (set cs k c) k f room (scan-spare c p cs k c s) (λ z. false-true el z) (λ z. eu))
 
--- marks that are equal on the page serve as well
+-- flags that are equal on the page serve as well
 module _ (n w : ℕ) (left above beside over : ℕ → Bool) (l : (c : ℕ) → c < n → left c ≡ beside c)
     (a : (c : ℕ) → c < n → above c ≡ over c) where
-  tied-marks : (L : List ℕ) → Tied n w left above L → Tied n w beside over L
-  tied-marks L t =
+  tied-flags : (L : List ℕ) → Tied n w left above L → Tied n w beside over L
+  tied-flags L t =
       record { beside = λ c h e. t .beside c h (l c h ∙ e); over = λ c h k e. t .over c h k (a c h ∙ e) }
 
   tied-back : (L : List ℕ) → Tied n w beside over L → Tied n w left above L
   tied-back L t =
       record { beside = λ c h e. t .beside c h (sym (l c h) ∙ e); over = λ c h k e. t .over c h k (sym (a c h) ∙ e) }
 
-  pub scan-marks : {p cs : List ℕ} {k : ℕ} → Scanned n w left above p cs k → Scanned n w beside over p cs k
-  scan-marks s =
+  pub scan-flags : {p cs : List ℕ} {k : ℕ} → Scanned n w left above p cs k → Scanned n w beside over p cs k
+  scan-flags s =
       record {
         twice = s .twice;
         sound = λ L t. s .sound L (tied-back L t);
         few = s .few;
         joins = λ i h. sym (l _ (s .few i h .1)) ∙ s .joins i h;
-        whole = λ L g d. tied-marks L (s .whole L g d);
+        whole = λ L g d. tied-flags L (s .whole L g d);
       }
 
 -- such a parent is no later

@@ -1,4 +1,4 @@
--- Laws of the marks on a flat page: they say which borders join, and the pass over them leads to the labels.
+-- Laws of the flags on a flat page: they say which borders join, and the pass over them leads to the labels.
 use mathlib.Core.Path.{_≡_, refl, sym, ap, _∙_}
 use mathlib.Core.Bool.{Bool, true, false}
 use mathlib.Core.List.{List}
@@ -16,41 +16,41 @@ use Rattle.rules.specs.Flat.{Sized, flat, flatFirst, flatSecond, borderCount}
 use Rattle.rules.specs.FlatLaws.{counts}
 use Rattle.rules.specs.Groups.{entry}
 use Rattle.groups.specs.Forests.{after, Labelled, Forest, Rep}
-use Rattle.groups.specs.Ties.{leftAt, aboveAt, Marked, Tied, Scanned, joined}
+use Rattle.groups.specs.Ties.{leftAt, aboveAt, Flagged, Tied, Scanned, joined}
 use Rattle.groups.specs.LabelLaws.{labelled-after}
 use Rattle.groups.specs.GridLaws.{right-first, right-second, right-lt, below-first, below-second, below-lt}
 use Rattle.groups.specs.ScanLaws.{false-true}
 use Rattle.groups.specs.MergeLaws.{labels-one, after-meets, after-sound}
 use Rattle.groups.specs.MergeLaws.{joined-labels, joined-keeps, joined-meets, joined-sound}
 
--- one more mark
-pub marked-more : (n m : ℕ) (f : ℕ → Bool) (marks : List Bool) (v : Bool) → n < 1024 → v ≡ f n → m ≡ n + 1
-    → Marked n f marks → Marked m f (set marks n v)
-marked-more n m f marks v h e q s =
+-- one more flag
+pub flagged-more : (n m : ℕ) (f : ℕ → Bool) (flags : List Bool) (v : Bool) → n < 1024 → v ≡ f n → m ≡ n + 1
+    → Flagged n f flags → Flagged m f (set flags n v)
+flagged-more n m f flags v h e q s =
     rw q
     (record {
-      long = length-set marks n v ∙ s .long;
-      at = stored-more f false v marks n (omega (arith, s .long)) e (s .at);
+      long = length-set flags n v ∙ s .long;
+      at = stored-more f false v flags n (omega (arith, s .long)) e (s .at);
     })
 
--- a mark past those that matter
-pub marked-past : (n i : ℕ) (f : ℕ → Bool) (marks : List Bool) (v : Bool) → n ≤ i → Marked n f marks
-    → Marked n f (set marks i v)
-marked-past n i f marks v h s =
+-- a flag past those that matter
+pub flagged-past : (n i : ℕ) (f : ℕ → Bool) (flags : List Bool) (v : Bool) → n ≤ i → Flagged n f flags
+    → Flagged n f (set flags i v)
+flagged-past n i f flags v h s =
     record {
-      long = length-set marks i v ∙ s .long;
-      at = λ x l. getD-set-other marks i x v false (λ e. omega arith) ∙ s .at x l;
+      long = length-set flags i v ∙ s .long;
+      at = λ x l. getD-set-other flags i x v false (λ e. omega arith) ∙ s .at x l;
     }
 
-pub marked-none : (f : ℕ → Bool) (marks : List Bool) → length marks ≡ 1024 → Marked 0 f marks
-marked-none f marks e = record { long = e; at = λ x h. absurd (omega arith) }
+pub flagged-none : (f : ℕ → Bool) (flags : List Bool) → length flags ≡ 1024 → Flagged 0 f flags
+flagged-none f flags e = record { long = e; at = λ x h. absurd (omega arith) }
 
-unmarked : (n k : ℕ) → getD (replicate n false) k false ≡ false
-unmarked zero k = refl
-unmarked (suc n) zero = refl
-unmarked (suc n) (suc k) = unmarked n k
+unflagged : (n k : ℕ) → getD (replicate n false) k false ≡ false
+unflagged zero k = refl
+unflagged (suc n) zero = refl
+unflagged (suc n) (suc k) = unflagged n k
 
--- the marks at a place
+-- the flags at a place
 module _ (h w : ℕ) (link : ℕ → Bool) where
   left-none : (c : ℕ) → c % w ≡ 0 → leftAt h w link c ≡ false
   unfolding leftAt
@@ -74,12 +74,12 @@ module _ (h w : ℕ) (link : ℕ → Bool) where
   unfolding aboveAt
   above-at c = let e : c + w - w ≡ c = omega arith in rw (le-ltb (c + w) w (omega arith), e)
 
-  -- the first row's marks are those of an array without marks
-  pub above-none : (marks : List Bool) → marks ≡ replicate 1024 false → Marked w (aboveAt h w link) marks
-  above-none marks e =
+  -- the first row's flags are those of an array without flags
+  pub above-none : (flags : List Bool) → flags ≡ replicate 1024 false → Flagged w (aboveAt h w link) flags
+  above-none flags e =
       rw e (record {
         long = length-replicate 1024 false;
-        at = λ x l. unmarked 1024 x ∙ sym (above-first x l);
+        at = λ x l. unflagged 1024 x ∙ sym (above-first x l);
       })
 
 -- a border is right of a cell or below one

@@ -10,7 +10,7 @@ ghost use Rattle.rules.specs.Flat.{Sized};
 ghost use Rattle.rules.specs.Groups.{entry, mergeIf};
 ghost use Rattle.groups.specs.Kinds.{oneColourBy, joinsBy, joinsIn};
 ghost use Rattle.groups.specs.Forests.{Forest, Rep, Linked};
-ghost use Rattle.groups.specs.Ties.{leftAt, aboveAt, markAt, Marked, Scanned, joined};
+ghost use Rattle.groups.specs.Ties.{leftAt, aboveAt, flagAt, Flagged, Scanned, joined};
 ghost use Rattle.groups.specs.Arrays.{Blank};
 use crate::Kind;
 use board::Board;
@@ -70,7 +70,7 @@ fn join(p: &mut [u16; Board::CELL_LIMIT], a: usize, b: usize)
 }
 
 // Whether each cell of row y is joined to the cell left of it; the first never is. It takes the row's borders, or one
-// more: the mark past the row's end is written over later. The loop takes 32 borders at a time, but not 31.
+// more: the flag past the row's end is written over later. The loop takes 32 borders at a time, but not 31.
 fn row<'a>(
     kind: Kind,
     h: usize,
@@ -82,8 +82,8 @@ fn row<'a>(
     lefts: &mut [bool; Board::CELL_LIMIT],
 )
     requires { ⌜ Sized h w × (y < h) × (w ≤ count + 1) × (count ≤ w) × (y * w + count < h * w)
-        × Marked (y * w) (leftAt h w (joinsIn kind h w (now colours) (now borders))) (now lefts) ⌝ }
-    ensures { λ r. ⌜ Marked ((y + 1) * w) (leftAt h w (joinsIn kind h w (now (colours .entry)) (now (borders .entry))))
+        × Flagged (y * w) (leftAt h w (joinsIn kind h w (now colours) (now borders))) (now lefts) ⌝ }
+    ensures { λ r. ⌜ Flagged ((y + 1) * w) (leftAt h w (joinsIn kind h w (now (colours .entry)) (now (borders .entry))))
         (now (lefts .exit)) ⌝ }
 {
     let c = y * w;
@@ -107,7 +107,7 @@ fn across<'a>(
     lefts: &mut [bool; Board::CELL_LIMIT],
 )
     requires { ⌜ Sized h w × (length (now lefts) ≡ 1024) ⌝ }
-    ensures { λ r. ⌜ Marked (h * w) (leftAt h w (joinsIn kind h w (now (colours .entry)) (now (borders .entry))))
+    ensures { λ r. ⌜ Flagged (h * w) (leftAt h w (joinsIn kind h w (now (colours .entry)) (now (borders .entry))))
         (now (lefts .exit)) ⌝ }
 {
     let mut y = 0;
@@ -128,7 +128,7 @@ fn down<'a>(
     aboves: &mut [bool; Board::CELL_LIMIT],
 )
     requires { ⌜ Sized h w × (now aboves ≡ replicate 1024 false) ⌝ }
-    ensures { λ r. ⌜ Marked (h * w) (aboveAt h w (joinsIn kind h w (now (colours .entry)) (now (borders .entry))))
+    ensures { λ r. ⌜ Flagged (h * w) (aboveAt h w (joinsIn kind h w (now (colours .entry)) (now (borders .entry))))
         (now (aboves .exit)) ⌝ }
 {
     let b = h * (w - 1);
@@ -158,7 +158,7 @@ fn clash(left: bool, above: bool, root: u16, over: u16) -> usize
 fn first_row(p: &mut [u16; Board::CELL_LIMIT], w: usize, lefts: &[bool; Board::CELL_LIMIT])
     requires { ⌜ (1 ≤ w) × (w ≤ 32) × Forest (now p) ⌝ }
     ensures { λ r. ⌜ Forest (now (p .exit)) × ((above : ℕ → Bool) (list : List ℕ)
-        → Scanned w w (markAt (now (lefts .entry))) above (now (p .exit)) list 0) ⌝ }
+        → Scanned w w (flagAt (now (lefts .entry))) above (now (p .exit)) list 0) ⌝ }
 {
     let mut root: u16 = 0;
     p[0] = root;
@@ -181,9 +181,9 @@ fn later_rows<'a>(
     list: &mut [u16; Board::CELL_LIMIT],
 ) -> usize
     requires { ⌜ (1 ≤ w) × (w ≤ n) × (n ≤ 1024) × Forest (now p) × Blank 1024 n (now list)
-        × Scanned w w (markAt (now lefts)) (markAt (now aboves)) (now p) (now list) 0 ⌝ }
+        × Scanned w w (flagAt (now lefts)) (flagAt (now aboves)) (now p) (now list) 0 ⌝ }
     ensures { λ r. ⌜ (r ≤ n) × Forest (now (p .exit)) × Blank 1024 n (now (list .exit))
-        × Scanned n w (markAt (now (lefts .entry))) (markAt (now (aboves .entry))) (now (p .exit)) (now (list .exit))
+        × Scanned n w (flagAt (now (lefts .entry))) (flagAt (now (aboves .entry))) (now (p .exit)) (now (list .exit))
         r ⌝ }
 {
     let mut k: usize = 0;

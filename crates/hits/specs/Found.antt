@@ -12,7 +12,7 @@ use mathlib.Core.Option.{Option, some, none}
 use Prim.Native.Nat.{ℕ, _*_, _≤_}
 use lib.ListN.{length}
 use Rattle.lists.specs.Lists.{firstHit, orElse, range}
-use Rattle.rules.specs.Page.{Puzzle, Mark}
+use Rattle.rules.specs.Page.{Puzzle, State}
 use Rattle.rules.specs.Codes.{put}
 use Rattle.rules.specs.Groups.{blockCount, unitCount}
 use Rattle.rules.specs.Check.{Reason, blockHit, wallHits, unitHit}
@@ -27,7 +27,7 @@ unfoldable pub writtenBy : Option Reason → List ℕ → List ℕ
 writtenBy none m = m
 writtenBy (some r) m = put m 0 r
 
-module _ (Z : Puzzle) (s : ℕ → Mark) where
+module _ (Z : Puzzle) (s : ℕ → State) where
   -- "Per block B"
   unfoldable pub blocksHit : Option Reason
   blocksHit = firstHit (blockHit Z s) (range (blockCount Z s))

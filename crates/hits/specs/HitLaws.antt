@@ -10,7 +10,7 @@ use lib.ListN.{length}
 use Rattle.lists.specs.Lists.{orElse}
 use Rattle.rules.specs.Flat.{Sized, flat}
 use Rattle.rules.specs.FlatLaws.{counts}
-use Rattle.rules.specs.Codes.{marksIn}
+use Rattle.rules.specs.Codes.{statesIn}
 use Rattle.rules.specs.Check.{Reason}
 use Rattle.reasons.specs.Arrays.{Arrays}
 use Rattle.reasons.specs.Memory.{Wrote}
@@ -85,12 +85,12 @@ module _ {h w : ℕ} (z : Sized h w) (link : ℕ → Bool) {ids cells offs : Lis
 -- step 1: r is what first_faulty found
 module _ {h w : ℕ} (z : Sized h w) (cs : List ℕ) (ks : List ℤ) (bs : List ℕ) (r : Faulty)
     (is : r ≡ faultyIn z cs ks bs) where
-  pub blocks-clear : isClear (r .fault) ≡ true → blocksHit (puzzleIn h w cs ks) (marksIn bs) ≡ none
+  pub blocks-clear : isClear (r .fault) ≡ true → blocksHit (puzzleIn h w cs ks) (statesIn bs) ≡ none
   unfolding blocksHit
   blocks-clear e = one-none z cs ks bs (ap (λ (f : Faulty). isClear (f .fault)) (sym is) ∙ e)
 
   pub blocks-fault : isClear (r .fault) ≡ false
-      → blocksHit (puzzleIn h w cs ks) (marksIn bs)
+      → blocksHit (puzzleIn h w cs ks) (statesIn bs)
       ≡ some (reasonIn h w cs bs (groupsIn Blocks h w cs bs .ids) (groupsIn Potential h w cs bs .ids) r)
   unfolding blocksHit
   blocks-fault e =
@@ -112,13 +112,13 @@ module _ {h w : ℕ} (z : Sized h w) (cs : List ℕ) (ks : List ℤ) (bs : List 
 -- step 2: b is what first_breach found
 module _ {h w : ℕ} (z : Sized h w) (cs : List ℕ) (ks : List ℤ) (bs : List ℕ) (b : Breach)
     (is : b ≡ breachIn z cs ks bs) where
-  pub walls-clear : b .found ≡ false → wallsHit (puzzleIn h w cs ks) (marksIn bs) ≡ none
+  pub walls-clear : b .found ≡ false → wallsHit (puzzleIn h w cs ks) (statesIn bs) ≡ none
   unfolding wallsHit
   walls-clear e = two-none z cs ks bs (ap (λ (f : Breach). f .found) (sym is) ∙ e)
 
   pub walls-breach : b .found ≡ true
-      → wallsHit (puzzleIn h w cs ks) (marksIn bs) ≡ some (breachLiterals (flat h w) (marksIn bs) b)
+      → wallsHit (puzzleIn h w cs ks) (statesIn bs) ≡ some (breachLiterals (flat h w) (statesIn bs) b)
   unfolding wallsHit
   walls-breach e =
       two-hit z cs ks bs (ap (λ (f : Breach). f .found) (sym is) ∙ e)
-      ∙ ap (λ (f : Breach). some (breachLiterals (flat h w) (marksIn bs) f)) (sym is)
+      ∙ ap (λ (f : Breach). some (breachLiterals (flat h w) (statesIn bs) f)) (sym is)

@@ -8,9 +8,9 @@ use borrow.Author.Tests.{lt-ltb, le-ltb}
 use lib.IntN.{ℤ}
 use lib.ListN.{length}
 use Rattle.lists.specs.Lists.{orElse}
-use Rattle.rules.specs.Page.{Mark, Puzzle, Shape}
+use Rattle.rules.specs.Page.{State, Puzzle, Shape}
 use Rattle.rules.specs.Flat.{Sized, flat}
-use Rattle.rules.specs.Codes.{marksIn, cluesIn}
+use Rattle.rules.specs.Codes.{statesIn, cluesIn}
 use Rattle.rules.specs.Groups.{unitCount}
 use Rattle.rules.specs.Check.{Reason, unitReason, hit}
 use Rattle.argument.specs.Bound.{unit-bound}
@@ -33,7 +33,7 @@ unfolding flat
 cells-are h w = refl
 
 -- at most 8 blockers, 2 and 4 literals for each cell
-pub unit-short : {h w : ℕ} → Sized h w → (cs : List ℕ) (s : ℕ → Mark) (U P : ℕ)
+pub unit-short : {h w : ℕ} → Sized h w → (cs : List ℕ) (s : ℕ → State) (U P : ℕ)
     → length (unitReason (puzzle h w cs) s U P) ≤ 14 * (h * w)
 unit-short {h} {w} z cs s U P =
     let few =
@@ -44,31 +44,31 @@ unit-short {h} {w} z cs s U P =
 
 -- u is what the search found
 module _ {h w : ℕ} (z : Sized h w) (cs : List ℕ) (bs : List ℕ) (u : ℕ)
-    (is : u ≡ firstFail (fitsUnit (puzzle h w cs) (marksIn bs)) (groupsIn Units h w cs bs .count)) (ks : List ℤ) where
-  units-are : unitsHit (puzzleIn h w cs ks) (marksIn bs)
-      ≡ stuckHit (puzzleIn h w cs ks) (marksIn bs) (unitCount (puzzleIn h w cs ks) (marksIn bs)) u
+    (is : u ≡ firstFail (fitsUnit (puzzle h w cs) (statesIn bs)) (groupsIn Units h w cs bs .count)) (ks : List ℤ) where
+  units-are : unitsHit (puzzleIn h w cs ks) (statesIn bs)
+      ≡ stuckHit (puzzleIn h w cs ks) (statesIn bs) (unitCount (puzzleIn h w cs ks) (statesIn bs)) u
   unfolding unitsHit
   units-are =
-      stuck-clue h w cs (cluesIn ks) (marksIn bs) (unitCount (puzzleIn h w cs ks) (marksIn bs))
-      ∙ ap (stuckHit (puzzleIn h w cs ks) (marksIn bs) (unitCount (puzzleIn h w cs ks) (marksIn bs)))
-      (ap (firstFail (fitsUnit (puzzle h w cs) (marksIn bs))) (sym (count-is z cs ks bs Units)) ∙ sym is)
+      stuck-clue h w cs (cluesIn ks) (statesIn bs) (unitCount (puzzleIn h w cs ks) (statesIn bs))
+      ∙ ap (stuckHit (puzzleIn h w cs ks) (statesIn bs) (unitCount (puzzleIn h w cs ks) (statesIn bs)))
+      (ap (firstFail (fitsUnit (puzzle h w cs) (statesIn bs))) (sym (count-is z cs ks bs Units)) ∙ sym is)
 
-  pub units-clear : groupsIn Units h w cs bs .count ≤ u → unitsHit (puzzleIn h w cs ks) (marksIn bs) ≡ none
+  pub units-clear : groupsIn Units h w cs bs .count ≤ u → unitsHit (puzzleIn h w cs ks) (statesIn bs) ≡ none
   unfolding stuckHit
   units-clear l =
       let c = count-is z cs ks bs Units in
-      units-are ∙ rw (le-ltb u (unitCount (puzzleIn h w cs ks) (marksIn bs)) (omega arith))
+      units-are ∙ rw (le-ltb u (unitCount (puzzleIn h w cs ks) (statesIn bs)) (omega arith))
 
   pub units-stuck : u < groupsIn Units h w cs bs .count
-      → unitsHit (puzzleIn h w cs ks) (marksIn bs)
-      ≡ some (unitReason (puzzleIn h w cs ks) (marksIn bs) u (potentialIn (puzzleIn h w cs ks) (marksIn bs) u))
+      → unitsHit (puzzleIn h w cs ks) (statesIn bs)
+      ≡ some (unitReason (puzzleIn h w cs ks) (statesIn bs) u (potentialIn (puzzleIn h w cs ks) (statesIn bs) u))
   unfolding stuckHit
   units-stuck l =
       let c = count-is z cs ks bs Units in
-      units-are ∙ rw (lt-ltb u (unitCount (puzzleIn h w cs ks) (marksIn bs)) (omega arith))
+      units-are ∙ rw (lt-ltb u (unitCount (puzzleIn h w cs ks) (statesIn bs)) (omega arith))
 
 -- "First hit is the reason": steps 1 and 2, then step 3
-pub hit-parts : (Z : Puzzle) (s : ℕ → Mark) → orElse (earlyHit Z s) (unitsHit Z s) ≡ hit Z s
+pub hit-parts : (Z : Puzzle) (s : ℕ → State) → orElse (earlyHit Z s) (unitsHit Z s) ≡ hit Z s
 unfolding hit earlyHit blocksHit wallsHit unitsHit orElse
 hit-parts Z s = go (blocksHit Z s)
   where
@@ -77,6 +77,6 @@ hit-parts Z s = go (blocksHit Z s)
     go none = refl
     go (some r) = refl
 
-pub answers-hit : (Z : Puzzle) (s : ℕ → Mark) {m after : List ℕ} {r : Found}
+pub answers-hit : (Z : Puzzle) (s : ℕ → State) {m after : List ℕ} {r : Found}
     → Answers (orElse (earlyHit Z s) (unitsHit Z s)) m after r → Answers (hit Z s) m after r
 answers-hit Z s a = rw (hit-parts Z s) at a

@@ -14,12 +14,12 @@ use native.Mathlib.Omega.{arith}
 use borrow.Author.Tests.{ne-eqb, ltb-true, ltb-false, lt-ltb, le-ltb}
 use lib.IntN.{ℤ}
 use lib.ListN.{length}
-use Rattle.rules.specs.Codes.{marksIn, coloursIn, cluesIn}
+use Rattle.rules.specs.Codes.{statesIn, coloursIn, cluesIn}
 use Rattle.rules.specs.Check.{Answer as Found, pass, conflict, check}
 use Rattle.argument.specs.FlatDemand.{flat-bound}
 use Rattle.board.specs.declared.Board.{Board}
 use Rattle.board.specs.Alien.{isAlien, boardOf}
-use Rattle.board.specs.View.{puzzleOf, marksOf}
+use Rattle.board.specs.View.{puzzleOf, statesOf}
 use Rattle.board.specs.NativeLaws.{native-has}
 use Rattle.calls.specs.declared.Answer.{Answer}
 use Rattle.calls.specs.declared.Answer.the-variants.{Done, Pass, Conflict, Refused}
@@ -129,13 +129,13 @@ module _ {h w : ℕ} {cs : List ℕ} {ks : List ℤ} {bs : List ℕ} {n : ℕ} (
   f = foundIn h w cs ks bs
 
   in-range : InRange (asAnswer f)
-  in-range = rw (same-found b) (found-range b (K .native) (check (puzzleOf b) (marksOf b)) refl)
+  in-range = rw (same-found b) (found-range b (K .native) (check (puzzleOf b) (statesOf b)) refl)
 
   fit : (g : Found) → f ≡ g → Fits (length before) (asAnswer g)
   fit (pass x) e = tt
   fit (conflict r) e =
       let z = native-has b (K .native) .size in
-      omega (arith, flat-bound h w (omega (arith, z .columns)) (coloursIn cs) (cluesIn ks) (marksIn bs) r e)
+      omega (arith, flat-bound h w (omega (arith, z .columns)) (coloursIn cs) (cluesIn ks) (statesIn bs) r e)
 
   after : (g : Found) → f ≡ g → left m (written before g) (asAnswer g) ≡ bytesAfter m g
   after (pass x) e = refl

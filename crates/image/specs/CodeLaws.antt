@@ -17,13 +17,13 @@ use Rattle.rules.specs.declared.Side.{Side}
 use Rattle.rules.specs.declared.Side.the-variants.{Wall, Open}
 use Rattle.rules.specs.declared.Literal.{Literal}
 use Rattle.rules.specs.Page.{undecided, decided, Contains}
-use Rattle.rules.specs.Codes.{markOf, marksIn, sideCode, literalCode, put}
+use Rattle.rules.specs.Codes.{stateOf, statesIn, sideCode, literalCode, put}
 use Rattle.rules.specs.Check.{Reason, conflict, check}
 use Rattle.argument.specs.FlatDemand.{flat-holds}
 use Rattle.board.specs.declared.Board.{Board}
 use Rattle.board.specs.Alien.{isAlien}
 use Rattle.board.specs.Board.{Typed}
-use Rattle.board.specs.View.{puzzleIn, puzzleOf, marksOf}
+use Rattle.board.specs.View.{puzzleIn, puzzleOf, statesOf}
 use Rattle.board.specs.NativeLaws.{native-has}
 use Rattle.image.specs.ListExtras.{length-flat}
 use Rattle.image.specs.Image.{twoBytes, putBytes}
@@ -75,15 +75,15 @@ module _ (r : Reason) (h : (l : Literal) → l ∈ r → literalCode l < 65536) 
       ∙ sym (sets-eq cs (codesIn m) 0 (omega arith) ∙ simp zero-add)
 
 -- a decided border is one of the board's places
-border-small : (bs : List ℕ) (n : ℕ) (d : Side) → marksIn bs n ≡ decided d → n < length bs
-unfolding marksIn
+border-small : (bs : List ℕ) (n : ℕ) (d : Side) → statesIn bs n ≡ decided d → n < length bs
+unfolding statesIn
 border-small bs n d e = go (decLt n (length bs))
   where
     go : Dec (n < length bs) → n < length bs
     go (yes l) = l
     go (no l) =
         let z = List·getD-eq-default bs 0 {n = n} (omega arith) in
-        let q : undecided ≡ decided d = sym (ap markOf z) ∙ e in
+        let q : undecided ≡ decided d = sym (ap stateOf z) ∙ e in
         let y : _≡_ {A = ℕ} 0 1 = cc in
         absurd (omega arith)
 
@@ -92,12 +92,12 @@ side-small Wall = omega arith
 side-small Open = omega arith
 
 pub literals-small : (b : Board) → isAlien b ≡ false → Typed b → (r : Reason)
-    → check (puzzleOf b) (marksOf b) ≡ conflict r → (l : Literal) → l ∈ r → literalCode l < 65536
-unfolding puzzleOf puzzleIn marksOf Contains
+    → check (puzzleOf b) (statesOf b) ≡ conflict r → (l : Literal) → l ∈ r → literalCode l < 65536
+unfolding puzzleOf puzzleIn statesOf Contains
 literals-small b t T r e l m =
     let z = native-has b t .size in
     let k = border-small (b .borders) (l .border) (l .side)
-    (flat-holds (b .height) (b .width) (omega arith) _ _ (marksOf b) r e l m) in
+    (flat-holds (b .height) (b .width) (omega arith) _ _ (statesOf b) r e l m) in
     let q = T .borders in
     let s = side-small (l .side) in
     omega arith

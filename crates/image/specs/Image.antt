@@ -47,7 +47,7 @@ use Rattle.rules.specs.Check.{Answer, pass, conflict, check}
 use Rattle.board.specs.declared.Board.{Board}
 use Rattle.board.specs.Alien.{isAlien}
 use Rattle.board.specs.Board.{numberOf, decideOf, undoOf, Typed}
-use Rattle.board.specs.View.{puzzleOf, marksOf}
+use Rattle.board.specs.View.{puzzleOf, statesOf}
 use Rattle.calls.specs.Answers.{answerNumber, checkAnswer}
 
 -- ---- an image as a board
@@ -62,7 +62,7 @@ quad s k = pair s k + 65536 * pair s (k + 2)
 abbrev pub signed : ℕ → ℤ
 signed n = cond (ltb n 2147483648) (pos n) (negsuc (4294967295 - n))
 
--- "height, width; 1,024 colours; 1,024 clues of 4 bytes, two's complement; 1,984 borders; stack count, 2 bytes; 1,984
+-- "height, width; 1,024 colours; 1,024 clues of 4 bytes, two's complement; 1,984 borders .. stack count, 2 bytes; 1,984
 -- stack entries of 2 bytes"
 unfoldable pub spelledBoard : List ℕ → Board
 spelledBoard s =
@@ -159,7 +159,7 @@ putBytes m ls = sets m 0 (flatMap twoBytes (map literalCode ls))
 unfoldable pub isShort : List ℕ → Bool
 isShort m = ltb (length m) 32768
 
--- "In reason memory a literal is in 2 bytes"
+-- "In reason memory .. a literal is .. in 2 bytes"
 abbrev pub places : List ℕ → ℕ
 places m = length m / 2
 
@@ -172,9 +172,9 @@ abbrev pub bytesBy : Board → List ℕ → List ℕ
 bytesBy b m =
     cond (isAlien b) m
     (cond (ltb (places m) 16384) m
-    (bytesAfter m (check (puzzleOf b) (marksOf b))))
+    (bytesAfter m (check (puzzleOf b) (statesOf b))))
 
--- "the refusal number; 32 plus the undecided count for a pass; 65,536 plus the literal count for a conflict"
+-- "the refusal number .. 32 plus the undecided count for a pass; 65,536 plus the literal count for a conflict"
 unfoldable pub checkNumber : List ℕ → List ℕ → ℕ
 checkNumber s m = cond (rightLength s) (answerNumber (checkAnswer (spelledBoard s) (places m))) 5
 

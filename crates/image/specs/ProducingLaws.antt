@@ -20,7 +20,7 @@ use Rattle.board.specs.declared.Returned.{Returned}
 use Rattle.board.specs.Alien.{isAlien}
 use Rattle.board.specs.Board.{numberOf, returned, pushed, popped, decideOf, undoOf}
 use Rattle.board.specs.declared.Outcome.the-variants.{Done, Alien, Border, Taken, Bare, Short}
-use Rattle.board.specs.View.{puzzleOf, marksOf}
+use Rattle.board.specs.View.{puzzleOf, statesOf}
 use Rattle.reach.specs.Produced as board
 use Rattle.reach.specs.Produced.{Produced}
 use Rattle.reach.specs.Reach.{produced-known, known-produced}
@@ -108,7 +108,7 @@ above n m l e = omega arith
 
 check-else : (b : Board) → isAlien b ≡ false → (n : ℕ) → answerNumber (checkAnswer b n) ≡ 5 → ⊥
 unfolding checkAnswer
-check-else b k n = rw k (go (ltb n 16384) (check (puzzleOf b) (marksOf b)))
+check-else b k n = rw k (go (ltb n 16384) (check (puzzleOf b) (statesOf b)))
   where
     go : (x : Bool) (f : Found) → answerNumber (cond x (Refused Short) (asAnswer f)) ≡ 5 → ⊥
     go true f e = eqb-false 9 5 refl e
@@ -121,7 +121,7 @@ check-alien s m k = go (rightLength s) (isAlien (spelledBoard s)) k
   where
     go : (x y : Bool) → cond x y true ≡ true
         → cond x (answerNumber (cond y (Refused Alien) (cond (ltb (places m) 16384) (Refused Short)
-        (asAnswer (check (puzzleOf (spelledBoard s)) (marksOf (spelledBoard s))))))) 5 ≡ 5
+        (asAnswer (check (puzzleOf (spelledBoard s)) (statesOf (spelledBoard s))))))) 5 ≡ 5
     go true true e = refl
     go true false e = absurd (false≢true e)
     go false y e = refl

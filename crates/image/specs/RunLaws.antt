@@ -23,7 +23,7 @@ use Rattle.board.specs.declared.Outcome.{Outcome}
 use Rattle.board.specs.declared.Outcome.the-variants.{Done, Size, Ragged, Colour, Clue}
 use Rattle.board.specs.declared.Outcome.the-variants.{Alien, Border, Taken, Bare, Short}
 use Rattle.board.specs.Board.{numberOf, decideOf, undoOf}
-use Rattle.board.specs.View.{puzzleIn, puzzleOf, marksOf}
+use Rattle.board.specs.View.{puzzleIn, puzzleOf, statesOf}
 use Rattle.board.specs.StepLaws.{Kept, decide-kept, undo-kept}
 use Rattle.calls.specs.Answers.{answerNumber, written, checkAnswer, checkMemory, ended, callOf, callMemory}
 use Rattle.calls.specs.CallLaws.{reason-short}
@@ -77,7 +77,7 @@ module _ (b : Board) (P : Proper b) where
   unfolding checkBytes
   bytes-image m = rw (long-is (imageOf b) (image-long b (P .typed)), board-image b P)
 
-  bytes-known : (m : List ℕ) (f : Found) → check (puzzleOf b) (marksOf b) ≡ f → 16384 ≤ places m
+  bytes-known : (m : List ℕ) (f : Found) → check (puzzleOf b) (statesOf b) ≡ f → 16384 ≤ places m
       → codesIn (bytesAfter m f) ≡ written (codesIn m) f
   bytes-known m (pass n) e h = refl
   bytes-known m (conflict r) e h =
@@ -90,7 +90,7 @@ module _ (b : Board) (P : Proper b) where
       ap codesIn (bytes-image m) ∙ rw (P .known, length-codes m) (go (ltb (length m / 2) 16384) refl)
     where
       f : Found
-      f = check (puzzleOf b) (marksOf b)
+      f = check (puzzleOf b) (statesOf b)
 
       go : (x : Bool) → ltb (length m / 2) 16384 ≡ x
           → codesIn (cond x m (bytesAfter m f)) ≡ cond x (codesIn m) (written (codesIn m) f)

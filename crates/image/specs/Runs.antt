@@ -56,7 +56,7 @@ imageFrom s [] = s
 imageFrom s (c ∷ calls) = imageFrom (sentImage s c) calls
 
 -- ---- the same calls on a board
--- "a literal is in 2 bytes", low byte first; an odd last byte holds no literal
+-- "a literal is .. in 2 bytes", low byte first; an odd last byte holds no literal
 unfoldable pub codesIn : List ℕ → List ℕ
 codesIn [] = []
 codesIn (low ∷ []) = []

@@ -11,6 +11,7 @@ use board::Board;
 use calls::Answer;
 use rules::Literal;
 use rules::Side;
+use rules::index;
 
 pub mod reading; // reading.rt: the board that an image spells
 mod writing; // writing.rt: the bytes that a call changes, and a reason's literals in lent bytes
@@ -106,7 +107,7 @@ pub extern "C" fn dbchoco_undo(image: &mut [u8]) -> u32
     let number = board::number(outcome);
     if number == 0 {
         let at = b.count - 1;
-        let n = reading::wide(b.stack[at]);
+        let n = index(b.stack[at]);
         writing::rewrite(image, n, 0, at, at, 0);
     }
     number

@@ -10,20 +10,8 @@ use crate::COLOURS;
 use crate::COUNT;
 use crate::STACK;
 use board::Board;
-
-// A byte as a number.
-pub fn wide_byte(x: u8) -> usize
-    ensures { λ r. ⌜ r ≡ x ⌝ }
-{
-    x as usize
-}
-
-// Two bytes as a number.
-pub fn wide(x: u16) -> usize
-    ensures { λ r. ⌜ r ≡ x ⌝ }
-{
-    x as usize
-}
+use rules::index;
+use rules::index_byte;
 
 // The number of two bytes, low byte first.
 pub fn two(s: &[u8], k: usize) -> u16
@@ -105,12 +93,12 @@ pub fn board(s: &[u8]) -> Board
     let stack = stack(s);
     let count = two(s, COUNT);
     Board {
-        height: wide_byte(s[0]),
-        width: wide_byte(s[1]),
+        height: index_byte(s[0]),
+        width: index_byte(s[1]),
         colours,
         clues,
         borders,
         stack,
-        count: wide(count),
+        count: index(count),
     }
 }

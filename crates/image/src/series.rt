@@ -12,9 +12,9 @@ use crate::STACK;
 use crate::alien;
 use crate::literal;
 use crate::reading::two;
-use crate::reading::wide;
-use crate::reading::wide_byte;
 use crate::writing::rewrite;
+use rules::index;
+use rules::index_byte;
 
 // The code of an undo in a list of calls. Any other is that of a literal, which is decided.
 const UNDO: u16 = 65535;
@@ -24,7 +24,7 @@ fn border_count(image: &[u8]) -> usize
     requires { ⌜ length (now image) ≡ 11076 ⌝ }
     ensures { λ r. ⌜ r ≡ bordersOf (getD (now (image .entry)) 0 0) (getD (now (image .entry)) 1 0) ⌝ }
 {
-    board::border_count(wide_byte(image[0]), wide_byte(image[1]))
+    board::border_count(index_byte(image[0]), index_byte(image[1]))
 }
 
 // Decides a border of an image that is not alien. Whether that is done.
@@ -41,7 +41,7 @@ fn decided(image: &mut [u8], border: u32, side: u32) -> bool
     if image[BORDERS + n] != 0 {
         return false;
     }
-    let at = wide(two(image, COUNT));
+    let at = index(two(image, COUNT));
     rewrite(image, n, board::code(s), at + 1, at, n);
     true
 }
@@ -51,12 +51,12 @@ fn undone(image: &mut [u8]) -> bool
     requires { ⌜ (length (now image) ≡ 11076) × (imageAlien (now image) ≡ false) ⌝ }
     ensures { λ r. ⌜ Stepped (now (image .entry)) undo (now (image .exit)) r ⌝ }
 {
-    let count = wide(two(image, COUNT));
+    let count = index(two(image, COUNT));
     if count == 0 {
         return false;
     }
     let at = count - 1;
-    let n = wide(two(image, STACK + 2 * at));
+    let n = index(two(image, STACK + 2 * at));
     rewrite(image, n, 0, at, at, 0);
     true
 }

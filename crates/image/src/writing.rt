@@ -8,6 +8,7 @@ use crate::BORDERS;
 use crate::COUNT;
 use crate::STACK;
 use crate::reading;
+use rules::index;
 
 // The least length of reason memory beside an image.
 const REASON_LENGTH: usize = 32768;
@@ -45,7 +46,7 @@ pub fn put_codes(memory: &mut [u8], codes: &[u16], n: usize)
 {
     let mut i: usize = 0;
     while i < n {
-        put_two(memory, 2 * i, reading::wide(codes[i]));
+        put_two(memory, 2 * i, index(codes[i]));
         i += 1;
     }
 }

@@ -5,8 +5,8 @@ use Prim.Native.Nat.{ℕ}
 use Rattle.lists.specs.Lists.{orElse, all, any}
 use Rattle.rules.specs.declared.Side.the-variants.{Wall, Open}
 use Rattle.rules.specs.declared.Call.the-variants.{Decide, Undo, Check}
-use Rattle.page.specs.Readers.{strip, also, onto, done, lead, trail, either, both, mapR, andOn, times, many, rep}
-use Rattle.page.specs.Readers.{digit, mayFollow, numberOn, number, put, digitsOn, digits}
+use Rattle.page.specs.Parsers.{strip, also, onto, done, lead, followed, either, both, mapR, andOn, times, many}
+use Rattle.page.specs.Parsers.{rep, digit, mayFollow, numberOn, number, put, digitsOn, digits}
 use Rattle.page.specs.Grammar.{size, row, clue, side, decide, call, close, sheet, onPage, sameCell, cluesFit}
 use Rattle.page.specs.Grammar.{Sheet, whole, pageOf}
 use Rattle.page.specs.Judge.{accepted, sizeFits, rowsFit, low, twoColours, cluesLow, judgeSheet, verdict, judge}
@@ -33,7 +33,7 @@ samplePage =
     }
 
 pub sample-accepted : judge sample ≡ accepted samplePage
-unfolding strip also onto done lead trail either orElse both mapR andOn times many rep digit mayFollow numberOn
+unfolding strip also onto done lead followed either orElse both mapR andOn times many rep digit mayFollow numberOn
     number put digitsOn digits size row clue side decide call close sheet onPage sameCell cluesFit whole pageOf all
     any sizeFits rowsFit low twoColours cluesLow judgeSheet verdict judge
 sample-accepted = refl

@@ -95,7 +95,7 @@ module _ (w : ℕ) (m : List ℤ) {cs : List Clue} where
     pub placed-off : length m ≤ c .y * w + c .x → placed w m cs ≡ placed w m ds
     placed-off h = placed-more ∙ rw (set-out m (c .y * w + c .x) (pos (c .n)) h)
 
--- the numbers of a clue that was read, on a page at most 32 wide
+-- the numbers of a clue that was read, on a page of at most 32 columns
 pub record Stores (w : ℕ) (c : Clue) : Type 0 where
   pub product : c .y * w ≤ 68719476704
   pub column : c .x ≤ 2147483647

@@ -8,19 +8,19 @@ use lib.ListN.{length}
 use borrow.Author.Tests.{le-leb, lt-leb}
 use Rattle.lists.specs.Lists.{any}
 use Rattle.page.specs.declared.Clue.{Clue}
-use Rattle.page.specs.Readers.{Reader, rest, also, onto, lead, both, mapR, rep, done, strip}
+use Rattle.page.specs.Parsers.{Parser, rest, also, onto, lead, both, mapR, rep, done, strip}
 use Rattle.page.specs.Grammar.{pageWord, endWord, size, row, clue, call, close, sheet, onPage, sameCell}
 use Rattle.page.specs.Grammar.{cluesFit, whole, pageOf}
 use Rattle.page.specs.declared.Line.{Line}
 use Rattle.page.specs.declared.Line.the-variants.{Row, Clue as ClueLine, Call}
 use Rattle.page.specs.Places.{allFrom, endFrom, left, afterLine, endOf}
-use Rattle.page.specs.ReaderLaws.{rest-past, rest-more}
+use Rattle.page.specs.ParserLaws.{rest-past, rest-more}
 use Rattle.page.specs.Printed.{Takes}
 use Rattle.page.specs.Many.{many-none, many-more, many-past, passes}
 use Rattle.page.specs.PageText.{row-takes, clue-takes, call-takes}
 
--- what a reader reads from place p on, and what is left
-module _ {A : Type 0} {r : Reader A} (T : Takes 1 r) (s : List ℕ) (p : ℕ) where
+-- what a parser reads from place p on, and what is left
+module _ {A : Type 0} {r : Parser A} (T : Takes 1 r) (s : List ℕ) (p : ℕ) where
   pub from-past : length s ≤ p → allFrom r s p ≡ []
   unfolding allFrom
   from-past h = ap (λ (m : List A × List ℕ). m .0) (many-past T s p h)

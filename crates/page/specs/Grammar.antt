@@ -1,9 +1,9 @@
 -- The page's grammar, 01's "Page program": what a page's bytes spell.
 --
 --   Sheet               a page as written: the size, the rows of digits, the clues, the calls
---   size, row, clue     the readers of these lines
---   call                the reader of a call's line: (decide b s), (undo) or (check)
---   sheet               the reader of the whole, from (page to the last )
+--   size, row, clue     the parsers of these lines
+--   call                the parser of a call's line: (decide b s), (undo) or (check)
+--   sheet               the parser of the whole, from (page to the last )
 --   cluesFit h w cs     each clue is on the page of h rows and w columns, and no cell is given twice
 --   pageOf s            the page that the bytes s spell, if they are well formed
 use mathlib.Core.Bool.{Bool, true, not, _&&_, cond}
@@ -18,7 +18,7 @@ use Rattle.rules.specs.declared.Side.the-variants.{Wall, Open}
 use Rattle.rules.specs.declared.Call.{Call}
 use Rattle.rules.specs.declared.Call.the-variants.{Decide, Undo, Check}
 use Rattle.page.specs.declared.Clue.{Clue}
-use Rattle.page.specs.Readers.{Reader, lead, trail, both, either, mapR, done, rep, number, digits}
+use Rattle.page.specs.Parsers.{Parser, lead, followed, both, either, mapR, done, rep, number, digits}
 
 pub record Sheet : Type 0 where
   pub height : ℕ
@@ -77,43 +77,43 @@ abbrev pub endWord : List ℕ
 endWord = 41 ∷ 10 ∷ []
 
 -- "(size h w)"
-unfoldable pub size : Reader (ℕ × ℕ)
-size = lead sizeWord (both (number space) (trail (number bracket) newline))
+unfoldable pub size : Parser (ℕ × ℕ)
+size = lead sizeWord (both (number space) (followed (number bracket) newline))
 
--- "one (row digits) a row (one digit or more)"
-unfoldable pub row : Reader (List ℕ)
-row = lead rowWord (trail (digits bracket) newline)
+-- "one `(row digits)` a row (one digit or more)"
+unfoldable pub row : Parser (List ℕ)
+row = lead rowWord (followed (digits bracket) newline)
 
 -- "(clue y x n)"
 abbrev pub clueFrom : ℕ × (ℕ × ℕ) → Clue
 clueFrom p = record { y = p .0; x = p .1 .0; n = p .1 .1 }
 
-unfoldable pub clue : Reader Clue
-clue = mapR clueFrom (lead clueWord (both (number space) (both (number space) (trail (number bracket) newline))))
+unfoldable pub clue : Parser Clue
+clue = mapR clueFrom (lead clueWord (both (number space) (both (number space) (followed (number bracket) newline))))
 
--- "(decide b s) (s is 1 for wall, 0 for open)"
-unfoldable pub side : Reader Side
+-- "`(decide b s)` (s is 1 for wall, 0 for open)"
+unfoldable pub side : Parser Side
 side = either (lead wallWord (done Wall)) (lead openWord (done Open))
 
 abbrev pub decideFrom : ℕ × Side → Call
 decideFrom p = Decide (record { border = p .0; side = p .1 })
 
-unfoldable pub decide : Reader Call
+unfoldable pub decide : Parser Call
 decide = mapR decideFrom (lead decideWord (both (number space) side))
 
--- "calls (decide b s), (undo), (check)"
-unfoldable pub call : Reader Call
+-- "calls `(decide b s)` .. `(undo)`, `(check)`"
+unfoldable pub call : Parser Call
 call = either (lead undoWord (done Undo)) (either (lead checkWord (done Check)) decide)
 
--- "and )"
-unfoldable pub close : Reader (Unit {0})
+-- "and `)`"
+unfoldable pub close : Parser (Unit {0})
 close = lead endWord (done tt)
 
--- "(page, (size h w), one (row digits) a row, any (clue y x n), then calls, and )"
-abbrev pub Pieces : Type 0
-Pieces = (ℕ × ℕ) × (List (List ℕ) × (List Clue × (List Call × Unit {0})))
+-- "`(page`, `(size h w)`, one `(row digits)` a row .. any `(clue y x n)`, then calls .. and `)`"
+abbrev pub SheetParts : Type 0
+SheetParts = (ℕ × ℕ) × (List (List ℕ) × (List Clue × (List Call × Unit {0})))
 
-abbrev pub sheetFrom : Pieces → Sheet
+abbrev pub sheetFrom : SheetParts → Sheet
 sheetFrom p =
     record {
       height = p .0 .0;
@@ -123,7 +123,7 @@ sheetFrom p =
       calls = p .1 .1 .1 .0;
     }
 
-unfoldable pub sheet : Reader Sheet
+unfoldable pub sheet : Parser Sheet
 sheet = mapR sheetFrom (lead pageWord (both size (rep row (rep clue (rep call close)))))
 
 -- "clue cell off the page or given twice", by the declared size

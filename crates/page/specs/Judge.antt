@@ -10,7 +10,7 @@
 --   clueOn z cs y x     the clue at cell (y, x); z where there is none
 --   cluesOf p           the puzzle's clues, row by row
 --   colourArray rows    the colours as an array of 1,024 places, 0 where no digit stands
---   clueArray w cs      the clues as an array of 1,024 places, −1 where no clue stands; none on a page above 32 wide
+--   clueArray w cs      the clues as an array of 1,024 places, −1 where no clue stands; none above 32 columns
 use mathlib.Core.Bool.{Bool, _&&_, cond}
 use mathlib.Core.List.{List, [], _∷_}
 use mathlib.Core.Option.{Option, none, some}

@@ -28,7 +28,7 @@ sized h w e =
       rows = leb-true 1 h (and-left (leb 1 h) _ e);
       columns = leb-true 1 w (and-left (leb 1 w) _ b);
       tall = leb-true h 32 (and-left (leb h 32) _ a);
-      wide = leb-true w 32 (and-right (leb 1 w) _ b);
+      broad = leb-true w 32 (and-right (leb 1 w) _ b);
     }
 
 pub length-digits : (s : List ℕ) (a e : ℕ) → length (digitsIn s a e) ≡ e - a

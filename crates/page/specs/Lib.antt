@@ -1,7 +1,7 @@
-pub mod Readers
+pub mod Parsers
 pub mod Grammar
 pub mod Places
-pub mod ReaderLaws
+pub mod ParserLaws
 pub mod Decimal
 pub mod Printed
 pub mod NumberText

@@ -1,4 +1,4 @@
--- `many` of a reader that takes a byte or more: a value before what the rest gives, or nothing; and its text.
+-- `many` of a parser that takes a byte or more: a value before what the rest gives, or nothing; and its text.
 --
 --   showAll show xs     the texts of xs, one after the other
 --   AllFit F xs         every value of xs fits
@@ -8,11 +8,11 @@ use mathlib.Core.Option.{Option, none, some}
 use Prim.Native.Nat.{ℕ, zero, suc, _+_, _-_, _<_, _≤_}
 use native.Mathlib.Omega.{arith}
 use lib.ListN.{length}
-use Rattle.page.specs.Readers.{Reader, rest, also, andOn, times, many, rep}
-use Rattle.page.specs.ReaderLaws.{rest-past, length-rest}
+use Rattle.page.specs.Parsers.{Parser, rest, also, andOn, times, many, rep}
+use Rattle.page.specs.ParserLaws.{rest-past, length-rest}
 use Rattle.page.specs.Printed.{Prints, Takes}
 
-module _ {A : Type 0} {r : Reader A} (T : Takes 1 r) where
+module _ {A : Type 0} {r : Parser A} (T : Takes 1 r) where
   empty-none : (s : List ℕ) → length s ≤ 0 → r s ≡ none
   empty-none s h = go (r s) refl
     where
@@ -48,7 +48,7 @@ module _ {A : Type 0} {r : Reader A} (T : Takes 1 r) where
   pub many-past : (s : List ℕ) (p : ℕ) → length s ≤ p → many r (rest s p) ≡ ([], rest s p)
   many-past s p h = many-none (rest s p) (empty-none (rest s p) (rw (rest-past s p h) (omega arith)))
 
-  -- a reader at p that goes on at q has passed p
+  -- a parser at p that goes on at q has passed p
   pub passes : (s : List ℕ) (p q : ℕ) (a : A) → r (rest s p) ≡ some (a, rest s q) → length s - q < length s - p
   passes s p q a e = omega (arith, T _ _ _ e, length-rest s p, length-rest s q)
 
@@ -60,7 +60,7 @@ unfoldable pub AllFit : {A : Type 0} → (A → Type 0) → List A → Type 0
 AllFit F [] = Unit {0}
 AllFit F (a ∷ xs) = F a × AllFit F xs
 
-module _ {A : Type 0} {r : Reader A} {show : A → List ℕ} {F : A → Type 0} (R : Prints r show F) where
+module _ {A : Type 0} {r : Parser A} {show : A → List ℕ} {F : A → Type 0} (R : Prints r show F) where
   times-sound : (n : ℕ) (s : List ℕ)
       → (s ≡ showAll show (times n r s .0) ++ times n r s .1) × AllFit F (times n r s .0)
   unfolding times andOn showAll AllFit
@@ -90,7 +90,7 @@ module _ {A : Type 0} {r : Reader A} {show : A → List ℕ} {F : A → Type 0} 
       (R .complete a (showAll show xs ++ u) (f .0)) ∙ rw (many-complete T xs u (f .1) e))
 
 -- any number of r, then q, where r reads nothing of what q prints
-pub rep-prints : {A B : Type 0} {r : Reader A} {q : Reader B} {p : A → List ℕ} {o : B → List ℕ} {F : A → Type 0}
+pub rep-prints : {A B : Type 0} {r : Parser A} {q : Parser B} {p : A → List ℕ} {o : B → List ℕ} {F : A → Type 0}
     {G : B → Type 0} → Prints r p F → Prints q o G → Takes 1 r
     → ((b : B) (t : List ℕ) → G b → r (o b ++ t) ≡ none)
     → Prints (rep r q) (λ c. showAll p (c .0) ++ o (c .1)) (λ c. AllFit F (c .0) × G (c .1))

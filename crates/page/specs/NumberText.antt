@@ -13,9 +13,9 @@ use native.Mathlib.Omega.{arith}
 use lib.Dec.{ltb, leb, eqb}
 use borrow.Author.Tests.{lt-ltb, le-ltb, le-leb, eq-eqb, ne-eqb, eqb-true, leb-true, ltb-true, ltb-false}
 use Rattle.lists.specs.Tests.{and-left, and-right}
-use Rattle.page.specs.Readers.{number, numberOn, mayFollow, digit, digits, digitsOn, put}
+use Rattle.page.specs.Parsers.{number, numberOn, mayFollow, digit, digits, digitsOn, put}
 use Rattle.page.specs.Decimal.{decimalIn, decimal}
-use Rattle.page.specs.ReaderLaws.{may, digit-low, digit-high}
+use Rattle.page.specs.ParserLaws.{may, digit-low, digit-high}
 use Rattle.page.specs.Printed.{Prints}
 
 -- any number above n will do for k

@@ -17,13 +17,13 @@ use Rattle.rules.specs.declared.Side.the-variants.{Wall, Open}
 use Rattle.rules.specs.declared.Call.{Call}
 use Rattle.rules.specs.declared.Call.the-variants.{Decide, Undo, Check}
 use Rattle.page.specs.declared.Clue.{Clue}
-use Rattle.page.specs.Readers.{also, onto, lead, either, mapR, done, strip, number}
+use Rattle.page.specs.Parsers.{also, onto, lead, either, mapR, done, strip, number}
 use Rattle.page.specs.Grammar.{Sheet, clueFrom, decideFrom, sheetFrom, space, bracket, newline}
 use Rattle.page.specs.Grammar.{pageWord, sizeWord, rowWord, clueWord, decideWord, undoWord, checkWord}
 use Rattle.page.specs.Grammar.{wallWord, openWord, endWord, size, row, clue, side, decide, call, close, sheet}
 use Rattle.page.specs.Decimal.{decimal}
 use Rattle.page.specs.Printed.{Prints, Takes, takes-printed, reshow, refit, done-prints, lead-prints}
-use Rattle.page.specs.Printed.{trail-prints, either-prints, both-prints, map-prints}
+use Rattle.page.specs.Printed.{followed-prints, either-prints, both-prints, map-prints}
 use Rattle.page.specs.NumberText.{RowFit, digitBytes, number-prints, digits-prints}
 use Rattle.page.specs.Many.{showAll, AllFit, rep-prints}
 
@@ -68,17 +68,17 @@ closed = number-prints bracket (inr (omega arith))
 
 pub size-prints : Prints size showSize (λ c. Count (c .0) × Count (c .1))
 unfolding size showSize
-size-prints = lead-prints sizeWord (both-prints spaced (trail-prints newline closed))
+size-prints = lead-prints sizeWord (both-prints spaced (followed-prints newline closed))
 
 pub row-prints : Prints row showRow RowFit
 unfolding row showRow
-row-prints = lead-prints rowWord (trail-prints newline (digits-prints bracket (inr (omega arith))))
+row-prints = lead-prints rowWord (followed-prints newline (digits-prints bracket (inr (omega arith))))
 
 pub clue-prints : Prints clue showClue ClueFit
 unfolding clue showClue
 clue-prints =
     map-prints clueFrom showClue ClueFit
-    (lead-prints clueWord (both-prints spaced (both-prints spaced (trail-prints newline closed))))
+    (lead-prints clueWord (both-prints spaced (both-prints spaced (followed-prints newline closed))))
     (λ a f. (refl, f)) (λ c f. ((c .y, (c .x, c .n)), (f, refl)))
 
 side-prints : Prints side showSide (λ _. Unit {0})

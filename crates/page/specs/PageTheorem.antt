@@ -82,7 +82,7 @@ puzzle s p e = go (pageOf s) refl e
           coloursLength = l;
           cluesLength = clues-length p;
           colours = colours-front p (p .height * p .width) l n;
-          clues = clues-front p (k .clues) (m .size .wide) n;
+          clues = clues-front p (k .clues) (m .size .broad) n;
         }
 
     go : (o : Option Sheet) → pageOf s ≡ o → verdict o ≡ accepted p → Puzzle s p

@@ -1,4 +1,4 @@
--- What an answer of the code says, in the readers' terms: the value and the rest of the bytes.
+-- What an answer of the code says, in the parsers' terms: the value and the rest of the bytes.
 --
 --   digitAt s p         the value of the digit at place p
 --   digitsIn s a e      the values of the digits from place a up to place e
@@ -18,7 +18,7 @@ use Prim.Native.Nat.{ℕ, _+_, _-_}
 use lib.ListN.{getD}
 use Rattle.lists.specs.Table.{table}
 use Rattle.rules.specs.declared.Call.{Call}
-use Rattle.page.specs.Readers.{Reader, rest, many}
+use Rattle.page.specs.Parsers.{Parser, rest, many}
 use Rattle.page.specs.Grammar.{Sheet, row, clue, call}
 use Rattle.page.specs.Judge.{Verdict, refused, accepted}
 use Rattle.page.specs.declared.Clue.{Clue}
@@ -78,10 +78,10 @@ gotCall s (callRead.Got c p) = some (c, rest s p)
 gotCall s callRead.No = none
 
 module _ {A : Type 0} where
-  unfoldable pub allFrom : Reader A → List ℕ → ℕ → List A
+  unfoldable pub allFrom : Parser A → List ℕ → ℕ → List A
   allFrom r s p = many r (rest s p) .0
 
-  unfoldable pub endFrom : Reader A → List ℕ → ℕ → List ℕ
+  unfoldable pub endFrom : Parser A → List ℕ → ℕ → List ℕ
   endFrom r s p = many r (rest s p) .1
 
   unfoldable pub left : Option (A × List ℕ) → Option (List ℕ)

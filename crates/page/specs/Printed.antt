@@ -1,4 +1,4 @@
--- What a reader reads is exactly what a printer prints: a law for each way in which readers are put together.
+-- What a parser reads is exactly what a printer prints: a law for each way in which parsers are put together.
 --
 --   Prints r show Fit   r reads exactly the texts `show a`, of the values a that fit
 --   Takes n r           r takes at least n bytes
@@ -13,16 +13,16 @@ use lib.ListN.{length, length-append}
 use lib.Dec.{eqb}
 use borrow.Author.Tests.{eq-eqb, eqb-true}
 use Rattle.lists.specs.Lists.{orElse}
-use Rattle.page.specs.Readers.{Reader, also, onto, lead, trail, both, either, mapR, done, strip}
+use Rattle.page.specs.Parsers.{Parser, also, onto, lead, followed, both, either, mapR, done, strip}
 
-pub record Prints {A : Type 0} (r : Reader A) (show : A → List ℕ) (Fit : A → Type 0) : Type 0 where
+pub record Prints {A : Type 0} (r : Parser A) (show : A → List ℕ) (Fit : A → Type 0) : Type 0 where
   pub sound : (s : List ℕ) (a : A) (t : List ℕ) → r s ≡ some (a, t) → (s ≡ show a ++ t) × Fit a
   pub complete : (a : A) (t : List ℕ) → Fit a → r (show a ++ t) ≡ some (a, t)
 
-abbrev pub Takes : {A : Type 0} → ℕ → Reader A → Type 0
+abbrev pub Takes : {A : Type 0} → ℕ → Parser A → Type 0
 Takes {A} n r = (s : List ℕ) (a : A) (t : List ℕ) → r s ≡ some (a, t) → n + length t ≤ length s
 
-pub takes-printed : {A : Type 0} (r : Reader A) (show : A → List ℕ) (F : A → Type 0) (n : ℕ) → Prints r show F
+pub takes-printed : {A : Type 0} (r : Parser A) (show : A → List ℕ) (F : A → Type 0) (n : ℕ) → Prints r show F
     → ((a : A) → n ≤ length (show a)) → Takes n r
 takes-printed r show F n R long s a t e =
     let q : length s ≡ length (show a ++ t) = ap length (R .sound s a t e .0) in
@@ -47,7 +47,7 @@ strip-complete (a ∷ w) t = rw (eq-eqb a a refl) (strip-complete w t)
 
 module _ {A : Type 0} where
   -- the same texts, and the same values, said otherwise
-  pub reshow : {r : Reader A} {show : A → List ℕ} {F : A → Type 0} (other : A → List ℕ) → Prints r show F
+  pub reshow : {r : Parser A} {show : A → List ℕ} {F : A → Type 0} (other : A → List ℕ) → Prints r show F
       → ((a : A) → F a → show a ≡ other a) → Prints r other F
   reshow other R same =
       record {
@@ -56,7 +56,7 @@ module _ {A : Type 0} where
         complete = λ a t f. rw (← same a f) (R .complete a t f);
       }
 
-  pub refit : {r : Reader A} {show : A → List ℕ} {F : A → Type 0} (G : A → Type 0) → Prints r show F
+  pub refit : {r : Parser A} {show : A → List ℕ} {F : A → Type 0} (G : A → Type 0) → Prints r show F
       → ((a : A) → F a → G a) → ((a : A) → G a → F a) → Prints r show G
   refit G R to from =
       record {
@@ -73,7 +73,7 @@ module _ {A : Type 0} where
         complete = λ b t e. rw e;
       }
 
-  pub lead-prints : (w : List ℕ) {r : Reader A} {show : A → List ℕ} {F : A → Type 0} → Prints r show F
+  pub lead-prints : (w : List ℕ) {r : Parser A} {show : A → List ℕ} {F : A → Type 0} → Prints r show F
       → Prints (lead w r) (λ a. w ++ show a) F
   unfolding lead onto
   lead-prints w {r} {show} {F} R =
@@ -90,10 +90,10 @@ module _ {A : Type 0} where
           let v : (u ≡ show a ++ t) × F a = R .sound u a t k in
           (rw append-assoc (q ∙ ap (λ (l : List ℕ). w ++ l) (v .0)), v .1)
 
-  pub trail-prints : (w : List ℕ) {r : Reader A} {show : A → List ℕ} {F : A → Type 0} → Prints r show F
-      → Prints (trail r w) (λ a. show a ++ w) F
-  unfolding trail also lead onto done
-  trail-prints w {r} {show} {F} R =
+  pub followed-prints : (w : List ℕ) {r : Parser A} {show : A → List ℕ} {F : A → Type 0} → Prints r show F
+      → Prints (followed r w) (λ a. show a ++ w) F
+  unfolding followed also lead onto done
+  followed-prints w {r} {show} {F} R =
       record {
         sound = λ s a t e. go s a t (r s) refl e;
         complete = λ a t f. rw (append-assoc, R .complete a (w ++ t) f, strip-complete w t);
@@ -116,7 +116,7 @@ module _ {A : Type 0} where
       go s a t (some x) h e = on s a t (x .0) (x .1) (strip w (x .1)) h refl e
 
   -- one or the other, where the first reads nothing of what the second prints
-  pub either-prints : {r q : Reader A} {show : A → List ℕ} {F G : A → Type 0} → Prints r show F → Prints q show G
+  pub either-prints : {r q : Parser A} {show : A → List ℕ} {F G : A → Type 0} → Prints r show F → Prints q show G
       → ((a : A) (t : List ℕ) → G a → r (show a ++ t) ≡ none) → Prints (either r q) show (λ a. F a ⊎ G a)
   unfolding either orElse
   either-prints {r} {q} {show} {F} {G} R Q apart =
@@ -132,7 +132,7 @@ module _ {A : Type 0} where
       go s a t (some x) h e = (R .sound s a t (h ∙ e) .0, inl (R .sound s a t (h ∙ e) .1))
 
 module _ {A B : Type 0} where
-  pub both-prints : {r : Reader A} {q : Reader B} {p : A → List ℕ} {o : B → List ℕ} {F : A → Type 0} {G : B → Type 0}
+  pub both-prints : {r : Parser A} {q : Parser B} {p : A → List ℕ} {o : B → List ℕ} {F : A → Type 0} {G : B → Type 0}
       → Prints r p F → Prints q o G → Prints (both r q) (λ c. p (c .0) ++ o (c .1)) (λ c. F (c .0) × G (c .1))
   unfolding both also
   both-prints {r} {q} {p} {o} {F} {G} R Q =
@@ -164,7 +164,7 @@ module _ {A B : Type 0} where
       go s c t (some x) h e = on s c t (x .0) (x .1) (q (x .1)) h refl e
 
   -- f of what r reads: each value that fits is f of one
-  pub map-prints : (f : A → B) {r : Reader A} {p : A → List ℕ} {F : A → Type 0} (show : B → List ℕ) (G : B → Type 0)
+  pub map-prints : (f : A → B) {r : Parser A} {p : A → List ℕ} {F : A → Type 0} (show : B → List ℕ) (G : B → Type 0)
       → Prints r p F → ((a : A) → F a → (p a ≡ show (f a)) × G (f a)) → ((b : B) → G b → (a : A) × (F a × (f a ≡ b)))
       → Prints (mapR f r) show G
   unfolding mapR also

@@ -1,17 +1,11 @@
 // Words, numbers and digits at a place of the bytes.
 ghost use mathlib.Core.Path.{_≡_};
 ghost use Prim.Native.Nat.{_≤_};
-ghost use Rattle.page.specs.Readers.{rest, strip, number, numberOn, digit, digits};
+ghost use Rattle.page.specs.Parsers.{rest, strip, number, numberOn, digit, digits};
 ghost use Rattle.page.specs.Places.{placeOf, gotNumber, gotDigits};
 use crate::Number;
 use crate::Place;
-
-// The byte as a number.
-fn wide(b: u8) -> usize
-    ensures { λ r. ⌜ r ≡ b ⌝ }
-{
-    b as usize
-}
+use rules::index_byte;
 
 // Whether the byte is one of 0 to 9.
 fn is_digit(b: u8) -> bool
@@ -58,7 +52,7 @@ fn number_on(s: &[u8], at: usize, stop: u8, from: usize) -> Number
             if v == 0 {
                 return Number::No;
             }
-            let more = v * 10 + (wide(b) - 48);
+            let more = v * 10 + (index_byte(b) - 48);
             if 2147483647 < more {
                 return Number::No;
             }
@@ -80,7 +74,7 @@ pub fn number_at(s: &[u8], at: usize, stop: u8) -> Number
     }
     let b = s[at];
     if is_digit(b) {
-        return number_on(s, at + 1, stop, wide(b) - 48);
+        return number_on(s, at + 1, stop, index_byte(b) - 48);
     }
     Number::No
 }

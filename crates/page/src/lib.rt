@@ -1,7 +1,7 @@
-// A page's bytes: read, judged and turned into a puzzle and calls. Every reader takes the lent bytes and a place, and
+// A page's bytes: read, judged and turned into a puzzle and calls. Every parser takes the lent bytes and a place, and
 // answers with a value and the place after it; nothing is copied, so that calls are read one by one.
 ghost use mathlib.Core.Path.{_≡_};
-ghost use Rattle.page.specs.Readers.{rest};
+ghost use Rattle.page.specs.Parsers.{rest};
 ghost use Rattle.page.specs.Grammar.{call};
 ghost use Rattle.page.specs.Judge.{judge, colourArray, clueArray};
 ghost use Rattle.page.specs.Places.{sheetAt, judgedOf, gotCall};

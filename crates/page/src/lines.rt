@@ -1,6 +1,6 @@
 // One line of a page at a place of the bytes: the size, a row, a clue, a call.
 ghost use mathlib.Core.Path.{_≡_};
-ghost use Rattle.page.specs.Readers.{rest};
+ghost use Rattle.page.specs.Parsers.{rest};
 ghost use Rattle.page.specs.Grammar.{size, row, clue, decide, call};
 ghost use Rattle.page.specs.Places.{gotSize, gotRow, gotClue, gotCall};
 use crate::CallRead;

@@ -2,7 +2,7 @@
 // which reads a clue's line again at most some ten million times for a page of 65,536 bytes.
 ghost use mathlib.Core.Path.{_≡_};
 ghost use Rattle.lists.specs.Lists.{any};
-ghost use Rattle.page.specs.Readers.{rest};
+ghost use Rattle.page.specs.Parsers.{rest};
 ghost use Rattle.page.specs.Grammar.{clue, onPage, sameCell, cluesFit, pageOf};
 ghost use Rattle.page.specs.Places.{placeOf, allFrom, afterLine, endOf, formOf};
 use crate::CallRead;

@@ -15,8 +15,8 @@ use Rattle.lists.specs.Table.{getD-table}
 use Rattle.lists.specs.Tests.{allBelow, all-cong, and-left, and-right}
 use Rattle.lists.specs.Tests.{any-some as any-found}
 use Rattle.rules.specs.declared.Placement.the-variants.{Fits}
-use Rattle.rules.specs.Page.{Puzzle, Mark}
-use Rattle.rules.specs.Codes.{marksIn}
+use Rattle.rules.specs.Page.{Puzzle, State}
+use Rattle.rules.specs.Codes.{statesIn}
 use Rattle.rules.specs.Check.{isFit}
 use Rattle.reasons.specs.Arrays.{Cells, part}
 use Rattle.search.specs.declared.Reading.{Reading}
@@ -33,14 +33,14 @@ use Rattle.planes.specs.Masks.{cellIs, Masked, Answers, originsIn, spot,
 use Rattle.planes.specs.MaskLaws.{masked-here}
 
 -- a placement fits exactly if every connection is clear
-pub after-clear : (Z : Puzzle) (s : ℕ → Mark) (rs : List Reading) → isFit Z s (after Fits rs) ≡ all isClear rs
+pub after-clear : (Z : Puzzle) (s : ℕ → State) (rs : List Reading) → isFit Z s (after Fits rs) ≡ all isClear rs
 unfolding after all
 after-clear Z s [] = refl
 after-clear Z s (Ends ∷ rs) = refl
 after-clear Z s (Clear ∷ rs) = after-clear Z s rs
 after-clear Z s (Walled b ∷ rs) = blocked-never Z s b rs
 
-module _ (h w : ℕ) (cs : List ℕ) (s : ℕ → Mark) (ys xs : List ℕ) (o n : ℕ) where
+module _ (h w : ℕ) (cs : List ℕ) (s : ℕ → State) (ys xs : List ℕ) (o n : ℕ) where
   fits-clear : fitsOf (puzzle h w cs) s (bare (spelled ys xs n)) o
       ≡ allBelow n (λ j. isClear (readAt h w cs s ys xs o j))
   unfolding fitsOf readFrom
@@ -57,8 +57,8 @@ module _ {h w : ℕ} {cs : List ℕ} (d : Drawn h w cs) (bs ys xs : List ℕ) (n
   abbrev Z : Puzzle
   Z = puzzle h w cs
 
-  abbrev s : ℕ → Mark
-  s = marksIn bs
+  abbrev s : ℕ → State
+  s = statesIn bs
 
   abbrev p : List ℕ
   p = planesOf h w cs bs
@@ -128,14 +128,14 @@ module _ {h w : ℕ} {cs : List ℕ} (d : Drawn h w cs) (bs ys xs : List ℕ) (n
         let l : y < h = row-of c (q .1) in
         let tall : y < 32 = omega (arith, d .sized .tall) in
         let some : 0 < w = omega (arith, d .sized .columns) in
-        let narrow : x < 64 = omega (arith, mod-lt c some, d .sized .wide) in
+        let narrow : x < 64 = omega (arith, mod-lt c some, d .sized .broad) in
         let here : bit (getD m y 0) x ≡ true = masked-here w c tall (q .1) k in
         let f : allBelow n (clear y x) ≡ true = cell-fits c tall ∙ q .2 in
         any-found h (λ y. lineFits p y ys xs n (getD m y 0)) y l
         (any-found 64 (λ x. bit (getD m y 0) x && allBelow n (clear y x)) x narrow (rw (here, f)))
 
     pub mask-fits : maskFits (planesOf h w cs bs) m h ys xs n
-        ≡ any (fitsOf (puzzle h w cs) (marksIn bs) (bare (spelled ys xs n))) os
+        ≡ any (fitsOf (puzzle h w cs) (statesIn bs) (bare (spelled ys xs n))) os
     mask-fits = same-test (maskFits p m h ys xs n) (any fit os) sound complete
 
 mem-index : (xs : List ℕ) {x : ℕ} → x ∈ xs → (i : ℕ) × (i < length xs) × (getD xs i 0 ≡ x)
@@ -169,9 +169,9 @@ module _ {h w : ℕ} {cells offs mates : List ℕ} {from to : ℕ} (b : Beside h
   pub beside-answers : {cs m : List ℕ} (bs : List ℕ) → Drawn h w cs
       → Masked w (originsIn cells offs (part mates from to)) m
       → Answers h (planesOf h w cs bs) m
-      (λ js. fitsBeside (puzzle h w cs) (marksIn bs) (bare js) cells offs (part mates from to))
+      (λ js. fitsBeside (puzzle h w cs) (statesIn bs) (bare js) cells offs (part mates from to))
   unfolding fitsBeside fitsAmong originsIn
   beside-answers {cs} {m} bs d k ys xs n r =
       mask-fits d bs ys xs n r (originsIn cells offs (part mates from to)) origins-on k
-      ∙ any-flat (fitsOf (puzzle h w cs) (marksIn bs) (bare (spelled ys xs n))) (groupIn cells offs) (part mates from
+      ∙ any-flat (fitsOf (puzzle h w cs) (statesIn bs) (bare (spelled ys xs n))) (groupIn cells offs) (part mates from
       to)

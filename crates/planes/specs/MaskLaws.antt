@@ -1,4 +1,4 @@
--- Laws of masks: one cell more, and the loops that mark the cells of a group and of some groups.
+-- Laws of masks: one cell more, and the loops that flag the cells of a group and of some groups.
 use mathlib.Core.Path.{_≡_, refl, ap, ap₂, sym, _∙_, subst}
 use mathlib.Core.Bool.{Bool, true, false, _||_}
 use mathlib.Core.List.{List, [], _∷_, _++_, append-assoc, append-nil}
@@ -25,7 +25,7 @@ use Rattle.planes.specs.Masks.{cellIs, Masked, originsIn}
 pub place-in : {h w : ℕ} (c : ℕ) → Sized h w → c < h * w → (c / w < 32) × (c % w < 32)
 place-in {h} {w} c s l =
     let some : 0 < w = omega (arith, s .columns) in
-    (omega (arith, div-lt-iff-lt-mul {k = w} some .1 l, s .tall), omega (arith, mod-lt c some, s .wide))
+    (omega (arith, div-lt-iff-lt-mul {k = w} some .1 l, s .tall), omega (arith, mod-lt c some, s .broad))
 
 module _ (w : ℕ) where
   pub masked-none : {m : List ℕ} → m ≡ replicate 33 0 → Masked w [] m

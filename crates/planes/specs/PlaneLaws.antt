@@ -9,10 +9,10 @@ use native.Mathlib.Omega.{arith}
 use borrow.Author.Tests.{lt-ltb, le-ltb, le-leb, lt-leb, ne-eqb}
 use lib.Dec.{eqb, ltb, leb}
 use lib.ListN.{getD}
-use Rattle.rules.specs.Codes.{coloursIn, marksIn}
+use Rattle.rules.specs.Codes.{coloursIn, statesIn}
 use Rattle.search.specs.declared.Reading.the-variants.{Ends, Clear, Walled}
 use Rattle.search.specs.Placing.{Drawn, puzzle, readRaised, readingOf, between, isClear}
-use Rattle.search.specs.PlacingLaws.{mark-wall, bit-same, right-reading, below-reading, off-ends, off-above, off-left}
+use Rattle.search.specs.PlacingLaws.{state-wall, bit-same, right-reading, below-reading, off-ends, off-above, off-left}
 use Rattle.search.specs.PlacingLaws.{off-below, off-right, reads-below, reads-right}
 use Rattle.planes.specs.Extras.{le-or-lt, eq-or-not}
 use Rattle.planes.specs.Bits.{bit}
@@ -21,10 +21,10 @@ use Rattle.planes.specs.RowLaws.{row-bit}
 use Rattle.planes.specs.Planes.{clearAt, clearRow, lineWord, planeRow, planeWord}
 
 clear-between : (cs bs : List ℕ) (f t b : ℕ) → ((c : ℕ) → getD cs c 0 ≤ 1)
-    → isClear (between (coloursIn cs) (marksIn bs) f t b) ≡ clearAt cs bs f t b
-unfolding between coloursIn marksIn clearAt
+    → isClear (between (coloursIn cs) (statesIn bs) f t b) ≡ clearAt cs bs f t b
+unfolding between coloursIn statesIn clearAt
 clear-between cs bs f t b two =
-    rw (bit-same (getD cs f 0) (getD cs t 0) (two f) (two t), mark-wall (getD bs b 0))
+    rw (bit-same (getD cs f 0) (getD cs t 0) (two f) (two t), state-wall (getD bs b 0))
     (go (eqb (getD cs f 0) (getD cs t 0)) (eqb (getD bs b 0) 1))
   where
     go : (p q : Bool) → isClear (cond p (cond q (Walled b) Clear) Ends) ≡ p && not q
@@ -79,10 +79,10 @@ module _ (h w : ℕ) (cs bs : List ℕ) where
 
   module _ (d : Drawn h w cs) (r c : ℕ) where
     abbrev reading : Bool
-    reading = isClear (readingOf (puzzle h w cs) (marksIn bs) (readRaised h w r c))
+    reading = isClear (readingOf (puzzle h w cs) (statesIn bs) (readRaised h w r c))
 
     off : readRaised h w r c ≡ none → reading ≡ false
-    off e = ap isClear (sym (off-ends (puzzle h w cs) (marksIn bs) e))
+    off e = ap isClear (sym (off-ends (puzzle h w cs) (statesIn bs) e))
 
     -- rows and columns on the page
     module _ (lr : 64 ≤ r) (lc : 64 ≤ c) (mr : r - 64 ≤ 2 * (h - 1)) where
@@ -112,8 +112,8 @@ module _ (h w : ℕ) (cs bs : List ℕ) where
           ∙ (ap (clearAt cs bs (y * w + x) (y * w + x + w)) (omega arith)
           ∙ (sym (clear-between cs bs (y * w + x) (y * w + x + w) (h * (w - 1) + (y * w + x)) (d .two))
           ∙ ap isClear
-          (sym (ap (readingOf (puzzle h w cs) (marksIn bs)) (reads-below h w r c lr lc mr (omega arith) o)
-          ∙ below-reading h w y x cs (marksIn bs))))))
+          (sym (ap (readingOf (puzzle h w cs) (statesIn bs)) (reads-below h w r c lr lc mr (omega arith) o)
+          ∙ below-reading h w y x cs (statesIn bs))))))
           (le-or-lt w x)
 
       even-row : ((r - 64) % 2 ≡ 1 → ⊥) → c % 2 ≡ 1 → bit (lineWord h w cs bs (r - 64)) x ≡ reading
@@ -127,8 +127,8 @@ module _ (h w : ℕ) (cs bs : List ℕ) where
           row-at cs bs (y * w) 1 (y * (w - 1)) (w - 1) x l
           ∙ (sym (clear-between cs bs (y * w + x) (y * w + x + 1) (y * (w - 1) + x) (d .two))
           ∙ ap isClear
-          (sym (ap (readingOf (puzzle h w cs) (marksIn bs)) (reads-right h w r c lr lc mr (omega arith) o)
-          ∙ right-reading h w y x cs (marksIn bs) (omega (arith, d .sized .rows)) l))))
+          (sym (ap (readingOf (puzzle h w cs) (statesIn bs)) (reads-right h w r c lr lc mr (omega arith) o)
+          ∙ right-reading h w y x cs (statesIn bs) (omega (arith, d .sized .rows)) l))))
           (le-or-lt (w - 1) x)
 
       on-page : r % 2 + c % 2 ≡ 1 → bit (planeWord h w cs bs r) (c / 2) ≡ reading
@@ -139,7 +139,7 @@ module _ (h w : ℕ) (cs bs : List ℕ) where
           (λ (e : (r - 64) % 2 ≢ 1). even-row e (omega arith))
           (eq-or-not ((r - 64) % 2) 1)
 
-    -- "off the page, or joining two colours", or wall: no bit; otherwise the bit is set
+    -- "off the page .. or joining two colours", or wall: no bit; otherwise the bit is set
     pub plane-clear : r % 2 + c % 2 ≡ 1 → bit (planeWord h w cs bs r) (c / 2) ≡ reading
     unfolding planeWord
     plane-clear o =

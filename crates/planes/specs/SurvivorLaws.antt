@@ -18,8 +18,8 @@ use Rattle.lists.specs.ListLaws.{mem-flat}
 use Rattle.lists.specs.Tests.{allBelow, all-cong, all-at, and-right}
 use Rattle.rules.specs.declared.Placement.{Placement}
 use Rattle.rules.specs.declared.Placement.the-variants.{Fits, Blocked, Cannot}
-use Rattle.rules.specs.Codes.{marksIn}
-use Rattle.rules.specs.Page.{Puzzle, Mark, isWall}
+use Rattle.rules.specs.Codes.{statesIn}
+use Rattle.rules.specs.Page.{Puzzle, State, isWall}
 use Rattle.rules.specs.Rules.{oneColour}
 use Rattle.rules.specs.Check.{laid, blockers}
 use Rattle.reasons.specs.Arrays.{part}
@@ -28,7 +28,7 @@ use Rattle.search.specs.declared.Reading.{Reading}
 use Rattle.search.specs.declared.Reading.the-variants.{Ends, Clear, Walled}
 use Rattle.search.specs.JudgeLaws.{after, readAt, readFrom, laid-after}
 use Rattle.search.specs.Placing.{Drawn, Raised, puzzle, bare, spelled, readRaised, readingOf, isClear}
-use Rattle.search.specs.PlacingLaws.{mark-wall, off-above, off-left, off-below, off-right}
+use Rattle.search.specs.PlacingLaws.{state-wall, off-above, off-left, off-below, off-right}
 use Rattle.search.specs.Searching.{Beside, groupIn, blockOf, blocksAmong, blocksBeside}
 use Rattle.planes.specs.Extras.{le-or-lt}
 use Rattle.planes.specs.Bits.{bit}
@@ -47,12 +47,12 @@ Joins Ends = ⊥
 Joins Clear = Unit {0}
 Joins (Walled b) = Unit {0}
 
-no-wall : (b : ℕ) → isWall (marksIn noWalls b) ≡ false
-unfolding marksIn
-no-wall b = mark-wall (getD noWalls b 0) ∙ ap (λ (v : ℕ). eqb v 1) (zeros 1984 b)
+no-wall : (b : ℕ) → isWall (statesIn noWalls b) ≡ false
+unfolding statesIn
+no-wall b = state-wall (getD noWalls b 0) ∙ ap (λ (v : ℕ). eqb v 1) (zeros 1984 b)
 
-module _ (Z : Puzzle) (s : ℕ → Mark) where
-  ends-both : (o : Option ℕ) → isClear (readingOf Z (marksIn noWalls) o) ≡ false → readingOf Z s o ≡ Ends
+module _ (Z : Puzzle) (s : ℕ → State) where
+  ends-both : (o : Option ℕ) → isClear (readingOf Z (statesIn noWalls) o) ≡ false → readingOf Z s o ≡ Ends
   unfolding readingOf
   ends-both none e = refl
   ends-both (some b) e = go (oneColour Z b) (rw (no-wall b) at e)
@@ -61,7 +61,7 @@ module _ (Z : Puzzle) (s : ℕ → Mark) where
       go true e = let z : _≡_ {A = ℕ} 0 1 = cc in absurd (omega arith)
       go false e = refl
 
-  joins-both : (o : Option ℕ) → isClear (readingOf Z (marksIn noWalls) o) ≡ true → Joins (readingOf Z s o)
+  joins-both : (o : Option ℕ) → isClear (readingOf Z (statesIn noWalls) o) ≡ true → Joins (readingOf Z s o)
   unfolding readingOf
   joins-both none e = let z : _≡_ {A = ℕ} 0 1 = cc in absurd (omega arith)
   joins-both (some b) e = go (oneColour Z b) (isWall (s b)) (rw (no-wall b) at e)
@@ -73,13 +73,13 @@ module _ (Z : Puzzle) (s : ℕ → Mark) where
 
 -- where the reading does not end the placement, it is that of the border
 wall-reads : (Z : Puzzle) (bs : List ℕ) (h w y x : ℕ) {o : Option ℕ} → o ≡ some (borderAt h w y x)
-    → Joins (readingOf Z (marksIn bs) o)
-    → readingOf Z (marksIn bs) o ≡ cond (wallOf h w bs y x) (Walled (borderAt h w y x)) Clear
-unfolding readingOf marksIn wallOf
+    → Joins (readingOf Z (statesIn bs) o)
+    → readingOf Z (statesIn bs) o ≡ cond (wallOf h w bs y x) (Walled (borderAt h w y x)) Clear
+unfolding readingOf statesIn wallOf
 wall-reads Z bs h w y x e j =
     let b = borderAt h w y x in
-    rw (e, mark-wall (getD bs b 0))
-    (go (oneColour Z b) (eqb (getD bs b 0) 1) b (rw (e, mark-wall (getD bs b 0)) at j))
+    rw (e, state-wall (getD bs b 0))
+    (go (oneColour Z b) (eqb (getD bs b 0) 1) b (rw (e, state-wall (getD bs b 0)) at j))
   where
     go : (t v : Bool) (b : ℕ) → Joins (cond t (cond v (Walled b) Clear) Ends)
         → cond t (cond v (Walled b) Clear) Ends ≡ cond v (Walled b) Clear
@@ -152,7 +152,7 @@ module _ (f : ℕ → Reading) where
       go (Walled d) t j ih = step-to p (Blocked b) i m (Walled d) t (ih (Blocked d))
 
 -- a connection that joins one colour lies on the page
-on-page : (h w : ℕ) (cs : List ℕ) (s : ℕ → Mark) (y x : ℕ)
+on-page : (h w : ℕ) (cs : List ℕ) (s : ℕ → State) (y x : ℕ)
     → isClear (readingOf (puzzle h w cs) s (readRaised h w y x)) ≡ true → On h w y x
 unfolding readingOf
 on-page h w cs s y x e =
@@ -183,26 +183,26 @@ module _ {h w : ℕ} {cs : List ℕ} (d : Drawn h w cs) (bs ys xs : List ℕ) (n
   abbrev Z : Puzzle
   Z = puzzle h w cs
 
-  abbrev s : ℕ → Mark
-  s = marksIn bs
+  abbrev s : ℕ → State
+  s = statesIn bs
 
   -- a connection with its origin at (y,x), on the page and on the page without walls
-  abbrev at : (ℕ → Mark) → ℕ → ℕ → ℕ → Reading
+  abbrev at : (ℕ → State) → ℕ → ℕ → ℕ → Reading
   at t y x j = readingOf Z t (readRaised h w (2 * y + getD ys j 0) (2 * x + getD xs j 0))
 
   abbrev joined : ℕ → ℕ → Bool
-  joined y x = allBelow n (λ j. isClear (at (marksIn noWalls) y x j))
+  joined y x = allBelow n (λ j. isClear (at (statesIn noWalls) y x j))
 
   -- read from the end
   module _ (y x : ℕ) (l : y < 32) (t : joined y x ≡ true) where
-    one : (j : ℕ) → j < n → isClear (at (marksIn noWalls) y x j) ≡ true
-    one j m = all-at n (λ j. isClear (at (marksIn noWalls) y x j)) j t m
+    one : (j : ℕ) → j < n → isClear (at (statesIn noWalls) y x j) ≡ true
+    one j m = all-at n (λ j. isClear (at (statesIn noWalls) y x j)) j t m
 
     joins : (j : ℕ) → j < n → Joins (at s y x j)
     joins j m = joins-both Z s _ (one j m)
 
     pub on-all : (j : ℕ) → j < n → On h w (2 * y + getD ys j 0) (2 * x + getD xs j 0)
-    on-all j m = on-page h w cs (marksIn noWalls) _ _ (one j m)
+    on-all j m = on-page h w cs (statesIn noWalls) _ _ (one j m)
 
     back-from : (k : ℕ) → k ≤ n → ((i : ℕ) → k ≤ i → i < n → at s y x i ≡ Clear)
         → backOf h w bs ys xs y x k ≡ after Fits (map (at s y x) (rangeFrom 0 n))
@@ -241,7 +241,7 @@ module _ {h w : ℕ} {cs : List ℕ} (d : Drawn h w cs) (bs ys xs : List ℕ) (n
 
   cannot : (y x : ℕ) → joined y x ≡ false → after Fits (map (at s y x) (rangeFrom 0 n)) ≡ Cannot
   cannot y x e =
-      let q = all-some n (λ j. isClear (at (marksIn noWalls) y x j)) e in
+      let q = all-some n (λ j. isClear (at (statesIn noWalls) y x j)) e in
       after-ends (at s y x) Fits 0 n (q .0) (omega arith) (omega (arith, q .1)) (ends-both Z s _ (q .2))
 
   -- the origins of a mask at which every connection joins one colour
@@ -278,7 +278,7 @@ module _ {h w : ℕ} {cs : List ℕ} (d : Drawn h w cs) (bs ys xs : List ℕ) (n
             ∙ sym (laid-at o)
         go false q = sym (laid-at o ∙ cannot (o / w) (o % w) (sym q))
 
-blocker-is : (Z : Puzzle) (s : ℕ → Mark) (p : Placement) → blockerOf p ≡ blockers Z s p
+blocker-is : (Z : Puzzle) (s : ℕ → State) (p : Placement) → blockerOf p ≡ blockers Z s p
 blocker-is Z s Fits = refl
 blocker-is Z s Cannot = refl
 blocker-is Z s (Blocked b) = refl
@@ -289,7 +289,7 @@ pub blocks-same : {h w : ℕ} {cs : List ℕ} → Drawn h w cs → (bs ys xs : L
     → {m rows : List ℕ} → Masked w (originsIn cells offs (part mates from to)) m
     → Survived (planesOf h w cs noWalls) m h ys xs n rows
     → flatMap (λ Q. flatMap (blockIn h w bs rows ys xs n) (groupIn cells offs Q)) (part mates from to)
-    ≡ blocksBeside (puzzle h w cs) (marksIn bs) (bare (spelled ys xs n)) cells offs (part mates from to)
+    ≡ blocksBeside (puzzle h w cs) (statesIn bs) (bare (spelled ys xs n)) cells offs (part mates from to)
 unfolding blocksBeside blocksAmong blockOf blockIn originsIn
 blocks-same {h} {w} {cs} d bs ys xs n r {cells} {offs} {mates} {from} {to} b k v =
     flat-same _ _ (part mates from to)
@@ -299,4 +299,4 @@ blocks-same {h} {w} {cs} d bs ys xs n r {cells} {offs} {mates} {from} {to} b k v
     let e = mem-flat (groupIn cells offs) i j in
     let l = origins-on b o e in
     ap blockerOf (placed-is d bs ys xs n r v o l (masked-here w o (place-in o (d .sized) l .0) e k))
-    ∙ blocker-is (puzzle h w cs) (marksIn bs) (laid (puzzle h w cs) (marksIn bs) (bare (spelled ys xs n)) o)))
+    ∙ blocker-is (puzzle h w cs) (statesIn bs) (laid (puzzle h w cs) (statesIn bs) (bare (spelled ys xs n)) o)))

@@ -99,8 +99,8 @@ fn clear_mask(mask: &mut [u64; 33])
     }
 }
 
-// Marks the cell c.
-fn mark(h: usize, w: usize, c: usize, mask: &mut [u64; 33])
+// Flags the cell c.
+fn flag(h: usize, w: usize, c: usize, mask: &mut [u64; 33])
     requires { ⌜ Sized h w × (c < h * w) × (length (now mask) ≡ 33) ⌝ }
     ensures { λ r. ⌜ (length (now (mask .exit)) ≡ 33)
         × ((xs : List ℕ) → Masked w xs (now (mask .entry)) → Masked w (xs ++ (c ∷ [])) (now (mask .exit))) ⌝ }
@@ -109,8 +109,8 @@ fn mark(h: usize, w: usize, c: usize, mask: &mut [u64; 33])
     mask[y] = mask[y] | (1u64 << (c % w));
 }
 
-// Marks the cells that the list has from the place `from` to the place `to`.
-fn mark_group<'a>(
+// Flags the cells that the list has from the place `from` to the place `to`.
+fn flag_group<'a>(
     h: usize,
     w: usize,
     cells: &'a [u16; 1024],
@@ -125,7 +125,7 @@ fn mark_group<'a>(
 {
     let mut i = from;
     while i < to {
-        mark(h, w, cells[i] as usize, mask);
+        flag(h, w, cells[i] as usize, mask);
         i += 1;
     }
 }
@@ -151,7 +151,7 @@ pub fn draw_mask<'a>(
     let mut i = from;
     while i < to {
         let q = mates[i] as usize;
-        mark_group(h, w, cells, offs[q] as usize, offs[q + 1] as usize, mask);
+        flag_group(h, w, cells, offs[q] as usize, offs[q + 1] as usize, mask);
         i += 1;
     }
     mask[32] = name;

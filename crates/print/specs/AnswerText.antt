@@ -1,7 +1,7 @@
--- Printed answers read back: a reader of answers, and that it reads exactly what is printed.
+-- Printed answers read back: a parser of answers, and that it reads exactly what is printed.
 --
---   literal, reply      the readers of a literal and of a line
---   answers             the reader of the whole output
+--   literal, reply      the parsers of a literal and of a line
+--   answers             the parser of the whole output
 --   ReplyFit r          the numbers are at most 2147483647, and the call has a line
 use mathlib.Core.Path.{_≡_, refl, sym, ap, _∙_}
 use mathlib.Core.Bool.{cond}
@@ -19,36 +19,37 @@ use Rattle.rules.specs.declared.Literal.{Literal}
 use Rattle.rules.specs.Codes.{literalCode, sideCode}
 use Rattle.rules.specs.Check.{pass, conflict}
 use Rattle.rules.specs.Book.{Reply, refused, done, answered}
-use Rattle.page.specs.Readers.{Reader, also, onto, lead, trail, either, mapR, rep, strip, number, numberOn, mayFollow}
-use Rattle.page.specs.Readers as readers
+use Rattle.page.specs.Parsers.{Parser, also, onto, lead, followed, either, mapR, rep, strip, number, numberOn}
+use Rattle.page.specs.Parsers.{mayFollow}
+use Rattle.page.specs.Parsers as parsers
 use Rattle.page.specs.Grammar.{bracket, newline, endWord}
 use Rattle.page.specs.Decimal.{decimal}
 use Rattle.page.specs.PageText.{counted, Count}
-use Rattle.page.specs.Printed.{Prints, Takes, takes-printed, refit, done-prints, lead-prints, trail-prints}
+use Rattle.page.specs.Printed.{Prints, Takes, takes-printed, refit, done-prints, lead-prints, followed-prints}
 use Rattle.page.specs.Printed.{either-prints, map-prints}
 use Rattle.page.specs.NumberText.{number-prints, read-decimal}
 use Rattle.page.specs.Many.{showAll, AllFit, rep-prints}
 use Rattle.print.specs.Answers.{answersWord, refusedWord, passWord, conflictWord, letter, showLiteral, showReply}
 use Rattle.print.specs.Answers.{showAnswers, codeText}
-use Rattle.print.specs.Pieces.{codesIn, codes-front}
+use Rattle.print.specs.Chunks.{codesIn, codes-front}
 
 abbrev literalFrom : Side → ℕ → Literal
 literalFrom side b = record { border = b; side = side }
 
-unfoldable pub literal : Reader Literal
+unfoldable pub literal : Parser Literal
 literal = lead (32 ∷ []) (either (mapR (literalFrom Wall) (number 119)) (mapR (literalFrom Open) (number 111)))
 
 abbrev conflictFrom : List Literal × Unit {0} → Reply
 conflictFrom p = answered (conflict (p .0))
 
-unfoldable pub reply : Reader Reply
+unfoldable pub reply : Parser Reply
 reply =
-    either (mapR refused (lead refusedWord (trail (number bracket) newline)))
-    (either (mapR (λ n. answered (pass n)) (lead passWord (trail (number bracket) newline)))
-    (mapR conflictFrom (lead conflictWord (rep literal (lead endWord (readers.done (tt {0})))))))
+    either (mapR refused (lead refusedWord (followed (number bracket) newline)))
+    (either (mapR (λ n. answered (pass n)) (lead passWord (followed (number bracket) newline)))
+    (mapR conflictFrom (lead conflictWord (rep literal (lead endWord (parsers.done (tt {0})))))))
 
-unfoldable pub answers : Reader (List Reply)
-answers = mapR (λ p. p .0) (lead answersWord (rep reply (lead endWord (readers.done (tt {0})))))
+unfoldable pub answers : Parser (List Reply)
+answers = mapR (λ p. p .0) (lead answersWord (rep reply (lead endWord (parsers.done (tt {0})))))
 
 abbrev LiteralFit : Literal → Type 0
 LiteralFit l = Count (l .border)
@@ -105,10 +106,10 @@ unfolding showLiteral
 literal-takes = takes-printed literal showLiteral LiteralFit 1 literal-prints (λ l. omega arith)
 
 numbered : (word : List ℕ)
-    → Prints (lead word (trail (number bracket) newline)) (λ n. word ++ (counted n bracket ++ newline)) Count
-numbered word = lead-prints word (trail-prints newline (number-prints bracket (inr (omega arith))))
+    → Prints (lead word (followed (number bracket) newline)) (λ n. word ++ (counted n bracket ++ newline)) Count
+numbered word = lead-prints word (followed-prints newline (number-prints bracket (inr (omega arith))))
 
-ended : Prints (lead endWord (readers.done (tt {0}))) (λ u. endWord) (λ u. tt ≡ u)
+ended : Prints (lead endWord (parsers.done (tt {0}))) (λ u. endWord) (λ u. tt ≡ u)
 ended = lead-prints endWord (done-prints (tt {0}))
 
 -- which of the three lines a reply has
@@ -129,7 +130,7 @@ Clashed done = ⊥
 Clashed (answered (pass n)) = ⊥
 Clashed (answered (conflict ls)) = AllFit LiteralFit ls
 
-refused-prints : Prints (mapR refused (lead refusedWord (trail (number bracket) newline))) showReply Refused
+refused-prints : Prints (mapR refused (lead refusedWord (followed (number bracket) newline))) showReply Refused
 unfolding showReply Refused
 refused-prints = map-prints refused showReply Refused (numbered refusedWord) (λ n f. (refl, f)) from
   where
@@ -138,7 +139,8 @@ refused-prints = map-prints refused showReply Refused (numbered refusedWord) (λ
     from done f = absurd f
     from (answered a) f = absurd f
 
-pass-prints : Prints (mapR (λ n. answered (pass n)) (lead passWord (trail (number bracket) newline))) showReply Passed
+pass-prints :
+    Prints (mapR (λ n. answered (pass n)) (lead passWord (followed (number bracket) newline))) showReply Passed
 unfolding showReply Passed
 pass-prints = map-prints (λ n. answered (pass n)) showReply Passed (numbered passWord) (λ n f. (refl, f)) from
   where
@@ -152,7 +154,7 @@ literal-not : (t : List ℕ) → literal (endWord ++ t) ≡ none
 unfolding literal lead onto strip
 literal-not t = refl
 
-conflict-prints : Prints (mapR conflictFrom (lead conflictWord (rep literal (lead endWord (readers.done (tt {0}))))))
+conflict-prints : Prints (mapR conflictFrom (lead conflictWord (rep literal (lead endWord (parsers.done (tt {0}))))))
     showReply Clashed
 unfolding showReply Clashed
 conflict-prints =
@@ -177,21 +179,21 @@ reply-prints =
     to from
   where
     not-pass : (r : Reply) (t : List ℕ) → Clashed r
-        → mapR (λ n. answered (pass n)) (lead passWord (trail (number bracket) newline)) (showReply r ++ t) ≡ none
+        → mapR (λ n. answered (pass n)) (lead passWord (followed (number bracket) newline)) (showReply r ++ t) ≡ none
     not-pass (refused n) t f = absurd f
     not-pass done t f = absurd f
     not-pass (answered (pass n)) t f = absurd f
     not-pass (answered (conflict ls)) t f = refl
 
     pass-not : (r : Reply) (t : List ℕ) → Passed r
-        → mapR refused (lead refusedWord (trail (number bracket) newline)) (showReply r ++ t) ≡ none
+        → mapR refused (lead refusedWord (followed (number bracket) newline)) (showReply r ++ t) ≡ none
     pass-not (refused n) t f = absurd f
     pass-not done t f = absurd f
     pass-not (answered (pass n)) t f = refl
     pass-not (answered (conflict ls)) t f = absurd f
 
     clash-not : (r : Reply) (t : List ℕ) → Clashed r
-        → mapR refused (lead refusedWord (trail (number bracket) newline)) (showReply r ++ t) ≡ none
+        → mapR refused (lead refusedWord (followed (number bracket) newline)) (showReply r ++ t) ≡ none
     clash-not (refused n) t f = absurd f
     clash-not done t f = absurd f
     clash-not (answered (pass n)) t f = absurd f

@@ -45,7 +45,7 @@ letter Open = 111
 unfoldable pub showLiteral : Literal → List ℕ
 showLiteral l = 32 ∷ counted (l .border) (letter (l .side))
 
--- "A refused call prints (refused n)"; "The number after pass counts undecided borders; conflict lists literals, none
+-- "A refused call prints `(refused n)`"; "The number after pass counts undecided borders; conflict lists literals, none
 -- for an empty reason"
 unfoldable pub showReply : Reply → List ℕ
 showReply (refused n) = refusedWord ++ (counted n bracket ++ newline)
@@ -53,7 +53,7 @@ showReply done = []
 showReply (answered (pass n)) = passWord ++ (counted n bracket ++ newline)
 showReply (answered (conflict ls)) = conflictWord ++ (showAll showLiteral ls ++ endWord)
 
--- "It prints (answers, one line a check or refused call, )"
+-- "It prints `(answers`, one line a check or refused call, `)`"
 unfoldable pub showAnswers : List Reply → List ℕ
 showAnswers rs = answersWord ++ (showAll showReply rs ++ endWord)
 

@@ -1,5 +1,5 @@
 pub mod Answers
 pub mod Lines
-pub mod Pieces
+pub mod Chunks
 pub mod AnswerText
 pub mod Examples

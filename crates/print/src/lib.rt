@@ -10,7 +10,7 @@ ghost use Rattle.page.specs.Grammar.{bracket, newline, endWord};
 ghost use Rattle.page.specs.PageText.{counted};
 ghost use Rattle.print.specs.Answers.{answersWord, conflictWord, showReply, codeText, textOf};
 ghost use Rattle.print.specs.Lines.{Longer, Holds, Written};
-ghost use Rattle.print.specs.Pieces.{Put};
+ghost use Rattle.print.specs.Chunks.{Put};
 
 // The bytes of a line, or of a part of one, and how many they are.
 pub struct Line {
@@ -149,28 +149,28 @@ pub fn put_line(out: &mut [u8], at: usize, line: Line) -> usize
 }
 
 // Which literal is the next, and how many bytes were written.
-pub struct Piece {
+pub struct Chunk {
     pub next: usize,
     pub count: usize,
 }
 
 // Writes the literals of `codes` from `from` up to `to` into `out`, as many as surely fit. No byte beyond
 // them changes.
-pub fn put_literals(out: &mut [u8], codes: &[u16], from: usize, to: usize) -> Piece
+pub fn put_literals(out: &mut [u8], codes: &[u16], from: usize, to: usize) -> Chunk
     ensures { λ r. ⌜ Put (now (codes .entry)) from to (now (out .entry)) (now (out .exit)) r ⌝ }
 {
     let mut next = from;
     let mut count = 0;
     while next < to {
         if codes.len() <= next {
-            return Piece { next, count };
+            return Chunk { next, count };
         }
         if out.len() - count < 32 {
-            return Piece { next, count };
+            return Chunk { next, count };
         }
         let line = literal_text(codes[next]);
         count = put_line(out, count, line);
         next += 1;
     }
-    Piece { next, count }
+    Chunk { next, count }
 }

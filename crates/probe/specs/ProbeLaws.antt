@@ -20,7 +20,7 @@ use Rattle.rules.specs.Codes.{literalCode, put}
 use Rattle.lists.specs.Lists.{flatMap}
 use Rattle.rules.specs.Groups.{entry, groupCount, members}
 use Rattle.rules.specs.Reasons.{inside, edge}
-use Rattle.rules.specs.Codes.{marksIn, coloursIn}
+use Rattle.rules.specs.Codes.{statesIn, coloursIn}
 use Rattle.board.specs.Alien.{sizeRight, cellsOf}
 use Rattle.board.specs.ConditionLaws.{sized}
 use Rattle.groups.specs.Kinds.{joinsIn}
@@ -182,15 +182,15 @@ module _ {h w : ℕ} (z : Sized h w) (cs bs : List ℕ) (k : ℕ) where
       omega (
         arith,
         members-few g,
-        edge-le h w (marksIn (places 1984 bs)) (entry (groupsIn h w cs bs k .ids)) g (coloursIn (places 1024 cs)),
+        edge-le h w (statesIn (places 1984 bs)) (entry (groupsIn h w cs bs k .ids)) g (coloursIn (places 1024 cs)),
       )
   reason-few Open g =
       omega (
         arith,
         members-few g,
-        inside-le h w (marksIn (places 1984 bs)) (entry (groupsIn h w cs bs k .ids)) g,
+        inside-le h w (statesIn (places 1984 bs)) (entry (groupsIn h w cs bs k .ids)) g,
       )
 
 pub path-few : {h w : ℕ} → Sized h w → (bs : List ℕ) (a b : ℕ) → length (pathIn h w bs a b) ≤ 1024
 unfolding pathIn
-path-few z bs a b = le-trans (path-le z (marksIn bs) a b) (counts z .cells)
+path-few z bs a b = le-trans (path-le z (statesIn bs) a b) (counts z .cells)

@@ -14,6 +14,7 @@ use board::Board;
 use groups::Groups;
 use groups::Kind;
 use rules::Side;
+use rules::index;
 
 mod asked; // asked.rt: the groups asked of a board, and their parts
 mod transform; // transform.rt: the transforms of a board's units
@@ -23,13 +24,6 @@ const ROOM: usize = 16384;
 
 // What an unfit call gives.
 const UNFIT: usize = 65535;
-
-// A number of 16 bits.
-fn wide(x: u16) -> usize
-    ensures { λ r. ⌜ r ≡ x ⌝ }
-{
-    x as usize
-}
 
 // The byte of s at a place; 0 past its end.
 fn byte(s: &[u8], i: usize) -> u8
@@ -151,8 +145,8 @@ fn put_reason(
         return 0;
     }
     let offs = g.offs;
-    let from = wide(offs[group]);
-    let to = wide(offs[group + 1]);
+    let from = index(offs[group]);
+    let to = index(offs[group + 1]);
     let ids = g.ids;
     let cells = g.cells;
     let b = borders_in(borders);
@@ -168,8 +162,8 @@ fn put_path(memory: &mut [u16], h: usize, w: usize, borders: &[u8], a: usize, b:
     requires { ⌜ Sized h w × (16384 ≤ length (now memory)) ⌝ }
     ensures { λ r. ⌜ Written (now (memory .entry)) (pathWords h w (now (borders .entry)) a b) (now (memory .exit)) r ⌝ }
 {
-    let marks = borders_in(borders);
-    reasons::paths::path(memory, 0, h, w, &marks, a, b)
+    let states = borders_in(borders);
+    reasons::paths::path(memory, 0, h, w, &states, a, b)
 }
 
 // The groups of one kind: the cells' numbers (1,024 places), the count, the cells group by group (1,024), and where

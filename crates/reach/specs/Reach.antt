@@ -187,7 +187,7 @@ produced-at (suc k) b e t T =
 pub known-produced : (b : Board) → Typed b → isAlien b ≡ false → Produced b
 known-produced b T t = produced-at (b .count) b refl t T
 
--- "5, alien: a board that decides and undos cannot produce from a fresh board", exactly
+-- 5 for "a board .. that decides and undos cannot produce from a fresh board", exactly
 pub alien-exactly : (b : Board) → Typed b → (isAlien b ≡ true) ↔ (Produced b → ⊥)
 alien-exactly b T =
     (λ a p. false≢true (sym (produced-known b p .0) ∙ a), λ n. go (isAlien b) refl n)

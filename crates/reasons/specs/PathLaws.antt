@@ -13,16 +13,16 @@ use Rattle.lists.specs.Lists.{any}
 use Rattle.lists.specs.Tests.{and-fails}
 use Rattle.lists.specs.Count.{count-none, count-le}
 use Rattle.rules.specs.declared.Literal.{Literal}
-use Rattle.rules.specs.Page.{Page, Mark, Hop, isOpen, openAt}
+use Rattle.rules.specs.Page.{Page, State, Hop, isOpen, openAt}
 use Rattle.rules.specs.Flat.{flat}
-use Rattle.rules.specs.Codes.{marksIn}
+use Rattle.rules.specs.Codes.{statesIn}
 use Rattle.rules.specs.Reasons.{Found, Search, isFound, visitIf, look, hunt, trace, path}
 use Rattle.reasons.specs.Memory.{Wrote}
 use Rattle.reasons.specs.MemoryLaws.{wrote-none, wrote-more, wrote-length}
-use Rattle.reasons.specs.Arrays.{isMarked}
+use Rattle.reasons.specs.Arrays.{isFlagged}
 use Rattle.reasons.specs.ListExtras.{if-same}
 use Rattle.reasons.specs.Search.{pathIn, Lined, Holds, Looked, Ended}
-use Rattle.reasons.specs.SearchLaws.{trace-other, found-other, count-set, slice-push, unmarked}
+use Rattle.reasons.specs.SearchLaws.{trace-other, found-other, count-set, slice-push, unflagged}
 
 -- what is found stays found, and so does its way back: so the search may stop early
 module _ (a : ℕ) where
@@ -44,7 +44,7 @@ module _ (a : ℕ) where
   fresh true true e = sym e
   fresh false true e = absurd (clash false e refl)
 
-  module _ (G : Page) (s : ℕ → Mark) where
+  module _ (G : Page) (s : ℕ → State) where
     look-keeps : (x : ℕ) (hs : List Hop) (t : Search) (c : ℕ) → isFound a (t .found) c ≡ true
         → Kept t (look G s a x hs t) c
     unfolding look
@@ -67,7 +67,7 @@ module _ (a : ℕ) where
         hunt-keeps k (t .queue) (t .found) c (one .0) ∙ one .1
 
 -- the definition's run
-module _ (G : Page) (s : ℕ → Mark) (a : ℕ) where
+module _ (G : Page) (s : ℕ → State) (a : ℕ) where
   pub hunt-step : (k x : ℕ) (q : List ℕ) (f : List Found) →
       let t = look G s a x (G .around x) (record { queue = q; found = f }) in
       hunt G s (suc k) a (x ∷ q) f ≡ hunt G s k a (t .queue) (t .found)
@@ -81,11 +81,11 @@ module _ (G : Page) (s : ℕ → Mark) (a : ℕ) where
 
 module _ (h w : ℕ) (bs : List ℕ) (a b : ℕ) where
   pub path-is : a < h * w → b < h * w
-      → pathIn h w bs a b ≡ trace (hunt (flat h w) (marksIn bs) (h * w) a (a ∷ []) []) b
+      → pathIn h w bs a b ≡ trace (hunt (flat h w) (statesIn bs) (h * w) a (a ∷ []) []) b
   unfolding pathIn path flat
   path-is p q = rw (lt-ltb a (h * w) p, lt-ltb b (h * w) q)
 
-  -- "none for a cell that is not on the page"
+  -- none for a cell that is not on the page
   pub path-off-a : h * w ≤ a → pathIn h w bs a b ≡ []
   unfolding pathIn path flat
   path-off-a p = rw (le-ltb a (h * w) p)
@@ -123,7 +123,7 @@ module _ (n a : ℕ) (Z Y P O : List ℕ) (bz : Blank Z) (by : Blank Y) (ha : a 
         small = hn;
         full =
             count-set Y n a ha (omega (arith, by .long)) (nothing a ha)
-            ∙ rw (count-none n (isMarked Y) (λ i q. unmarked Y i (nothing i q)));
+            ∙ rw (count-none n (isFlagged Y) (λ i q. unflagged Y i (nothing i q)));
         lined = λ i q. let e : i ≡ 0 = omega arith in rw (e, getD-set-same Z 0 a 0 lz) ha;
         seen =
             λ i q. let e : i ≡ 0 = omega arith in rw (e, getD-set-same Z 0 a 0 lz) (getD-set-same Y a 1 0 ly);
@@ -133,7 +133,7 @@ module _ (n a : ℕ) (Z Y P O : List ℕ) (bz : Blank Z) (by : Blank Y) (ha : a 
   only-first c q e r = nothing c q (sym (getD-set-other Y a c 1 0 r) ∙ e)
 
   holds-start : Holds n a 0 (set Z 0 a) P O (set Y a 1) 1 (record { queue = a ∷ []; found = [] })
-  unfolding isFound any trace isMarked
+  unfolding isFound any trace isFlagged
   holds-start =
       let lz : 0 < length Z = omega (arith, bz .long) in
       let ly : a < length Y = omega (arith, by .long) in
@@ -159,8 +159,8 @@ pub record Going (h w : ℕ) (bs : List ℕ) (a head : ℕ) (Q P O F : List ℕ)
   pub below : head ≤ tail
   pub lined : Lined (h * w) Q P O F tail
   pub holds : Holds (h * w) a head Q P O F tail searched
-  pub rest : hunt (flat h w) (marksIn bs) (h * w - head) a (searched .queue) (searched .found)
-      ≡ hunt (flat h w) (marksIn bs) (h * w) a (a ∷ []) []
+  pub rest : hunt (flat h w) (statesIn bs) (h * w - head) a (searched .queue) (searched .found)
+      ≡ hunt (flat h w) (statesIn bs) (h * w) a (a ∷ []) []
 
 module _ (h w : ℕ) (bs : List ℕ) (a : ℕ) where
   pub going-start : (Z Y P O : List ℕ) → Blank Z → Blank Y → a < h * w → h * w ≤ 1024 → length P ≡ 1024
@@ -178,7 +178,7 @@ module _ (h w : ℕ) (bs : List ℕ) (a : ℕ) where
 module _ {h w : ℕ} {bs : List ℕ} {a head : ℕ} {Q P O F : List ℕ} {tail : ℕ} (g : Going h w bs a head Q P O F tail) where
   -- b is found
   pub end-early : (b : ℕ) → b < h * w → getD F b 0 ≡ 1 → Ended h w bs a b P O F
-  unfolding isMarked
+  unfolding isFlagged
   end-early b hb e =
       record {
         Q = Q;
@@ -189,7 +189,7 @@ module _ {h w : ℕ} {bs : List ℕ} {a head : ℕ} {Q P O F : List ℕ} {tail :
         holds = g .holds;
         is =
             sym
-            (hunt-keeps a (flat h w) (marksIn bs) (h * w - head) (g .searched .queue) (g .searched .found) b
+            (hunt-keeps a (flat h w) (statesIn bs) (h * w - head) (g .searched .queue) (g .searched .found) b
             (g .holds .flag b hb ∙ eq-eqb _ _ e))
             ∙ rw (path-is h w bs a b (g .holds .inside) hb) (ap (λ (f : List Found). trace f b) (g .rest));
       }
@@ -199,9 +199,9 @@ module _ {h w : ℕ} {bs : List ℕ} {a head : ℕ} {Q P O F : List ℕ} {tail :
   end-late b hb q =
       let same : head ≡ tail = omega (arith, g .below) in
       let none : g .searched .queue ≡ [] = g .holds .line ∙ rw same (slice-empty tail Q) in
-      let over : g .searched .found ≡ hunt (flat h w) (marksIn bs) (h * w) a (a ∷ []) [] =
-      sym (hunt-done (flat h w) (marksIn bs) a (h * w - head) (g .searched .found))
-      ∙ ap (λ (l : List ℕ). hunt (flat h w) (marksIn bs) (h * w - head) a l (g .searched .found)) (sym none)
+      let over : g .searched .found ≡ hunt (flat h w) (statesIn bs) (h * w) a (a ∷ []) [] =
+      sym (hunt-done (flat h w) (statesIn bs) a (h * w - head) (g .searched .found))
+      ∙ ap (λ (l : List ℕ). hunt (flat h w) (statesIn bs) (h * w - head) a l (g .searched .found)) (sym none)
       ∙ g .rest in
       record {
         Q = Q;
@@ -233,7 +233,7 @@ module _ {h w : ℕ} {bs : List ℕ} {a head : ℕ} {Q P O F : List ℕ} {tail :
         }
 
     pub going-left : head < h * w
-    going-left = omega (arith, g .lined .full, count-le (h * w) (isMarked F))
+    going-left = omega (arith, g .lined .full, count-le (h * w) (isFlagged F))
 
     pub going-more : {Q′ P′ O′ F′ : List ℕ} {next : ℕ} → let c = getD Q head 0 in
         Looked h w bs c (flat h w .around c) Q P O F tail Q′ P′ O′ F′ next
@@ -243,23 +243,23 @@ module _ {h w : ℕ} {bs : List ℕ} {a head : ℕ} {Q P O F : List ℕ} {tail :
         let left = going-left in
         let fuel : h * w - head ≡ suc (h * w - (head + 1)) = omega arith in
         let room : tail ≤ length Q =
-        omega (arith, g .lined .full, count-le (h * w) (isMarked F), g .lined .queues, g .lined .small) in
+        omega (arith, g .lined .full, count-le (h * w) (isFlagged F), g .lined .queues, g .lined .small) in
         let first : g .searched .queue ≡ c ∷ slice (head + 1) tail Q =
         g .holds .line ∙ rw (add-one head) (slice-cons head tail Q 0 more room) in
-        let run : hunt (flat h w) (marksIn bs) (suc (h * w - (head + 1))) a (c ∷ slice (head + 1) tail Q)
+        let run : hunt (flat h w) (statesIn bs) (suc (h * w - (head + 1))) a (c ∷ slice (head + 1) tail Q)
         (g .searched .found)
-        ≡ hunt (flat h w) (marksIn bs) (h * w) a (a ∷ []) [] =
-        ap (λ (l : List ℕ). hunt (flat h w) (marksIn bs) (suc (h * w - (head + 1))) a l (g .searched .found))
+        ≡ hunt (flat h w) (statesIn bs) (h * w) a (a ∷ []) [] =
+        ap (λ (l : List ℕ). hunt (flat h w) (statesIn bs) (suc (h * w - (head + 1))) a l (g .searched .found))
         (sym first)
         ∙ rw fuel at (g .rest) in
         record {
-          searched = look (flat h w) (marksIn bs) a c (flat h w .around c) popped;
+          searched = look (flat h w) (statesIn bs) a c (flat h w .around c) popped;
           below = omega (arith, l .more);
           lined = l .lined;
           holds = l .holds a (head + 1) popped (omega arith) holds-pop;
           rest =
               sym
-              (hunt-step (flat h w) (marksIn bs) a (h * w - (head + 1)) c (slice (head + 1) tail Q)
+              (hunt-step (flat h w) (statesIn bs) a (h * w - (head + 1)) c (slice (head + 1) tail Q)
               (g .searched .found))
               ∙ run;
         }

@@ -10,6 +10,7 @@ ghost use Rattle.reasons.specs.Arrays.{Arrays, Cells, Part, part, Steppe
 use crate::scans::scan_cell;
 use rules::Literal;
 use rules::Side;
+use rules::index;
 
 pub mod paths; // paths.rt: Path, by a search over open borders, and the reason of a wall
 pub mod scans; // scans.rt: what a scan keeps of one cell
@@ -28,13 +29,6 @@ impl Neighbour {
     {
         Self { some, border, to }
     }
-}
-
-// A number of a list as an index.
-fn wide(x: u16) -> usize
-    ensures { λ r. ⌜ r ≡ x ⌝ }
-{
-    x as usize
 }
 
 // What reason memory holds for a literal.
@@ -93,9 +87,9 @@ pub fn step(h: usize, w: usize, y: usize, x: usize, d: usize) -> Neighbour
 }
 
 // Writes what a scan of the cells `cells[from..to]` keeps, from the place `start`; gives the next place. Open borders:
-// below and right, to marked groups. Walls: above, below, left, right, to neighbours of the same colour (of the other,
-// if `same` is false) in groups that are not marked.
-// Step 3's last walls are those to the other colour, with the potential units adjacent to P marked.
+// below and right, to flagged groups. Walls: above, below, left, right, to neighbours of the same colour (of the other,
+// if `same` is false) in groups that are not flagged.
+// Step 3's last walls are those to the other colour, with the potential units adjacent to P flagged.
 pub fn scan<'a>(
     memory: &mut [u16],
     start: usize,
@@ -109,20 +103,20 @@ pub fn scan<'a>(
     to: usize,
     side: Side,
     same: bool,
-    marked: &'a [u8; 1024],
+    flagged: &'a [u8; 1024],
 ) -> usize
     requires { ⌜ Sized h w × Arrays (now borders) (now ids) × (length (now colours) ≡ 1024)
-        × (length (now marked) ≡ 1024) × Cells h w (now cells) from to × (start + length (scanOf h w (now colours)
-        (now borders) (now ids) side same (now marked) (part (now cells) from to)) ≤ length (now memory)) ⌝ }
+        × (length (now flagged) ≡ 1024) × Cells h w (now cells) from to × (start + length (scanOf h w (now colours)
+        (now borders) (now ids) side same (now flagged) (part (now cells) from to)) ≤ length (now memory)) ⌝ }
     ensures { λ r. ⌜ Wrote (now (memory .entry)) start (scanOf h w (now (colours .entry)) (now (borders .entry))
-        (now (ids .entry)) side same (now (marked .entry)) (part (now (cells .entry)) from to))
+        (now (ids .entry)) side same (now (flagged .entry)) (part (now (cells .entry)) from to))
         (now (memory .exit)) r ⌝ }
 {
     let count = to - from;
     let mut at = start;
     let mut i = 0;
     while i < count {
-        let c = wide(cells[from + i]);
+        let c = index(cells[from + i]);
         at = scan_cell(
             memory,
             at,
@@ -133,7 +127,7 @@ pub fn scan<'a>(
             ids,
             side,
             same,
-            marked,
+            flagged,
             c,
         );
         i += 1;
@@ -163,8 +157,8 @@ fn group_reason<'a>(
     ensures { λ r. ⌜ Wrote (now (memory .entry)) start (groupReason h w (now (colours .entry)) (now (borders .entry))
         (now (ids .entry)) side g) (now (memory .exit)) r ⌝ }
 {
-    let mut marked = [0u8; 1024];
-    marked[g] = 1;
+    let mut flagged = [0u8; 1024];
+    flagged[g] = 1;
     scan(
         memory,
         start,
@@ -178,7 +172,7 @@ fn group_reason<'a>(
         to,
         side,
         true,
-        &marked,
+        &flagged,
     )
 }
 

@@ -11,9 +11,9 @@ ghost use Rattle.reasons.specs.Arrays.{hopAt};
 ghost use Rattle.reasons.specs.Search.{pathIn, Lined, Looked, Ended};
 use crate::append;
 use crate::beside;
-use crate::wide;
 use rules::Literal;
 use rules::Side;
+use rules::index;
 
 // The search looks from the cell c, which is (y,x), in the direction d: a neighbour over an open border that is not
 // found yet goes to the end of the queue. Gives the queue's new end.
@@ -109,7 +109,7 @@ fn hunt(
         if found[b] == 1 {
             return;
         }
-        let c = wide(queue[head]);
+        let c = index(queue[head]);
         tail = expand(queue, parent, over, found, tail, borders, h, w, c);
         head += 1;
     }
@@ -142,11 +142,11 @@ fn trace_back<'a>(
             memory,
             at,
             Literal {
-                border: wide(over[c]),
+                border: index(over[c]),
                 side: Side::Open,
             },
         );
-        c = wide(parent[c]);
+        c = index(parent[c]);
     }
     at
 }

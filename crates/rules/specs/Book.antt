@@ -2,7 +2,7 @@
 --
 --   Asked               a call with its arguments; of reason memory only the length
 --   Reply               refused with a number, done, or the answer of a check
---   marks ls            the borders with exactly the literals ls decided
+--   states ls            the borders with exactly the literals ls decided
 --   reply Z ls a        what the book answers to a when its sequence is ls
 --   after Z ls a        its sequence afterwards
 --   sequence Z as       its sequence after the list as
@@ -15,7 +15,7 @@ use Rattle.lists.specs.Lists.{any}
 use Rattle.rules.specs.declared.Literal.{Literal}
 use Rattle.rules.specs.declared.Call.{Call}
 use Rattle.rules.specs.declared.Call.the-variants.{Decide, Undo, Check}
-use Rattle.rules.specs.Page.{Puzzle, Mark, undecided, decided}
+use Rattle.rules.specs.Page.{Puzzle, State, undecided, decided}
 use Rattle.rules.specs.Check.{Answer, check}
 
 pub record Asked : Type 0 where
@@ -27,14 +27,14 @@ pub data Reply : Type 0 where
   done : Reply
   answered : Answer → Reply
 
-abbrev pub markIf : Bool → Mark → Mark → Mark
-markIf true m n = m
-markIf false m n = n
+abbrev pub stateIf : Bool → State → State → State
+stateIf true m n = m
+stateIf false m n = n
 
 -- "the puzzle with exactly the sequence's literals decided"
-unfoldable pub marks : List Literal → ℕ → Mark
-marks [] b = undecided
-marks (l ∷ ls) b = markIf (eqb (l .border) b) (decided (l .side)) (marks ls b)
+unfoldable pub states : List Literal → ℕ → State
+states [] b = undecided
+states (l ∷ ls) b = stateIf (eqb (l .border) b) (decided (l .side)) (states ls b)
 
 -- "its border is in the sequence"
 unfoldable pub names : List Literal → ℕ → Bool
@@ -68,7 +68,7 @@ module _ (Z : Puzzle) where
   unfoldable pub replyTo : List Literal → ℕ → Call → Reply
   replyTo ls places (Decide l) = decideReply ls l
   replyTo ls places Undo = bareOr ls done
-  replyTo ls places Check = cond (ltb places 16384) (refused 9) (answered (check Z (marks ls)))
+  replyTo ls places Check = cond (ltb places 16384) (refused 9) (answered (check Z (states ls)))
 
   abbrev pub reply : List Literal → Asked → Reply
   reply ls a = replyTo ls (a .places) (a .call)

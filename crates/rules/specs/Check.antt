@@ -22,7 +22,7 @@ use Rattle.rules.specs.declared.Side.the-variants.{Wall}
 use Rattle.rules.specs.declared.Literal.{Literal}
 use Rattle.rules.specs.declared.Placement.{Placement}
 use Rattle.rules.specs.declared.Placement.the-variants.{Fits, Blocked, Cannot}
-use Rattle.rules.specs.Page.{Puzzle, Mark, isWall, isUndecided, Hop, Shape, _⊕_, wallAt}
+use Rattle.rules.specs.Page.{Puzzle, State, isWall, isUndecided, Hop, Shape, _⊕_, wallAt}
 use Rattle.rules.specs.Rules.{oneColour}
 use Rattle.rules.specs.Groups.{members, blockOf, blockCount, unitOf, unitCount, potentialOf, potentialCount}
 use Rattle.rules.specs.Reasons.{gather, inside, edge, path}
@@ -52,7 +52,7 @@ pub data Answer : Type 0 where
   pass : ℕ → Answer
   conflict : Reason → Answer
 
-module _ (Z : Puzzle) (s : ℕ → Mark) where
+module _ (Z : Puzzle) (s : ℕ → State) where
   -- Inside of a block, Inside of a unit, Edge of a potential unit
   unfoldable pub insideBlock : ℕ → Reason
   insideBlock B = inside (Z .page) s (blockOf Z s) B
@@ -224,5 +224,5 @@ answerOf n none = pass n
 answerOf n (some r) = conflict r
 
 -- "No hit: pass, with the count of undecided borders"
-unfoldable pub check : Puzzle → (ℕ → Mark) → Answer
+unfoldable pub check : Puzzle → (ℕ → State) → Answer
 check Z s = answerOf (undecidedCount Z s) (hit Z s)

@@ -1,8 +1,8 @@
--- Codes: the numbers that stand for marks, sides, colours, clues and literals in a board, an image or reason memory.
+-- Codes: the numbers that stand for states, sides, colours, clues and literals in a board, an image or reason memory.
 --
---   markOf v            the mark that a border place with the number v has
+--   stateOf v            the state that a border place with the number v has
 --   codeOf side         the number of a decided border
---   marksIn bs          the borders that an array of such numbers spells
+--   statesIn bs          the borders that an array of such numbers spells
 --   coloursIn cs        the colours that an array of numbers spells
 --   clueOf k            no clue below 0, otherwise the clue k
 --   cluesIn ks          the clues that an array of signed numbers spells
@@ -19,18 +19,18 @@ use lib.Seq.{sets}
 use Rattle.rules.specs.declared.Side.{Side}
 use Rattle.rules.specs.declared.Side.the-variants.{Wall, Open}
 use Rattle.rules.specs.declared.Literal.{Literal}
-use Rattle.rules.specs.Page.{Mark, undecided, decided}
+use Rattle.rules.specs.Page.{State, undecided, decided}
 
 -- "borders (0 undecided, 1 wall, 2 open)"
-abbrev pub markOf : ℕ → Mark
-markOf v = cond (eqb v 1) (decided Wall) (cond (eqb v 2) (decided Open) undecided)
+abbrev pub stateOf : ℕ → State
+stateOf v = cond (eqb v 1) (decided Wall) (cond (eqb v 2) (decided Open) undecided)
 
 abbrev pub codeOf : Side → ℕ
 codeOf Wall = 1
 codeOf Open = 2
 
-unfoldable pub marksIn : List ℕ → ℕ → Mark
-marksIn bs b = markOf (getD bs b 0)
+unfoldable pub statesIn : List ℕ → ℕ → State
+statesIn bs b = stateOf (getD bs b 0)
 
 -- "0-coloured or 1-coloured"
 unfoldable pub coloursIn : List ℕ → ℕ → Bool

@@ -23,7 +23,7 @@ pub record Sized (h w : ℕ) : Type 0 where
   pub rows : 1 ≤ h
   pub columns : 1 ≤ w
   pub tall : h ≤ 32
-  pub wide : w ≤ 32
+  pub broad : w ≤ 32
 
 unfoldable pub hopIf : Bool → ℕ → ℕ → List Hop
 hopIf true b c = record { border = b; to = c } ∷ []

@@ -19,9 +19,9 @@ counts {h} {w} s =
     let slim : w - 1 ≤ 31 = omega arith in
     let less : h - 1 ≤ 31 = omega arith in
     record {
-      cells = le-trans (mul-le-mul-left h (s .wide)) (mul-le-mul-right 32 (s .tall));
+      cells = le-trans (mul-le-mul-left h (s .broad)) (mul-le-mul-right 32 (s .tall));
       across = le-trans (mul-le-mul-left h slim) (mul-le-mul-right 31 (s .tall));
-      down = le-trans (mul-le-mul-left (h - 1) (s .wide)) (mul-le-mul-right 32 less);
+      down = le-trans (mul-le-mul-left (h - 1) (s .broad)) (mul-le-mul-right 32 less);
       fewer = mul-le-mul-left h (omega arith);
       some = le-trans (s .rows) (omega (arith, mul-le-mul-left h (s .columns)));
     }

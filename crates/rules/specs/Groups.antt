@@ -15,7 +15,7 @@ use lib.Dec.{eqb, leb}
 use lib.ListN.{getD}
 use Rattle.lists.specs.Lists.{filter, range}
 use Rattle.lists.specs.Count.{countBelow}
-use Rattle.rules.specs.Page.{Page, Puzzle, Mark, isWall}
+use Rattle.rules.specs.Page.{Page, Puzzle, State, isWall}
 use Rattle.rules.specs.Rules.{oneColour, joinsBlock, joinsUnit}
 
 -- the entry of cell x
@@ -57,7 +57,7 @@ groupCount G link = let L : List ℕ = labels G link in countBelow (G .cells) (i
 unfoldable pub members : Page → (ℕ → ℕ) → ℕ → List ℕ
 members G number g = filter (λ x. eqb (number x) g) (range (G .cells))
 
-module _ (Z : Puzzle) (s : ℕ → Mark) where
+module _ (Z : Puzzle) (s : ℕ → State) where
   -- "potential units over open or undecided borders of one colour"
   unfoldable pub joinsPotential : ℕ → Bool
   joinsPotential b = not (isWall (s b)) && oneColour Z b

@@ -7,13 +7,13 @@
 --   Shape          cells, and connections in doubled coordinates
 --   Page           the geometry as plain data; Flat has the flat page
 --   Puzzle         a page with its colours and its clues
---   Mark           what a border has: undecided, or decided with a side
+--   State           what a border has: undecided, or decided with a side
 --   Has s l        the setting s contains the literal l; l holds on the board with the borders s
 --   Contains s r   every literal of r
---   isWall, isOpen, isUndecided   tests of a mark
+--   isWall, isOpen, isUndecided   tests of a state
 --   wallAt b, openAt b   the literal of border b with that side
 --
--- A board's borders and a full setting are one kind of thing, a function from border numbers to marks.
+-- A board's borders and a full setting are one kind of thing, a function from border numbers to states.
 use mathlib.Core.Path.{_≡_}
 use mathlib.Core.Bool.{Bool, true, false}
 use mathlib.Core.List.{List}
@@ -41,7 +41,7 @@ p ⊕ q = record { layer = p .layer +ℤ q .layer; row = p .row +ℤ q .row; col
 unfoldable pub opposite : Point → Point
 opposite p = record { layer = negℤ (p .layer); row = negℤ (p .row); column = negℤ (p .column) }
 
--- "Cells sorted by (y,x), first at (0,0)", and "connections, in doubled coordinates"
+-- "Cells sorted by (y,x), first at (0,0)", and "Connections, in doubled coordinates"
 pub record Shape : Type 0 where
   pub cells : List Point
   pub connections : List Point
@@ -70,29 +70,29 @@ pub record Puzzle : Type 0 where
   pub colour : ℕ → Bool
   pub clue : ℕ → Option ℕ
 
-pub data Mark : Type 0 where
-  undecided : Mark
-  decided : Side → Mark
+pub data State : Type 0 where
+  undecided : State
+  decided : Side → State
 
--- "a setting contains a literal, and a literal holds on a board, if that border has that side there"
-abbrev pub Has : (ℕ → Mark) → Literal → Type 0
+-- "A setting contains a literal, and a literal holds on a board, if that border has that side there"
+abbrev pub Has : (ℕ → State) → Literal → Type 0
 Has s l = s (l .border) ≡ decided (l .side)
 
 -- the same of a whole reason
-unfoldable pub Contains : (ℕ → Mark) → List Literal → Type 0
+unfoldable pub Contains : (ℕ → State) → List Literal → Type 0
 Contains s r = (l : Literal) → l ∈ r → Has s l
 
-abbrev pub isWall : Mark → Bool
+abbrev pub isWall : State → Bool
 isWall undecided = false
 isWall (decided Wall) = true
 isWall (decided Open) = false
 
-abbrev pub isOpen : Mark → Bool
+abbrev pub isOpen : State → Bool
 isOpen undecided = false
 isOpen (decided Wall) = false
 isOpen (decided Open) = true
 
-abbrev pub isUndecided : Mark → Bool
+abbrev pub isUndecided : State → Bool
 isUndecided undecided = true
 isUndecided (decided x) = false
 

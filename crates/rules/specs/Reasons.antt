@@ -15,13 +15,13 @@ use Rattle.lists.specs.Lists.{filter, flatMap, any}
 use Rattle.rules.specs.declared.Side.{Side}
 use Rattle.rules.specs.declared.Side.the-variants.{Wall, Open}
 use Rattle.rules.specs.declared.Literal.{Literal}
-use Rattle.rules.specs.Page.{Page, Mark, isWall, isOpen, Hop, openAt}
+use Rattle.rules.specs.Page.{Page, State, isWall, isOpen, Hop, openAt}
 use Rattle.rules.specs.Groups.{members}
 
 unfoldable pub gather : Side → (Hop → Bool) → List Hop → List Literal
 gather side test hops = map (λ h. record { border = h .border; side = side }) (filter test hops)
 
-module _ (G : Page) (s : ℕ → Mark) (number : ℕ → ℕ) (g : ℕ) where
+module _ (G : Page) (s : ℕ → State) (number : ℕ → ℕ) (g : ℕ) where
   -- "below then right, the border to a neighbour in G, where open"
   unfoldable pub insideAt : ℕ → List Literal
   insideAt c = gather Open (λ h. eqb (number (h .to)) g && isOpen (s (h .border))) (G .ahead c)
@@ -30,7 +30,7 @@ module _ (G : Page) (s : ℕ → Mark) (number : ℕ → ℕ) (g : ℕ) where
   unfoldable pub inside : List Literal
   inside = flatMap insideAt (members G number g)
 
-module _ (G : Page) (colour : ℕ → Bool) (s : ℕ → Mark) (number : ℕ → ℕ) (g : ℕ) where
+module _ (G : Page) (colour : ℕ → Bool) (s : ℕ → State) (number : ℕ → ℕ) (g : ℕ) where
   -- "above, below, left, right, the border to a same-coloured neighbour outside P, where wall"
   unfoldable pub edgeAt : ℕ → List Literal
   edgeAt c =
@@ -69,7 +69,7 @@ unfoldable pub trace : List Found → ℕ → List Literal
 trace [] x = []
 trace (e ∷ f) x = cond (eqb x (e .cell)) (openAt (e .over) ∷ trace f (e .from)) (trace f x)
 
-module _ (G : Page) (s : ℕ → Mark) where
+module _ (G : Page) (s : ℕ → State) where
   -- "over open borders, trying above, below, left, right; first finder is the parent"
   unfoldable pub look : ℕ → ℕ → List Hop → Search → Search
   look a x [] t = t

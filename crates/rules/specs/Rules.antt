@@ -15,7 +15,7 @@ use lib.Dec.{T}
 use lib.ListN.{length}
 use Rattle.lists.specs.Lists.{_∈_, Distinct}
 use Rattle.rules.specs.declared.Side.the-variants.{Wall}
-use Rattle.rules.specs.Page.{Page, Puzzle, Mark, undecided, decided, isOpen, Hop, Point, _⊕_}
+use Rattle.rules.specs.Page.{Page, Puzzle, State, undecided, decided, isOpen, Hop, Point, _⊕_}
 
 pub data Joined (G : Page) (link : ℕ → Bool) (c : ℕ) : ℕ → Type 0 where
   stay : {x : ℕ} → x ≡ c → Joined G link c x
@@ -25,7 +25,7 @@ pub data Joined (G : Page) (link : ℕ → Bool) (c : ℕ) : ℕ → Type 0 wher
 unfoldable pub oneColour : Puzzle → ℕ → Bool
 oneColour Z b = Bool·beq (Z .colour (Z .page .first b)) (Z .colour (Z .page .second b))
 
-module _ (Z : Puzzle) (s : ℕ → Mark) where
+module _ (Z : Puzzle) (s : ℕ → State) where
   -- "joined by open borders"
   unfoldable pub joinsBlock : ℕ → Bool
   joinsBlock b = isOpen (s b)

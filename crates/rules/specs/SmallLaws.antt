@@ -14,7 +14,7 @@ use Rattle.rules.specs.declared.Literal.{Literal}
 use Rattle.rules.specs.Page.{Hop, undecided, decided, openAt}
 use Rattle.rules.specs.Flat.{hopIf}
 use Rattle.rules.specs.Reasons.{gather, Found, trace}
-use Rattle.rules.specs.Book.{marks, markIf, names, withLast, withoutLast}
+use Rattle.rules.specs.Book.{states, stateIf, names, withLast, withoutLast}
 
 pub hop-le : (v : Bool) (b t : ℕ) → length (hopIf v b t) ≤ 1
 unfolding hopIf
@@ -40,13 +40,13 @@ trace-le (e ∷ f) x = go (eqb x (e .cell)) (trace-le f (e .from)) (trace-le f x
     go true p q = omega arith
     go false p q = omega arith
 
-pub marks-none : (ls : List Literal) (x : ℕ) → names ls x ≡ false → marks ls x ≡ undecided
-unfolding names any marks
-marks-none [] x e = refl
-marks-none (l ∷ ls) x e = go (eqb (l .border) x) e (marks-none ls x)
+pub states-none : (ls : List Literal) (x : ℕ) → names ls x ≡ false → states ls x ≡ undecided
+unfolding names any states
+states-none [] x e = refl
+states-none (l ∷ ls) x e = go (eqb (l .border) x) e (states-none ls x)
   where
-    go : (t : Bool) → t || names ls x ≡ false → (names ls x ≡ false → marks ls x ≡ undecided)
-        → markIf t (decided (l .side)) (marks ls x) ≡ undecided
+    go : (t : Bool) → t || names ls x ≡ false → (names ls x ≡ false → states ls x ≡ undecided)
+        → stateIf t (decided (l .side)) (states ls x) ≡ undecided
     go true p ih = let z : _≡_ {A = Bool} true false = p in cc
     go false p ih = ih p
 

@@ -1,4 +1,5 @@
-// The types that the definitions and the code share.
+// The types that the definitions and the code share, and numbers as indices.
+ghost use mathlib.Core.Path.{_≡_};
 
 // The side of a decided border.
 pub enum Side {
@@ -24,4 +25,18 @@ pub enum Placement {
     Fits,
     Blocked(usize),
     Cannot,
+}
+
+// A number of 16 bits as an index.
+pub fn index(x: u16) -> usize
+    ensures { λ r. ⌜ r ≡ x ⌝ }
+{
+    x as usize
+}
+
+// A byte as an index.
+pub fn index_byte(x: u8) -> usize
+    ensures { λ r. ⌜ r ≡ x ⌝ }
+{
+    x as usize
 }

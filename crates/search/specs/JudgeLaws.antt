@@ -10,7 +10,7 @@ use lib.ListN.{getD}
 use Rattle.lists.specs.Lists.{rangeFrom}
 use Rattle.rules.specs.declared.Placement.{Placement}
 use Rattle.rules.specs.declared.Placement.the-variants.{Fits, Blocked, Cannot}
-use Rattle.rules.specs.Page.{Puzzle, Mark, Point, Shape, _⊕_, isWall}
+use Rattle.rules.specs.Page.{Puzzle, State, Point, Shape, _⊕_, isWall}
 use Rattle.rules.specs.Rules.{oneColour}
 use Rattle.rules.specs.Codes.{coloursIn}
 use Rattle.rules.specs.Flat.{flat, flatPlace, flatReads}
@@ -26,7 +26,7 @@ after p (Ends ∷ rs) = Cannot
 after p (Clear ∷ rs) = after p rs
 after p (Walled b ∷ rs) = after (Blocked b) rs
 
-pub judge-after : (Z : Puzzle) (s : ℕ → Mark) (last : Option ℕ) (os : List (Option ℕ))
+pub judge-after : (Z : Puzzle) (s : ℕ → State) (last : Option ℕ) (os : List (Option ℕ))
     → judge Z s last os ≡ after (ended Z s last) (map (readingOf Z s) os)
 unfolding judge after readingOf
 judge-after Z s last [] = refl
@@ -41,7 +41,7 @@ judge-after Z s last (some b ∷ os) = go (oneColour Z b) (isWall (s b)) (λ l. 
     go false v ih = refl
 
 -- a blocked placement never fits
-pub blocked-never : (Z : Puzzle) (s : ℕ → Mark) (b : ℕ) (rs : List Reading) → isFit Z s (after (Blocked b) rs) ≡ false
+pub blocked-never : (Z : Puzzle) (s : ℕ → State) (b : ℕ) (rs : List Reading) → isFit Z s (after (Blocked b) rs) ≡ false
 unfolding after
 blocked-never Z s b [] = refl
 blocked-never Z s b (Ends ∷ rs) = refl
@@ -63,7 +63,7 @@ module _ (h w o y x : ℕ) where
       )
 
 -- the readings of a transform's connections
-module _ (h w : ℕ) (cs : List ℕ) (s : ℕ → Mark) (ys xs : List ℕ) (o : ℕ) where
+module _ (h w : ℕ) (cs : List ℕ) (s : ℕ → State) (ys xs : List ℕ) (o : ℕ) where
   unfoldable pub readAt : ℕ → Reading
   readAt i = readingOf (puzzle h w cs) s (readRaised h w (2 * (o / w) + getD ys i 0) (2 * (o % w) + getD xs i 0))
 
@@ -94,7 +94,7 @@ module _ (h w : ℕ) (cs : List ℕ) (s : ℕ → Mark) (ys xs : List ℕ) (o : 
       judge-after (puzzle h w cs) s none _ ∙ rw (e, reads-from 0 n)
 
 -- clues change no placement
-module _ (h w : ℕ) (cs : List ℕ) (k : ℕ → Option ℕ) (s : ℕ → Mark) where
+module _ (h w : ℕ) (cs : List ℕ) (k : ℕ → Option ℕ) (s : ℕ → State) where
   abbrev clued : Puzzle
   clued = record { page = flat h w; colour = coloursIn cs; clue = k }
 

@@ -10,7 +10,7 @@
 --   spelled ys xs n     its n connections
 --   bare js             a shape with the connections js; a placement looks at nothing else
 --   readRaised y x      the border that a raised doubled place reads
---   between c s f t b   what the border b between the cells f and t does to a placement, by colours c and marks s
+--   between c s f t b   what the border b between the cells f and t does to a placement, by colours c and states s
 --   readingOf Z s o     what a connection that reads o does to a placement
 --   fitsOf Z s t o      the transform t fits with its origin at cell o
 --   isClear r           it neither ends the placement nor is a wall
@@ -22,7 +22,7 @@ use Prim.Native.Nat.{ℕ, _+_, _%_, _≤_, _<_}
 use lib.IntN.{ℤ, pos, _-ℤ_}
 use lib.ListN.{getD}
 use Rattle.lists.specs.Lists.{range}
-use Rattle.rules.specs.Page.{Puzzle, Point, Shape, Mark, isWall}
+use Rattle.rules.specs.Page.{Puzzle, Point, Shape, State, isWall}
 use Rattle.rules.specs.Rules.{oneColour}
 use Rattle.rules.specs.Check.{laid, isFit}
 use Rattle.rules.specs.Codes.{coloursIn}
@@ -64,11 +64,11 @@ bare js = record { cells = []; connections = js }
 unfoldable pub readRaised : ℕ → ℕ → ℕ → ℕ → Option ℕ
 readRaised h w y x = flatReads h w (raised y x)
 
-unfoldable pub between : (ℕ → Bool) → (ℕ → Mark) → ℕ → ℕ → ℕ → Reading
+unfoldable pub between : (ℕ → Bool) → (ℕ → State) → ℕ → ℕ → ℕ → Reading
 between colour s from to b = cond (Bool·beq (colour from) (colour to)) (cond (isWall (s b)) (Walled b) Clear) Ends
 
--- "one off the page or joining two colours ends the placement without blocker"
-unfoldable pub readingOf : Puzzle → (ℕ → Mark) → Option ℕ → Reading
+-- "one off the page .. or joining two colours ends the placement without blocker"
+unfoldable pub readingOf : Puzzle → (ℕ → State) → Option ℕ → Reading
 readingOf Z s none = Ends
 readingOf Z s (some b) = cond (oneColour Z b) (cond (isWall (s b)) (Walled b) Clear) Ends
 
@@ -77,5 +77,5 @@ isClear Ends = false
 isClear Clear = true
 isClear (Walled b) = false
 
-unfoldable pub fitsOf : Puzzle → (ℕ → Mark) → Shape → ℕ → Bool
+unfoldable pub fitsOf : Puzzle → (ℕ → State) → Shape → ℕ → Bool
 fitsOf Z s t o = isFit Z s (laid Z s t o)

@@ -10,15 +10,15 @@ use lib.Arith.{digits-lt, digits-div, digits-mod}
 use lib.Dec.{eqb}
 use lib.ListN.{getD}
 use Rattle.rules.specs.declared.Side.the-variants.{Wall, Open}
-use Rattle.rules.specs.Page.{Puzzle, Mark, undecided, decided, isWall}
+use Rattle.rules.specs.Page.{Puzzle, State, undecided, decided, isWall}
 use Rattle.rules.specs.Rules.{oneColour}
-use Rattle.rules.specs.Codes.{coloursIn, marksIn, markOf}
+use Rattle.rules.specs.Codes.{coloursIn, statesIn, stateOf}
 use Rattle.rules.specs.Flat.{flat, flatReads, flatReadsAt, rightOf, belowOf, flatFirst, flatSecond, cellAt}
 use Rattle.search.specs.declared.Reading.the-variants.{Ends, Clear, Walled}
 use Rattle.search.specs.Placing.{puzzle, readRaised, readingOf, between}
 
-pub mark-wall : (v : ℕ) → isWall (markOf v) ≡ eqb v 1
-mark-wall v = go (eqb v 1) (eqb v 2)
+pub state-wall : (v : ℕ) → isWall (stateOf v) ≡ eqb v 1
+state-wall v = go (eqb v 1) (eqb v 2)
   where
     go : (a b : Bool) → isWall (cond a (decided Wall) (cond b (decided Open) undecided)) ≡ a
     go true b = refl
@@ -40,20 +40,20 @@ module _ (cs bs : List ℕ) (from to b : ℕ) (two : (c : ℕ) → getD cs c 0 �
   unfolding coloursIn
   two-colours = bit-same (getD cs from 0) (getD cs to 0) (two from) (two to)
 
-  pub between-ends : (getD cs from 0 ≡ getD cs to 0 → ⊥) → Ends ≡ between (coloursIn cs) (marksIn bs) from to b
+  pub between-ends : (getD cs from 0 ≡ getD cs to 0 → ⊥) → Ends ≡ between (coloursIn cs) (statesIn bs) from to b
   unfolding between
   between-ends e = rw (two-colours, ne-eqb (getD cs from 0) (getD cs to 0) e)
 
   pub between-wall : getD cs from 0 ≡ getD cs to 0 → getD bs b 0 ≡ 1
-      → Walled b ≡ between (coloursIn cs) (marksIn bs) from to b
-  unfolding between marksIn
+      → Walled b ≡ between (coloursIn cs) (statesIn bs) from to b
+  unfolding between statesIn
   between-wall e v = rw (two-colours, eq-eqb (getD cs from 0) (getD cs to 0) e, v)
 
   pub between-clear : getD cs from 0 ≡ getD cs to 0 → (getD bs b 0 ≡ 1 → ⊥)
-      → Clear ≡ between (coloursIn cs) (marksIn bs) from to b
-  unfolding between marksIn
+      → Clear ≡ between (coloursIn cs) (statesIn bs) from to b
+  unfolding between statesIn
   between-clear e v =
-      rw (two-colours, eq-eqb (getD cs from 0) (getD cs to 0) e, mark-wall (getD bs b 0), ne-eqb (getD bs b 0) 1 v)
+      rw (two-colours, eq-eqb (getD cs from 0) (getD cs to 0) e, state-wall (getD bs b 0), ne-eqb (getD bs b 0) 1 v)
 
 -- the numbers of two cells side by side, and of one below the other
 pub record Beside (h w y x : ℕ) : Type 0 where
@@ -64,7 +64,7 @@ pub record Beside (h w y x : ℕ) : Type 0 where
 pub beside : (h w y x : ℕ) → y < h → x < w - 1 → Beside h w y x
 beside h w y x p q = record { border = digits-lt p q; row = digits-div y q; column = digits-mod y q }
 
-module _ (h w y x : ℕ) (cs : List ℕ) (s : ℕ → Mark) where
+module _ (h w y x : ℕ) (cs : List ℕ) (s : ℕ → State) where
   -- the border right of a cell
   pub right-reading : y < h → x < w - 1
       → readingOf (puzzle h w cs) s (some (rightOf h w y x))
@@ -83,7 +83,7 @@ module _ (h w y x : ℕ) (cs : List ℕ) (s : ℕ → Mark) where
       let e : h * (w - 1) + (y * w + x) - h * (w - 1) ≡ y * w + x = omega arith in
       rw (le-ltb (h * (w - 1) + (y * w + x)) (h * (w - 1)) (omega arith), e)
 
-pub off-ends : (Z : Puzzle) (s : ℕ → Mark) {o : Option ℕ} → o ≡ none → Ends ≡ readingOf Z s o
+pub off-ends : (Z : Puzzle) (s : ℕ → State) {o : Option ℕ} → o ≡ none → Ends ≡ readingOf Z s o
 unfolding readingOf
 off-ends Z s e = rw e
 

@@ -9,8 +9,8 @@ use lib.Seq.{getD-take, length-take-le}
 use Rattle.lists.specs.Appends.{flat-map, flat-flat}
 use Rattle.lists.specs.Lists.{_∈_, any, flatMap}
 use Rattle.lists.specs.ListLaws.{filter-mem, range-lt, getD-mem}
-use Rattle.rules.specs.Page.{Puzzle, Shape, Mark}
-use Rattle.rules.specs.Codes.{marksIn}
+use Rattle.rules.specs.Page.{Puzzle, Shape, State}
+use Rattle.rules.specs.Codes.{statesIn}
 use Rattle.rules.specs.Flat.{flat}
 use Rattle.rules.specs.Groups.{members, potentialOf}
 use Rattle.rules.specs.Check.{laid, isFit, blockers, mates}
@@ -59,8 +59,8 @@ module _ {h w : ℕ} {cs bs cells offs : List ℕ} {count : ℕ} (g : Grouped h 
   abbrev Z : Puzzle
   Z = puzzle h w cs
 
-  abbrev s : ℕ → Mark
-  s = marksIn bs
+  abbrev s : ℕ → State
+  s = statesIn bs
 
   pub placed-fits : (gs : List ℕ) → ((q : ℕ) → q ∈ gs → q < count)
       → any (isFit Z s) (flatMap (λ Q. map (laid Z s t) (members (flat h w) (potentialOf Z s) Q)) gs)
@@ -86,17 +86,17 @@ module _ {h w : ℕ} {cs bs cells offs : List ℕ} {count : ℕ} (g : Grouped h 
 
 -- the mates of p stand in the list
 pub mates-low : {h w : ℕ} {cs bs cells offs : List ℕ} {count : ℕ} → Grouped h w cs bs cells offs count
-    → (p q : ℕ) → q ∈ mates (puzzle h w cs) (marksIn bs) p → q < count
+    → (p q : ℕ) → q ∈ mates (puzzle h w cs) (statesIn bs) p → q < count
 unfolding mates
 mates-low g p q m = rw (g .all) (range-lt _ (filter-mem _ _ m))
 
 module _ {h w : ℕ} {cs bs ids cells offs : List ℕ} {count : ℕ} (g : Grouped h w cs bs cells offs count)
     (k : Known h w cs bs ids) where
   -- the mates of p stand from the start of a list
-  module _ {list : List ℕ} (p : ℕ) {n : ℕ} (l : Leading (mates (puzzle h w cs) (marksIn bs) p) list n) where
+  module _ {list : List ℕ} (p : ℕ) {n : ℕ} (l : Leading (mates (puzzle h w cs) (statesIn bs) p) list n) where
     pub entry-low : (i : ℕ) → i < n → getD list i 0 < count
     entry-low i b =
-        let f = mates (puzzle h w cs) (marksIn bs) p in
+        let f = mates (puzzle h w cs) (statesIn bs) p in
         let m : length f ≡ n - 0 =
         sym (ap length (l .first))
         ∙ length-take-le (n - 0) (drop 0 list) (omega (arith, length-drop 0 list, l .long, l .few)) in

@@ -13,7 +13,7 @@ use Prim.Native.Nat.{ℕ, _+_, _≤_, _<_}
 use lib.ListN.{length, getD}
 use Rattle.lists.specs.Lists.{any, flatMap}
 use Rattle.rules.specs.declared.Literal.{Literal}
-use Rattle.rules.specs.Page.{Puzzle, Shape, Mark}
+use Rattle.rules.specs.Page.{Puzzle, Shape, State}
 use Rattle.rules.specs.Check.{laid, blockers}
 use Rattle.reasons.specs.Arrays.{Cells, part}
 use Rattle.search.specs.Placing.{fitsOf}
@@ -29,7 +29,7 @@ pub record Beside (h w : ℕ) (cells offs mates : List ℕ) (from to : ℕ) : Ty
   pub each : (i : ℕ) → from ≤ i → i < to
       → Cells h w cells (getD offs (getD mates i 0) 0) (getD offs (getD mates i 0 + 1) 0)
 
-module _ (Z : Puzzle) (s : ℕ → Mark) (t : Shape) where
+module _ (Z : Puzzle) (s : ℕ → State) (t : Shape) where
   unfoldable pub fitsAmong : List ℕ → Bool
   fitsAmong xs = any (fitsOf Z s t) xs
 

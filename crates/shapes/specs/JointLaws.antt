@@ -198,7 +198,7 @@ joint-in {h} {w} {g} {k} {number} {D} {A} j s n l =
     let i : c < h * w = range-lt (h * w) (filter-mem (λ x. eqb (number x) g) (range (h * w)) (e .1)) in
     let y : c / w < h = div-lt-iff-lt-mul {k = w} (omega (arith, s .columns)) .1 i in
     let b = near-joint h w number g (c / w) (c % w) (getD D j 0) (getD A j 0) (omega (arith, s .tall))
-    (mod-lt c (omega (arith, s .columns))) (s .wide) (rw (div-add-mod' c w) (e .2)) in
+    (mod-lt c (omega (arith, s .columns))) (s .broad) (rw (div-add-mod' c w) (e .2)) in
     record {
       inside = omega (arith, n .few);
       downs = n .downs;

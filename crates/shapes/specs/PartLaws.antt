@@ -74,7 +74,7 @@ unit-at h w ids g L R C n s long e p some most =
                 λ i l.
                 let k : getD C i 0 ≡ getD L i 0 % w = ap (λ q. natAbs (q .column)) (at i l) in
                 let d : getD L i 0 % w < w = mod-lt (getD L i 0) (omega (arith, s .columns)) in
-                omega (arith, s .wide);
+                omega (arith, s .broad);
           };
     }
   where

@@ -19,7 +19,7 @@ pub record Part (L : List ℕ) (from to w : ℕ) : Type 0 where
   pub order : from ≤ to
   pub inside : to ≤ 1024
   pub some : 1 ≤ w
-  pub wide : w ≤ 32
+  pub broad : w ≤ 32
 
 abbrev pub placeOf : ℕ → ℕ → Point
 placeOf w c = placeAt (c / w) (c % w)

@@ -76,7 +76,7 @@ true-false : _≡_ {A = Bool} true false → ⊥
 true-false e = let z : _≡_ {A = ℕ} 0 1 = cc in omega arith
 
 -- the places of the cells that pass a test, in row order
-module _ (h w : ℕ) (wide : 1 ≤ w) (own : ℕ → Bool) where
+module _ (h w : ℕ) (index : 1 ≤ w) (own : ℕ → Bool) where
   place-before : (i x : ℕ) → i < x → T (before (flatPlace h w i) (flatPlace h w x))
   unfolding flatPlace
   place-before i x l = rows-rise w i x (omega arith) l
@@ -97,13 +97,13 @@ module _ (h w : ℕ) (wide : 1 ≤ w) (own : ℕ → Bool) where
       go true ih = (later, ih)
       go false ih = ih
 
-module _ (h w : ℕ) (number : ℕ → ℕ) (g : ℕ) (wide : 1 ≤ w) where
+module _ (h w : ℕ) (number : ℕ → ℕ) (g : ℕ) (index : 1 ≤ w) where
   abbrev own : ℕ → Bool
   own x = eqb (number x) g
 
   pub places-sorted : Sorted (places h w number g)
   unfolding places flat members
-  places-sorted = from-sorted h w wide own 0 (h * w)
+  places-sorted = from-sorted h w index own 0 (h * w)
 
   -- the place of a cell of the page
   pub place-at : (y x : ℕ) → x < w → flatPlace h w (cellAt h w y x) ≡ placeAt y x

@@ -18,7 +18,7 @@ ghost use Rattle.shapes.specs.Spots.{UnitAt};
 use crate::Pair;
 use crate::apply;
 use crate::signed;
-use crate::wide;
+use rules::index;
 
 // Writes the rows and columns of the cells `from` to `to` of a list, from the start of the memory.
 // Gives their number.
@@ -65,7 +65,7 @@ fn join(
         (now (down .exit)) (now (across .exit)) r ⌝ }
 {
     if on {
-        if wide(ids[to]) == g {
+        if index(ids[to]) == g {
             down[k] = y;
             across[k] = x;
             return k + 1;
@@ -145,8 +145,8 @@ pub fn joints<'a>(
             h,
             w,
             g,
-            wide(rows[i]),
-            wide(columns[i]),
+            index(rows[i]),
+            index(columns[i]),
             &mut *down,
             &mut *across,
             k,

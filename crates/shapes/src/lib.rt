@@ -14,6 +14,7 @@ ghost use Rattle.shapes.specs.Listing.{listing};
 ghost use Rattle.shapes.specs.Pairs.{pointAt, pointOf, Small, SmallPair, BothSigns, turnBy, signsOf};
 ghost use Rattle.shapes.specs.Spots.{placeAt, spots, leastImage, cellIn, hasCell, within};
 ghost use Rattle.shapes.specs.Spots.{SpotIn, Spotted, UnitAt};
+use rules::index;
 
 pub mod connections; // connections.rt: a unit's cells and connections, and those of its images
 
@@ -127,13 +128,6 @@ fn signed(x: u16) -> i32
     x as i32
 }
 
-// The number as an index.
-fn wide(x: u16) -> usize
-    ensures { λ r. ⌜ r ≡ x ⌝ }
-{
-    x as usize
-}
-
 // Whether (y,x) stands before (b,a), by row and then by column.
 fn before(y: i32, x: i32, b: i32, a: i32) -> bool
     ensures { λ r. ⌜ r ≡ before (pointAt y x) (pointAt b a) ⌝ }
@@ -188,7 +182,7 @@ fn cell_in(ids: &[u16; 1024], h: usize, w: usize, g: usize, y: usize, x: usize) 
     if w <= x {
         return false;
     }
-    wide(ids[y * w + x]) == g
+    index(ids[y * w + x]) == g
 }
 
 // The same of signed coordinates.

@@ -12,14 +12,14 @@ use Rattle.lists.specs.Lists.{flatMap}
 use Rattle.rules.specs.Page.{Shape}
 use Rattle.rules.specs.Rules.{oneColour, joinsUnit}
 use Rattle.rules.specs.Flat.{Sized, flat}
-use Rattle.rules.specs.Codes.{marksIn}
+use Rattle.rules.specs.Codes.{statesIn}
 use Rattle.rules.specs.Groups.{entry, unitCount}
 use Rattle.rules.specs.Shapes.{shapeOf, flatTransforms}
 use Rattle.rules.specs.Check.{transformsOf}
 use Rattle.board.specs.declared.Board.{Board}
 use Rattle.board.specs.declared.Outcome.the-variants.{Done, Alien, Short}
 use Rattle.board.specs.Alien.{isAlien}
-use Rattle.board.specs.View.{puzzleIn, puzzleOf, marksOf}
+use Rattle.board.specs.View.{puzzleIn, puzzleOf, statesOf}
 use Rattle.groups.specs.declared.Groups.{Groups}
 use Rattle.groups.specs.declared.Kind.the-variants.{Units}
 use Rattle.groups.specs.Kinds.{joinsIn}
@@ -50,7 +50,7 @@ module _ (ts : List Shape) (k : ℕ) (l : length ts ≤ k) where
   past-memory m = rw past
 
 -- a unit's listed rows
-module _ (h w : ℕ) (ids : List ℕ) (g : ℕ) (wide : 1 ≤ w) {t : Listed}
+module _ (h w : ℕ) (ids : List ℕ) (g : ℕ) (index : 1 ≤ w) {t : Listed}
     (rows : t ≡ listing (rowsOf (shapeOf (flat h w) (entry ids) g))) where
   abbrev shape : Shape
   shape = shapeOf (flat h w) (entry ids) g
@@ -59,7 +59,7 @@ module _ (h w : ℕ) (ids : List ℕ) (g : ℕ) (wide : 1 ≤ w) {t : Listed}
   ts = flatTransforms shape
 
   transforms-are : ts ≡ map (λ r. image r shape) (rowsOf shape)
-  transforms-are = transforms-flat h w (entry ids) g wide
+  transforms-are = transforms-flat h w (entry ids) g index
 
   pub listed-count : t .count ≡ length (flatTransforms (shapeOf (flat h w) (entry ids) g))
   listed-count =
@@ -96,14 +96,14 @@ module _ (h w : ℕ) (ids : List ℕ) (g : ℕ) (wide : 1 ≤ w) {t : Listed}
 module _ {h w : ℕ} (z : Sized h w) (cs bs : List ℕ) {units : Groups}
     (all : units ≡ groupsOf (flat h w) (joinsIn Units h w cs bs)) (u : ℕ) where
   -- "A unit number that no unit has gives no transforms"
-  pub no-unit : units .count ≤ u → transformsOf (puzzle h w cs) (marksIn bs) u ≡ []
+  pub no-unit : units .count ≤ u → transformsOf (puzzle h w cs) (statesIn bs) u ≡ []
   unfolding transformsOf
   no-unit l =
-      rw (le-ltb u (unitCount (puzzle h w cs) (marksIn bs))
+      rw (le-ltb u (unitCount (puzzle h w cs) (statesIn bs))
       (rw (ap (λ (g : Groups). g .count) all ∙ own-count z cs bs) at l))
 
   pub unit-transforms : u < units .count
-      → transformsOf (puzzle h w cs) (marksIn bs) u ≡ flatTransforms (shapeOf (flat h w) (entry (units .ids)) u)
+      → transformsOf (puzzle h w cs) (statesIn bs) u ≡ flatTransforms (shapeOf (flat h w) (entry (units .ids)) u)
   unit-transforms l = rw all (own-transforms z cs bs u (rw all at l))
 
   pub unit-part-in : u < units .count
@@ -116,9 +116,9 @@ module _ {h w : ℕ} (z : Sized h w) (cs bs : List ℕ) {units : Groups}
 -- a board's answer
 module _ (b : Board) (u k : ℕ) (m : List ℤ) where
   -- the transforms ask no clue
-  pub board-transforms : transformsOf (puzzle (b .height) (b .width) (b .colours)) (marksIn (b .borders)) u
-      ≡ transformsOf (puzzleOf b) (marksOf b) u
-  unfolding transformsOf puzzleOf puzzleIn marksOf joinsUnit oneColour
+  pub board-transforms : transformsOf (puzzle (b .height) (b .width) (b .colours)) (statesIn (b .borders)) u
+      ≡ transformsOf (puzzleOf b) (statesOf b) u
+  unfolding transformsOf puzzleOf puzzleIn statesOf joinsUnit oneColour
   board-transforms = refl
 
   pub alien-answer : isAlien b ≡ true → answered Alien 0 nothing ≡ transformOf b u k (length m)
@@ -138,11 +138,11 @@ module _ (b : Board) (u k : ℕ) (m : List ℤ) where
   short-memory e l = rw (e, lt-ltb (length m) room l)
 
   pub done-answer : isAlien b ≡ false → room ≤ length m
-      → kthAnswer (transformsOf (puzzleOf b) (marksOf b) u) k ≡ transformOf b u k (length m)
+      → kthAnswer (transformsOf (puzzleOf b) (statesOf b) u) k ≡ transformOf b u k (length m)
   unfolding transformOf
   done-answer e l = rw (e, le-ltb (length m) room l)
 
   pub done-memory : isAlien b ≡ false → room ≤ length m
-      → kthMemory (transformsOf (puzzleOf b) (marksOf b) u) k m ≡ memoryAfter b u k m
+      → kthMemory (transformsOf (puzzleOf b) (statesOf b) u) k m ≡ memoryAfter b u k m
   unfolding memoryAfter
   done-memory e l = rw (e, le-ltb (length m) room l)

@@ -27,7 +27,7 @@ use Rattle.board.specs.declared.Board.{Board}
 use Rattle.board.specs.declared.Outcome.{Outcome}
 use Rattle.board.specs.declared.Outcome.the-variants.{Done, Alien, Short}
 use Rattle.board.specs.Alien.{isAlien}
-use Rattle.board.specs.View.{puzzleOf, marksOf}
+use Rattle.board.specs.View.{puzzleOf, statesOf}
 use Rattle.transforms.specs.declared.Answer.{Answer}
 
 abbrev pub nothing : Shape
@@ -59,12 +59,12 @@ kthMemory ts k m = sets m 0 (words (kth ts k))
 unfoldable pub transformOf : Board → ℕ → ℕ → ℕ → Answer
 transformOf b u k n =
     cond (isAlien b) (answered Alien 0 nothing)
-    (cond (ltb n room) (answered Short 0 nothing) (kthAnswer (transformsOf (puzzleOf b) (marksOf b) u) k))
+    (cond (ltb n room) (answered Short 0 nothing) (kthAnswer (transformsOf (puzzleOf b) (statesOf b) u) k))
 
 -- a refused call leaves the memory; nothing is written beyond the transform
 unfoldable pub memoryAfter : Board → ℕ → ℕ → List ℤ → List ℤ
 memoryAfter b u k m =
-    cond (isAlien b) m (cond (ltb (length m) room) m (kthMemory (transformsOf (puzzleOf b) (marksOf b) u) k m))
+    cond (isAlien b) m (cond (ltb (length m) room) m (kthMemory (transformsOf (puzzleOf b) (statesOf b) u) k m))
 
 pub record Wrote (m : List ℤ) (from : ℕ) (ps : List Point) (after : List ℤ) (next : ℕ) : Type 0 where
   pub memory : after ≡ sets m from (numbersOf ps)

@@ -6,7 +6,7 @@ ghost use lib.ListN.{length};
 ghost use lib.Seq.{sets};
 ghost use Rattle.rules.specs.Page.{_⊕_, opposite};
 ghost use Rattle.rules.specs.Flat.{Sized, flat};
-ghost use Rattle.rules.specs.Codes.{marksIn};
+ghost use Rattle.rules.specs.Codes.{statesIn};
 ghost use Rattle.rules.specs.Groups.{entry};
 ghost use Rattle.rules.specs.Turns.{apply};
 ghost use Rattle.rules.specs.Check.{transformsOf};
@@ -25,6 +25,7 @@ use board::Board;
 use board::Outcome;
 use groups::Kind;
 use groups::groups_of;
+use rules::index;
 use shapes::Listed;
 use shapes::Pair;
 use shapes::Signs;
@@ -237,13 +238,6 @@ fn none(outcome: Outcome, listed: usize) -> Answer
     }
 }
 
-// The number as an index.
-fn wide(x: u16) -> usize
-    ensures { λ r. ⌜ r ≡ x ⌝ }
-{
-    x as usize
-}
-
 // Writes transform `k` of unit `g`, whose `n` cells stand in rows and columns, and whose listed rows are given.
 fn put_listed<'a>(
     memory: &mut [i32],
@@ -304,16 +298,16 @@ fn put_transform<'a>(
 ) -> Answer
     requires { ⌜ Sized h w × (6144 ≤ length (now memory)) ⌝ }
     ensures { λ r. ⌜ (r ≡ kthAnswer (transformsOf (puzzle h w (now (colours .entry)))
-        (marksIn (now (borders .entry))) u) k)
+        (statesIn (now (borders .entry))) u) k)
         × (now (memory .exit) ≡ kthMemory (transformsOf (puzzle h w (now (colours .entry)))
-        (marksIn (now (borders .entry))) u) k (now (memory .entry))) ⌝ }
+        (statesIn (now (borders .entry))) u) k (now (memory .entry))) ⌝ }
 {
     let units = groups_of(h, w, colours, borders, Kind::Units);
     if units.count <= u {
         return none(Outcome::Done, 0);
     }
-    let first = wide(units.offs[u]);
-    let last = wide(units.offs[u + 1]);
+    let first = index(units.offs[u]);
+    let last = index(units.offs[u + 1]);
     let mut rows = [0u16; Board::CELL_LIMIT];
     let mut columns = [0u16; Board::CELL_LIMIT];
     let n = places(&units.cells, first, last, w, &mut rows, &mut columns);

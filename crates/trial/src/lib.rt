@@ -15,13 +15,7 @@ use board::Outcome;
 use calls::Answer;
 use rules::Literal;
 use rules::Side;
-
-// A number of 16 bits.
-fn wide(x: u16) -> usize
-    ensures { λ r. ⌜ r ≡ x ⌝ }
-{
-    x as usize
-}
+use rules::index;
 
 // The literal with the code n.
 fn literal(n: usize) -> Literal
@@ -54,7 +48,7 @@ fn decide_next<'a>(
         ≡ decideOf (boardOf h w (now (colours .entry)) (now (clues .entry)) (now (borders .entry))
         (now (stack .entry)) count) (literalOf code) .board ⌝ }
 {
-    let l = literal(wide(code));
+    let l = literal(index(code));
     let o = board::decide_lent(h, w, colours, clues, borders, stack, count, l);
     if refusal(o) == 0 { count + 1 } else { count }
 }

@@ -5,9 +5,9 @@ use mathlib.Core.Option.{Option}
 use Prim.Native.Nat.{ℕ, _+_, _<_, _≤_}
 use native.Mathlib.Omega.{arith}
 use lib.ListN.{length, getD}
-use Rattle.rules.specs.Page.{Puzzle, Mark}
+use Rattle.rules.specs.Page.{Puzzle, State}
 use Rattle.rules.specs.Flat.{flat}
-use Rattle.rules.specs.Codes.{marksIn}
+use Rattle.rules.specs.Codes.{statesIn}
 use Rattle.rules.specs.Rules.{oneColour, joinsUnit}
 use Rattle.rules.specs.Groups.{entry, joinsPotential, potentialOf}
 use Rattle.rules.specs.Shapes.{shapeOf}
@@ -30,7 +30,7 @@ use Rattle.units.specs.ReadyLaws.{some, few, units-are, unit-few, unit-in, home
 use Rattle.unitreason.specs.Writing.{Arranged, Imaged, Asked, clued}
 
 -- the units and the potential unit of a unit ask no clue
-module _ (h w : ℕ) (cs : List ℕ) (c : ℕ → Option ℕ) (s : ℕ → Mark) where
+module _ (h w : ℕ) (cs : List ℕ) (c : ℕ → Option ℕ) (s : ℕ → State) where
   pub potential-clue : (u : ℕ) → potentialIn (clued h w cs c) s u ≡ potentialIn (puzzle h w cs) s u
   unfolding potentialIn joinsUnit joinsPotential oneColour
   potential-clue u = refl
@@ -40,8 +40,8 @@ module _ {h w : ℕ} {cs bs ids cells offs pids pcells poffs : List ℕ} {u : �
   abbrev Z : Puzzle
   Z = puzzle h w cs
 
-  abbrev s : ℕ → Mark
-  s = marksIn bs
+  abbrev s : ℕ → State
+  s = statesIn bs
 
   pub unit-low : u < 1024
   unit-low = omega (arith, q .low, unit-few (q .ready))

@@ -3,7 +3,7 @@ use mathlib.Core.Path.{_≡_}
 use mathlib.Core.List.{List}
 use Prim.Native.Nat.{ℕ}
 use Rattle.lists.specs.Lists.{flatMap}
-use Rattle.rules.specs.Codes.{marksIn}
+use Rattle.rules.specs.Codes.{statesIn}
 use Rattle.rules.specs.Page.{Point}
 use Rattle.reasons.specs.Arrays.{part}
 use Rattle.search.specs.Placing.{Drawn, Raised, puzzle, bare, spelled}
@@ -26,5 +26,5 @@ module _ {h w : ℕ} {cs : List ℕ} (d : Drawn h w cs) (bs ys xs : List ℕ) (n
       → Beside h w cells offs mates from to → Masked w (originsIn cells offs (part mates from to)) m
       → {js : List Point} → spelled ys xs n ≡ js
       → flatMap (λ Q. flatMap (blockIn h w bs rows ys xs n) (groupIn cells offs Q)) (part mates from to)
-      ≡ blocksBeside (puzzle h w cs) (marksIn bs) (bare js) cells offs (part mates from to)
+      ≡ blocksBeside (puzzle h w cs) (statesIn bs) (bare js) cells offs (part mates from to)
   blocks-row b k g = rw (← g) (blocks-same d bs ys xs n r b k survived)

@@ -6,7 +6,7 @@ use Prim.Native.Nat.{ℕ}
 use Rattle.lists.specs.Lists.{flatMap}
 use Rattle.rules.specs.declared.Placement.{Placement}
 use Rattle.rules.specs.declared.Placement.the-variants.{Fits, Blocked, Cannot}
-use Rattle.rules.specs.Page.{Puzzle, Mark}
+use Rattle.rules.specs.Page.{Puzzle, State}
 use Rattle.rules.specs.Rules.{oneColour, joinsUnit}
 use Rattle.rules.specs.Groups.{members, joinsPotential, potentialOf}
 use Rattle.rules.specs.Check.{blockers, placements, transformsOf, insideUnit, edgeOf, touches, adjacent, mates}
@@ -15,7 +15,7 @@ use Rattle.search.specs.JudgeLaws.{laid-clue}
 use Rattle.search.specs.Placing.{puzzle}
 use Rattle.unitreason.specs.Writing.{clued}
 
-module _ (h w : ℕ) (cs : List ℕ) (k : ℕ → Option ℕ) (s : ℕ → Mark) where
+module _ (h w : ℕ) (cs : List ℕ) (k : ℕ → Option ℕ) (s : ℕ → State) where
   abbrev Z : Puzzle
   Z = puzzle h w cs
 

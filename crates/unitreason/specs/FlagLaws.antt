@@ -15,7 +15,7 @@ use Rattle.lists.specs.Padded.{zeros}
 use Rattle.lists.specs.Lists.{any, filter, range}
 use Rattle.lists.specs.ListLaws.{mem-filter, filter-test, any-mem, any-find, mem-range}
 use Rattle.lists.specs.Table.{getD-table, table-is}
-use Rattle.reasons.specs.Arrays.{part, isMarked}
+use Rattle.reasons.specs.Arrays.{part, isFlagged}
 use Rattle.reasons.specs.ListExtras.{if-same}
 use Rattle.search.specs.ListExtras.{any-append, part-none, part-one, part-split}
 use Rattle.unitreason.specs.Writing.{flag, flagsOf}
@@ -78,8 +78,8 @@ flag-is : (a : Bool) → eqb (flag a) 1 ≡ a
 flag-is true = refl
 flag-is false = refl
 
-pub marked-is : (f : ℕ → Bool) (n q : ℕ) → n ≤ 1024 → q < n → isMarked (flagsOf (filter f (range n))) q ≡ f q
-unfolding isMarked flagsOf
-marked-is f n q few h =
+pub flagged-is : (f : ℕ → Bool) (n q : ℕ) → n ≤ 1024 → q < n → isFlagged (flagsOf (filter f (range n))) q ≡ f q
+unfolding isFlagged flagsOf
+flagged-is f n q few h =
     rw (getD-table 1024 (λ x. flag (any (eqb x) (filter f (range n)))) q 0 (omega arith))
     (flag-is (any (eqb q) (filter f (range n))) ∙ any-filter f n q h)

@@ -10,14 +10,14 @@ use lib.ListN.{length, getD, List·getD-append}
 use Rattle.lists.specs.Appends.{flat-map, flat-flat}
 use Rattle.lists.specs.Lists.{flatMap}
 use Rattle.rules.specs.declared.Literal.{Literal}
-use Rattle.rules.specs.Page.{Puzzle, Point, Shape, Mark}
+use Rattle.rules.specs.Page.{Puzzle, Point, Shape, State}
 use Rattle.rules.specs.Flat.{flat}
-use Rattle.rules.specs.Codes.{marksIn, coloursIn}
+use Rattle.rules.specs.Codes.{statesIn, coloursIn}
 use Rattle.rules.specs.Shapes.{shapeOf}
 use Rattle.rules.specs.Groups.{entry, members, unitOf, potentialOf, potentialCount}
 use Rattle.rules.specs.Check.{laid, blockers, placements, transformsOf, insideUnit, edgeOf, mates, farWalls, unitReason}
 use Rattle.rules.specs.Check.{adjacent as isAdjacent}
-use Rattle.reasons.specs.Arrays.{Cells, part, insideIn, edgeIn, isMarked}
+use Rattle.reasons.specs.Arrays.{Cells, part, insideIn, edgeIn, isFlagged}
 use Rattle.reasons.specs.FarLaws.{far-walls}
 use Rattle.reasons.specs.ListExtras.{flat-same, flat-up, up-same}
 use Rattle.reasons.specs.Memory.{Wrote}
@@ -34,7 +34,7 @@ use Rattle.shapes.specs.UnitLaws.{transforms-flat}
 use Rattle.units.specs.ImageLaws.{image-is}
 use Rattle.unitreason.specs.Writing.{Numbered, Mated, flagsOf, edgesIn, farIn, wallsIn, clued, Arranged}
 use Rattle.unitreason.specs.Writing.{blocksBy, blocksListed, Imaged}
-use Rattle.unitreason.specs.FlagLaws.{marked-is}
+use Rattle.unitreason.specs.FlagLaws.{flagged-is}
 use Rattle.unitreason.specs.ListExtras.{flat-all}
 use Rattle.unitreason.specs.ListExtras.{room-first, room-second, room-third}
 use Rattle.unitreason.specs.ClueLaws.{reason-clue}
@@ -47,8 +47,8 @@ module _ {h w : ℕ} {cs bs ids cells offs pids pcells poffs list : List ℕ} {c
   abbrev Z : Puzzle
   Z = puzzle h w cs
 
-  abbrev s : ℕ → Mark
-  s = marksIn bs
+  abbrev s : ℕ → State
+  s = statesIn bs
 
   number-same : (x : ℕ) → x < h * w → entry pids x ≡ potentialOf Z s x
   unfolding entry
@@ -107,19 +107,19 @@ module _ {h w : ℕ} {cs bs ids cells offs pids pcells poffs list : List ℕ} {c
         each = λ i x y. numbered (getD list i 0) (entry-low (a .grouped) (a .known) p (a .mates) i y);
       }
 
-  -- the marks of the mates
-  mark : (x : ℕ) → x < h * w
-      → isMarked (flagsOf (mates Z s p)) (entry pids x) ≡ isAdjacent Z s p (entry pids x)
+  -- the flags of the mates
+  flag : (x : ℕ) → x < h * w
+      → isFlagged (flagsOf (mates Z s p)) (entry pids x) ≡ isAdjacent Z s p (entry pids x)
   unfolding mates entry
-  mark x l =
-      marked-is (isAdjacent Z s p) (potentialCount Z s) (getD pids x 0) (a .known .few)
+  flag x l =
+      flagged-is (isAdjacent Z s p) (potentialCount Z s) (getD pids x 0) (a .known .few)
       (a .known .below x l)
 
   far-is : farIn h w cs bs pids (part list 0 count) (partAt pcells poffs p) ≡ farWalls Z s p
   unfolding farIn
   far-is =
       rw (mates-are, cells-are)
-      (sym (far-walls (a .drawn .sized) cs bs pids (λ c. none) p (flagsOf (mates Z s p)) number-same mark))
+      (sym (far-walls (a .drawn .sized) cs bs pids (λ c. none) p (flagsOf (mates Z s p)) number-same flag))
 
   edges-are : edgesIn h w cs bs pids (part list 0 count) ≡ flatMap (edgeOf Z s) (mates Z s p)
   unfolding edgesIn

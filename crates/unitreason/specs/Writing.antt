@@ -22,9 +22,9 @@ use Rattle.lists.specs.Lists.{any, flatMap}
 use Rattle.lists.specs.Table.{table}
 use Rattle.rules.specs.declared.Side.the-variants.{Wall}
 use Rattle.rules.specs.declared.Literal.{Literal}
-use Rattle.rules.specs.Page.{Puzzle, Point, Mark}
+use Rattle.rules.specs.Page.{Puzzle, Point, State}
 use Rattle.rules.specs.Flat.{flat}
-use Rattle.rules.specs.Codes.{marksIn, coloursIn}
+use Rattle.rules.specs.Codes.{statesIn, coloursIn}
 use Rattle.rules.specs.Groups.{entry, unitOf, potentialCount}
 use Rattle.rules.specs.Shapes.{shapeOf, flatTransforms}
 use Rattle.rules.specs.Check.{mates, transformsOf}
@@ -89,14 +89,14 @@ pub record Arranged (h w : ℕ) (cs bs ids cells offs pids pcells poffs list : L
   pub lengths : (length ids ≡ 1024) × (length pids ≡ 1024)
   -- the unit U
   pub unit : Numbered h w ids cells offs u
-  pub number : (c : ℕ) → c < h * w → getD ids c 0 ≡ unitOf (puzzle h w cs) (marksIn bs) c
+  pub number : (c : ℕ) → c < h * w → getD ids c 0 ≡ unitOf (puzzle h w cs) (statesIn bs) c
   -- the potential units, among them P
   pub known : Known h w cs bs pids
-  pub grouped : Grouped h w cs bs pcells poffs (potentialCount (puzzle h w cs) (marksIn bs))
-  pub one : p < potentialCount (puzzle h w cs) (marksIn bs)
-  pub mates : Leading (mates (puzzle h w cs) (marksIn bs) p) list count
+  pub grouped : Grouped h w cs bs pcells poffs (potentialCount (puzzle h w cs) (statesIn bs))
+  pub one : p < potentialCount (puzzle h w cs) (statesIn bs)
+  pub mates : Leading (mates (puzzle h w cs) (statesIn bs) p) list count
 
-module _ (Z : Puzzle) (s : ℕ → Mark) (cells offs mates : List ℕ) where
+module _ (Z : Puzzle) (s : ℕ → State) (cells offs mates : List ℕ) where
   -- places, connections, row
   unfoldable pub blocksBy : List Point → List Point → ℕ → List Literal
   blocksBy ps js r = blocksBeside Z s (bare (imageJoints r ps js)) cells offs mates
@@ -108,7 +108,7 @@ pub record Imaged (h w : ℕ) (cs bs ids R C : List ℕ) (n : ℕ) (D A : List �
   pub cells : UnitAt h w ids u R C n
   pub connections : Joined h w (entry ids) u D A k
   pub rows : l ≡ listing (rowsOf (shapeOf (flat h w) (entry ids) u))
-  pub transforms : transformsOf (puzzle h w cs) (marksIn bs) u ≡ flatTransforms (shapeOf (flat h w) (entry ids) u)
+  pub transforms : transformsOf (puzzle h w cs) (statesIn bs) u ≡ flatTransforms (shapeOf (flat h w) (entry ids) u)
 
 pub record Asked (h w : ℕ) (cs bs ids cells offs pids pcells poffs : List ℕ) (u : ℕ) : Type 0 where
   pub ready : Sorted h w cs bs ids cells offs pids pcells poffs

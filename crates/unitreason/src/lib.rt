@@ -3,7 +3,7 @@ ghost use mathlib.Core.Path.{_≡_};
 ghost use mathlib.Core.Option.{Option};
 ghost use Prim.Native.Nat.{ℕ, _+_, _≤_};
 ghost use lib.ListN.{length};
-ghost use Rattle.rules.specs.Codes.{marksIn};
+ghost use Rattle.rules.specs.Codes.{statesIn};
 ghost use Rattle.rules.specs.Check.{unitReason};
 ghost use Rattle.reasons.specs.Arrays.{part};
 ghost use Rattle.reasons.specs.Memory.{Wrote};
@@ -22,6 +22,7 @@ use planes::survivors::draw_colours;
 use planes::survivors::draw_places;
 use planes::survivors::survivors;
 use reasons::inside;
+use rules::index;
 use search::mates::mates_of;
 use shapes::Listed;
 use shapes::connections::joints;
@@ -30,13 +31,6 @@ use shapes::list_rows;
 use units::turn_row;
 
 pub mod walls; // walls.rt: the walls of a potential unit, of those adjacent to it, and to the others
-
-// A number of 16 bits.
-fn wide(x: u16) -> usize
-    ensures { λ r. ⌜ r ≡ x ⌝ }
-{
-    x as usize
-}
 
 // Writes the blockers of the placements of the unit's images by the listed rows, with their origins at the cells of the
 // groups that the list of mates has from the place `from` to the place `to`; gives the next place. The planes of the
@@ -66,11 +60,11 @@ fn block_rows<'a>(
     requires { ⌜ Rows listed × Drawn h w (now colours) × Spotted (now rows) (now columns) n
         × Jointed (now down) (now across) k × Beside h w (now cells) (now offs) (now mates) from to
         × (length (now ys) ≡ 2048) × (length (now xs) ≡ 2048)
-        × (start + length (blocksListed (puzzle h w (now colours)) (marksIn (now borders)) (now cells) (now offs)
+        × (start + length (blocksListed (puzzle h w (now colours)) (statesIn (now borders)) (now cells) (now offs)
         (part (now mates) from to) (spots (now rows) (now columns) n) (spots (now down) (now across) k) listed) ≤ length
         (now memory)) ⌝ }
     ensures { λ r. ⌜ Wrote (now (memory .entry)) start
-        (blocksListed (puzzle h w (now (colours .entry))) (marksIn (now (borders .entry))) (now (cells .entry))
+        (blocksListed (puzzle h w (now (colours .entry))) (statesIn (now (borders .entry))) (now (cells .entry))
         (now (offs .entry)) (part (now (mates .entry)) from to) (spots (now (rows .entry)) (now (columns .entry)) n)
         (spots (now (down .entry)) (now (across .entry)) k) listed) (now (memory .exit)) r ⌝ }
 {
@@ -145,9 +139,9 @@ pub fn write_unit<'a>(
         × Imaged h w (now colours) (now borders) (now ids) (now rows) (now columns) n (now down) (now across) k
         listed u
         × (length (now ys) ≡ 2048) × (length (now xs) ≡ 2048)
-        × (length (unitReason (puzzle h w (now colours)) (marksIn (now borders)) u p) ≤ length (now memory)) ⌝ }
+        × (length (unitReason (puzzle h w (now colours)) (statesIn (now borders)) u p) ≤ length (now memory)) ⌝ }
     ensures { λ r. ⌜ ((c : ℕ → Option ℕ) → Wrote (now (memory .entry)) 0
-        (unitReason (clued h w (now (colours .entry)) c) (marksIn (now (borders .entry))) u p)
+        (unitReason (clued h w (now (colours .entry)) c) (statesIn (now (borders .entry))) u p)
         (now (memory .exit)) r) ⌝ }
 {
     let blocked = block_rows(
@@ -172,8 +166,8 @@ pub fn write_unit<'a>(
         0,
         count,
     );
-    let first = wide(unit_offs[u]);
-    let last = wide(unit_offs[u + 1]);
+    let first = index(unit_offs[u]);
+    let last = index(unit_offs[u + 1]);
     let inner = inside(memory, blocked, h, w, borders, ids, units, first, last, u);
     walls_of(
         memory,
@@ -218,19 +212,19 @@ pub fn write_stuck<'a>(
     requires { ⌜ Asked h w (now colours) (now borders) (now ids) (now units) (now «unit_offs») (now potential)
         (now cells) (now offs) u × (length (now mates) ≡ 1024)
         × Lent (now rows) (now columns) (now down) (now across) (now ys) (now xs)
-        × (length (unitReason (puzzle h w (now colours)) (marksIn (now borders)) u
-        (potentialIn (puzzle h w (now colours)) (marksIn (now borders)) u)) ≤ length (now memory)) ⌝ }
+        × (length (unitReason (puzzle h w (now colours)) (statesIn (now borders)) u
+        (potentialIn (puzzle h w (now colours)) (statesIn (now borders)) u)) ≤ length (now memory)) ⌝ }
     ensures { λ r. ⌜ ((c : ℕ → Option ℕ) → Wrote (now (memory .entry)) 0
-        (unitReason (clued h w (now (colours .entry)) c) (marksIn (now (borders .entry))) u
-        (potentialIn (clued h w (now (colours .entry)) c) (marksIn (now (borders .entry))) u))
+        (unitReason (clued h w (now (colours .entry)) c) (statesIn (now (borders .entry))) u
+        (potentialIn (clued h w (now (colours .entry)) c) (statesIn (now (borders .entry))) u))
         (now (memory .exit)) r) ⌝ }
 {
-    let first = wide(unit_offs[u]);
-    let last = wide(unit_offs[u + 1]);
-    let c = wide(units[first]);
-    let p = wide(potential[c]);
-    let from = wide(offs[p]);
-    let to = wide(offs[p + 1]);
+    let first = index(unit_offs[u]);
+    let last = index(unit_offs[u + 1]);
+    let c = index(units[first]);
+    let p = index(potential[c]);
+    let from = index(offs[p]);
+    let to = index(offs[p + 1]);
     let count = mates_of(h, w, colours, borders, potential, cells, from, to, mates);
     let n = places(units, first, last, w, rows, columns);
     let k = joints(ids, h, w, u, rows, columns, n, down, across);

@@ -6,11 +6,11 @@ ghost use Rattle.rules.specs.Flat.{Sized};
 ghost use Rattle.reasons.specs.Arrays.{Arrays, Cells, part};
 ghost use Rattle.reasons.specs.Memory.{Wrote};
 ghost use Rattle.unitreason.specs.Writing.{Numbered, Low, Mated, flagsOf, edgesIn, farIn, wallsIn};
-use crate::wide;
 use board::Board;
 use reasons::edge;
 use reasons::scan;
 use rules::Side;
+use rules::index;
 
 // Writes Edge of each of the groups that the list of mates has from the place `from` to the place `to`; gives the next
 // place.
@@ -39,9 +39,9 @@ fn edges_of<'a>(
     let mut at = start;
     let mut i = from;
     while i < to {
-        let q = wide(mates[i]);
-        let first = wide(offs[q]);
-        let last = wide(offs[q + 1]);
+        let q = index(mates[i]);
+        let first = index(offs[q]);
+        let last = index(offs[q + 1]);
         at = edge(
             memory,
             at,
@@ -61,18 +61,18 @@ fn edges_of<'a>(
 }
 
 // 1 at the number of each group that the list of mates has from the place `from` to the place `to`, 0 elsewhere.
-fn marks_of(mates: &[u16; Board::CELL_LIMIT], from: usize, to: usize) -> [u8; Board::CELL_LIMIT]
+fn flags_of(mates: &[u16; Board::CELL_LIMIT], from: usize, to: usize) -> [u8; Board::CELL_LIMIT]
     requires { ⌜ Low (now mates) from to ⌝ }
     ensures { λ r. ⌜ r ≡ flagsOf (part (now (mates .entry)) from to) ⌝ }
 {
-    let mut marked = [0u8; Board::CELL_LIMIT];
+    let mut flagged = [0u8; Board::CELL_LIMIT];
     let mut i = from;
     while i < to {
-        let q = wide(mates[i]);
-        marked[q] = 1;
+        let q = index(mates[i]);
+        flagged[q] = 1;
         i += 1;
     }
-    marked
+    flagged
 }
 
 // Writes the walls from the cells `cells[first..last]` to cells of the other colour in groups that the list of mates
@@ -100,7 +100,7 @@ fn far_walls<'a>(
         (farIn h w (now (colours .entry)) (now (borders .entry)) (now (ids .entry))
         (part (now (mates .entry)) from to) (part (now (cells .entry)) first last)) (now (memory .exit)) r ⌝ }
 {
-    let marked = marks_of(mates, from, to);
+    let flagged = flags_of(mates, from, to);
     scan(
         memory,
         start,
@@ -114,7 +114,7 @@ fn far_walls<'a>(
         last,
         Side::Wall,
         false,
-        &marked,
+        &flagged,
     )
 }
 
@@ -146,8 +146,8 @@ pub fn walls_of<'a>(
         (part (now (mates .entry)) from to) (part (now (cells .entry)) (getD (now (offs .entry)) p 0)
         (getD (now (offs .entry)) (p + 1) 0))) (now (memory .exit)) r ⌝ }
 {
-    let first = wide(offs[p]);
-    let last = wide(offs[p + 1]);
+    let first = index(offs[p]);
+    let last = index(offs[p + 1]);
     let own = edge(
         memory,
         start,

@@ -6,7 +6,7 @@ use Prim.Native.Nat.{ℕ}
 use Rattle.lists.specs.Lists.{any, flatMap, firstHit, range}
 use Rattle.rules.specs.declared.Placement.{Placement}
 use Rattle.rules.specs.declared.Placement.the-variants.{Fits, Blocked, Cannot}
-use Rattle.rules.specs.Page.{Puzzle, Mark}
+use Rattle.rules.specs.Page.{Puzzle, State}
 use Rattle.rules.specs.Flat.{flat}
 use Rattle.rules.specs.Codes.{coloursIn}
 use Rattle.rules.specs.Rules.{oneColour, joinsUnit}
@@ -17,7 +17,7 @@ use Rattle.search.specs.Placing.{puzzle}
 use Rattle.units.specs.Stuck.{firstFail, fitsOn, fitsUnit, stuckHit}
 use Rattle.units.specs.StuckLaws.{stuck-hit}
 
-module _ (h w : ℕ) (cs : List ℕ) (k : ℕ → Option ℕ) (s : ℕ → Mark) where
+module _ (h w : ℕ) (cs : List ℕ) (k : ℕ → Option ℕ) (s : ℕ → State) where
   abbrev Z : Puzzle
   Z = puzzle h w cs
 

@@ -12,7 +12,7 @@ use Prim.Native.Nat.{ℕ, _+_, _%_, _<_}
 use lib.Dec.{ltb}
 use lib.ListN.{getD}
 use Rattle.lists.specs.Lists.{all}
-use Rattle.rules.specs.Page.{Mark, Point, _⊕_}
+use Rattle.rules.specs.Page.{State, Point, _⊕_}
 use Rattle.rules.specs.Flat.{flat}
 use Rattle.rules.specs.Shapes.{connectionsAt}
 use Rattle.reasons.specs.Arrays.{part}
@@ -23,7 +23,7 @@ pub record Shift (y x : ℕ) : Type 0 where
   pub across : x < 128
   pub even : (y % 2 ≡ 0) × (x % 2 ≡ 0)
 
-module _ (h w : ℕ) (cs : List ℕ) (s : ℕ → Mark) where
+module _ (h w : ℕ) (cs : List ℕ) (s : ℕ → State) where
   unfoldable pub clearAt : ℕ → ℕ → Point → Bool
   clearAt y x d = isClear (readingOf (puzzle h w cs) s (flat h w .reads (d ⊕ raised y x)))
 

@@ -18,7 +18,7 @@ use lib.Dec.{eqb, ltb}
 use lib.IntN.{pos, negsuc, +ℤ-assoc}
 use lib.ListN.{getD}
 use Rattle.lists.specs.Lists.{_∈_, all, any, flatMap}
-use Rattle.rules.specs.Page.{Mark, Point, Puzzle, Shape, _⊕_, opposite}
+use Rattle.rules.specs.Page.{State, Point, Puzzle, Shape, _⊕_, opposite}
 use Rattle.rules.specs.Flat.{Sized, flat, flatPlace, flatReads}
 use Rattle.rules.specs.Groups.{entry}
 use Rattle.rules.specs.Shapes.{shiftBy, normal, connectionsAt, shapeOf}
@@ -42,7 +42,7 @@ use Rattle.units.specs.FitLaws.{turned-own}
 use Rattle.units.specs.Copies.{Shift, clearAt, cellClear, soonEnd, soonIn}
 
 -- the connections of a cell
-module _ (h w : ℕ) (cs : List ℕ) (s : ℕ → Mark) (y x : ℕ) where
+module _ (h w : ℕ) (cs : List ℕ) (s : ℕ → State) (y x : ℕ) where
   -- the raised doubled place (a,b) is clear
   abbrev reading : ℕ → ℕ → Bool
   reading a b = isClear (readingOf (puzzle h w cs) s (readRaised h w a b))
@@ -111,11 +111,11 @@ module _ {h w g first last : ℕ} {ids units : List ℕ} (z : Sized h w) (u : Un
         let b = row-of h w o l in
         record {
           down = omega (arith, b .row, z .tall);
-          across = omega (arith, b .column, z .wide);
-          even = (omega (arith, a .row, z .tall), omega (arith, a .column, z .wide));
+          across = omega (arith, b .column, z .broad);
+          even = (omega (arith, a .row, z .tall), omega (arith, a .column, z .broad));
         }
 
-    module _ (cs : List ℕ) (s : ℕ → Mark) where
+    module _ (cs : List ℕ) (s : ℕ → State) where
       abbrev Z : Puzzle
       Z = puzzle h w cs
 
@@ -134,7 +134,7 @@ module _ {h w g first last : ℕ} {ids units : List ℕ} (z : Sized h w) (u : Un
       back-is =
           let r = row-of h w f (unit-low first (omega arith) (u .some)) in
           point-eq refl (sym (lower-raise (pos (f / w)) (omega (arith, r .row, z .tall))))
-          (sym (lower-raise (pos (f % w)) (omega (arith, r .column, z .wide))))
+          (sym (lower-raise (pos (f % w)) (omega (arith, r .column, z .broad))))
 
       shifted : (d : Point) → to ⊕ (d ⊕ back) ≡ d ⊕ raised down across
       shifted d =
@@ -196,7 +196,7 @@ soon-cells {first = first} {last = last} c =
       each = λ i l. c .each i (omega (arith, b .1));
     }
 
-module _ (Z : Puzzle) (s : ℕ → Mark) (cells offs : List ℕ) (t : Shape) where
+module _ (Z : Puzzle) (s : ℕ → State) (cells offs : List ℕ) (t : Shape) where
   soon-group : (Q : ℕ) → getD offs Q 0 ≤ getD offs (Q + 1) 0
       → fitsAmong Z s t (soonIn cells offs Q) ≡ true → fitsAmong Z s t (groupIn cells offs Q) ≡ true
   unfolding fitsAmong soonIn groupIn

@@ -11,7 +11,7 @@ use Rattle.lists.specs.ListLaws.{all-mem}
 use Rattle.lists.specs.Padded.{padded}
 use Rattle.lists.specs.Tests.{anyBelow}
 use Rattle.lists.specs.Tests.{any-some as any-found}
-use Rattle.rules.specs.Page.{Mark, Puzzle, Shape}
+use Rattle.rules.specs.Page.{State, Puzzle, Shape}
 use Rattle.rules.specs.Flat.{Sized, flat}
 use Rattle.rules.specs.Groups.{entry}
 use Rattle.rules.specs.Check.{laid}
@@ -105,7 +105,7 @@ rows-listed t e = subst Rows (sym e) (facts (fixes t 1) (fixes t 3) (flipListed 
               (mem-getD (padded 8 0 (rowsBy a b c)) j 0 (omega (arith, f .1))));
         }
 
-module _ (Z : Puzzle) (s : ℕ → Mark) (cells offs : List ℕ) where
+module _ (Z : Puzzle) (s : ℕ → State) (cells offs : List ℕ) where
   module _ (gs : List ℕ) {h w g n k : ℕ} {ids R C D A : List ℕ} (u : UnitAt h w ids g R C n)
       (j : Joined h w (entry ids) g D A k) where
     abbrev shape : Shape
@@ -168,7 +168,7 @@ module _ {h w : ℕ} {ids : List ℕ} {g : ℕ} {cells : List ℕ} {first last :
     (u : UnitIn h w ids g cells first last) where
   pub unit-part : Part cells first last w
   unit-part =
-      record { long = u .long; order = omega (arith, u .some); inside = u .end; some = z .columns; wide = z .wide }
+      record { long = u .long; order = omega (arith, u .some); inside = u .end; some = z .columns; broad = z .broad }
 
   pub unit-placed : {n : ℕ} {R C : List ℕ} → n ≡ last - first → Placed w (part cells first last) n R C
       → UnitAt h w ids g R C n

@@ -12,7 +12,7 @@ use Prim.Native.Nat.{ℕ, _<_, _≤_}
 use lib.ListN.{length, getD}
 use Rattle.lists.specs.Lists.{any}
 use Rattle.lists.specs.Tests.{anyBelow}
-use Rattle.rules.specs.Page.{Mark, Point, Puzzle, Shape}
+use Rattle.rules.specs.Page.{State, Point, Puzzle, Shape}
 use Rattle.rules.specs.Flat.{flat}
 use Rattle.rules.specs.Groups.{entry, members}
 use Rattle.rules.specs.Shapes.{flatTransforms}
@@ -43,9 +43,9 @@ pub record Rows (r : Listed) : Type 0 where
   pub few : r .count ≤ 8
   pub low : (j : ℕ) → j < r .count → getD (r .rows) j 0 < 8
 
-unfoldable pub fitsTurned : Puzzle → (ℕ → Mark) → List ℕ → List ℕ → List ℕ → Shape → Bool
+unfoldable pub fitsTurned : Puzzle → (ℕ → State) → List ℕ → List ℕ → List ℕ → Shape → Bool
 fitsTurned Z s cells offs mates t = any (λ u. fitsBeside Z s u cells offs mates) (flatTransforms t)
 
-unfoldable pub fitsRows : Puzzle → (ℕ → Mark) → List ℕ → List ℕ → List ℕ → List Point → List Point → Bool
+unfoldable pub fitsRows : Puzzle → (ℕ → State) → List ℕ → List ℕ → List ℕ → List Point → List Point → Bool
 fitsRows Z s cells offs mates ps js =
     anyBelow 8 (λ r. fitsBeside Z s (bare (imageJoints r ps js)) cells offs mates)

@@ -12,7 +12,7 @@ use mathlib.Core.List.{List}
 use Prim.Native.Nat.{ℕ, _+_, _<_}
 use lib.ListN.{length, getD, replicate}
 use Rattle.lists.specs.Lists.{_∈_}
-use Rattle.rules.specs.Codes.{marksIn}
+use Rattle.rules.specs.Codes.{statesIn}
 use Rattle.rules.specs.Check.{mates}
 use Rattle.rules.specs.Groups.{potentialCount}
 use Rattle.search.specs.Placing.{Drawn, puzzle}
@@ -23,20 +23,20 @@ use Rattle.planes.specs.Masks.{Masked, originsIn}
 pub record Home (h w : ℕ) (cs bs ids cells offs : List ℕ) (p : ℕ) : Type 0 where
   pub drawn : Drawn h w cs
   pub known : Known h w cs bs ids
-  pub grouped : Grouped h w cs bs cells offs (potentialCount (puzzle h w cs) (marksIn bs))
-  pub low : p < potentialCount (puzzle h w cs) (marksIn bs)
+  pub grouped : Grouped h w cs bs cells offs (potentialCount (puzzle h w cs) (statesIn bs))
+  pub low : p < potentialCount (puzzle h w cs) (statesIn bs)
 
 pub record Nearby (h w : ℕ) (cs bs near : List ℕ) : Type 0 where
   pub long : length near ≡ 1024
-  pub some : (p q : ℕ) → getD near p 0 ≡ q + 1 → q ∈ mates (puzzle h w cs) (marksIn bs) p
+  pub some : (p q : ℕ) → getD near p 0 ≡ q + 1 → q ∈ mates (puzzle h w cs) (statesIn bs) p
 
 pub record Adjoined (h w : ℕ) (cs bs : List ℕ) (n : ℕ) : Type 0 where
-  pub each : (p : ℕ) → p < n → (q : ℕ) × (q ∈ mates (puzzle h w cs) (marksIn bs) p)
+  pub each : (p : ℕ) → p < n → (q : ℕ) × (q ∈ mates (puzzle h w cs) (statesIn bs) p)
 
 module _ (h w : ℕ) (cs bs cells offs : List ℕ) where
   pub record HeldOf (q : ℕ) (p m : List ℕ) : Type 0 where
     pub planes : p ≡ planesOf h w cs bs
-    pub mask : Masked w (originsIn cells offs (mates (puzzle h w cs) (marksIn bs) q)) m
+    pub mask : Masked w (originsIn cells offs (mates (puzzle h w cs) (statesIn bs) q)) m
     pub name : getD m 32 0 ≡ q + 1
 
   pub record Held (p m list : List ℕ) : Type 0 where

@@ -10,7 +10,7 @@ use Rattle.lists.specs.Lists.{_∈_, range}
 use Rattle.lists.specs.Appends.{length-filter}
 use Rattle.lists.specs.Padded.{padded, zeros}
 use Rattle.rules.specs.Check.{adjacent, mates}
-use Rattle.rules.specs.Codes.{marksIn}
+use Rattle.rules.specs.Codes.{statesIn}
 use Rattle.rules.specs.Groups.{potentialCount}
 use Rattle.argument.specs.ListExtras.{length-rangeFrom}
 use Rattle.reasons.specs.Arrays.{Cells}
@@ -31,7 +31,7 @@ module _ (h w : ℕ) (cs bs : List ℕ) where
       record { long = length-replicate 1024 zero; some = λ p q e. absurd (omega (arith, zeros 1024 p)) }
 
 pub nearby-more : {h w : ℕ} {cs bs near : List ℕ} → Nearby h w cs bs near → (p q : ℕ) → p < 1024
-    → q ∈ mates (puzzle h w cs) (marksIn bs) p → Nearby h w cs bs (set near p (q + 1))
+    → q ∈ mates (puzzle h w cs) (statesIn bs) p → Nearby h w cs bs (set near p (q + 1))
 nearby-more {h} {w} {cs} {bs} {near} k p q l m =
     record {
       long = length-set near p (q + 1) ∙ k .long;
@@ -51,7 +51,7 @@ pub adjoined-none : (h w : ℕ) (cs bs : List ℕ) → Adjoined h w cs bs 0
 adjoined-none h w cs bs = record { each = λ p l. absurd (omega arith) }
 
 pub adjoined-more : {h w : ℕ} {cs bs : List ℕ} {n : ℕ} → Adjoined h w cs bs n → {q : ℕ}
-    → q ∈ mates (puzzle h w cs) (marksIn bs) n → Adjoined h w cs bs (n + 1)
+    → q ∈ mates (puzzle h w cs) (statesIn bs) n → Adjoined h w cs bs (n + 1)
 adjoined-more {n = n} k {q} m =
     record { each = λ p l. if-same p n (λ e. rw e (q, m)) (λ d. k .each p (omega arith)) }
 
@@ -63,31 +63,31 @@ module _ {h w : ℕ} {cs bs ids cells offs : List ℕ} {p : ℕ} (k : Home h w c
   pub home-cells : Cells h w cells (getD offs p 0) (getD offs (p + 1) 0)
   home-cells = k .grouped .each p (k .low)
 
-  pub mate-few : {q : ℕ} → q ∈ mates (puzzle h w cs) (marksIn bs) p → q < 1024
+  pub mate-few : {q : ℕ} → q ∈ mates (puzzle h w cs) (statesIn bs) p → q < 1024
   mate-few {q} m = omega (arith, mates-low (k .grouped) p q m, k .known .few)
 
-  pub mate-cells : {q : ℕ} → q ∈ mates (puzzle h w cs) (marksIn bs) p
+  pub mate-cells : {q : ℕ} → q ∈ mates (puzzle h w cs) (statesIn bs) p
       → Cells h w cells (getD offs q 0) (getD offs (q + 1) 0)
   mate-cells {q} m = k .grouped .each q (mates-low (k .grouped) p q m)
 
-  pub mate-kept : {q : ℕ} → q ∈ mates (puzzle h w cs) (marksIn bs) p → OneOf (mates (puzzle h w cs) (marksIn bs) p) q
+  pub mate-kept : {q : ℕ} → q ∈ mates (puzzle h w cs) (statesIn bs) p → OneOf (mates (puzzle h w cs) (statesIn bs) p) q
   mate-kept m = record { some = λ l. m; none = λ l. absurd (omega (arith, mate-few m)) }
 
   -- some list begins with its adjacent units
-  mates-few : length (mates (puzzle h w cs) (marksIn bs) p) ≤ 1024
+  mates-few : length (mates (puzzle h w cs) (statesIn bs) p) ≤ 1024
   unfolding mates
   mates-few =
-      let n = potentialCount (puzzle h w cs) (marksIn bs) in
+      let n = potentialCount (puzzle h w cs) (statesIn bs) in
       omega (
         arith,
-        length-filter (adjacent (puzzle h w cs) (marksIn bs) p) (range n),
+        length-filter (adjacent (puzzle h w cs) (statesIn bs) p) (range n),
         length-rangeFrom 0 n,
         k .known .few,
       )
 
-  mates-lead : let xs = mates (puzzle h w cs) (marksIn bs) p in Leading xs (padded 1024 0 xs) (length xs)
+  mates-lead : let xs = mates (puzzle h w cs) (statesIn bs) p in Leading xs (padded 1024 0 xs) (length xs)
   mates-lead =
-      let xs = mates (puzzle h w cs) (marksIn bs) p in
+      let xs = mates (puzzle h w cs) (statesIn bs) p in
       let zs = replicate {A = ℕ} (1024 - length xs) 0 in
       record {
         long = omega (arith, mates-few, length-append xs zs, length-replicate {A = ℕ} (1024 - length xs) 0);
@@ -137,7 +137,7 @@ module _ {h w : ℕ} {cs bs cells offs p m : List ℕ} {q : ℕ} (k : HeldOf h w
         record { tall = a .drawn .sized .tall; planes = planes-long h w cs bs (k .planes); mask = k .mask .size }
 
     pub held-answers : Answers h p m
-        (λ js. fitsBeside (puzzle h w cs) (marksIn bs) (bare js) cells offs (mates (puzzle h w cs) (marksIn bs) q))
+        (λ js. fitsBeside (puzzle h w cs) (statesIn bs) (bare js) cells offs (mates (puzzle h w cs) (statesIn bs) q))
     held-answers =
         let l = mates-lead a in
         let b = beside-leading (a .grouped) (a .known) q l in

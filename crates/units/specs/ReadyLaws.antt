@@ -7,10 +7,10 @@ use native.Mathlib.Omega.{arith}
 use borrow.Author.Tests.{lt-ltb}
 use lib.ListN.{length, getD}
 use Rattle.lists.specs.Lists.{_∈_, any, flatMap}
-use Rattle.rules.specs.Page.{Mark, Puzzle}
+use Rattle.rules.specs.Page.{State, Puzzle}
 use Rattle.rules.specs.Flat.{Sized, flat}
 use Rattle.rules.specs.FlatLaws.{counts}
-use Rattle.rules.specs.Codes.{marksIn}
+use Rattle.rules.specs.Codes.{statesIn}
 use Rattle.rules.specs.Groups.{entry, numbers, members}
 use Rattle.rules.specs.Groups.{unitOf, unitCount, potentialOf}
 use Rattle.rules.specs.Shapes.{shapeOf, flatTransforms}
@@ -130,11 +130,11 @@ module _ {h w : ℕ} (z : Sized h w) (cs bs : List ℕ) where
   abbrev mine : ℕ → Bool
   mine = joinsIn Units h w cs bs
 
-  pub own-numbers : entry (groupsOf (flat h w) mine .ids) ≡ unitOf (puzzle h w cs) (marksIn bs)
+  pub own-numbers : entry (groupsOf (flat h w) mine .ids) ≡ unitOf (puzzle h w cs) (statesIn bs)
   unfolding joinsIn linkOf coloured
   own-numbers = ids-entry (flat h w) mine (some z mine) (few z mine)
 
-  pub own-count : groupsOf (flat h w) mine .count ≡ unitCount (puzzle h w cs) (marksIn bs)
+  pub own-count : groupsOf (flat h w) mine .count ≡ unitCount (puzzle h w cs) (statesIn bs)
   unfolding groupsOf joinsIn linkOf coloured
   own-count = refl
 
@@ -143,11 +143,11 @@ module _ {h w : ℕ} (z : Sized h w) (cs bs : List ℕ) where
   own-few = omega (arith, count-le (flat h w) mine (some z mine) (few z mine), counts z .cells)
 
   pub own-transforms : (u : ℕ) → u < groupsOf (flat h w) mine .count
-      → transformsOf (puzzle h w cs) (marksIn bs) u
+      → transformsOf (puzzle h w cs) (statesIn bs) u
       ≡ flatTransforms (shapeOf (flat h w) (entry (groupsOf (flat h w) mine .ids)) u)
   unfolding transformsOf flat
   own-transforms u l =
-      rw (lt-ltb u (unitCount (puzzle h w cs) (marksIn bs)) (rw own-count at l))
+      rw (lt-ltb u (unitCount (puzzle h w cs) (statesIn bs)) (rw own-count at l))
       (ap (λ f. flatTransforms (shapeOf (flat h w) f u)) (sym own-numbers))
 
 -- the arrays together
@@ -156,8 +156,8 @@ module _ {h w : ℕ} {cs bs ids cells offs pids pcells poffs : List ℕ}
   abbrev Z : Puzzle
   Z = puzzle h w cs
 
-  abbrev s : ℕ → Mark
-  s = marksIn bs
+  abbrev s : ℕ → State
+  s = statesIn bs
 
   abbrev size : Sized h w
   size = r .drawn .sized
@@ -165,8 +165,8 @@ module _ {h w : ℕ} {cs bs ids cells offs pids pcells poffs : List ℕ}
   abbrev own : ℕ → Bool
   own = joinsIn Units h w cs bs
 
-  abbrev wide : ℕ → Bool
-  wide = joinsIn Potential h w cs bs
+  abbrev possible : ℕ → Bool
+  possible = joinsIn Potential h w cs bs
 
   pub units-are : entry ids ≡ unitOf Z s
   units-are = ap entry (r .units-ids) ∙ own-numbers size cs bs
@@ -177,11 +177,11 @@ module _ {h w : ℕ} {cs bs ids cells offs pids pcells poffs : List ℕ}
   potential-known : Known h w cs bs pids
   potential-known = rw (r .potential-ids) (known-of size cs bs)
 
-  potential-grouped : Grouped h w cs bs pcells poffs (groupsOf (flat h w) wide .count)
+  potential-grouped : Grouped h w cs bs pcells poffs (groupsOf (flat h w) possible .count)
   potential-grouped = rw (r .potential-cells, r .potential-offs) (grouped-of size cs bs)
 
   -- each of the potential units is in the arrays
-  pub home-at : (p : ℕ) → p < groupsOf (flat h w) wide .count → Home h w cs bs pids pcells poffs p
+  pub home-at : (p : ℕ) → p < groupsOf (flat h w) possible .count → Home h w cs bs pids pcells poffs p
   home-at p l =
       record {
         drawn = r .drawn;
@@ -191,7 +191,7 @@ module _ {h w : ℕ} {cs bs ids cells offs pids pcells poffs : List ℕ}
       }
 
   -- a potential unit has a first cell
-  potential-first : (q : ℕ) → q < groupsOf (flat h w) wide .count
+  potential-first : (q : ℕ) → q < groupsOf (flat h w) possible .count
       → getD pcells (getD poffs q 0) 0 ∈ groupIn pcells poffs q
   unfolding groupIn
   potential-first q l =
@@ -200,7 +200,7 @@ module _ {h w : ℕ} {cs bs ids cells offs pids pcells poffs : List ℕ}
       (List·Memᴰ·head refl)
     where
       potential-rises : getD poffs q 0 < getD poffs (q + 1) 0
-      potential-rises = rw (r .potential-offs) (rises size wide q l)
+      potential-rises = rw (r .potential-offs) (rises size possible q l)
 
   module _ (u : ℕ) (l : u < groupsOf (flat h w) own .count) where
     pub unit-in : UnitIn h w ids u cells (getD offs u 0) (getD offs (u + 1) 0)
@@ -220,7 +220,7 @@ module _ {h w : ℕ} {cs bs ids cells offs pids pcells poffs : List ℕ}
     pub home-is : home ≡ potentialOf Z s (getD cells (getD offs u 0) 0)
     home-is = potential-known .number (getD cells (getD offs u 0) 0) head-low
 
-    home-count : home < groupsOf (flat h w) wide .count
+    home-count : home < groupsOf (flat h w) possible .count
     home-count = rw (potential-grouped .all) (potential-known .below (getD cells (getD offs u 0) 0) head-low)
 
     pub home-of : Home h w cs bs pids pcells poffs home
@@ -272,10 +272,10 @@ module _ {h w : ℕ} {cs bs ids cells offs pids pcells poffs : List ℕ}
     -- with one, a unit of one cell fits
     pub single-unit : getD offs (u + 1) 0 ≡ getD offs u 0 + 1 → {q : ℕ} → q ∈ mates Z s home → fitsUnit Z s u ≡ true
     single-unit one {q} m =
-        let l : q < groupsOf (flat h w) wide .count = mates-low potential-grouped home q m in
+        let l : q < groupsOf (flat h w) possible .count = mates-low potential-grouped home q m in
         sym fits-home ∙ single-fits Z s pcells poffs unit-in one m (potential-first q l)
 
     -- so it does where every potential unit has one
-    pub sure-unit : getD offs (u + 1) 0 ≡ getD offs u 0 + 1 → Adjoined h w cs bs (groupsOf (flat h w) wide .count)
+    pub sure-unit : getD offs (u + 1) 0 ≡ getD offs u 0 + 1 → Adjoined h w cs bs (groupsOf (flat h w) possible .count)
         → fitsUnit Z s u ≡ true
     sure-unit one k = single-unit one (k .each home home-count .1)

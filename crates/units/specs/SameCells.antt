@@ -18,7 +18,7 @@ use lib.ListN.{length}
 use Rattle.lists.specs.Lists.{_∈_, all, filter}
 use Rattle.lists.specs.ListLaws.{all-mem, mem-map, map-find, mem-flat, flat-find, mem-filter, filter-mem, filter-test}
 use Rattle.lists.specs.Tests.{same-test}
-use Rattle.rules.specs.Page.{Hop, Mark, Page, Point, Puzzle, Shape, _⊕_, opposite}
+use Rattle.rules.specs.Page.{Hop, State, Page, Point, Puzzle, Shape, _⊕_, opposite}
 use Rattle.rules.specs.Turns.{Turn, apply, keep, flatTable}
 use Rattle.rules.specs.Flat.{flat}
 use Rattle.rules.specs.Groups.{members}
@@ -120,7 +120,7 @@ sums-turn a t {ps} {js} S =
 row-turn : (r : ℕ) → r < 8 → turnAt r ∈ flatTable
 row-turn r l = mem-getD flatTable r keep l
 
-module _ (h w : ℕ) (number : ℕ → ℕ) (g : ℕ) (wide : 1 ≤ w) where
+module _ (h w : ℕ) (number : ℕ → ℕ) (g : ℕ) (index : 1 ≤ w) where
   abbrev G : Page
   G = flat h w
 
@@ -192,7 +192,7 @@ module _ (h w : ℕ) (number : ℕ → ℕ) (g : ℕ) (wide : 1 ≤ w) where
     image-sums : (r : ℕ) → r < 8 → Sums (image r shape .cells) (image r shape .connections)
     image-sums r l =
         let P = places h w number g in
-        rw (image-places h w number g wide P refl full r, image-joints h w number g wide P refl full r)
+        rw (image-places h w number g index P refl full r, image-joints h w number g index P refl full r)
         (sums-shift (opposite (leastImage r P)) (sums-sort (sums-turn (turnAt r) (row-turn r l) own-sums)))
 
     pub same-connections : (r q : ℕ) → r < 8 → q < 8
@@ -217,11 +217,11 @@ module _ (h w : ℕ) (number : ℕ → ℕ) (g : ℕ) (wide : 1 ≤ w) where
     row-listed r l =
         let u = flat-listing shape canonical .each (turnAt r) (row-turn r l) in
         let q = map-find (λ r. image r shape) (rowsOf shape)
-        (subst (λ (us : List Shape). u .0 ∈ us) (transforms-flat h w number g wide) (u .1)) in
+        (subst (λ (us : List Shape). u .0 ∈ us) (transforms-flat h w number g index) (u .1)) in
         (q .0, q .1, ap (λ t. t .cells) (sym (q .2)) ∙ u .2)
 
 -- a placement asks that every connection be clear, in whatever order
-module _ (Z : Puzzle) (s : ℕ → Mark) where
+module _ (Z : Puzzle) (s : ℕ → State) where
   abbrev read : ℕ → Point → Option ℕ
   read o d = Z .page .reads (Z .page .place o ⊕ Z .page .place o ⊕ d)
 

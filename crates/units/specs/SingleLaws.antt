@@ -8,7 +8,7 @@ use borrow.Author.Tests.{ne-eqb, ltb-true}
 use lib.Dec.{eqb}
 use lib.ListN.{getD}
 use Rattle.lists.specs.Lists.{_∈_, any, filter, keep, flatMap}
-use Rattle.rules.specs.Page.{Hop, Mark, Point, Puzzle, Shape}
+use Rattle.rules.specs.Page.{Hop, State, Point, Puzzle, Shape}
 use Rattle.rules.specs.Flat.{flat, hopIf, hopBelow, hopRight, aheadAt, cellAt}
 use Rattle.rules.specs.FlatLaws.{spot}
 use Rattle.rules.specs.Groups.{entry, members}
@@ -66,7 +66,7 @@ module _ (h w : ℕ) (number : ℕ → ℕ) (g c : ℕ) (alone : members (flat h
       let m = spot h w (c / w) (c % w) (r .row) (r .column) in
       hops-none _ _ _
       (hop-none _ _ _ _
-      (λ e. other _ (m .lower (ltb-true _ _ e)) (λ z. omega (arith, m .next, r .same, r .wide))))
+      (λ e. other _ (m .lower (ltb-true _ _ e)) (λ z. omega (arith, m .next, r .same, r .broad))))
       (hop-none _ _ _ _ (λ e. other _ (m .beside (ltb-true _ _ e)) (λ z. omega (arith, r .same))))
 
   joints-none : flatMap (connectionsAt (flat h w) number g) (members (flat h w) number g) ≡ []
@@ -78,7 +78,7 @@ module _ (h w : ℕ) (number : ℕ → ℕ) (g c : ℕ) (alone : members (flat h
   connections-none = rw joints-none (normal-none _)
 
 -- a transform without connections fits at any cell
-module _ (Z : Puzzle) (s : ℕ → Mark) (cells offs : List ℕ) where
+module _ (Z : Puzzle) (s : ℕ → State) (cells offs : List ℕ) where
   bare-fits : (t : Shape) → t .connections ≡ [] → (o : ℕ) → fitsOf Z s t o ≡ true
   unfolding fitsOf laid judge
   bare-fits t e o = rw e

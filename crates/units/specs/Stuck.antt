@@ -16,7 +16,7 @@ use Prim.Native.Nat.{ℕ, zero, suc, _-_, _≤_}
 use lib.Dec.{ltb}
 use lib.ListN.{getD}
 use Rattle.lists.specs.Lists.{any}
-use Rattle.rules.specs.Page.{Mark, Puzzle}
+use Rattle.rules.specs.Page.{State, Puzzle}
 use Rattle.rules.specs.Flat.{flat}
 use Rattle.rules.specs.Groups.{members, unitOf, potentialOf}
 use Rattle.rules.specs.Check.{Reason, isFit, placements, unitReason}
@@ -40,7 +40,7 @@ pub record Passed (f : ℕ → Bool) (n i : ℕ) : Type 0 where
 abbrev pub headOf : List ℕ → ℕ
 headOf xs = getD xs 0 0
 
-module _ (Z : Puzzle) (s : ℕ → Mark) where
+module _ (Z : Puzzle) (s : ℕ → State) where
   -- "Per unit U in potential unit P": that of its cells; no cell, no hit
   unfoldable pub fitsOn : ℕ → List ℕ → Bool
   fitsOn U [] = true

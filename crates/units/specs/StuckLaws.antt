@@ -7,7 +7,7 @@ use native.Mathlib.Numerals.{add-one}
 use native.Mathlib.Omega.{arith}
 use borrow.Author.Tests.{lt-ltb, le-ltb}
 use Rattle.lists.specs.Lists.{firstHit, orElse, range, rangeFrom}
-use Rattle.rules.specs.Page.{Mark, Puzzle}
+use Rattle.rules.specs.Page.{State, Puzzle}
 use Rattle.rules.specs.Groups.{members, unitOf, potentialOf}
 use Rattle.rules.specs.Check.{hitIf, unitReason, unitHitIn, unitHitOn, unitHit}
 use Rattle.units.specs.Stuck.{firstFrom, firstFail, Passed, headOf, fitsOn, fitsUnit, potentialIn, stuckHit}
@@ -41,7 +41,7 @@ module _ {f : ℕ → Bool} {n i : ℕ} (k : Passed f n i) where
     unfolding firstFrom
     passed-next e = record { most = omega arith; left = k .left ∙ rw (next, e, add-one i) }
 
-module _ (Z : Puzzle) (s : ℕ → Mark) where
+module _ (Z : Puzzle) (s : ℕ → State) where
   hit-on : (U : ℕ) (xs : List ℕ)
       → unitHitOn Z s U xs ≡ hitIf (not (fitsOn Z s U xs)) (unitReason Z s U (potentialOf Z s (headOf xs)))
   unfolding unitHitOn unitHitIn fitsOn hitIf

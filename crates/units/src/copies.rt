@@ -5,7 +5,7 @@ ghost use mathlib.Core.Bool.{true, _&&_, cond};
 ghost use Prim.Native.Nat.{_+_, _*_, _%_, _<_, _≤_};
 ghost use lib.Dec.{eqb};
 ghost use lib.ListN.{getD};
-ghost use Rattle.rules.specs.Codes.{marksIn};
+ghost use Rattle.rules.specs.Codes.{statesIn};
 ghost use Rattle.rules.specs.Flat.{flat};
 ghost use Rattle.rules.specs.Groups.{entry};
 ghost use Rattle.rules.specs.Shapes.{shapeOf};
@@ -34,7 +34,7 @@ fn joint_clear<'a>(
 ) -> bool
     requires { ⌜ Drawn h w (now colours) × (on ≡ true → to < 1024) × (1 ≤ y % 2 + x % 2) × (y < 256) × (x < 256) ⌝ }
     ensures { λ r. ⌜ r ≡ cond (on && eqb (entry (now (ids .entry)) to) g)
-        (isClear (readingOf (puzzle h w (now (colours .entry))) (marksIn (now (borders .entry)))
+        (isClear (readingOf (puzzle h w (now (colours .entry))) (statesIn (now (borders .entry)))
         (readRaised h w y x))) true ⌝ }
 {
     if on {
@@ -59,7 +59,7 @@ fn cell_clear<'a>(
     x: usize,
 ) -> bool
     requires { ⌜ Drawn h w (now colours) × (c < h * w) × Shift y x ⌝ }
-    ensures { λ r. ⌜ r ≡ cellClear h w (now (colours .entry)) (marksIn (now (borders .entry)))
+    ensures { λ r. ⌜ r ≡ cellClear h w (now (colours .entry)) (statesIn (now (borders .entry)))
         (entry (now (ids .entry))) g y x c ⌝ }
 {
     let row = c / w;
@@ -111,7 +111,7 @@ fn copy_fits<'a>(
     o: usize,
 ) -> bool
     requires { ⌜ Drawn h w (now colours) × UnitIn h w (now ids) g (now units) first last × (o < h * w) ⌝ }
-    ensures { λ r. ⌜ r ≡ fitsOf (puzzle h w (now (colours .entry))) (marksIn (now (borders .entry)))
+    ensures { λ r. ⌜ r ≡ fitsOf (puzzle h w (now (colours .entry))) (statesIn (now (borders .entry)))
         (shapeOf (flat h w) (entry (now (ids .entry))) g) o ⌝ }
 {
     let f = number_at(units, first);
@@ -157,7 +157,7 @@ pub fn copy_fits_soon<'a>(
 ) -> bool
     requires { ⌜ Drawn h w (now colours) × UnitIn h w (now ids) g (now units) first last × (q < 1024)
         × Cells h w (now cells) (getD (now offs) q 0) (getD (now offs) (q + 1) 0) ⌝ }
-    ensures { λ r. ⌜ r ≡ fitsAmong (puzzle h w (now (colours .entry))) (marksIn (now (borders .entry)))
+    ensures { λ r. ⌜ r ≡ fitsAmong (puzzle h w (now (colours .entry))) (statesIn (now (borders .entry)))
         (shapeOf (flat h w) (entry (now (ids .entry))) g) (soonIn (now (cells .entry)) (now (offs .entry)) q) ⌝ }
 {
     let from = start_at(offs, q);

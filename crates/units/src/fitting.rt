@@ -4,7 +4,7 @@ ghost use mathlib.Core.Bool.{true};
 ghost use Prim.Native.Nat.{ℕ, _<_};
 ghost use lib.ListN.{length};
 ghost use Rattle.rules.specs.Check.{mates};
-ghost use Rattle.rules.specs.Codes.{marksIn};
+ghost use Rattle.rules.specs.Codes.{statesIn};
 ghost use Rattle.rules.specs.Flat.{flat};
 ghost use Rattle.rules.specs.Groups.{entry};
 ghost use Rattle.rules.specs.Shapes.{shapeOf};
@@ -40,7 +40,7 @@ pub fn near_mate<'a>(
 ) -> usize
     requires { ⌜ Home h w (now colours) (now borders) (now potential) (now cells) (now offs) p
         × Nearby h w (now colours) (now borders) (now near) ⌝ }
-    ensures { λ r. ⌜ OneOf (mates (puzzle h w (now (colours .entry))) (marksIn (now (borders .entry))) p) r
+    ensures { λ r. ⌜ OneOf (mates (puzzle h w (now (colours .entry))) (statesIn (now (borders .entry))) p) r
         × Nearby h w (now (colours .entry)) (now (borders .entry)) (now (near .exit)) ⌝ }
 {
     let kept = number_at(near, p);
@@ -144,9 +144,9 @@ fn written_fits<'a>(
         × Spotted (now rows) (now columns) n × Jointed (now down) (now across) k
         × Held h w (now colours) (now borders) (now cells) (now offs) (now planes) (now mask) (now list)
         × (length (now ys) ≡ 2048) × (length (now xs) ≡ 2048) ⌝ }
-    ensures { λ r. ⌜ (r ≡ fitsRows (puzzle h w (now (colours .entry))) (marksIn (now (borders .entry)))
+    ensures { λ r. ⌜ (r ≡ fitsRows (puzzle h w (now (colours .entry))) (statesIn (now (borders .entry)))
         (now (cells .entry)) (now (offs .entry))
-        (mates (puzzle h w (now (colours .entry))) (marksIn (now (borders .entry))) p)
+        (mates (puzzle h w (now (colours .entry))) (statesIn (now (borders .entry))) p)
         (spots (now (rows .entry)) (now (columns .entry)) n) (spots (now (down .entry)) (now (across .entry)) k))
         × Held h w (now (colours .entry)) (now (borders .entry)) (now (cells .entry)) (now (offs .entry))
         (now (planes .exit)) (now (mask .exit)) (now (list .exit))
@@ -200,9 +200,9 @@ pub fn unit_fits<'a>(
         × UnitIn h w (now ids) g (now units) first last
         × Lent (now rows) (now columns) (now down) (now across) (now ys) (now xs)
         × Held h w (now colours) (now borders) (now cells) (now offs) (now planes) (now mask) (now list) ⌝ }
-    ensures { λ r. ⌜ (r ≡ fitsTurned (puzzle h w (now (colours .entry))) (marksIn (now (borders .entry)))
+    ensures { λ r. ⌜ (r ≡ fitsTurned (puzzle h w (now (colours .entry))) (statesIn (now (borders .entry)))
         (now (cells .entry)) (now (offs .entry))
-        (mates (puzzle h w (now (colours .entry))) (marksIn (now (borders .entry))) p)
+        (mates (puzzle h w (now (colours .entry))) (statesIn (now (borders .entry))) p)
         (shapeOf (flat h w) (entry (now (ids .entry))) g))
         × Lent (now (rows .exit)) (now (columns .exit)) (now (down .exit)) (now (across .exit)) (now (ys .exit))
         (now (xs .exit))

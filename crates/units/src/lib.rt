@@ -9,7 +9,7 @@ ghost use mathlib.Core.Bool.{true};
 ghost use Prim.Native.Nat.{_<_};
 ghost use lib.ListN.{length, getD};
 ghost use lib.Signed.{mag};
-ghost use Rattle.rules.specs.Codes.{marksIn};
+ghost use Rattle.rules.specs.Codes.{statesIn};
 ghost use Rattle.rules.specs.Flat.{flat};
 ghost use Rattle.search.specs.Placing.{Raised, puzzle, spelled};
 ghost use Rattle.shapes.specs.Spots.{spots, Spotted};
@@ -24,6 +24,7 @@ use crate::copies::copy_fits_soon;
 use crate::fitting::near_mate;
 use crate::fitting::unit_fits;
 use crate::singles::after_singles;
+use rules::index;
 use search::turn;
 use shapes::least;
 use shapes::signs_at;
@@ -75,19 +76,12 @@ pub fn turn_row<'a>(
     );
 }
 
-// The number as an index.
-fn wide(x: u16) -> usize
-    ensures { λ r. ⌜ r ≡ x ⌝ }
-{
-    x as usize
-}
-
 // Entry `i` of a list of cells or of numbers.
 fn number_at(list: &[u16; 1024], i: usize) -> usize
     requires { ⌜ i < 1024 ⌝ }
     ensures { λ r. ⌜ r ≡ getD (now (list .entry)) i 0 ⌝ }
 {
-    wide(list[i])
+    index(list[i])
 }
 
 // Entry `i` of a list of starts.
@@ -95,7 +89,7 @@ fn start_at(offs: &[u16; 1025], i: usize) -> usize
     requires { ⌜ i < 1025 ⌝ }
     ensures { λ r. ⌜ r ≡ getD (now (offs .entry)) i 0 ⌝ }
 {
-    wide(offs[i])
+    index(offs[i])
 }
 
 // Whether a placement of unit `u` fits: none does where its potential unit has no adjacent one; with one, a unit of one
@@ -131,7 +125,7 @@ fn fits_at<'a>(
         × Nearby h w (now colours) (now borders) (now near)
         × Lent (now rows) (now columns) (now down) (now across) (now ys) (now xs)
         × Held h w (now colours) (now borders) (now cells) (now offs) (now planes) (now mask) (now list) ⌝ }
-    ensures { λ r. ⌜ (r ≡ fitsUnit (puzzle h w (now (colours .entry))) (marksIn (now (borders .entry))) u)
+    ensures { λ r. ⌜ (r ≡ fitsUnit (puzzle h w (now (colours .entry))) (statesIn (now (borders .entry))) u)
         × Nearby h w (now (colours .entry)) (now (borders .entry)) (now (near .exit))
         × Lent (now (rows .exit)) (now (columns .exit)) (now (down .exit)) (now (across .exit)) (now (ys .exit))
         (now (xs .exit))
@@ -210,9 +204,9 @@ fn stuck_from<'a>(
     requires { ⌜ Sorted h w (now colours) (now borders) (now ids) (now units) (now «unit_offs») (now potential)
         (now cells) (now offs)
         × (count ≡ groupsOf (flat h w) (joinsIn Units h w (now colours) (now borders)) .count)
-        × Passed (fitsUnit (puzzle h w (now colours)) (marksIn (now borders))) count from
+        × Passed (fitsUnit (puzzle h w (now colours)) (statesIn (now borders))) count from
         × Nearby h w (now colours) (now borders) (now near) ⌝ }
-    ensures { λ r. ⌜ r ≡ firstFail (fitsUnit (puzzle h w (now (colours .entry))) (marksIn (now (borders .entry))))
+    ensures { λ r. ⌜ r ≡ firstFail (fitsUnit (puzzle h w (now (colours .entry))) (statesIn (now (borders .entry))))
         count ⌝ }
 {
     let mut rows = [0u16; 1024];
@@ -278,7 +272,7 @@ pub fn first_stuck<'a>(
         (now cells) (now offs)
         × (count ≡ groupsOf (flat h w) (joinsIn Units h w (now colours) (now borders)) .count)
         × (total ≡ groupsOf (flat h w) (joinsIn Potential h w (now colours) (now borders)) .count) ⌝ }
-    ensures { λ r. ⌜ r ≡ firstFail (fitsUnit (puzzle h w (now (colours .entry))) (marksIn (now (borders .entry))))
+    ensures { λ r. ⌜ r ≡ firstFail (fitsUnit (puzzle h w (now (colours .entry))) (statesIn (now (borders .entry))))
         count ⌝ }
 {
     let mut near = [0u16; 1024];

@@ -2,7 +2,7 @@
 ghost use mathlib.Core.Path.{_≡_};
 ghost use mathlib.Core.Bool.{true};
 ghost use Prim.Native.Nat.{_<_};
-ghost use Rattle.rules.specs.Codes.{marksIn};
+ghost use Rattle.rules.specs.Codes.{statesIn};
 ghost use Rattle.rules.specs.Flat.{flat};
 ghost use Rattle.search.specs.Placing.{puzzle};
 ghost use Rattle.units.specs.Held.{Nearby, Adjoined};
@@ -38,7 +38,8 @@ fn single_fits<'a>(
         × (sure ≡ true → Adjoined h w (now colours) (now borders)
         (groupsOf (flat h w) (joinsIn Potential h w (now colours) (now borders)) .count))
         × Nearby h w (now colours) (now borders) (now near) ⌝ }
-    ensures { λ r. ⌜ (r ≡ true → fitsUnit (puzzle h w (now (colours .entry))) (marksIn (now (borders .entry))) u ≡ true)
+    ensures { λ r. ⌜ (r ≡ true
+        → fitsUnit (puzzle h w (now (colours .entry))) (statesIn (now (borders .entry))) u ≡ true)
         × Nearby h w (now (colours .entry)) (now (borders .entry)) (now (near .exit)) ⌝ }
 {
     let first = start_at(unit_offs, u);
@@ -76,7 +77,7 @@ pub fn after_singles<'a>(
         × (count ≡ groupsOf (flat h w) (joinsIn Units h w (now colours) (now borders)) .count)
         × (total ≡ groupsOf (flat h w) (joinsIn Potential h w (now colours) (now borders)) .count)
         × Nearby h w (now colours) (now borders) (now near) ⌝ }
-    ensures { λ r. ⌜ Passed (fitsUnit (puzzle h w (now (colours .entry))) (marksIn (now (borders .entry)))) count r
+    ensures { λ r. ⌜ Passed (fitsUnit (puzzle h w (now (colours .entry))) (statesIn (now (borders .entry)))) count r
         × Nearby h w (now (colours .entry)) (now (borders .entry)) (now (near .exit)) ⌝ }
 {
     let sure = all_near(h, w, colours, borders, potential, cells, offs, total, near);

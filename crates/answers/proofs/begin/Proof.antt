@@ -4,7 +4,7 @@ use mathlib.Core.List.{List, _++_}
 use Prim.Native.Nat.{ℕ}
 use native.Mathlib.Omega.{arith}
 use Rattle.page.specs.Places.{judgedOf}
-use Rattle.page.specs.ReaderLaws.{told}
+use Rattle.page.specs.ParserLaws.{told}
 use Rattle.print.specs.Answers.{answersWord}
 use Rattle.answers.specs.Left.{leftAt, stepsAt}
 use Rattle.answers.specs.LeftLaws.{put-goes, refused-left, accepted-left}

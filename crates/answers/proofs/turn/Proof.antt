@@ -1,6 +1,6 @@
 -- `turn` meets its contract: no call is left, or the call's line begins.
 use Rattle.page.specs.Places.{gotCall}
-use Rattle.page.specs.ReaderLaws.{told}
+use Rattle.page.specs.ParserLaws.{told}
 use Rattle.answers.specs.LeftLaws.{turn-end, turn-goes}
 use borrow.Author.Needs.{needs}
 use Rattle.answers.proofs.turn.Statement.{statement}

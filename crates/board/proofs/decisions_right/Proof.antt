@@ -26,8 +26,8 @@ returns c = decisions-many _ _ _ _ _ _ (total (c .before)) (c .if1 .taken)
 entries-right-requires : tie.Need-entries-right-requires
 entries-right-requires c κs = (few (c .before), omega (arith, few (c .before), c .if1 .left))
 
-mark-stack-requires : tie.Need-mark-stack-requires
-mark-stack-requires c κs =
+flag-stack-requires : tie.Need-flag-stack-requires
+flag-stack-requires c κs =
     let d = c .before .before in
     let m = few (d .before .before) in
     let e = sym (d .entries-right .ensures) ∙ c .before .if2 .taken in (
@@ -45,7 +45,7 @@ returns-2 c =
     let d = m .before .before .before in
     decisions-borders _ _ _ _ _ _ (total (d .before .before)) _ _ (d .before .if1 .left) (few (d .before .before))
     (sym (d .entries-right .ensures) ∙ m .before .before .if2 .taken)
-    (rw (c .before .before .if3 .taken) at (m .mark-stack .ensures)) (c .borders-right .ensures)
+    (rw (c .before .before .if3 .taken) at (m .flag-stack .ensures)) (c .borders-right .ensures)
 
 returns-3 : tie.Need-returns-3
 returns-3 c =
@@ -53,7 +53,7 @@ returns-3 c =
     let d = m .before .before .before in
     decisions-twice _ _ _ _ _ _ (total (d .before .before)) (d .before .if1 .left)
     (sym (d .entries-right .ensures) ∙ m .before .before .if2 .taken)
-    (sym (m .mark-stack .ensures .tells) ∙ c .if3 .left)
+    (sym (m .flag-stack .ensures .tells) ∙ c .if3 .left)
 
 returns-4 : tie.Need-returns-4
 returns-4 c =
@@ -68,7 +68,7 @@ decisions-right-spec =
     border-count-requires
     returns
     entries-right-requires
-    mark-stack-requires
+    flag-stack-requires
     borders-right-requires
     returns-2
     returns-3

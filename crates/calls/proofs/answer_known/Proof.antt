@@ -10,7 +10,7 @@ find-requires : tie.Need-find-requires
 find-requires c κs =
     let p = c .before .before .before .before .pre in (
       drawn-of _ (p .0 .native),
-      record { colours = c .before .before .cells .given .0; borders = c .before .marks .given .0; memory = p .1 },
+      record { colours = c .before .before .cells .given .0; borders = c .before .states .given .0; memory = p .1 },
     )
 
 enum-told : tie.Need-enum-told

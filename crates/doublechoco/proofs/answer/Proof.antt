@@ -1,4 +1,4 @@
--- `answer` is safe and ends: each piece takes a step.
+-- `answer` is safe and ends: each chunk takes a step.
 use lib.Seq.{length-take-le}
 use mathlib.Core.Path.{_≡_, sym, _∙_}
 use Prim.Native.Nat.{_≤_}

@@ -2,7 +2,7 @@
 use mathlib.Core.Path.{_≡_}
 use native.Mathlib.Omega.{arith}
 use Rattle.rules.specs.FlatLaws.{counts}
-use Rattle.rules.specs.Codes.{marksIn}
+use Rattle.rules.specs.Codes.{statesIn}
 use Rattle.checker.specs.Steps.{breachIn}
 use Rattle.checker.specs.Bounds.{breach-small, breach-short}
 use Rattle.hits.specs.Found.{earlyHit}
@@ -49,7 +49,7 @@ write-breach-requires c κs =
       rw (b .ensures) (breach-small (p .0) (s .args .borders .now) (s .args .blocks .now)),
       omega (
         arith,
-        breach-short (p .0) (marksIn (s .args .borders .now)) (b .result),
+        breach-short (p .0) (statesIn (s .args .borders .now)) (b .result),
         p .1 .memory,
         counts (p .0) .some,
       ),

@@ -1,7 +1,7 @@
 -- `stuck_hit` meets its contract: the unit found is the first one that is stuck, and its reason is written.
 use mathlib.Core.Path.{_≡_}
 use native.Mathlib.Omega.{arith}
-use Rattle.rules.specs.Codes.{marksIn}
+use Rattle.rules.specs.Codes.{statesIn}
 use Rattle.groups.specs.declared.Kind.the-variants.{Units}
 use Rattle.checker.specs.Bridges.{groupsIn}
 use Rattle.search.specs.Placing.{puzzle}
@@ -15,7 +15,7 @@ use Rattle.hits.proofs.stuck_hit.Tie as tie
 -- the unit found, among the units of the page
 found : (c : tie.After-first-stuck) → let a = c .before .before .args in
     c .first-stuck .result
-    ≡ firstFail (fitsUnit (puzzle (a .h) (a .w) (a .colours .now)) (marksIn (a .borders .now)))
+    ≡ firstFail (fitsUnit (puzzle (a .h) (a .w) (a .colours .now)) (statesIn (a .borders .now)))
     (groupsIn Units (a .h) (a .w) (a .colours .now) (a .borders .now) .count)
 found c = rw (c .before .before .pre .1) at (c .first-stuck .ensures)
 

@@ -2,7 +2,7 @@
 use mathlib.Core.Path.{refl}
 use native.Mathlib.Nat.{le-trans}
 use native.Mathlib.Omega.{arith}
-use Rattle.rules.specs.Codes.{marksIn, cluesIn}
+use Rattle.rules.specs.Codes.{statesIn, cluesIn}
 use Rattle.hits.specs.LateLaws.{unit-short}
 use borrow.Author.Needs.{needs}
 use Rattle.hits.proofs.stuck_reason.Statement.{statement}
@@ -16,7 +16,7 @@ write-stuck-requires c κs =
       record { ready = r; colours = p .2 .colours; borders = p .2 .borders; low = p .1 },
       refl,
       record { rows = refl; columns = refl; downs = refl; acrosses = refl; ys = refl; xs = refl },
-      le-trans (unit-short (r .drawn .sized) (s .args .colours .now) (marksIn (s .args .borders .now)) (s .args .u) _)
+      le-trans (unit-short (r .drawn .sized) (s .args .colours .now) (statesIn (s .args .borders .now)) (s .args .u) _)
           (omega (arith, p .2 .memory)),
     )
 

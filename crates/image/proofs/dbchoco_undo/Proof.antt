@@ -57,19 +57,19 @@ number-requires c κs = search needs
 sub-at : tie.Need-sub-at
 sub-at c = let f = fits c in omega arith
 
-mul-wide : tie.Need-mul-wide
-mul-wide c = let f = fits c in search needs
+mul-index : tie.Need-mul-index
+mul-index c = let f = fits c in search needs
 
-element-copy-out-wide : tie.Need-element-copy-out-wide
-element-copy-out-wide c = let f = fits c in omega arith
+element-copy-out-index : tie.Need-element-copy-out-index
+element-copy-out-index c = let f = fits c in omega arith
 
-wide-requires : tie.Need-wide-requires
-wide-requires c κs = search needs
+index-requires : tie.Need-index-requires
+index-requires c κs = search needs
 
 rewrite-requires : tie.Need-rewrite-requires
 rewrite-requires c κs =
     let f = fits (c .before .before .before) in
-    (long (c .before .before .before .before), rw (c .before .wide .ensures) (f .2), omega arith)
+    (long (c .before .before .before .before), rw (c .before .index .ensures) (f .2), omega arith)
 
 same-length : tie.Need-same-length
 same-length c = search needs
@@ -79,7 +79,7 @@ returns-2 c =
     let t = c .before .before .before .before .before .before in
     let k = t .before in
     let r = k .before .before .board in
-    let n = c .before .before .before .before .wide in (
+    let n = c .before .before .before .before .index in (
       here k,
       undo-after (image k) (bytes k) (long k) (r .result) (r .ensures) (zero t) (n .result) _ (n .ensures)
           (c .before .before .rewrite .ensures),
@@ -105,9 +105,9 @@ dbchoco-undo-spec =
     undo-requires
     number-requires
     sub-at
-    mul-wide
-    element-copy-out-wide
-    wide-requires
+    mul-index
+    element-copy-out-index
+    index-requires
     rewrite-requires
     same-length
     returns-2

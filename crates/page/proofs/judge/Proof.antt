@@ -1,7 +1,7 @@
 -- `judge` meets its contract: 10 where the page is malformed, and otherwise the verdict on its parts.
 use Rattle.page.specs.JudgeLaws.{malformed, formed}
 use Rattle.page.specs.Places.{judgedOf, formOf}
-use Rattle.page.specs.ReaderLaws.{told}
+use Rattle.page.specs.ParserLaws.{told}
 use borrow.Author.Needs.{needs}
 use mathlib.Core.Path.{sym, _∙_}
 use Rattle.page.proofs.judge.Statement.{statement}

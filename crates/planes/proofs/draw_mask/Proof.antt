@@ -1,4 +1,4 @@
--- The loop's invariant: the cells of the groups before i are marked, and no others.
+-- The loop's invariant: the cells of the groups before i are flagged, and no others.
 use mathlib.Core.Path.{_≡_}
 use Prim.Native.Nat.{_+_, _-_, _≤_, _<_}
 use native.Mathlib.Omega.{arith}
@@ -53,29 +53,29 @@ element-copy-out-q c = omega (arith, c .before .before .before .before .pre .1 .
 cast-q : tie.Need-cast-q Inv-loop μ-loop
 cast-q c = omega (arith, low (c .before))
 
-mul-mark-group : tie.Need-mul-mark-group Inv-loop μ-loop
-mul-mark-group c = omega (arith, low (c .before))
+mul-flag-group : tie.Need-mul-flag-group Inv-loop μ-loop
+mul-flag-group c = omega (arith, low (c .before))
 
-element-copy-out-mark-group : tie.Need-element-copy-out-mark-group Inv-loop μ-loop
-element-copy-out-mark-group c = omega (arith, low (c .before))
+element-copy-out-flag-group : tie.Need-element-copy-out-flag-group Inv-loop μ-loop
+element-copy-out-flag-group c = omega (arith, low (c .before))
 
-cast-mark-group : tie.Need-cast-mark-group Inv-loop μ-loop
-cast-mark-group c = omega (arith, (group (c .before .before)) .order, (group (c .before .before)) .end)
+cast-flag-group : tie.Need-cast-flag-group Inv-loop μ-loop
+cast-flag-group c = omega (arith, (group (c .before .before)) .order, (group (c .before .before)) .end)
 
-add-mark-group : tie.Need-add-mark-group Inv-loop μ-loop
-add-mark-group c = omega (arith, low (c .before .before))
+add-flag-group : tie.Need-add-flag-group Inv-loop μ-loop
+add-flag-group c = omega (arith, low (c .before .before))
 
-mul-mark-group-2 : tie.Need-mul-mark-group-2 Inv-loop μ-loop
-mul-mark-group-2 c = omega (arith, low (c .before .before))
+mul-flag-group-2 : tie.Need-mul-flag-group-2 Inv-loop μ-loop
+mul-flag-group-2 c = omega (arith, low (c .before .before))
 
-element-copy-out-mark-group-2 : tie.Need-element-copy-out-mark-group-2 Inv-loop μ-loop
-element-copy-out-mark-group-2 c = omega (arith, low (c .before .before))
+element-copy-out-flag-group-2 : tie.Need-element-copy-out-flag-group-2 Inv-loop μ-loop
+element-copy-out-flag-group-2 c = omega (arith, low (c .before .before))
 
-cast-mark-group-2 : tie.Need-cast-mark-group-2 Inv-loop μ-loop
-cast-mark-group-2 c = omega (arith, (group (c .before .before .before)) .end)
+cast-flag-group-2 : tie.Need-cast-flag-group-2 Inv-loop μ-loop
+cast-flag-group-2 c = omega (arith, (group (c .before .before .before)) .end)
 
-mark-group-requires : tie.Need-mark-group-requires Inv-loop μ-loop
-mark-group-requires c κs =
+flag-group-requires : tie.Need-flag-group-requires Inv-loop μ-loop
+flag-group-requires c κs =
     let i = c .before .before .before .before in
     (i .before .before .before .before .pre .0, group i, i .before .loop .inv .2 .size)
 
@@ -95,7 +95,7 @@ loop-again c =
       omega (arith, i .loop-test .taken),
       mates-more (s .args .w) (s .args .cells .now) (s .args .offs .now) (s .args .mates .now) (s .args .from)
           (l .loop .i) (l .loop .inv .0) (omega (arith, i .loop-test .taken, mates-reach (s .pre .1)))
-          (c .mark-group .ensures .1 _ (l .loop .inv .2)),
+          (c .flag-group .ensures .1 _ (l .loop .inv .2)),
     )
 
 element-write-mask : tie.Need-element-write-mask Inv-loop μ-loop
@@ -121,14 +121,14 @@ draw-mask-spec =
     mul-q
     element-copy-out-q
     cast-q
-    mul-mark-group
-    element-copy-out-mark-group
-    cast-mark-group
-    add-mark-group
-    mul-mark-group-2
-    element-copy-out-mark-group-2
-    cast-mark-group-2
-    mark-group-requires
+    mul-flag-group
+    element-copy-out-flag-group
+    cast-flag-group
+    add-flag-group
+    mul-flag-group-2
+    element-copy-out-flag-group-2
+    cast-flag-group-2
+    flag-group-requires
     add-i
     loop-less
     loop-again

@@ -51,7 +51,7 @@ loop-again c =
     let s = l .before in (
       omega (arith, c .before .loop-test .taken),
       draw-more (s .args .h) (s .args .w) (s .args .colours .now) (s .args .borders .now) (l .loop .r)
-          (c .line .result) (tall c) (s .pre .0 .wide) (c .line .ensures) (l .loop .inv .1),
+          (c .line .result) (tall c) (s .pre .0 .broad) (c .line .ensures) (l .loop .inv .1),
     )
 
 returns : tie.Need-returns Inv-loop μ-loop

@@ -32,7 +32,7 @@ clear-row-requires : tie.Need-clear-row-requires
 clear-row-requires c κs =
     let s = c .before in
     let below : s .args .r / 2 + 1 < s .args .h = omega (arith, c .if1 .taken, s .pre .1) in
-    (s .pre .0 .wide, lies s .below below, lies s .down below)
+    (s .pre .0 .broad, lies s .below below, lies s .down below)
 
 returns : tie.Need-returns
 returns c =
@@ -56,7 +56,7 @@ sub-clear-row-3 c = search needs
 clear-row-requires-2 : tie.Need-clear-row-requires-2
 clear-row-requires-2 c κs =
     let s = c .before in
-    (omega (arith, s .pre .0 .wide), omega (arith, lies s .right, s .pre .0 .columns), lies s .across)
+    (omega (arith, s .pre .0 .broad), omega (arith, lies s .right, s .pre .0 .columns), lies s .across)
 
 returns-2 : tie.Need-returns-2
 returns-2 c =

@@ -1,7 +1,7 @@
 -- `put_literals` meets its contract, literal by literal.
 use Prim.Native.Nat.{_-_}
 use Rattle.print.specs.Lines.{written-length}
-use Rattle.print.specs.Pieces.{Putting, putting-none, putting-more, putting-stop}
+use Rattle.print.specs.Chunks.{Putting, putting-none, putting-more, putting-stop}
 use borrow.Author.Needs.{needs}
 use native.Mathlib.Omega.{arith}
 use Rattle.print.proofs.put_literals.Statement.{statement}

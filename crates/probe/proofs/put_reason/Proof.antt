@@ -37,14 +37,14 @@ arrays c =
 group : (c : tie.After-borders-in)
     → let g = c .before .before .before .before .before .before .before .before .grouped .result in
     let a = c .before .before .before .before .before .before .before .before .before .before .before .before .args in
-    Part (a .h) (a .w) (g .ids) (g .cells) (c .before .before .before .before .wide .result)
-    (c .before .before .before .wide2 .result) (a .group)
+    Part (a .h) (a .w) (g .ids) (g .cells) (c .before .before .before .before .index .result)
+    (c .before .before .before .index2 .result) (a .group)
 group c =
     let s = c .before .before .before .before .before .before .before .before .before .before .before .before in
     let e = count-is (c .before .before .before .before .before .before .before .before) in
     rw (
-      c .before .before .before .before .wide .ensures,
-      c .before .before .before .wide2 .ensures,
+      c .before .before .before .before .index .ensures,
+      c .before .before .before .index2 .ensures,
       c .before .before .before .before .before .before .before .before .grouped .ensures,
     )
     (group-part (s .pre .0) (s .args .colours .now) (s .args .borders .now) (s .args .kind) (s .args .group)
@@ -75,26 +75,26 @@ returns c =
     rw (no-reason (s .pre .0) (a .colours .now) (a .borders .now) (a .kind) (sideOf (a .side)) (a .group) (omega arith))
     (record { memory = refl; count = refl })
 
-mul-wide : tie.Need-mul-wide
-mul-wide c = omega (arith, few (c .before .before .before), c .before .if1 .left)
+mul-index : tie.Need-mul-index
+mul-index c = omega (arith, few (c .before .before .before), c .before .if1 .left)
 
-array-read-wide : tie.Need-array-read-wide
-array-read-wide c = omega (arith, few (c .before .before .before), c .before .if1 .left)
+array-read-index : tie.Need-array-read-index
+array-read-index c = omega (arith, few (c .before .before .before), c .before .if1 .left)
 
-wide-requires : tie.Need-wide-requires
-wide-requires c κs = search needs
+index-requires : tie.Need-index-requires
+index-requires c κs = search needs
 
-add-wide : tie.Need-add-wide
-add-wide c = search needs
+add-index : tie.Need-add-index
+add-index c = search needs
 
-mul-wide-2 : tie.Need-mul-wide-2
-mul-wide-2 c = omega (arith, few (c .before .before .before .before), c .before .before .if1 .left)
+mul-index-2 : tie.Need-mul-index-2
+mul-index-2 c = omega (arith, few (c .before .before .before .before), c .before .before .if1 .left)
 
-array-read-wide-2 : tie.Need-array-read-wide-2
-array-read-wide-2 c = omega (arith, few (c .before .before .before .before), c .before .before .if1 .left)
+array-read-index-2 : tie.Need-array-read-index-2
+array-read-index-2 c = omega (arith, few (c .before .before .before .before), c .before .before .if1 .left)
 
-wide-requires-2 : tie.Need-wide-requires-2
-wide-requires-2 c κs = search needs
+index-requires-2 : tie.Need-index-requires-2
+index-requires-2 c κs = search needs
 
 borders-in-requires : tie.Need-borders-in-requires
 borders-in-requires c κs = search needs
@@ -169,13 +169,13 @@ put-reason-spec =
     (tie.spec
     grouped-requires
     returns
-    mul-wide
-    array-read-wide
-    wide-requires
-    add-wide
-    mul-wide-2
-    array-read-wide-2
-    wide-requires-2
+    mul-index
+    array-read-index
+    index-requires
+    add-index
+    mul-index-2
+    array-read-index-2
+    index-requires-2
     borders-in-requires
     inside-requires
     same-length

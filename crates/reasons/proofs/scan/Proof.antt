@@ -15,18 +15,18 @@ use Rattle.reasons.proofs.scan.Statement.{statement}
 use Rattle.reasons.proofs.scan.Tie as tie
 
 abbrev Inv-loop : tie.InvT-loop
-Inv-loop memory₀ start h w colours borders ids cells from to side same marked count at₀ i₀ memory at i =
+Inv-loop memory₀ start h w colours borders ids cells from to side same flagged count at₀ i₀ memory at i =
     (i ≤ count)
     × Wrote memory₀ start
-    (upTo (λ k. scanAt h w colours borders ids side same marked (getD cells (from + k) 0)) i) memory at
+    (upTo (λ k. scanAt h w colours borders ids side same flagged (getD cells (from + k) 0)) i) memory at
 
 abbrev μ-loop : tie.MeasureT-loop
-μ-loop memory₀ start h w colours borders ids cells from to side same marked count at₀ i₀ memory at i = count - i
+μ-loop memory₀ start h w colours borders ids cells from to side same flagged count at₀ i₀ memory at i = count - i
 
 abbrev at : tie.Start Inv-loop μ-loop → ℕ → List Literal
 at s k =
     let a = s .args in
-    scanAt (a .h) (a .w) (a .colours .now) (a .borders .now) (a .ids .now) (a .side) (a .same) (a .marked .now)
+    scanAt (a .h) (a .w) (a .colours .now) (a .borders .now) (a .ids .now) (a .side) (a .same) (a .flagged .now)
     (getD (a .cells .now) (a .from + k) 0)
 
 listed : (s : tie.Start Inv-loop μ-loop) → let a = s .args in Cells (a .h) (a .w) (a .cells .now) (a .from) (a .to)
@@ -34,12 +34,12 @@ listed s = s .pre .4
 
 whole : (s : tie.Start Inv-loop μ-loop) →
     let a = s .args in
-    scanOf (a .h) (a .w) (a .colours .now) (a .borders .now) (a .ids .now) (a .side) (a .same) (a .marked .now)
+    scanOf (a .h) (a .w) (a .colours .now) (a .borders .now) (a .ids .now) (a .side) (a .same) (a .flagged .now)
     (part (a .cells .now) (a .from) (a .to))
     ≡ upTo (at s) (a .to - a .from)
 whole s =
     let a = s .args in
-    scan-part (a .colours .now) (a .borders .now) (a .ids .now) (a .side) (a .same) (a .marked .now) (listed s)
+    scan-part (a .colours .now) (a .borders .now) (a .ids .now) (a .side) (a .same) (a .flagged .now) (listed s)
 
 sub-count : tie.Need-sub-count Inv-loop μ-loop
 sub-count c = omega (arith, listed (c .before))
@@ -47,23 +47,23 @@ sub-count c = omega (arith, listed (c .before))
 loop-holds : tie.Need-loop-holds Inv-loop μ-loop
 loop-holds c = (omega arith, loop-none _)
 
-add-wide : tie.Need-add-wide Inv-loop μ-loop
-add-wide c = omega (arith, listed (c .before .before .before))
+add-index : tie.Need-add-index Inv-loop μ-loop
+add-index c = omega (arith, listed (c .before .before .before))
 
-mul-wide : tie.Need-mul-wide Inv-loop μ-loop
-mul-wide c = omega (arith, listed (c .before .before .before))
+mul-index : tie.Need-mul-index Inv-loop μ-loop
+mul-index c = omega (arith, listed (c .before .before .before))
 
-element-copy-out-wide : tie.Need-element-copy-out-wide Inv-loop μ-loop
-element-copy-out-wide c = omega (arith, listed (c .before .before .before))
+element-copy-out-index : tie.Need-element-copy-out-index Inv-loop μ-loop
+element-copy-out-index c = omega (arith, listed (c .before .before .before))
 
-wide-requires : tie.Need-wide-requires Inv-loop μ-loop
-wide-requires c κs = search needs
+index-requires : tie.Need-index-requires Inv-loop μ-loop
+index-requires c κs = search needs
 
 scan-cell-requires : tie.Need-scan-cell-requires Inv-loop μ-loop
 scan-cell-requires c κs =
     let s = c .before .before .before .before .before .before in
     let l = c .before .before .before .before .loop in
-    let e = c .before .wide .ensures in (
+    let e = c .before .index .ensures in (
       s .pre .0,
       s .pre .1,
       s .pre .2,
@@ -83,7 +83,7 @@ loop-again : tie.Need-loop-again Inv-loop μ-loop
 loop-again c =
     let s = c .before .before .before .before .before .before .before .before .before in
     let l = c .before .before .before .before .before .before .before .loop in
-    let e = c .before .before .before .before .wide .ensures in
+    let e = c .before .before .before .before .index .ensures in
     (omega arith, loop-more (at s) (l .i) (l .inv .1) (rw e at (c .before .before .scan-cell .ensures)))
 
 same-length : tie.Need-same-length Inv-loop μ-loop
@@ -103,10 +103,10 @@ scan-spec =
     μ-loop
     sub-count
     loop-holds
-    add-wide
-    mul-wide
-    element-copy-out-wide
-    wide-requires
+    add-index
+    mul-index
+    element-copy-out-index
+    index-requires
     scan-cell-requires
     add-i
     loop-less

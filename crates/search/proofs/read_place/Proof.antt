@@ -2,7 +2,7 @@
 use Prim.Native.Nat.{_-_, _/_}
 use native.Mathlib.Omega.{arith}
 use borrow.Author.Needs.{needs}
-use Rattle.rules.specs.Codes.{marksIn}
+use Rattle.rules.specs.Codes.{statesIn}
 use Rattle.rules.specs.FlatLaws.{Counts, counts, Spot, spot}
 use Rattle.search.specs.PlacingLaws.{below-reading, right-reading, off-ends, off-above, off-left, off-below}
 use Rattle.search.specs.PlacingLaws.{off-right, reads-below, reads-right}
@@ -75,7 +75,7 @@ returns-5 c =
           (c .before .before .before .before .if2 .left) (c .before .before .before .if3 .left)
           (c .before .before .if4 .left) (c .before .if5 .taken),
       below-reading (s .args .h) (s .args .w) ((s .args .y - 64) / 2) ((s .args .x - 64) / 2) (s .args .colours .now)
-          (marksIn (s .args .borders .now)),
+          (statesIn (s .args .borders .now)),
     )
     (c .read-border .ensures)
 
@@ -106,7 +106,7 @@ returns-6 c =
           (c .before .before .before .before .if2 .left) (c .before .before .before .if3 .left)
           (c .before .before .if4 .left) (c .before .if5 .left),
       right-reading (s .args .h) (s .args .w) ((s .args .y - 64) / 2) ((s .args .x - 64) / 2) (s .args .colours .now)
-          (marksIn (s .args .borders .now)) (omega arith) (omega arith),
+          (statesIn (s .args .borders .now)) (omega arith) (omega arith),
     )
     (c .read-border2 .ensures)
 

@@ -26,27 +26,27 @@ returns-2 c =
     sym (in-beside _ _ _ _ (c .before .before .args .y) (c .before .before .args .x) (c .before .if1 .left)
     (c .if2 .taken))
 
-mul-wide : tie.Need-mul-wide
-mul-wide c = record { fits = omega (arith, inside c) }
+mul-index : tie.Need-mul-index
+mul-index c = record { fits = omega (arith, inside c) }
 
-add-wide : tie.Need-add-wide
-add-wide c = record { fits = omega (arith, inside c) }
+add-index : tie.Need-add-index
+add-index c = record { fits = omega (arith, inside c) }
 
-mul-wide-2 : tie.Need-mul-wide-2
-mul-wide-2 c = record { fits = omega (arith, inside c) }
+mul-index-2 : tie.Need-mul-index-2
+mul-index-2 c = record { fits = omega (arith, inside c) }
 
-element-copy-out-wide : tie.Need-element-copy-out-wide
-element-copy-out-wide c = inside c
+element-copy-out-index : tie.Need-element-copy-out-index
+element-copy-out-index c = inside c
 
-wide-requires : tie.Need-wide-requires
-wide-requires c κs = search needs
+index-requires : tie.Need-index-requires
+index-requires c κs = search needs
 
 returns-3 : tie.Need-returns-3
 unfolding entry
 returns-3 c =
     let s = c .before .before .before .before in
-    sym (in-page _ _ _ _ (s .args .y) (s .args .x) (c .wide .result) (c .before .before .before .if1 .left)
-    (c .before .before .if2 .left) (c .wide .ensures))
+    sym (in-page _ _ _ _ (s .args .y) (s .args .x) (c .index .result) (c .before .before .before .if1 .left)
+    (c .before .before .if2 .left) (c .index .ensures))
 
 pub cell-in-spec : {M : Type 1} → statement M
 cell-in-spec =
@@ -54,9 +54,9 @@ cell-in-spec =
     (tie.spec
     returns
     returns-2
-    mul-wide
-    add-wide
-    mul-wide-2
-    element-copy-out-wide
-    wide-requires
+    mul-index
+    add-index
+    mul-index-2
+    element-copy-out-index
+    index-requires
     returns-3)

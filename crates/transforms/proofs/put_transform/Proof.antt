@@ -4,7 +4,7 @@ use native.Mathlib.Omega.{arith}
 use borrow.Author.Needs.{needs}
 use Prim.Native.Nat.{_≤_}
 use lib.ListN.{length}
-use Rattle.rules.specs.Codes.{marksIn}
+use Rattle.rules.specs.Codes.{statesIn}
 use Rattle.rules.specs.Check.{transformsOf}
 use Rattle.search.specs.Placing.{puzzle}
 use Rattle.shapes.specs.Spots.{UnitAt}
@@ -27,7 +27,7 @@ returns c =
     let s = c .before .before .before in
     let cs = s .args .colours .now in
     let bs = s .args .borders .now in
-    let ts = transformsOf (puzzle (s .args .h) (s .args .w) cs) (marksIn bs) (s .args .u) in
+    let ts = transformsOf (puzzle (s .args .h) (s .args .w) cs) (statesIn bs) (s .args .u) in
     let e : length ts ≡ 0 =
     ap length (no-unit (s .pre .0) cs bs (c .before .before .groups-of .ensures) (s .args .u) (search needs)) in (
       c .none .ensures ∙ past-answer ts (s .args .k) (omega arith) (sym e),
@@ -44,35 +44,35 @@ low c =
           (s .args .u),
     )
 
-mul-wide : tie.Need-mul-wide
-mul-wide c = omega (arith, low c)
+mul-index : tie.Need-mul-index
+mul-index c = omega (arith, low c)
 
-element-copy-out-wide : tie.Need-element-copy-out-wide
-element-copy-out-wide c = omega (arith, low c)
+element-copy-out-index : tie.Need-element-copy-out-index
+element-copy-out-index c = omega (arith, low c)
 
-wide-requires : tie.Need-wide-requires
-wide-requires c κs = search needs
+index-requires : tie.Need-index-requires
+index-requires c κs = search needs
 
-add-wide : tie.Need-add-wide
-add-wide c = search needs
+add-index : tie.Need-add-index
+add-index c = search needs
 
-mul-wide-2 : tie.Need-mul-wide-2
-mul-wide-2 c = omega (arith, low (c .before .before))
+mul-index-2 : tie.Need-mul-index-2
+mul-index-2 c = omega (arith, low (c .before .before))
 
-element-copy-out-wide-2 : tie.Need-element-copy-out-wide-2
-element-copy-out-wide-2 c = omega (arith, low (c .before .before))
+element-copy-out-index-2 : tie.Need-element-copy-out-index-2
+element-copy-out-index-2 c = omega (arith, low (c .before .before))
 
-wide-requires-2 : tie.Need-wide-requires-2
-wide-requires-2 c κs = search needs
+index-requires-2 : tie.Need-index-requires-2
+index-requires-2 c κs = search needs
 
 -- its part of the list of cells
-part-is : (c : tie.After-wide2) → let g = c .before .before .before .before .before in
+part-is : (c : tie.After-index2) → let g = c .before .before .before .before .before in
     UnitIn (g .before .args .h) (g .before .args .w) (g .groups-of .result .ids) (g .before .args .u)
-    (g .groups-of .result .cells) (c .before .before .wide .result) (c .wide2 .result)
+    (g .groups-of .result .cells) (c .before .before .index .result) (c .index2 .result)
 part-is c =
     let g = c .before .before .before .before .before in
     let s = g .before in
-    rw (c .before .before .wide .ensures, c .wide2 .ensures)
+    rw (c .before .before .index .ensures, c .index2 .ensures)
     (unit-part-in (s .pre .0) (s .args .colours .now) (s .args .borders .now) (g .groups-of .ensures) (s .args .u)
     (search needs))
 
@@ -124,13 +124,13 @@ put-transform-spec =
     groups-of-requires
     none-requires
     returns
-    mul-wide
-    element-copy-out-wide
-    wide-requires
-    add-wide
-    mul-wide-2
-    element-copy-out-wide-2
-    wide-requires-2
+    mul-index
+    element-copy-out-index
+    index-requires
+    add-index
+    mul-index-2
+    element-copy-out-index-2
+    index-requires-2
     places-requires
     list-rows-requires
     put-listed-requires

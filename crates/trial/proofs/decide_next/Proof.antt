@@ -10,8 +10,8 @@ use Rattle.board.specs.NativeLaws.{borders-fit, native-has, room}
 use Rattle.trial.proofs.decide_next.Statement.{statement}
 use Rattle.trial.proofs.decide_next.Tie as tie
 
-wide-requires : tie.Need-wide-requires
-wide-requires c κs = search needs
+index-requires : tie.Need-index-requires
+index-requires c κs = search needs
 
 literal-requires : tie.Need-literal-requires
 literal-requires c κs = search needs
@@ -37,7 +37,7 @@ returns c =
     ap (λ (r : Returned). r .board) (rw (eq-eqb _ _ (done c)) at (c .before .before .decide-lent .ensures))
     ∙ rw (
       c .before .before .before .before .before .literal .ensures,
-      c .before .before .before .before .before .before .wide .ensures,
+      c .before .before .before .before .before .before .index .ensures,
     )
 
 returns-2 : tie.Need-returns-2
@@ -46,14 +46,14 @@ returns-2 c =
     ap (λ (r : Returned). r .board) (rw f at (c .before .before .decide-lent .ensures))
     ∙ rw (
       c .before .before .before .before .before .literal .ensures,
-      c .before .before .before .before .before .before .wide .ensures,
+      c .before .before .before .before .before .before .index .ensures,
     )
 
 pub decide-next-spec : {M : Type 1} → statement M
 decide-next-spec =
     tie.close
     (tie.spec
-    wide-requires
+    index-requires
     literal-requires
     decide-lent-requires
     refusal-requires

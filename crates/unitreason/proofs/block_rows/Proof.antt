@@ -5,7 +5,7 @@ use Prim.Native.Nat.{ℕ, zero, _≤_, _-_}
 use native.Mathlib.Omega.{arith}
 use lib.ListN.{length, getD, length-replicate}
 use Rattle.planes.specs.DrawLaws.{planes-long}
-use Rattle.rules.specs.Codes.{marksIn}
+use Rattle.rules.specs.Codes.{statesIn}
 use Rattle.rules.specs.declared.Literal.{Literal}
 use Rattle.reasons.specs.Arrays.{part}
 use Rattle.reasons.specs.ListExtras.{upTo}
@@ -23,7 +23,7 @@ abbrev Inv-loop : tie.InvT-loop
 Inv-loop memory₀ start h w colours borders rows columns n down across k ys₀ xs₀ cells offs mates from to listed same
     mask spread left₀ count at₀ j₀ memory ys xs left at j =
     (j ≤ listed .count) × (length ys ≡ 2048) × (length xs ≡ 2048) × (length left ≡ 32) × Wrote memory₀ start
-    (upTo (λ i. blocksBy (puzzle h w colours) (marksIn borders) cells offs (part mates from to) (spots rows columns n)
+    (upTo (λ i. blocksBy (puzzle h w colours) (statesIn borders) cells offs (part mates from to) (spots rows columns n)
     (spots down across k) (getD (listed .rows) i 0)) j) memory at
 
 abbrev μ-loop : tie.MeasureT-loop
@@ -33,7 +33,7 @@ abbrev μ-loop : tie.MeasureT-loop
 -- the blockers by the listed row i
 abbrev each : tie.Start Inv-loop μ-loop → ℕ → List Literal
 each s i =
-    blocksBy (puzzle (s .args .h) (s .args .w) (s .args .colours .now)) (marksIn (s .args .borders .now))
+    blocksBy (puzzle (s .args .h) (s .args .w) (s .args .colours .now)) (statesIn (s .args .borders .now))
     (s .args .cells .now) (s .args .offs .now) (part (s .args .mates .now) (s .args .from) (s .args .to))
     (spots (s .args .rows .now) (s .args .columns .now) (s .args .n))
     (spots (s .args .down .now) (s .args .across .now) (s .args .k)) (getD (s .args .t7 .rows) i 0)

@@ -16,97 +16,97 @@ use Rattle.unitreason.specs.AskedLaws.{home-written}
 use Rattle.unitreason.proofs.write_stuck.Statement.{statement}
 use Rattle.unitreason.proofs.write_stuck.Tie as tie
 
-mul-wide : tie.Need-mul-wide
-mul-wide c = omega (arith, unit-low (c .before .pre .0))
+mul-index : tie.Need-mul-index
+mul-index c = omega (arith, unit-low (c .before .pre .0))
 
-element-copy-out-wide : tie.Need-element-copy-out-wide
-element-copy-out-wide c = omega (arith, unit-low (c .before .pre .0))
+element-copy-out-index : tie.Need-element-copy-out-index
+element-copy-out-index c = omega (arith, unit-low (c .before .pre .0))
 
-wide-requires : tie.Need-wide-requires
-wide-requires c κs = search needs
+index-requires : tie.Need-index-requires
+index-requires c κs = search needs
 
-add-wide : tie.Need-add-wide
-add-wide c = omega (arith, unit-low (c .before .before .before .pre .0))
+add-index : tie.Need-add-index
+add-index c = omega (arith, unit-low (c .before .before .before .pre .0))
 
-mul-wide-2 : tie.Need-mul-wide-2
-mul-wide-2 c = omega (arith, unit-low (c .before .before .before .pre .0))
+mul-index-2 : tie.Need-mul-index-2
+mul-index-2 c = omega (arith, unit-low (c .before .before .before .pre .0))
 
-element-copy-out-wide-2 : tie.Need-element-copy-out-wide-2
-element-copy-out-wide-2 c = omega (arith, unit-low (c .before .before .before .pre .0))
+element-copy-out-index-2 : tie.Need-element-copy-out-index-2
+element-copy-out-index-2 c = omega (arith, unit-low (c .before .before .before .pre .0))
 
-wide-requires-2 : tie.Need-wide-requires-2
-wide-requires-2 c κs = search needs
+index-requires-2 : tie.Need-index-requires-2
+index-requires-2 c κs = search needs
 
 -- the unit's part
-part-is : (c : tie.After-wide2) → let s = c .before .before .before .before .before in
+part-is : (c : tie.After-index2) → let s = c .before .before .before .before .before in
     UnitIn (s .args .h) (s .args .w) (s .args .ids .now) (s .args .u) (s .args .units .now)
-    (c .before .before .wide .result) (c .wide2 .result)
+    (c .before .before .index .result) (c .index2 .result)
 part-is c =
     let s = c .before .before .before .before .before in
-    rw (c .before .before .wide .ensures, c .wide2 .ensures) (own-part (s .pre .0))
+    rw (c .before .before .index .ensures, c .index2 .ensures) (own-part (s .pre .0))
 
-mul-wide-3 : tie.Need-mul-wide-3
-mul-wide-3 c = let p = part-is c in omega (arith, p .some, p .end)
+mul-index-3 : tie.Need-mul-index-3
+mul-index-3 c = let p = part-is c in omega (arith, p .some, p .end)
 
-element-copy-out-wide-3 : tie.Need-element-copy-out-wide-3
-element-copy-out-wide-3 c = let p = part-is c in omega (arith, p .some, p .end)
+element-copy-out-index-3 : tie.Need-element-copy-out-index-3
+element-copy-out-index-3 c = let p = part-is c in omega (arith, p .some, p .end)
 
-wide-requires-3 : tie.Need-wide-requires-3
-wide-requires-3 c κs = search needs
+index-requires-3 : tie.Need-index-requires-3
+index-requires-3 c κs = search needs
 
 -- its first cell, and that cell's potential unit
-cell-is : (c : tie.After-wide3) → let s = c .before .before .before .before .before .before .before in
-    c .wide3 .result ≡ getD (s .args .units .now) (getD (s .args .unit-offs .now) (s .args .u) 0) 0
+cell-is : (c : tie.After-index3) → let s = c .before .before .before .before .before .before .before in
+    c .index3 .result ≡ getD (s .args .units .now) (getD (s .args .unit-offs .now) (s .args .u) 0) 0
 cell-is c =
     let s = c .before .before .before .before .before .before .before in
-    c .wide3 .ensures ∙ ap (λ i. getD (s .args .units .now) i 0) (c .before .before .before .before .wide .ensures)
+    c .index3 .ensures ∙ ap (λ i. getD (s .args .units .now) i 0) (c .before .before .before .before .index .ensures)
 
-home-is : (c : tie.After-wide4) → let s = c .before .before .before .before .before .before .before .before .before in
-    c .wide4 .result ≡ home (s .pre .0)
+home-is : (c : tie.After-index4) → let s = c .before .before .before .before .before .before .before .before .before in
+    c .index4 .result ≡ home (s .pre .0)
 home-is c =
     let s = c .before .before .before .before .before .before .before .before .before in
-    c .wide4 .ensures ∙ ap (λ i. getD (s .args .potential .now) i 0) (cell-is (c .before .before))
+    c .index4 .ensures ∙ ap (λ i. getD (s .args .potential .now) i 0) (cell-is (c .before .before))
 
-home-at : (c : tie.After-wide4) → let s = c .before .before .before .before .before .before .before .before .before in
+home-at : (c : tie.After-index4) → let s = c .before .before .before .before .before .before .before .before .before in
     Home (s .args .h) (s .args .w) (s .args .colours .now) (s .args .borders .now) (s .args .potential .now)
-    (s .args .cells .now) (s .args .offs .now) (c .wide4 .result)
+    (s .args .cells .now) (s .args .offs .now) (c .index4 .result)
 home-at c =
     let s = c .before .before .before .before .before .before .before .before .before in
     at-home (s .pre .0) (home-is c)
 
-mul-wide-4 : tie.Need-mul-wide-4
-mul-wide-4 c =
+mul-index-4 : tie.Need-mul-index-4
+mul-index-4 c =
     let a = c .before .before .before .before .before .before .before .pre .0 in
     omega (arith, cell-is c, head-low (a .ready) _ (a .low), counts (a .ready .drawn .sized) .cells)
 
-element-copy-out-wide-4 : tie.Need-element-copy-out-wide-4
-element-copy-out-wide-4 c =
+element-copy-out-index-4 : tie.Need-element-copy-out-index-4
+element-copy-out-index-4 c =
     let a = c .before .before .before .before .before .before .before .pre .0 in
     omega (arith, cell-is c, head-low (a .ready) _ (a .low), counts (a .ready .drawn .sized) .cells)
 
-wide-requires-4 : tie.Need-wide-requires-4
-wide-requires-4 c κs = search needs
+index-requires-4 : tie.Need-index-requires-4
+index-requires-4 c κs = search needs
 
-mul-wide-5 : tie.Need-mul-wide-5
-mul-wide-5 c = omega (arith, home-few (home-at c))
+mul-index-5 : tie.Need-mul-index-5
+mul-index-5 c = omega (arith, home-few (home-at c))
 
-element-copy-out-wide-5 : tie.Need-element-copy-out-wide-5
-element-copy-out-wide-5 c = omega (arith, home-few (home-at c))
+element-copy-out-index-5 : tie.Need-element-copy-out-index-5
+element-copy-out-index-5 c = omega (arith, home-few (home-at c))
 
-wide-requires-5 : tie.Need-wide-requires-5
-wide-requires-5 c κs = search needs
+index-requires-5 : tie.Need-index-requires-5
+index-requires-5 c κs = search needs
 
-add-wide-2 : tie.Need-add-wide-2
-add-wide-2 c = omega (arith, home-few (home-at (c .before .before)))
+add-index-2 : tie.Need-add-index-2
+add-index-2 c = omega (arith, home-few (home-at (c .before .before)))
 
-mul-wide-6 : tie.Need-mul-wide-6
-mul-wide-6 c = omega (arith, home-few (home-at (c .before .before)))
+mul-index-6 : tie.Need-mul-index-6
+mul-index-6 c = omega (arith, home-few (home-at (c .before .before)))
 
-element-copy-out-wide-6 : tie.Need-element-copy-out-wide-6
-element-copy-out-wide-6 c = omega (arith, home-few (home-at (c .before .before)))
+element-copy-out-index-6 : tie.Need-element-copy-out-index-6
+element-copy-out-index-6 c = omega (arith, home-few (home-at (c .before .before)))
 
-wide-requires-6 : tie.Need-wide-requires-6
-wide-requires-6 c κs = search needs
+index-requires-6 : tie.Need-index-requires-6
+index-requires-6 c κs = search needs
 
 mates-of-requires : tie.Need-mates-of-requires
 mates-of-requires c κs =
@@ -115,7 +115,7 @@ mates-of-requires c κs =
     let v = f .before .before in
     let s = v .before .before .before .before .before .before .before .before .before in
     let k = home-at v in
-    (k .drawn, k .known, rw (f .wide5 .ensures, e .wide6 .ensures) (home-cells k), s .pre .1)
+    (k .drawn, k .known, rw (f .index5 .ensures, e .index6 .ensures) (home-cells k), s .pre .1)
 
 places-requires : tie.Need-places-requires
 places-requires c κs =
@@ -159,10 +159,10 @@ write-unit-requires c κs =
     let v = f .before .before in
     let s = v .before .before .before .before .before .before .before .before .before in
     let q = s .pre .0 in
-    let p = v .wide4 .result in
+    let p = v .index4 .result in
     let k = home-at v in (
       arranged q (home-is v)
-          (m .mates-of .ensures p (rw (f .wide5 .ensures, e .wide6 .ensures) (k .grouped .group p (k .low)))),
+          (m .mates-of .ensures p (rw (f .index5 .ensures, e .index6 .ensures) (k .grouped .group p (k .low)))),
       imaged q (unit-is a) (j .joints .ensures) (l .list-rows .ensures),
       s .pre .2 .ys,
       s .pre .2 .xs,
@@ -184,26 +184,26 @@ pub write-stuck-spec : {M : Type 1} → statement M
 write-stuck-spec =
     tie.close
     (tie.spec
-    mul-wide
-    element-copy-out-wide
-    wide-requires
-    add-wide
-    mul-wide-2
-    element-copy-out-wide-2
-    wide-requires-2
-    mul-wide-3
-    element-copy-out-wide-3
-    wide-requires-3
-    mul-wide-4
-    element-copy-out-wide-4
-    wide-requires-4
-    mul-wide-5
-    element-copy-out-wide-5
-    wide-requires-5
-    add-wide-2
-    mul-wide-6
-    element-copy-out-wide-6
-    wide-requires-6
+    mul-index
+    element-copy-out-index
+    index-requires
+    add-index
+    mul-index-2
+    element-copy-out-index-2
+    index-requires-2
+    mul-index-3
+    element-copy-out-index-3
+    index-requires-3
+    mul-index-4
+    element-copy-out-index-4
+    index-requires-4
+    mul-index-5
+    element-copy-out-index-5
+    index-requires-5
+    add-index-2
+    mul-index-6
+    element-copy-out-index-6
+    index-requires-6
     mates-of-requires
     places-requires
     joints-requires

@@ -25,26 +25,26 @@ block-rows-requires c κs =
       room-blocks a b _ (s .pre .4),
     )
 
-mul-wide : tie.Need-mul-wide
-mul-wide c = search needs
+mul-index : tie.Need-mul-index
+mul-index c = search needs
 
-element-copy-out-wide : tie.Need-element-copy-out-wide
-element-copy-out-wide c = search needs
+element-copy-out-index : tie.Need-element-copy-out-index
+element-copy-out-index c = search needs
 
-wide-requires : tie.Need-wide-requires
-wide-requires c κs = search needs
+index-requires : tie.Need-index-requires
+index-requires c κs = search needs
 
-add-wide : tie.Need-add-wide
-add-wide c = search needs
+add-index : tie.Need-add-index
+add-index c = search needs
 
-mul-wide-2 : tie.Need-mul-wide-2
-mul-wide-2 c = search needs
+mul-index-2 : tie.Need-mul-index-2
+mul-index-2 c = search needs
 
-element-copy-out-wide-2 : tie.Need-element-copy-out-wide-2
-element-copy-out-wide-2 c = search needs
+element-copy-out-index-2 : tie.Need-element-copy-out-index-2
+element-copy-out-index-2 c = search needs
 
-wide-requires-2 : tie.Need-wide-requires-2
-wide-requires-2 c κs = search needs
+index-requires-2 : tie.Need-index-requires-2
+index-requires-2 c κs = search needs
 
 inside-requires : tie.Need-inside-requires
 inside-requires c κs =
@@ -55,7 +55,7 @@ inside-requires c κs =
       a .drawn .sized,
       record { borders = a .borders; numbers = a .lengths .0 },
       a .unit .few,
-      rw (q .wide2 .ensures, q .before .before .wide .ensures) (a .unit .is),
+      rw (q .index2 .ensures, q .before .before .index .ensures) (a .unit .is),
       room-inside a (s .pre .1) (s .pre .4) (t .block-rows .ensures),
     )
 
@@ -91,13 +91,13 @@ write-unit-spec =
     tie.close
     (tie.spec
     block-rows-requires
-    mul-wide
-    element-copy-out-wide
-    wide-requires
-    add-wide
-    mul-wide-2
-    element-copy-out-wide-2
-    wide-requires-2
+    mul-index
+    element-copy-out-index
+    index-requires
+    add-index
+    mul-index-2
+    element-copy-out-index-2
+    index-requires-2
     inside-requires
     walls-of-requires
     same-length

@@ -3,7 +3,7 @@ use mathlib.Core.Path.{_≡_, sym, ap, _∙_}
 use native.Mathlib.Omega.{arith}
 use lib.ListN.{getD}
 use Rattle.rules.specs.Check.{mates}
-use Rattle.rules.specs.Codes.{marksIn}
+use Rattle.rules.specs.Codes.{statesIn}
 use Rattle.rules.specs.Flat.{flat}
 use Rattle.rules.specs.FlatLaws.{counts}
 use Rattle.rules.specs.Groups.{entry}
@@ -49,7 +49,7 @@ home-is c =
 
 one : (c : tie.After-near-mate) → let s = c .before .before .before .before .before .before in
     OneOf
-    (mates (puzzle (s .args .h) (s .args .w) (s .args .colours .now)) (marksIn (s .args .borders .now))
+    (mates (puzzle (s .args .h) (s .args .w) (s .args .colours .now)) (statesIn (s .args .borders .now))
     (getD (s .args .potential .now) (getD (s .args .units .now) (getD (s .args .unit-offs .now) (s .args .u) 0) 0) 0))
     (c .near-mate .result)
 one c = rw (home-is (c .before .before)) at (c .near-mate .ensures .0)
@@ -121,7 +121,7 @@ returns-3 c =
     let s = m .before .before .before .before .before .before in
     let q = one m .some (i .if1 .left) in (
       sym (sym (fits-home (s .pre .0) (s .args .u) (s .pre .1))
-          ∙ soon-turned (puzzle (s .args .h) (s .args .w) (s .args .colours .now)) (marksIn (s .args .borders .now))
+          ∙ soon-turned (puzzle (s .args .h) (s .args .w) (s .args .colours .now)) (statesIn (s .args .borders .now))
           (s .args .cells .now) (s .args .offs .now)
           (shapeOf (flat (s .args .h) (s .args .w)) (entry (s .args .ids .now)) (s .args .u)) q
           (mate-cells (home-of (s .pre .0) (s .args .u) (s .pre .1)) q .order)
@@ -152,8 +152,8 @@ returns-4 c =
     let e = c .unit-fits .ensures in (
       e .0
           ∙ (ap (λ q. fitsTurned (puzzle (s .args .h) (s .args .w) (s .args .colours .now))
-          (marksIn (s .args .borders .now)) (s .args .cells .now) (s .args .offs .now)
-          (mates (puzzle (s .args .h) (s .args .w) (s .args .colours .now)) (marksIn (s .args .borders .now)) q)
+          (statesIn (s .args .borders .now)) (s .args .cells .now) (s .args .offs .now)
+          (mates (puzzle (s .args .h) (s .args .w) (s .args .colours .now)) (statesIn (s .args .borders .now)) q)
           (shapeOf (flat (s .args .h) (s .args .w)) (entry (s .args .ids .now)) (s .args .u))) (home-is p)
           ∙ fits-home (s .pre .0) (s .args .u) (s .pre .1)),
       m .near-mate .ensures .1,

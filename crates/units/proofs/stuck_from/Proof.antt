@@ -2,7 +2,7 @@
 use mathlib.Core.Path.{refl, sym, _∙_}
 use Prim.Native.Nat.{_-_}
 use native.Mathlib.Omega.{arith}
-use Rattle.rules.specs.Codes.{marksIn}
+use Rattle.rules.specs.Codes.{statesIn}
 use Rattle.search.specs.Placing.{puzzle}
 use Rattle.units.specs.Fitting.{Lent}
 use Rattle.units.specs.Held.{Nearby, Held}
@@ -16,7 +16,7 @@ use Rattle.units.proofs.stuck_from.Tie as tie
 abbrev Inv-loop : tie.InvT-loop
 Inv-loop h w colours borders ids units unit-offs count potential cells offs from near₀ rows₀ columns₀ down₀ across₀ ys₀
     xs₀ planes₀ mask₀ list₀ u₀ near rows columns down across ys xs planes mask list u =
-    Passed (fitsUnit (puzzle h w colours) (marksIn borders)) count u
+    Passed (fitsUnit (puzzle h w colours) (statesIn borders)) count u
     × Nearby h w colours borders near × Lent rows columns down across ys xs
     × Held h w colours borders cells offs planes mask list
 

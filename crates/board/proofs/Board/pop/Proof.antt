@@ -7,14 +7,14 @@ use Rattle.board.proofs.Board.pop.Tie as tie
 sub-at : tie.Need-sub-at
 sub-at c = search needs
 
-mul-wide : tie.Need-mul-wide
-mul-wide c = omega arith
+mul-index : tie.Need-mul-index
+mul-index c = omega arith
 
-element-copy-out-wide : tie.Need-element-copy-out-wide
-element-copy-out-wide c = search needs
+element-copy-out-index : tie.Need-element-copy-out-index
+element-copy-out-index c = search needs
 
-wide-requires : tie.Need-wide-requires
-wide-requires c κs = search needs
+index-requires : tie.Need-index-requires
+index-requires c κs = search needs
 
 element-write-b : tie.Need-element-write-b
 element-write-b c = search needs
@@ -26,16 +26,16 @@ element-write-b-2 : tie.Need-element-write-b-2
 element-write-b-2 c = search needs
 
 returns : tie.Need-returns
-returns c = rw (c .wide .ensures)
+returns c = rw (c .index .ensures)
 
 pub pop-spec : {M : Type 1} → statement M
 pop-spec =
     tie.close
     (tie.spec
     sub-at
-    mul-wide
-    element-copy-out-wide
-    wide-requires
+    mul-index
+    element-copy-out-index
+    index-requires
     element-write-b
     mul-b
     element-write-b-2

@@ -1,4 +1,4 @@
--- `block_fault` meets its contract: one cell's fault; what one look settles; else no cell has a fault, and the tally
+-- `block_fault` meets its contract: one cell's fault; what one look settles; else no cell has a fault, and the census
 -- tells.
 use mathlib.Core.Path.{ap, _∙_}
 use mathlib.Core.Bool.{Bool, true, false}
@@ -7,9 +7,9 @@ use Rattle.rules.specs.Codes.{coloursIn, cluesIn}
 use Rattle.rules.specs.Groups.{entry}
 use Rattle.checker.specs.Arrays.{sizeIn}
 use Rattle.reasons.specs.Arrays.{part}
-use Rattle.checker.specs.Tallies.{ownUnit, partOf, tallyOf}
+use Rattle.checker.specs.Censuses.{ownUnit, partOf, censusOf}
 use Rattle.checker.specs.LoneCases.{lone-fault, part-one}
-use Rattle.checker.specs.FaultCases.{fault-tally, own-parted}
+use Rattle.checker.specs.FaultCases.{fault-census, own-parted}
 use native.Mathlib.Omega.{arith}
 use lib.ListN.{getD}
 use borrow.Author.Needs.{needs}
@@ -19,20 +19,20 @@ use Rattle.checker.proofs.blocks.block_fault.Tie as tie
 add-if1 : tie.Need-add-if1
 add-if1 c = search needs
 
-mul-wide : tie.Need-mul-wide
-mul-wide c = search needs
+mul-index : tie.Need-mul-index
+mul-index c = search needs
 
-element-copy-out-wide : tie.Need-element-copy-out-wide
-element-copy-out-wide c = search needs
+element-copy-out-index : tie.Need-element-copy-out-index
+element-copy-out-index c = search needs
 
-wide-requires : tie.Need-wide-requires
-wide-requires c κs = search needs
+index-requires : tie.Need-index-requires
+index-requires c κs = search needs
 
 lone-fault-requires : tie.Need-lone-fault-requires
 lone-fault-requires c κs =
     let s = c .before .before .before in
     let h = s .pre .0 .cells (s .args .from) (omega arith) (omega arith) in
-    (omega (arith, h, c .wide .ensures), s .pre .1)
+    (omega (arith, h, c .index .ensures), s .pre .1)
 
 returns : tie.Need-returns
 returns c =
@@ -41,9 +41,9 @@ returns c =
     let t = c .before .before .before .if1 .taken in
     let one = part-one (a .from) (a .to) (a .cells .now) t (omega (arith, s .pre .0)) in
     c .lone-fault .ensures
-    ∙ rw (one, ← c .before .wide .ensures)
+    ∙ rw (one, ← c .before .index .ensures)
     (lone-fault (cluesIn (a .clues .now)) (entry (a .ids .now)) (sizeIn (a .offs .now)) (coloursIn (a .colours .now))
-    (c .before .wide .result))
+    (c .before .index .result))
 
 look-requires : tie.Need-look-requires
 look-requires c κs = search needs
@@ -51,11 +51,11 @@ look-requires c κs = search needs
 returns-2 : tie.Need-returns-2
 returns-2 c = c .before .look .ensures .0 (c .if2 .taken)
 
-tally-requires : tie.Need-tally-requires
-tally-requires c κs = search needs
+census-requires : tie.Need-census-requires
+census-requires c κs = search needs
 
 -- the potential unit of a colour's first cell has a size
-parted : (c : tie.After-tally) → (colour : Bool)
+parted : (c : tie.After-census) → (colour : Bool)
     → let a = c .before .before .before .before .args in
     let u = ownUnit (coloursIn (a .colours .now)) (cluesIn (a .clues .now)) (entry (a .ids .now))
     (part (a .cells .now) (a .from) (a .to)) colour in
@@ -66,28 +66,28 @@ parted c =
     (part (a .cells .now) (a .from) (a .to)) (c .before .before .before .before .pre .1)
 
 size-of-requires : tie.Need-size-of-requires
-unfolding tallyOf partOf
+unfolding censusOf partOf
 size-of-requires c κs =
     let d = c .before .before in
-    rw (ap (λ t. t .zero .unit) (d .tally .ensures)) (parted d false)
+    rw (ap (λ t. t .zero .unit) (d .census .ensures)) (parted d false)
 
 size-of-requires-2 : tie.Need-size-of-requires-2
-unfolding tallyOf partOf
+unfolding censusOf partOf
 size-of-requires-2 c κs =
     let d = c .before .before .before in
-    rw (ap (λ t. t .one .unit) (d .tally .ensures)) (parted d true)
+    rw (ap (λ t. t .one .unit) (d .census .ensures)) (parted d true)
 
-tally-fault-requires : tie.Need-tally-fault-requires
-tally-fault-requires c κs = search needs
+census-fault-requires : tie.Need-census-fault-requires
+census-fault-requires c κs = search needs
 
 returns-3 : tie.Need-returns-3
 returns-3 c =
     let d = c .before .before .before .before .before in
     let a = d .before .before .before .before .args in
-    c .tally-fault .ensures
+    c .census-fault .ensures
     ∙ rw (c .before .size-of2 .ensures, c .before .before .size-of .ensures)
-    (fault-tally (coloursIn (a .colours .now)) (cluesIn (a .clues .now)) (entry (a .ids .now)) (sizeIn (a .offs .now))
-    (part (a .cells .now) (a .from) (a .to)) _ (d .tally .ensures)
+    (fault-census (coloursIn (a .colours .now)) (cluesIn (a .clues .now)) (entry (a .ids .now)) (sizeIn (a .offs .now))
+    (part (a .cells .now) (a .from) (a .to)) _ (d .census .ensures)
     (d .before .before .look .ensures .1 (d .before .if2 .left)))
 
 pub block-fault-spec : {M : Type 1} → statement M
@@ -95,15 +95,15 @@ block-fault-spec =
     tie.close
     (tie.spec
     add-if1
-    mul-wide
-    element-copy-out-wide
-    wide-requires
+    mul-index
+    element-copy-out-index
+    index-requires
     lone-fault-requires
     returns
     look-requires
     returns-2
-    tally-requires
+    census-requires
     size-of-requires
     size-of-requires-2
-    tally-fault-requires
+    census-fault-requires
     returns-3)

@@ -39,38 +39,38 @@ fault : (c : tie.After-block-fault Inv-loop μ-loop)
     (c .before .before .before .before .before .before .before .args .starts .now)
     (c .before .before .before .before .before .before .loop .b)
 unfolding partOf
-fault c = c .block-fault .ensures ∙ rw (c .before .wide2 .ensures, c .before .before .before .wide .ensures)
+fault c = c .block-fault .ensures ∙ rw (c .before .index2 .ensures, c .before .before .before .index .ensures)
 
 loop-holds : tie.Need-loop-holds Inv-loop μ-loop
 unfolding firstFaulty
 loop-holds c = (omega arith, let e : c .args .count - 0 ≡ c .args .count = omega arith in rw e)
 
-mul-wide : tie.Need-mul-wide Inv-loop μ-loop
-mul-wide c = search needs
+mul-index : tie.Need-mul-index Inv-loop μ-loop
+mul-index c = search needs
 
-element-copy-out-wide : tie.Need-element-copy-out-wide Inv-loop μ-loop
-element-copy-out-wide c = omega (arith, c .before .before .pre .0)
+element-copy-out-index : tie.Need-element-copy-out-index Inv-loop μ-loop
+element-copy-out-index c = omega (arith, c .before .before .pre .0)
 
-wide-requires : tie.Need-wide-requires Inv-loop μ-loop
-wide-requires c κs = tt
+index-requires : tie.Need-index-requires Inv-loop μ-loop
+index-requires c κs = tt
 
-add-wide : tie.Need-add-wide Inv-loop μ-loop
-add-wide c = omega (arith, c .before .before .before .before .pre .0)
+add-index : tie.Need-add-index Inv-loop μ-loop
+add-index c = omega (arith, c .before .before .before .before .pre .0)
 
-mul-wide-2 : tie.Need-mul-wide-2 Inv-loop μ-loop
-mul-wide-2 c = omega (arith, c .before .before .before .before .pre .0)
+mul-index-2 : tie.Need-mul-index-2 Inv-loop μ-loop
+mul-index-2 c = omega (arith, c .before .before .before .before .pre .0)
 
-element-copy-out-wide-2 : tie.Need-element-copy-out-wide-2 Inv-loop μ-loop
-element-copy-out-wide-2 c = omega (arith, c .before .before .before .before .pre .0)
+element-copy-out-index-2 : tie.Need-element-copy-out-index-2 Inv-loop μ-loop
+element-copy-out-index-2 c = omega (arith, c .before .before .before .before .pre .0)
 
-wide-requires-2 : tie.Need-wide-requires-2 Inv-loop μ-loop
-wide-requires-2 c κs = tt
+index-requires-2 : tie.Need-index-requires-2 Inv-loop μ-loop
+index-requires-2 c κs = tt
 
 block-fault-requires : tie.Need-block-fault-requires Inv-loop μ-loop
 block-fault-requires c κs =
     let l = c .before .before .before .before .before .loop in
     let p = c .before .before .before .before .before .before .pre in (
-      rw (c .before .before .wide .ensures, c .wide2 .ensures)
+      rw (c .before .before .index .ensures, c .index2 .ensures)
           (p .0 .parts (l .b) (c .before .before .before .before .loop-test .taken)),
       p .1,
     )
@@ -112,13 +112,13 @@ first-faulty-spec =
     Inv-loop
     μ-loop
     loop-holds
-    mul-wide
-    element-copy-out-wide
-    wide-requires
-    add-wide
-    mul-wide-2
-    element-copy-out-wide-2
-    wide-requires-2
+    mul-index
+    element-copy-out-index
+    index-requires
+    add-index
+    mul-index-2
+    element-copy-out-index-2
+    index-requires-2
     block-fault-requires
     is-clear-requires
     add-b

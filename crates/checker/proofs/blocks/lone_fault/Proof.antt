@@ -8,7 +8,7 @@ use mir.Syntax.{w32}
 use borrow.Author.Needs.{needs, sfits-of}
 use Rattle.rules.specs.Codes.{clueOf, cluesIn}
 use Rattle.rules.specs.Groups.{entry}
-use Rattle.checker.specs.Tallies.{optionOf, clueIn, option-clue}
+use Rattle.checker.specs.Censuses.{optionOf, clueIn, option-clue}
 use Rattle.checker.specs.LoneCases.{lone-free, lone-none, lone-fits, lone-big}
 use Rattle.checker.proofs.blocks.lone_fault.Statement.{statement}
 use Rattle.checker.proofs.blocks.lone_fault.Tie as tie
@@ -50,33 +50,33 @@ returns c = lone-free _ _ _ _ (clue (c .before .before) ∙ ap optionOf (c .enum
 returns-2 : tie.Need-returns-2
 returns-2 c = lone-none _ _ _ _ _ (is (c .before .before)) (c .if1 .taken)
 
-mul-wide : tie.Need-mul-wide
-mul-wide c = search needs
+mul-index : tie.Need-mul-index
+mul-index c = search needs
 
-element-copy-out-wide : tie.Need-element-copy-out-wide
-element-copy-out-wide c = search needs
+element-copy-out-index : tie.Need-element-copy-out-index
+element-copy-out-index c = search needs
 
-wide-requires : tie.Need-wide-requires
-wide-requires c κs = search needs
+index-requires : tie.Need-index-requires
+index-requires c κs = search needs
 
 size-of-requires : tie.Need-size-of-requires
 size-of-requires c κs =
     let s = c .before .before .before .before .before .before .before .before in
-    rw (c .wide .ensures) (s .pre .1 .few (s .args .c), s .pre .1 .rises (s .args .c))
+    rw (c .index .ensures) (s .pre .1 .few (s .args .c), s .pre .1 .rises (s .args .c))
 
 returns-3 : tie.Need-returns-3
 unfolding entry
 returns-3 c =
-    let fits = rw (c .before .size-of .ensures, c .before .before .wide .ensures) at (c .if2 .taken) in
+    let fits = rw (c .before .size-of .ensures, c .before .before .index .ensures) at (c .if2 .taken) in
     let d = c .before .before .before .before in
     lone-fits _ _ _ _ _ (is (d .before .before)) (d .if1 .left) fits
 
 returns-4 : tie.Need-returns-4
 unfolding entry
 returns-4 c =
-    let big = rw (c .before .size-of .ensures, c .before .before .wide .ensures) at (c .if2 .left) in
+    let big = rw (c .before .size-of .ensures, c .before .before .index .ensures) at (c .if2 .left) in
     let d = c .before .before .before .before in
-    rw (c .before .before .wide .ensures) (lone-big _ _ _ _ _ (is (d .before .before)) (d .if1 .left) big)
+    rw (c .before .before .index .ensures) (lone-big _ _ _ _ _ (is (d .before .before)) (d .if1 .left) big)
 
 pub lone-fault-spec : {M : Type 1} → statement M
 lone-fault-spec =
@@ -89,9 +89,9 @@ lone-fault-spec =
     enum-told
     returns
     returns-2
-    mul-wide
-    element-copy-out-wide
-    wide-requires
+    mul-index
+    element-copy-out-index
+    index-requires
     size-of-requires
     returns-3
     returns-4)

@@ -13,7 +13,7 @@ use borrow.Author.Needs.{needs, sfits-of}
 use lib.Dec.{eqb}
 use Rattle.rules.specs.Codes.{clueOf}
 use Rattle.checker.specs.declared.Fault.the-variants.{InsideEdge}
-use Rattle.checker.specs.Tallies.{clueIn}
+use Rattle.checker.specs.Censuses.{clueIn}
 use Rattle.checker.specs.Looks.{bit-under, Put, Kept}
 use Rattle.checker.specs.Looked.{Looked, looked-none, looked-more, looked-few, zero-parted, one-parted}
 use Rattle.checker.specs.Looked.{kept-none, settles, looked-stray, looked-clash, looked-scan, looked-clear}
@@ -28,39 +28,39 @@ abbrev μ-loop : tie.MeasureT-loop
 μ-loop colours clues ids offs cells from to own₀ first₀ ones₀ i₀ own first ones i = to - i
 
 -- a listed cell is one of 1,024
-small : (c : tie.After-wide Inv-loop μ-loop) → c .wide .result < 1024
+small : (c : tie.After-index Inv-loop μ-loop) → c .index .result < 1024
 small c =
     let l = c .before .before .before .loop in
     let h = c .before .before .before .before .pre .0 .cells (l .i) (l .inv .0) (c .before .before .loop-test .taken) in
-    omega (arith, h, c .wide .ensures)
+    omega (arith, h, c .index .ensures)
 
 -- a colour's place is one of two
 two : (c : tie.After-bit Inv-loop μ-loop) → c .bit .result < 2
 two c =
     let d = c .before .before .before .before in
-    let k = getD (d .before .before .before .before .args .colours .now) (d .wide .result) 0 in
+    let k = getD (d .before .before .before .before .args .colours .now) (d .index .result) 0 in
     rw (c .bit .ensures) (bit-under (eqb k 1))
 
 loop-holds : tie.Need-loop-holds Inv-loop μ-loop
 loop-holds c = (omega arith, omega (arith, c .pre .0), refl, looked-none _ _ _ _ _)
 
-mul-wide : tie.Need-mul-wide Inv-loop μ-loop
-mul-wide c = omega (arith, c .before .before .pre .0)
+mul-index : tie.Need-mul-index Inv-loop μ-loop
+mul-index c = omega (arith, c .before .before .pre .0)
 
-element-copy-out-wide : tie.Need-element-copy-out-wide Inv-loop μ-loop
-element-copy-out-wide c = omega (arith, c .before .before .pre .0)
+element-copy-out-index : tie.Need-element-copy-out-index Inv-loop μ-loop
+element-copy-out-index c = omega (arith, c .before .before .pre .0)
 
-wide-requires : tie.Need-wide-requires Inv-loop μ-loop
-wide-requires c κs = tt
+index-requires : tie.Need-index-requires Inv-loop μ-loop
+index-requires c κs = tt
 
-mul-wide-2 : tie.Need-mul-wide-2 Inv-loop μ-loop
-mul-wide-2 c = omega (arith, small c)
+mul-index-2 : tie.Need-mul-index-2 Inv-loop μ-loop
+mul-index-2 c = omega (arith, small c)
 
-element-copy-out-wide-2 : tie.Need-element-copy-out-wide-2 Inv-loop μ-loop
-element-copy-out-wide-2 c = small c
+element-copy-out-index-2 : tie.Need-element-copy-out-index-2 Inv-loop μ-loop
+element-copy-out-index-2 c = small c
 
-wide-requires-2 : tie.Need-wide-requires-2 Inv-loop μ-loop
-wide-requires-2 c κs = tt
+index-requires-2 : tie.Need-index-requires-2 Inv-loop μ-loop
+index-requires-2 c κs = tt
 
 element-copy-out-bit : tie.Need-element-copy-out-bit Inv-loop μ-loop
 element-copy-out-bit c = small (c .before .before)
@@ -90,11 +90,11 @@ returns c =
     let l = w .before .before .before in
     let p = l .before .pre .0 in
     settles (c .settled .result) (c .settled .ensures)
-    (ap InsideEdge (d .before .before .wide2 .ensures)
-    ∙ looked-stray (l .loop .inv .3) (w .wide .result) (l .loop .inv .0) (w .wide .ensures) _ _
+    (ap InsideEdge (d .before .before .index2 .ensures)
+    ∙ looked-stray (l .loop .inv .3) (w .index .result) (l .loop .inv .0) (w .index .ensures) _ _
     (w .before .before .loop-test .taken) (omega (arith, p .long, p .within))
     (rw (d .bit .ensures) at (c .before .if2 .taken))
-    (rw (d .bit .ensures, d .before .before .wide2 .ensures) at (c .before .before .if1 .taken)))
+    (rw (d .bit .ensures, d .before .before .index2 .ensures) at (c .before .before .if1 .taken)))
 
 mul-own : tie.Need-mul-own Inv-loop μ-loop
 mul-own c = omega (arith, two (c .before .before))
@@ -126,13 +126,14 @@ settled-requires-2 c κs = tt
 -- the unit stands at its colour, or was put there
 put : (c : tie.Joined1 Inv-loop μ-loop)
     → let d = c .before .before .before in
-    Put (d .before .before .before .before .before .loop .own) (c .before .bit .result) (d .wide2 .result) (c .if1 .own)
+    Put (d .before .before .before .before .before .loop .own) (c .before .bit .result) (d .index2 .result)
+    (c .if1 .own)
 put c = ⊎-elim (λ w. inr (w .2, w .1 .left)) (λ w. inl (w .1, w .0 .left)) (c .if1 .came)
 
 -- a clue is read with its sign
 signed : (c : tie.After-if32 Inv-loop μ-loop)
     → let d = c .before .before .before .before .before .before in
-    let z = getD (d .before .before .before .before .args .clues .now) (d .wide .result) (pos 0) in
+    let z = getD (d .before .before .before .before .args .clues .now) (d .index .result) (pos 0) in
     toZ w32 (ofZ w32 z) ≡ z
 signed c = toZ-ofZ (sfits-of (c .if32 .given))
 
@@ -144,9 +145,9 @@ returns-2 c =
     let l = w .before .before .before in
     let p = l .before .pre in
     settles (c .settled2 .result) (c .settled2 .ensures)
-    (looked-clash (l .loop .inv .3) (w .wide .result) (l .loop .inv .0) (w .wide .ensures) _ _
+    (looked-clash (l .loop .inv .3) (w .index .result) (l .loop .inv .0) (w .index .ensures) _ _
     (w .before .before .loop-test .taken) (omega (arith, p .0 .long, p .0 .within)) (l .loop .inv .2) (p .1 .few) _
-    (rw (d .bit .ensures, d .before .before .wide2 .ensures) at (put (f .before)))
+    (rw (d .bit .ensures, d .before .before .index2 .ensures) at (put (f .before)))
     (rw (← ap (λ z. clueIn (clueOf z)) (signed f), ← c .before .before .before .clue-at .ensures)
     (sym (c .before .before .clash .ensures) ∙ c .before .if4 .taken)))
 
@@ -175,11 +176,11 @@ still c =
 -- the clue agrees, and is kept if it is the first
 kept : (c : tie.Joined3 Inv-loop μ-loop)
     → let d = c .before .before .before .before .before .before .before in
-    let z = getD (d .before .before .before .before .args .clues .now) (d .wide .result) (pos 0) in
+    let z = getD (d .before .before .before .before .args .clues .now) (d .index .result) (pos 0) in
     Kept (d .before .before .before .loop .first) (clueIn (clueOf z)) (c .if3 .first)
 kept c =
     let d = c .before .before .before .before .before .before .before in
-    let z = getD (d .before .before .before .before .args .clues .now) (d .wide .result) (pos 0) in
+    let z = getD (d .before .before .before .before .args .clues .now) (d .index .result) (pos 0) in
     ⊎-elim
     (λ w.
     let e = w .2 .ensures ∙ ap (λ y. clueIn (clueOf y)) (signed (c .before)) in
@@ -196,9 +197,9 @@ loop-again c =
       omega arith,
       still (c .before .before),
       rw (d .bit .ensures)
-          (looked-more (l .loop .inv .3) (w .wide .result) (l .loop .inv .0) (w .wide .ensures)
+          (looked-more (l .loop .inv .3) (w .index .result) (l .loop .inv .0) (w .index .ensures)
           (omega (arith, p .0 .long, p .0 .within)) (l .loop .inv .2) (p .1 .few) _
-          (rw (d .bit .ensures, d .before .before .wide2 .ensures) at (put (c .before .before))) _ (kept c)),
+          (rw (d .bit .ensures, d .before .before .index2 .ensures) at (put (c .before .before))) _ (kept c)),
     )
 
 sub-zeros : tie.Need-sub-zeros Inv-loop μ-loop
@@ -263,12 +264,12 @@ look-spec =
     Inv-loop
     μ-loop
     loop-holds
-    mul-wide
-    element-copy-out-wide
-    wide-requires
-    mul-wide-2
-    element-copy-out-wide-2
-    wide-requires-2
+    mul-index
+    element-copy-out-index
+    index-requires
+    mul-index-2
+    element-copy-out-index-2
+    index-requires-2
     element-copy-out-bit
     bit-requires
     mul-if1

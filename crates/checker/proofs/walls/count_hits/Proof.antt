@@ -5,9 +5,9 @@ use Prim.Native.Nat.{_≤_, _<_, _+_, _-_}
 use native.Mathlib.Omega.{arith}
 use lib.Dec.{eqb}
 use lib.ListN.{getD}
-use Rattle.rules.specs.Codes.{marksIn}
+use Rattle.rules.specs.Codes.{statesIn}
 use Rattle.rules.specs.Groups.{entry}
-use Rattle.reasons.specs.ScanLaws.{mark-wall}
+use Rattle.reasons.specs.ScanLaws.{state-wall}
 use Rattle.checker.specs.Breaches.{isBreach}
 use Rattle.checker.specs.Looks.{bit-under}
 use Rattle.checker.specs.Clean.{Apart, no-bit, below-more}
@@ -16,7 +16,7 @@ use Rattle.checker.proofs.walls.count_hits.Tie as tie
 
 abbrev Inv-loop : tie.InvT-loop
 Inv-loop borders ids at c d n hits₀ i₀ hits i =
-    (i ≤ n) × (hits ≤ i) × (hits ≡ 0 → Apart (marksIn borders) (entry ids) at c d i)
+    (i ≤ n) × (hits ≤ i) × (hits ≡ 0 → Apart (statesIn borders) (entry ids) at c d i)
 
 abbrev μ-loop : tie.MeasureT-loop
 μ-loop borders ids at c d n hits₀ i₀ hits i = n - i
@@ -34,7 +34,7 @@ one c =
 none : (c : tie.After-hit Inv-loop μ-loop) → c .hit .result ≡ 0
     → let a = c .before .before .before .before .before .before .args in
     let i = c .before .before .before .before .before .loop .i in
-    isBreach (marksIn (a .borders .now)) (entry (a .ids .now)) (a .c + i)
+    isBreach (statesIn (a .borders .now)) (entry (a .ids .now)) (a .c + i)
     (record { border = a .at + i; to = a .d + i })
     ≡ false
 unfolding isBreach entry
@@ -42,7 +42,7 @@ none c e =
     let a = c .before .before .before .before .before .before .args in
     let i = c .before .before .before .before .before .loop .i in
     let ids = a .ids .now in
-    rw mark-wall
+    rw state-wall
     (no-bit (eqb (getD (a .borders .now) (a .at + i) 0) 1 && eqb (getD ids (a .c + i) 0) (getD ids (a .d + i) 0))
     (sym (c .hit .ensures) ∙ e))
 

@@ -3,7 +3,7 @@ use mathlib.Core.Path.{_≡_, sym, _∙_}
 use Prim.Native.Nat.{_≤_, _-_, _*_}
 use native.Mathlib.Omega.{arith}
 use Rattle.rules.specs.Flat.{flat}
-use Rattle.rules.specs.Codes.{marksIn}
+use Rattle.rules.specs.Codes.{statesIn}
 use Rattle.rules.specs.Groups.{entry}
 use Rattle.checker.specs.Breaches.{breachFrom, firstBreach}
 use Rattle.checker.specs.WallCases.{breachAt, or-found, or-missed, page-start, page-split, from-end}
@@ -13,7 +13,7 @@ use Rattle.checker.proofs.walls.first_breach.Tie as tie
 abbrev Inv-loop : tie.InvT-loop
 Inv-loop h w borders ids y₀ y =
     (y ≤ h)
-    × (firstBreach (flat h w) (marksIn borders) (entry ids)
+    × (firstBreach (flat h w) (statesIn borders) (entry ids)
     ≡ breachFrom (breachAt h w borders ids) (h * w - y * w) (y * w))
 
 abbrev μ-loop : tie.MeasureT-loop

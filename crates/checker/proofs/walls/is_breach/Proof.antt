@@ -6,7 +6,7 @@ use borrow.Author.Needs.{needs}
 use borrow.Author.Tests.{eq-eqb, ne-eqb, not-true, not-false}
 use Rattle.rules.specs.Groups.{entry}
 use Rattle.reasons.specs.Arrays.{Fits}
-use Rattle.reasons.specs.ScanLaws.{mark-wall}
+use Rattle.reasons.specs.ScanLaws.{state-wall}
 use Rattle.checker.specs.Breaches.{isBreach}
 use Rattle.checker.proofs.walls.is_breach.Statement.{statement}
 use Rattle.checker.proofs.walls.is_breach.Tie as tie
@@ -25,7 +25,7 @@ element-copy-out-if2 c = omega (arith, near c)
 
 returns-2 : tie.Need-returns-2
 unfolding isBreach
-returns-2 c = rw (there (c .before .before), mark-wall, ne-eqb _ _ (c .if2 .taken))
+returns-2 c = rw (there (c .before .before), state-wall, ne-eqb _ _ (c .if2 .taken))
 
 mul-result : tie.Need-mul-result
 mul-result c = search needs
@@ -42,7 +42,7 @@ element-copy-out-result-2 c = omega (arith, near (c .before .before .before))
 returns-3 : tie.Need-returns-3
 unfolding isBreach entry
 returns-3 c =
-    rw (there (c .before .before .before .before), mark-wall, eq-eqb _ _ (c .before .before .if2 .left))
+    rw (there (c .before .before .before .before), state-wall, eq-eqb _ _ (c .before .before .if2 .left))
 
 pub is-breach-spec : {M : Type 1} → statement M
 is-breach-spec =

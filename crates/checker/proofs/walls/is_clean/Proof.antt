@@ -2,7 +2,7 @@
 use mathlib.Core.Path.{_≡_}
 use Prim.Native.Nat.{ℕ, _≤_, _<_, _+_, _-_, _*_}
 use native.Mathlib.Omega.{arith}
-use Rattle.rules.specs.Codes.{marksIn}
+use Rattle.rules.specs.Codes.{statesIn}
 use Rattle.rules.specs.Groups.{entry}
 use Rattle.rules.specs.FlatLaws.{Counts, counts, Spot, spot}
 use Rattle.checker.specs.Clean.{Apart, below-more, page-clean}
@@ -12,7 +12,7 @@ use Rattle.checker.proofs.walls.is_clean.Tie as tie
 abbrev Inv-loop : tie.InvT-loop
 Inv-loop h w borders ids y₀ y =
     (y ≤ h)
-    × ((v : ℕ) → v < y → Apart (marksIn borders) (entry ids) (v * (w - 1)) (v * w) (v * w + 1) (w - 1))
+    × ((v : ℕ) → v < y → Apart (statesIn borders) (entry ids) (v * (w - 1)) (v * w) (v * w + 1) (w - 1))
 
 abbrev μ-loop : tie.MeasureT-loop
 μ-loop h w borders ids y₀ y = h - y
@@ -94,7 +94,7 @@ loop-again : tie.Need-loop-again Inv-loop μ-loop
 loop-again c =
     let l = c .before .before .before .loop in
     let a = c .before .before .before .before .before .before .args in
-    let s = marksIn (a .borders .now) in
+    let s = statesIn (a .borders .now) in
     let row : ℕ → Type 0 = λ v. Apart s (entry (a .ids .now)) (v * (a .w - 1)) (v * a .w) (v * a .w + 1) (a .w - 1) in
     (omega arith, below-more row (l .y) (l .inv .1) (c .before .count-hits2 .ensures (c .if2 .left)))
 

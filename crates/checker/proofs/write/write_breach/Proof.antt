@@ -5,7 +5,7 @@ use lib.ListN.{length-append}
 use borrow.Author.Needs.{needs}
 use Rattle.rules.specs.Page.{wallAt}
 use Rattle.rules.specs.Flat.{flat}
-use Rattle.rules.specs.Codes.{marksIn}
+use Rattle.rules.specs.Codes.{statesIn}
 use Rattle.rules.specs.Reasons.{path}
 use Rattle.reasons.specs.Search.{pathIn}
 use Rattle.checker.specs.Written.{breachLiterals}
@@ -17,7 +17,7 @@ unfolding breachLiterals pathIn
 wall-reason-requires c κs =
     let s = c .before .before in
     let a = s .args in
-    let way = path (flat (a .h) (a .w)) (marksIn (a .borders .now)) (a .breach .cell) (a .breach .to) in
+    let way = path (flat (a .h) (a .w)) (statesIn (a .borders .now)) (a .breach .cell) (a .breach .to) in
     (s .pre .0, s .pre .1, s .pre .2, omega (arith, s .pre .3, length-append way (wallAt (a .breach .border) ∷ [])))
 
 same-length : tie.Need-same-length

@@ -3,26 +3,26 @@ use borrow.Author.Needs.{needs}
 use Rattle.checker.proofs.write.write_inside.Statement.{statement}
 use Rattle.checker.proofs.write.write_inside.Tie as tie
 
-mul-wide : tie.Need-mul-wide
-mul-wide c = search needs
+mul-index : tie.Need-mul-index
+mul-index c = search needs
 
-element-copy-out-wide : tie.Need-element-copy-out-wide
-element-copy-out-wide c = search needs
+element-copy-out-index : tie.Need-element-copy-out-index
+element-copy-out-index c = search needs
 
-wide-requires : tie.Need-wide-requires
-wide-requires c κs = search needs
+index-requires : tie.Need-index-requires
+index-requires c κs = search needs
 
-add-wide : tie.Need-add-wide
-add-wide c = search needs
+add-index : tie.Need-add-index
+add-index c = search needs
 
-mul-wide-2 : tie.Need-mul-wide-2
-mul-wide-2 c = search needs
+mul-index-2 : tie.Need-mul-index-2
+mul-index-2 c = search needs
 
-element-copy-out-wide-2 : tie.Need-element-copy-out-wide-2
-element-copy-out-wide-2 c = search needs
+element-copy-out-index-2 : tie.Need-element-copy-out-index-2
+element-copy-out-index-2 c = search needs
 
-wide-requires-2 : tie.Need-wide-requires-2
-wide-requires-2 c κs = search needs
+index-requires-2 : tie.Need-index-requires-2
+index-requires-2 c κs = search needs
 
 inside-requires : tie.Need-inside-requires
 inside-requires c κs =
@@ -31,7 +31,7 @@ inside-requires c κs =
       s .pre .0,
       record { borders = s .pre .1; numbers = n .numbers },
       n .few,
-      rw (c .before .wide2 .ensures, c .before .before .before .wide .ensures) (n .is),
+      rw (c .before .index2 .ensures, c .before .before .before .index .ensures) (n .is),
       s .pre .3,
     )
 
@@ -45,13 +45,13 @@ pub write-inside-spec : {M : Type 1} → statement M
 write-inside-spec =
     tie.close
     (tie.spec
-    mul-wide
-    element-copy-out-wide
-    wide-requires
-    add-wide
-    mul-wide-2
-    element-copy-out-wide-2
-    wide-requires-2
+    mul-index
+    element-copy-out-index
+    index-requires
+    add-index
+    mul-index-2
+    element-copy-out-index-2
+    index-requires-2
     inside-requires
     same-length
     returns)

@@ -26,34 +26,34 @@ stack-requires c κs = search needs
 two-requires : tie.Need-two-requires
 two-requires c κs = search needs
 
-shared-slice-read-wide-byte : tie.Need-shared-slice-read-wide-byte
-shared-slice-read-wide-byte c = search needs
+shared-slice-read-index-byte : tie.Need-shared-slice-read-index-byte
+shared-slice-read-index-byte c = search needs
 
-wide-byte-requires : tie.Need-wide-byte-requires
-wide-byte-requires c κs = search needs
+index-byte-requires : tie.Need-index-byte-requires
+index-byte-requires c κs = search needs
 
-shared-slice-read-wide-byte-2 : tie.Need-shared-slice-read-wide-byte-2
-shared-slice-read-wide-byte-2 c = search needs
+shared-slice-read-index-byte-2 : tie.Need-shared-slice-read-index-byte-2
+shared-slice-read-index-byte-2 c = search needs
 
-wide-byte-requires-2 : tie.Need-wide-byte-requires-2
-wide-byte-requires-2 c κs = search needs
+index-byte-requires-2 : tie.Need-index-byte-requires-2
+index-byte-requires-2 c κs = search needs
 
-wide-requires : tie.Need-wide-requires
-wide-requires c κs = search needs
+index-requires : tie.Need-index-requires
+index-requires c κs = search needs
 
 returns : tie.Need-returns
 unfolding spelledBoard
 returns c =
     λ i.
     record {
-      height = c .before .before .before .wide-byte .ensures i;
-      width = c .before .wide-byte2 .ensures i;
+      height = c .before .before .before .index-byte .ensures i;
+      width = c .before .index-byte2 .ensures i;
       colours = c .before .before .before .before .before .before .before .before .before .before .before .before .copy
           .ensures i;
       clues = c .before .before .before .before .before .before .before .clues .ensures i;
       borders = c .before .before .before .before .before .before .before .before .before .copy2 .ensures i;
       stack = c .before .before .before .before .before .before .stack .ensures i;
-      count = (c .wide .ensures ∙ c .before .before .before .before .before .two .ensures) i;
+      count = (c .index .ensures ∙ c .before .before .before .before .before .two .ensures) i;
     }
 
 pub board-spec : {M : Type 1} → statement M
@@ -67,9 +67,9 @@ board-spec =
     clues-requires
     stack-requires
     two-requires
-    shared-slice-read-wide-byte
-    wide-byte-requires
-    shared-slice-read-wide-byte-2
-    wide-byte-requires-2
-    wide-requires
+    shared-slice-read-index-byte
+    index-byte-requires
+    shared-slice-read-index-byte-2
+    index-byte-requires-2
+    index-requires
     returns)

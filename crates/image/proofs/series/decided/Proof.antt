@@ -71,8 +71,8 @@ returns-2 c =
 two-requires : tie.Need-two-requires
 two-requires c κs = omega (arith, c .before .before .before .before .before .before .before .before .pre .0)
 
-wide-requires : tie.Need-wide-requires
-wide-requires c κs = search needs
+index-requires : tie.Need-index-requires
+index-requires c κs = search needs
 
 code-requires : tie.Need-code-requires
 code-requires c κs = search needs
@@ -88,7 +88,7 @@ rewrite-requires c κs =
     (k .border-count .result) (k .border-count .ensures)
     (omega (arith, c .before .before .before .before .before .before .before .if1 .left))
     (c .before .before .before .before .before .if2 .left) _
-    (c .before .before .wide .ensures ∙ c .before .before .before .two .ensures) in
+    (c .before .before .index .ensures ∙ c .before .before .before .two .ensures) in
     (k .before .before .before .before .pre .0, r .0, r .1)
 
 same-length-3 : tie.Need-same-length-3
@@ -103,7 +103,7 @@ returns-3 c =
     (k .border-count .result) (k .border-count .ensures)
     (omega (arith, e .before .before .before .before .before .before .before .if1 .left))
     (e .before .before .before .before .before .if2 .left) _
-    (e .before .before .wide .ensures ∙ e .before .before .before .two .ensures) (e .code .ensures)
+    (e .before .before .index .ensures ∙ e .before .before .before .two .ensures) (e .code .ensures)
     (c .before .before .rewrite .ensures)
 
 pub decided-spec : {M : Type 1} → statement M
@@ -119,7 +119,7 @@ decided-spec =
     same-length-2
     returns-2
     two-requires
-    wide-requires
+    index-requires
     code-requires
     add-rewrite
     rewrite-requires

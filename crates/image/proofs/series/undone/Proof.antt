@@ -11,28 +11,29 @@ use Rattle.image.proofs.series.undone.Statement.{statement}
 use Rattle.image.proofs.series.undone.Tie as tie
 
 -- the image, and the count that it has
-abbrev image : tie.After-wide → List ℕ
+abbrev image : tie.After-index → List ℕ
 image c = c .before .before .before .before .args .image .now
 
-known : (c : tie.After-wide) → imageAlien (image c) ≡ false
+known : (c : tie.After-index) → imageAlien (image c) ≡ false
 known c = c .before .before .before .before .pre .1
 
-bytes : (c : tie.After-wide) → Bytes (image c)
+bytes : (c : tie.After-index) → Bytes (image c)
 bytes c = λ i. omega (arith, c .before .before .before .slice-known .given i)
 
-count : (c : tie.After-wide) → c .wide .result ≡ pair (image c) 7106
-count c = c .wide .ensures ∙ c .before .two .ensures
+count : (c : tie.After-index) → c .index .result ≡ pair (image c) 7106
+count c = c .index .ensures ∙ c .before .two .ensures
 
 -- the entry before it
-entry : (c : tie.After-wide2)
-    → let k = c .before .before .before .before in c .wide2 .result ≡ pair (image k) (7108 + 2 * (k .wide .result - 1))
-entry c = c .wide2 .ensures ∙ c .before .two2 .ensures
+entry : (c : tie.After-index2)
+    → let k = c .before .before .before .before in
+    c .index2 .result ≡ pair (image k) (7108 + 2 * (k .index .result - 1))
+entry c = c .index2 .ensures ∙ c .before .two2 .ensures
 
 two-requires : tie.Need-two-requires
 two-requires c κs = search needs
 
-wide-requires : tie.Need-wide-requires
-wide-requires c κs = search needs
+index-requires : tie.Need-index-requires
+index-requires c κs = search needs
 
 same-length : tie.Need-same-length
 same-length c = search needs
@@ -40,7 +41,7 @@ same-length c = search needs
 returns : tie.Need-returns
 returns c =
     let k = c .before in
-    undo-none (image k) (bytes k) (known k) (k .wide .result) (count k) (c .if1 .taken)
+    undo-none (image k) (bytes k) (known k) (k .index .result) (count k) (c .if1 .taken)
 
 sub-at : tie.Need-sub-at
 sub-at c = search needs
@@ -54,21 +55,21 @@ add-two c = search needs
 two-requires-2 : tie.Need-two-requires-2
 two-requires-2 c κs =
     let k = c .before .before in
-    let l = undo-low (image k) (bytes k) (known k) (k .wide .result) (count k)
+    let l = undo-low (image k) (bytes k) (known k) (k .index .result) (count k)
     (c .before .if1 .left) in
     omega (arith, k .before .before .before .before .pre .0, c .before .if1 .left)
 
-wide-requires-2 : tie.Need-wide-requires-2
-wide-requires-2 c κs = search needs
+index-requires-2 : tie.Need-index-requires-2
+index-requires-2 c κs = search needs
 
 rewrite-requires : tie.Need-rewrite-requires
 rewrite-requires c κs =
     let k = c .before .before .before .before .before in
     let p = k .before .before .before .before .pre in
     let f = c .before .before .before .before .if1 .left in
-    let l = undo-low (image k) (bytes k) (known k) (k .wide .result) (count k) f in (
+    let l = undo-low (image k) (bytes k) (known k) (k .index .result) (count k) f in (
       p .0,
-      undo-room (image k) (bytes k) (known k) (k .wide .result) (count k) f _ (entry (c .before)),
+      undo-room (image k) (bytes k) (known k) (k .index .result) (count k) f _ (entry (c .before)),
       omega arith,
     )
 
@@ -79,7 +80,7 @@ returns-2 : tie.Need-returns-2
 returns-2 c =
     let e = c .before .before .before .before in
     let k = e .before .before .before .before in
-    undo-step (image k) (bytes k) (known k) (k .wide .result) (count k)
+    undo-step (image k) (bytes k) (known k) (k .index .result) (count k)
     (e .before .before .before .if1 .left) _ (entry e) (c .before .before .rewrite .ensures)
 
 pub undone-spec : {M : Type 1} → statement M
@@ -87,14 +88,14 @@ undone-spec =
     tie.close
     (tie.spec
     two-requires
-    wide-requires
+    index-requires
     same-length
     returns
     sub-at
     mul-two
     add-two
     two-requires-2
-    wide-requires-2
+    index-requires-2
     rewrite-requires
     same-length-2
     returns-2)

@@ -21,14 +21,14 @@ loop-holds c = (search needs, codes-none _ _)
 mul-put-two : tie.Need-mul-put-two Inv-loop μ-loop
 mul-put-two c = omega (arith, c .before .before .before .before .before .pre)
 
-mul-wide : tie.Need-mul-wide Inv-loop μ-loop
-mul-wide c = omega (arith, c .before .before .before .before .before .pre)
+mul-index : tie.Need-mul-index Inv-loop μ-loop
+mul-index c = omega (arith, c .before .before .before .before .before .pre)
 
-shared-slice-read-wide : tie.Need-shared-slice-read-wide Inv-loop μ-loop
-shared-slice-read-wide c = omega (arith, c .before .before .before .before .before .before .pre)
+shared-slice-read-index : tie.Need-shared-slice-read-index Inv-loop μ-loop
+shared-slice-read-index c = omega (arith, c .before .before .before .before .before .before .pre)
 
-wide-requires : tie.Need-wide-requires Inv-loop μ-loop
-wide-requires c κs = search needs
+index-requires : tie.Need-index-requires Inv-loop μ-loop
+index-requires c κs = search needs
 
 put-two-requires : tie.Need-put-two-requires Inv-loop μ-loop
 put-two-requires c κs =
@@ -51,7 +51,7 @@ loop-again c =
     let p = c .before .before .before .before .before .before .before .before .before .before .pre in (
       omega arith,
       c .before .before .put-two .ensures
-          ∙ rw (r .inv .1, c .before .before .before .wide .ensures)
+          ∙ rw (r .inv .1, c .before .before .before .index .ensures)
           (codes-more (a .memory .now) (a .codes .now) (r .i) (omega arith)),
     )
 
@@ -75,9 +75,9 @@ put-codes-spec =
     μ-loop
     loop-holds
     mul-put-two
-    mul-wide
-    shared-slice-read-wide
-    wide-requires
+    mul-index
+    shared-slice-read-index
+    index-requires
     put-two-requires
     add-i
     loop-less

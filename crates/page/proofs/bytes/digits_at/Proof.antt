@@ -1,9 +1,9 @@
 -- `digits_at` meets its contract: the digits passed stand before those read on from p.
 use Prim.Native.Nat.{_≤_, _-_}
 use Rattle.page.specs.Places.{digitsIn, gotDigits}
-use Rattle.page.specs.ReaderLaws.{after, digits-none, digits-not, digits-first}
-use Rattle.page.specs.ReaderLaws.{digits-past, digits-stop, digits-bad, digits-more}
-use Rattle.page.specs.Readers.{rest, digits, digitsOn}
+use Rattle.page.specs.ParserLaws.{after, digits-none, digits-not, digits-first}
+use Rattle.page.specs.ParserLaws.{digits-past, digits-stop, digits-bad, digits-more}
+use Rattle.page.specs.Parsers.{rest, digits, digitsOn}
 use borrow.Author.Needs.{needs}
 use lib.ListN.{length}
 use mathlib.Core.Path.{_≡_, sym, _∙_}

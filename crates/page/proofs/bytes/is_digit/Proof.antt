@@ -1,5 +1,5 @@
 -- `is_digit` meets its contract, test by test.
-use Rattle.page.specs.Readers.{digit}
+use Rattle.page.specs.Parsers.{digit}
 use borrow.Author.Tests.{lt-leb, le-leb}
 use Rattle.page.proofs.bytes.is_digit.Statement.{statement}
 use Rattle.page.proofs.bytes.is_digit.Tie as tie

@@ -1,6 +1,6 @@
 -- `number_at` meets its contract: the first digit, then `number_on`.
 use Rattle.page.specs.Places.{gotNumber}
-use Rattle.page.specs.ReaderLaws.{digit-low, digit-high, number-past, number-not, number-first}
+use Rattle.page.specs.ParserLaws.{digit-low, digit-high, number-past, number-not, number-first}
 use borrow.Author.Needs.{needs}
 use mathlib.Core.Path.{sym, _∙_}
 use native.Mathlib.Omega.{arith}
@@ -20,23 +20,23 @@ is-digit-requires c κs = search needs
 add-number-on : tie.Need-add-number-on
 add-number-on c = search needs
 
-wide-requires : tie.Need-wide-requires
-wide-requires c κs = search needs
+index-byte-requires : tie.Need-index-byte-requires
+index-byte-requires c κs = search needs
 
 sub-number-on : tie.Need-sub-number-on
 sub-number-on c = omega (
   arith,
   digit-low _ (sym (c .before .before .is-digit .ensures) ∙ c .before .if2 .taken),
-  c .wide .ensures,
+  c .index-byte .ensures,
 )
 
 number-on-requires : tie.Need-number-on-requires
 number-on-requires c κs = omega
-    (arith, digit-high _ (sym (c .before .before .is-digit .ensures) ∙ c .before .if2 .taken), c .wide .ensures)
+    (arith, digit-high _ (sym (c .before .before .is-digit .ensures) ∙ c .before .if2 .taken), c .index-byte .ensures)
 
 returns-2 : tie.Need-returns-2
 returns-2 c = c .number-on .ensures
-    ∙ rw (c .before .wide .ensures)
+    ∙ rw (c .before .index-byte .ensures)
     (sym (number-first _ _ _ (search needs)
     (sym (c .before .before .before .is-digit .ensures) ∙ c .before .before .if2 .taken)))
 
@@ -52,7 +52,7 @@ number-at-spec =
     shared-slice-read-b
     is-digit-requires
     add-number-on
-    wide-requires
+    index-byte-requires
     sub-number-on
     number-on-requires
     returns-2

@@ -1,9 +1,9 @@
 -- `number_on` meets its contract: the number read so far goes on at p as the whole did at `at`.
 use Prim.Native.Nat.{_≤_, _-_}
 use Rattle.page.specs.Places.{gotNumber}
-use Rattle.page.specs.ReaderLaws.{digit-low, digit-high, may-not, may-zero, may-large, may}
-use Rattle.page.specs.ReaderLaws.{on-past, on-stop, on-not, on-more}
-use Rattle.page.specs.Readers.{rest, numberOn}
+use Rattle.page.specs.ParserLaws.{digit-low, digit-high, may-not, may-zero, may-large, may}
+use Rattle.page.specs.ParserLaws.{on-past, on-stop, on-not, on-more}
+use Rattle.page.specs.Parsers.{rest, numberOn}
 use borrow.Author.Needs.{needs}
 use lib.ListN.{length}
 use mathlib.Core.Path.{_≡_, sym, refl, _∙_}
@@ -43,15 +43,15 @@ returns-2 c =
 mul-more : tie.Need-mul-more Inv-loop μ-loop
 mul-more c = search needs
 
-wide-requires : tie.Need-wide-requires Inv-loop μ-loop
-wide-requires c κs = search needs
+index-byte-requires : tie.Need-index-byte-requires Inv-loop μ-loop
+index-byte-requires c κs = search needs
 
 sub-more : tie.Need-sub-more Inv-loop μ-loop
 sub-more c = omega (
   arith,
   digit-low _
       (sym (c .before .before .before .is-digit .ensures) ∙ c .before .before .if2 .taken),
-  c .wide .ensures,
+  c .index-byte .ensures,
 )
 
 add-more : tie.Need-add-more Inv-loop μ-loop
@@ -60,7 +60,7 @@ add-more c =
       arith,
       digit-low _ (sym (c .before .before .before .is-digit .ensures) ∙ c .before .before .if2 .taken),
       digit-high _ (sym (c .before .before .before .is-digit .ensures) ∙ c .before .before .if2 .taken),
-      c .wide .ensures,
+      c .index-byte .ensures,
     )
 
 returns-3 : tie.Need-returns-3 Inv-loop μ-loop
@@ -80,7 +80,7 @@ loop-less c = search needs
 
 loop-again : tie.Need-loop-again Inv-loop μ-loop
 loop-again c = (
-  rw (c .before .wide .ensures)
+  rw (c .before .index-byte .ensures)
       (c .before .before .before .before .before .before .before .before .loop .inv .0
       ∙ on-more _ _ _ _ (search needs) (search needs)
       (may _ _ (sym (c .before .before .before .before .is-digit .ensures) ∙ c .before .before .before .if2 .taken)
@@ -112,7 +112,7 @@ number-on-spec =
     is-digit-requires
     returns-2
     mul-more
-    wide-requires
+    index-byte-requires
     sub-more
     add-more
     returns-3

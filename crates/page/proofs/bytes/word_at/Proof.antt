@@ -1,8 +1,8 @@
 -- `word_at` meets its contract: what is left of the word stands or fails at p as the whole did at `at`.
 use Prim.Native.Nat.{_≤_, _-_}
 use Rattle.page.specs.Places.{placeOf}
-use Rattle.page.specs.ReaderLaws.{rest-all, strip-end, strip-past, strip-not, strip-more}
-use Rattle.page.specs.Readers.{strip, rest}
+use Rattle.page.specs.ParserLaws.{rest-all, strip-end, strip-past, strip-not, strip-more}
+use Rattle.page.specs.Parsers.{strip, rest}
 use borrow.Author.Needs.{needs}
 use lib.ListN.{length}
 use mathlib.Core.Path.{_≡_, sym, _∙_}

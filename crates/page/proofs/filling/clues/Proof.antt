@@ -7,7 +7,7 @@ use Rattle.page.specs.Judge.{placed}
 use Rattle.page.specs.Many.{passes}
 use Rattle.page.specs.PageText.{clue-takes}
 use Rattle.page.specs.Places.{allFrom, gotClue}
-use Rattle.page.specs.ReaderLaws.{told}
+use Rattle.page.specs.ParserLaws.{told}
 use borrow.Author.Needs.{needs}
 use lib.IntN.{negsuc}
 use lib.ListN.{length, length-set, replicate}

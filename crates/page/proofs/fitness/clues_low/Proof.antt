@@ -7,7 +7,7 @@ use Rattle.page.specs.ListExtras.{all-nil, all-fails, all-more}
 use Rattle.page.specs.Many.{passes}
 use Rattle.page.specs.PageText.{clue-takes}
 use Rattle.page.specs.Places.{allFrom, gotClue}
-use Rattle.page.specs.ReaderLaws.{told}
+use Rattle.page.specs.ParserLaws.{told}
 use borrow.Author.Needs.{needs}
 use borrow.Author.Tests.{le-leb, lt-leb}
 use lib.ListN.{length}

@@ -7,7 +7,7 @@ use Rattle.page.specs.JudgeLaws.{length-digits, rows-none, rows-many, ro
 use Rattle.page.specs.Many.{passes}
 use Rattle.page.specs.PageText.{row-takes}
 use Rattle.page.specs.Places.{allFrom, gotRow}
-use Rattle.page.specs.ReaderLaws.{told}
+use Rattle.page.specs.ParserLaws.{told}
 use borrow.Author.Needs.{needs}
 use lib.ListN.{length}
 use mathlib.Core.Path.{_≡_, refl, sym, _∙_}

@@ -1,9 +1,9 @@
--- `call_at` meets its contract: each word read is what the reader reads there.
+-- `call_at` meets its contract: each word read is what the parser reads there.
 use Rattle.lists.specs.Lists.{orElse}
 use Rattle.page.specs.Grammar.{call}
 use Rattle.page.specs.Places.{gotCall, placeOf}
-use Rattle.page.specs.ReaderLaws.{told}
-use Rattle.page.specs.Readers.{either, lead, onto, done}
+use Rattle.page.specs.ParserLaws.{told}
+use Rattle.page.specs.Parsers.{either, lead, onto, done}
 use borrow.Author.Needs.{needs}
 use Rattle.page.proofs.lines.call_at.Statement.{statement}
 use Rattle.page.proofs.lines.call_at.Tie as tie

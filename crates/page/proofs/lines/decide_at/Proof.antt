@@ -1,9 +1,9 @@
--- `decide_at` meets its contract: each word and number read is what the reader reads there.
+-- `decide_at` meets its contract: each word and number read is what the parser reads there.
 use Rattle.lists.specs.Lists.{orElse}
 use Rattle.page.specs.Grammar.{decide, side}
 use Rattle.page.specs.Places.{gotCall, placeOf, gotNumber}
-use Rattle.page.specs.ReaderLaws.{told}
-use Rattle.page.specs.Readers.{mapR, either, lead, onto, both, also, done}
+use Rattle.page.specs.ParserLaws.{told}
+use Rattle.page.specs.Parsers.{mapR, either, lead, onto, both, also, done}
 use borrow.Author.Needs.{needs}
 use Rattle.page.proofs.lines.decide_at.Statement.{statement}
 use Rattle.page.proofs.lines.decide_at.Tie as tie

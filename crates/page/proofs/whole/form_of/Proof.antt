@@ -1,7 +1,7 @@
--- `form_of` meets its contract: the words and the lines read are what the readers read there.
+-- `form_of` meets its contract: the words and the lines read are what the parsers read there.
 use Rattle.page.specs.FormLaws.{Body, too-long, no-page, no-size, no-end, more-left, misfit, good}
 use Rattle.page.specs.Places.{formOf, placeOf, gotSize, endOf, sheetAt}
-use Rattle.page.specs.ReaderLaws.{told, rest-all}
+use Rattle.page.specs.ParserLaws.{told, rest-all}
 use borrow.Author.Needs.{needs}
 use mathlib.Core.Path.{sym, _∙_}
 use Rattle.page.proofs.whole.form_of.Statement.{statement}

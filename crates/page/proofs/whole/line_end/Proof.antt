@@ -1,6 +1,6 @@
--- `line_end` meets its contract: the reader of the line's kind says what is left.
+-- `line_end` meets its contract: the parser of the line's kind says what is left.
 use Rattle.page.specs.Places.{placeOf, gotRow, gotClue, gotCall, left, afterLine}
-use Rattle.page.specs.ReaderLaws.{told}
+use Rattle.page.specs.ParserLaws.{told}
 use borrow.Author.Needs.{needs}
 use mathlib.Core.Path.{sym, ap}
 use Rattle.page.proofs.whole.line_end.Statement.{statement}

@@ -2,7 +2,7 @@
 use Prim.Native.Nat.{_-_}
 use Rattle.page.specs.FormLaws.{lines-past, lines-none, lines-more}
 use Rattle.page.specs.Places.{endOf, placeOf}
-use Rattle.page.specs.ReaderLaws.{told}
+use Rattle.page.specs.ParserLaws.{told}
 use borrow.Author.Needs.{needs}
 use lib.ListN.{length}
 use mathlib.Core.Path.{_≡_, refl, sym, _∙_}

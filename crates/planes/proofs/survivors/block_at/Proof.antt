@@ -58,7 +58,7 @@ element-copy-out-place c = omega (arith, c .before .pre .4, counts (c .before .p
 cast-place : tie.Need-cast-place
 cast-place c =
     let s = c .before .before in
-    omega (arith, row s, column s, low s, slim s, s .pre .0 .tall, s .pre .0 .wide)
+    omega (arith, row s, column s, low s, slim s, s .pre .0 .tall, s .pre .0 .broad)
 
 placed-requires : tie.Need-placed-requires
 placed-requires c κs =

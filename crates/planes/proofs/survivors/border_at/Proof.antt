@@ -33,12 +33,12 @@ mul-result-2 : tie.Need-mul-result-2
 mul-result-2 c = omega (arith, line (c .before) .right)
 
 add-result : tie.Need-add-result
-add-result c = omega (arith, line (c .before) .right, c .before .pre .1 .right, c .before .pre .0 .wide)
+add-result c = omega (arith, line (c .before) .right, c .before .pre .1 .right, c .before .pre .0 .broad)
 
 add-result-2 : tie.Need-add-result-2
 add-result-2 c =
     let s = c .before in
-    omega (arith, line s .right, s .pre .1 .right, s .pre .0 .wide, counts (s .pre .0) .across)
+    omega (arith, line s .right, s .pre .1 .right, s .pre .0 .broad, counts (s .pre .0) .across)
 
 returns : tie.Need-returns
 unfolding belowOf
@@ -51,7 +51,7 @@ mul-result-3 : tie.Need-mul-result-3
 mul-result-3 c = omega (arith, line (c .before) .across)
 
 add-result-3 : tie.Need-add-result-3
-add-result-3 c = omega (arith, line (c .before) .across, c .before .pre .1 .right, c .before .pre .0 .wide)
+add-result-3 c = omega (arith, line (c .before) .across, c .before .pre .1 .right, c .before .pre .0 .broad)
 
 returns-2 : tie.Need-returns-2
 unfolding rightOf

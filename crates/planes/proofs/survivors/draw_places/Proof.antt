@@ -48,7 +48,7 @@ low c =
     )
 
 slim : (c : tie.In-loop Inv-loop μ-loop) → c .before .loop .x < 32
-slim c = omega (arith, c .before .loop .inv .3, c .before .before .pre .0 .wide)
+slim c = omega (arith, c .before .loop .inv .3, c .before .before .pre .0 .broad)
 
 few : (c : tie.In-loop Inv-loop μ-loop) → c .before .loop .c < 1024
 few c = omega (arith, c .loop-test .taken, counts (c .before .before .pre .0) .cells)

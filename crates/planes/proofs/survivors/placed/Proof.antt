@@ -21,7 +21,7 @@ laid-back-requires c κs =
       s .pre .0,
       s .pre .1,
       omega (arith, s .pre .3, s .pre .0 .tall),
-      omega (arith, s .pre .4, s .pre .0 .wide),
+      omega (arith, s .pre .4, s .pre .0 .broad),
       s .pre .2 .each _ _ (s .pre .3) (s .pre .4) (sym (c .before .has .ensures) ∙ c .if1 .taken),
     )
 

@@ -35,33 +35,33 @@ loop-holds : tie.Need-loop-holds Inv-loop μ-loop
 loop-holds c =
     let s = c .before .before .before in tracing-start (s .pre .2) (s .pre .1) _ _ (c .if1 .left)
 
-mul-wide : tie.Need-mul-wide Inv-loop μ-loop
-mul-wide c =
+mul-index : tie.Need-mul-index Inv-loop μ-loop
+mul-index c =
     let s = c .before .before .before .before .before .before in
     omega (arith, few s, c .before .before .loop .inv .inside)
 
-element-copy-out-wide : tie.Need-element-copy-out-wide Inv-loop μ-loop
-element-copy-out-wide c =
+element-copy-out-index : tie.Need-element-copy-out-index Inv-loop μ-loop
+element-copy-out-index c =
     let s = c .before .before .before .before .before .before in
     omega (arith, few s, c .before .before .loop .inv .inside, s .pre .2 .lined .overs)
 
-wide-requires : tie.Need-wide-requires Inv-loop μ-loop
-wide-requires c κs = search needs
+index-requires : tie.Need-index-requires Inv-loop μ-loop
+index-requires c κs = search needs
 
 append-requires : tie.Need-append-requires Inv-loop μ-loop
 append-requires c κs =
     let s = c .before .before .before .before .before .before .before .before in
     let t = c .before .before .before .before .loop .inv in
     let ne = c .before .before .before .loop-test .taken in
-    (tracing-room t ne (s .pre .3), rw (c .wide .ensures) (tracing-narrow t ne))
+    (tracing-room t ne (s .pre .3), rw (c .index .ensures) (tracing-narrow t ne))
 
-mul-wide-2 : tie.Need-mul-wide-2 Inv-loop μ-loop
-mul-wide-2 c =
+mul-index-2 : tie.Need-mul-index-2 Inv-loop μ-loop
+mul-index-2 c =
     let s = c .before .before .before .before .before .before .before .before .before .before .before in
     omega (arith, few s, c .before .before .before .before .before .before .before .loop .inv .inside)
 
-element-copy-out-wide-2 : tie.Need-element-copy-out-wide-2 Inv-loop μ-loop
-element-copy-out-wide-2 c =
+element-copy-out-index-2 : tie.Need-element-copy-out-index-2 Inv-loop μ-loop
+element-copy-out-index-2 c =
     let s = c .before .before .before .before .before .before .before .before .before .before .before in
     omega (
       arith,
@@ -70,8 +70,8 @@ element-copy-out-wide-2 c =
       s .pre .2 .lined .parents,
     )
 
-wide-requires-2 : tie.Need-wide-requires-2 Inv-loop μ-loop
-wide-requires-2 c κs = search needs
+index-requires-2 : tie.Need-index-requires-2 Inv-loop μ-loop
+index-requires-2 c κs = search needs
 
 loop-less : tie.Need-loop-less Inv-loop μ-loop
 loop-less c =
@@ -83,8 +83,8 @@ loop-again : tie.Need-loop-again Inv-loop μ-loop
 loop-again c =
     let t = c .before .before .before .before .before .before .before .before .before .loop .inv in
     let ne = c .before .before .before .before .before .before .before .before .loop-test .taken in
-    let e = c .before .before .before .before .before .wide .ensures in
-    rw (c .wide2 .ensures) (tracing-more t ne (rw e at (c .before .before .before .before .append .ensures)))
+    let e = c .before .before .before .before .before .index .ensures in
+    rw (c .index2 .ensures) (tracing-more t ne (rw e at (c .before .before .before .before .append .ensures)))
 
 same-length : tie.Need-same-length Inv-loop μ-loop
 same-length c = wrote-length (c .before .loop .inv .wrote)
@@ -101,13 +101,13 @@ trace-back-spec =
     element-copy-out-if1
     returns
     loop-holds
-    mul-wide
-    element-copy-out-wide
-    wide-requires
+    mul-index
+    element-copy-out-index
+    index-requires
     append-requires
-    mul-wide-2
-    element-copy-out-wide-2
-    wide-requires-2
+    mul-index-2
+    element-copy-out-index-2
+    index-requires-2
     loop-less
     loop-again
     same-length

@@ -23,14 +23,14 @@ row s = row-of _ _ _ (s .pre .3)
 abbrev at : tie.Start → ℕ → List Literal
 at s i =
     let a = s .args in
-    scanTo (a .h) (a .w) [] (a .borders .now) (a .ids .now) Open true (a .marked .now) (a .c) (2 * i + 1)
+    scanTo (a .h) (a .w) [] (a .borders .now) (a .ids .now) Open true (a .flagged .now) (a .c) (2 * i + 1)
 
 whole : (s : tie.Start) →
     let a = s .args in
-    scanAt (a .h) (a .w) [] (a .borders .now) (a .ids .now) Open true (a .marked .now) (a .c) ≡ upTo (at s) 2
+    scanAt (a .h) (a .w) [] (a .borders .now) (a .ids .now) Open true (a .flagged .now) (a .c) ≡ upTo (at s) 2
 whole s =
     let a = s .args in
-    scan-open (a .h) (a .w) [] (a .borders .now) (a .ids .now) true (a .marked .now) (a .c)
+    scan-open (a .h) (a .w) [] (a .borders .now) (a .ids .now) true (a .flagged .now) (a .c)
 
 start : (s : tie.Start) → let a = s .args in Wrote (a .memory .now) (a .from) (upTo (at s) 0) (a .memory .now) (a .from)
 start s = loop-none (at s)
@@ -39,10 +39,10 @@ room : (s : tie.Start) → s .args .from + length (upTo (at s) 2) ≤ length (s 
 room s = rw (whole s) at (s .pre .4)
 
 div-y : tie.Need-div-y
-div-y c = row (c .before) .wide
+div-y c = row (c .before) .broad
 
 rem-x : tie.Need-rem-x
-rem-x c = row (c .before) .wide
+rem-x c = row (c .before) .broad
 
 beside-requires : tie.Need-beside-requires
 beside-requires c κs = let s = c .before in (s .pre .0, row s .row, row s .column, row s .same)

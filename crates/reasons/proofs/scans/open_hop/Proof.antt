@@ -5,10 +5,10 @@ use mathlib.Core.List.{[]}
 use Rattle.lists.specs.Lists.{keep}
 use Rattle.rules.specs.declared.Side.the-variants.{Open}
 use Rattle.rules.specs.Page.{Hop}
-use Rattle.rules.specs.Codes.{marksIn}
+use Rattle.rules.specs.Codes.{statesIn}
 use Rattle.rules.specs.Groups.{entry}
 use Rattle.rules.specs.Reasons.{gather}
-use Rattle.reasons.specs.Arrays.{hopsIn, isMarked, openKept}
+use Rattle.reasons.specs.Arrays.{hopsIn, isFlagged, openKept}
 use Rattle.reasons.specs.ScanLaws.{gather-hops, kept-some}
 use borrow.Author.Needs.{needs}
 use Rattle.reasons.proofs.scans.open_hop.Statement.{statement}
@@ -17,7 +17,7 @@ use Rattle.reasons.proofs.scans.open_hop.Tie as tie
 abbrev test : tie.Start → Hop → Bool
 test s =
     let a = s .args in
-    openKept (marksIn (a .borders .now)) (entry (a .ids .now)) (isMarked (a .marked .now))
+    openKept (statesIn (a .borders .now)) (entry (a .ids .now)) (isFlagged (a .flagged .now))
 
 kept : (c : tie.After-open-kept) →
     let s = c .before .before in

@@ -23,15 +23,15 @@ row s = row-of _ _ _ (s .pre .4)
 abbrev at : tie.Start → ℕ → List Literal
 at s =
     let a = s .args in
-    scanTo (a .h) (a .w) (a .colours .now) (a .borders .now) (a .ids .now) Wall (a .same) (a .marked .now) (a .c)
+    scanTo (a .h) (a .w) (a .colours .now) (a .borders .now) (a .ids .now) Wall (a .same) (a .flagged .now) (a .c)
 
 whole : (s : tie.Start) →
     let a = s .args in
-    scanAt (a .h) (a .w) (a .colours .now) (a .borders .now) (a .ids .now) Wall (a .same) (a .marked .now) (a .c)
+    scanAt (a .h) (a .w) (a .colours .now) (a .borders .now) (a .ids .now) Wall (a .same) (a .flagged .now) (a .c)
     ≡ upTo (at s) 4
 whole s =
     let a = s .args in
-    scan-walls (a .h) (a .w) (a .colours .now) (a .borders .now) (a .ids .now) (a .same) (a .marked .now) (a .c)
+    scan-walls (a .h) (a .w) (a .colours .now) (a .borders .now) (a .ids .now) (a .same) (a .flagged .now) (a .c)
 
 start : (s : tie.Start) → let a = s .args in Wrote (a .memory .now) (a .from) (upTo (at s) 0) (a .memory .now) (a .from)
 start s = loop-none (at s)
@@ -40,10 +40,10 @@ room : (s : tie.Start) → s .args .from + length (upTo (at s) 4) ≤ length (s 
 room s = rw (whole s) at (s .pre .5)
 
 div-y : tie.Need-div-y
-div-y c = row (c .before) .wide
+div-y c = row (c .before) .broad
 
 rem-x : tie.Need-rem-x
-rem-x c = row (c .before) .wide
+rem-x c = row (c .before) .broad
 
 few : (s : tie.Start) → s .args .c < 1024
 few s = omega (arith, counts (s .pre .0), s .pre .4)

@@ -5,10 +5,10 @@ use mathlib.Core.List.{[]}
 use Rattle.lists.specs.Lists.{keep}
 use Rattle.rules.specs.declared.Side.the-variants.{Wall}
 use Rattle.rules.specs.Page.{Hop}
-use Rattle.rules.specs.Codes.{marksIn, coloursIn}
+use Rattle.rules.specs.Codes.{statesIn, coloursIn}
 use Rattle.rules.specs.Groups.{entry}
 use Rattle.rules.specs.Reasons.{gather}
-use Rattle.reasons.specs.Arrays.{hopsIn, isMarked, wallKept}
+use Rattle.reasons.specs.Arrays.{hopsIn, isFlagged, wallKept}
 use Rattle.reasons.specs.ScanLaws.{gather-hops, kept-some}
 use borrow.Author.Needs.{needs}
 use Rattle.reasons.proofs.scans.wall_hop.Statement.{statement}
@@ -17,8 +17,8 @@ use Rattle.reasons.proofs.scans.wall_hop.Tie as tie
 abbrev test : tie.Start → Hop → Bool
 test s =
     let a = s .args in
-    wallKept (coloursIn (a .colours .now)) (marksIn (a .borders .now)) (entry (a .ids .now)) (a .same)
-    (isMarked (a .marked .now)) (a .c)
+    wallKept (coloursIn (a .colours .now)) (statesIn (a .borders .now)) (entry (a .ids .now)) (a .same)
+    (isFlagged (a .flagged .now)) (a .c)
 
 kept : (c : tie.After-wall-kept) →
     let s = c .before .before in

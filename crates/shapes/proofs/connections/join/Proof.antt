@@ -5,14 +5,14 @@ use borrow.Author.Needs.{needs}
 use Rattle.shapes.proofs.connections.join.Statement.{statement}
 use Rattle.shapes.proofs.connections.join.Tie as tie
 
-mul-wide : tie.Need-mul-wide
-mul-wide c = let l = c .before .pre .1 (c .if1 .taken) in omega arith
+mul-index : tie.Need-mul-index
+mul-index c = let l = c .before .pre .1 (c .if1 .taken) in omega arith
 
-element-copy-out-wide : tie.Need-element-copy-out-wide
-element-copy-out-wide c = c .before .pre .1 (c .if1 .taken)
+element-copy-out-index : tie.Need-element-copy-out-index
+element-copy-out-index c = c .before .pre .1 (c .if1 .taken)
 
-wide-requires : tie.Need-wide-requires
-wide-requires c κs = search needs
+index-requires : tie.Need-index-requires
+index-requires c κs = search needs
 
 mul-down : tie.Need-mul-down
 mul-down c = search needs
@@ -34,7 +34,7 @@ returns c =
     let s = c .before .before .before .before in
     join-yes (s .args .down .now) (s .args .across .now) (s .args .k) (s .args .on) (s .args .ids .now) (s .args .to)
     (s .args .g)
-    (s .args .y) (s .args .x) (s .pre .2) (c .before .before .before .if1 .taken) (c .before .wide .ensures)
+    (s .args .y) (s .args .x) (s .pre .2) (c .before .before .before .if1 .taken) (c .before .index .ensures)
     (c .if2 .taken)
 
 returns-2 : tie.Need-returns-2
@@ -42,7 +42,7 @@ returns-2 c =
     let s = c .before .before .before .before in
     join-no (s .args .down .now) (s .args .across .now) (s .args .k) (s .args .on) (s .args .ids .now) (s .args .to)
     (s .args .g)
-    (s .args .y) (s .args .x) (s .pre .2) (c .before .before .before .if1 .taken) (c .before .wide .ensures)
+    (s .args .y) (s .args .x) (s .pre .2) (c .before .before .before .if1 .taken) (c .before .index .ensures)
     (c .if2 .left)
 
 returns-3 : tie.Need-returns-3
@@ -56,9 +56,9 @@ pub join-spec : {M : Type 1} → statement M
 join-spec =
     tie.close
     (tie.spec
-    mul-wide
-    element-copy-out-wide
-    wide-requires
+    mul-index
+    element-copy-out-index
+    index-requires
     mul-down
     element-write-down
     mul-across

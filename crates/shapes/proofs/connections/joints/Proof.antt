@@ -19,23 +19,23 @@ abbrev μ-loop : tie.MeasureT-loop
 loop-holds : tie.Need-loop-holds Inv-loop μ-loop
 loop-holds c = (omega arith, joining-none _ _ (entry (c .args .ids .now)) _ _ _ _ _ (c .pre .1) (c .pre .2))
 
-mul-wide : tie.Need-mul-wide Inv-loop μ-loop
-mul-wide c = omega (arith, c .before .before .pre .0 .spotted .most)
+mul-index : tie.Need-mul-index Inv-loop μ-loop
+mul-index c = omega (arith, c .before .before .pre .0 .spotted .most)
 
-element-copy-out-wide : tie.Need-element-copy-out-wide Inv-loop μ-loop
-element-copy-out-wide c = omega (arith, c .before .before .pre .0 .spotted .most)
+element-copy-out-index : tie.Need-element-copy-out-index Inv-loop μ-loop
+element-copy-out-index c = omega (arith, c .before .before .pre .0 .spotted .most)
 
-wide-requires : tie.Need-wide-requires Inv-loop μ-loop
-wide-requires c κs = search needs
+index-requires : tie.Need-index-requires Inv-loop μ-loop
+index-requires c κs = search needs
 
-mul-wide-2 : tie.Need-mul-wide-2 Inv-loop μ-loop
-mul-wide-2 c = omega (arith, c .before .before .before .before .pre .0 .spotted .most)
+mul-index-2 : tie.Need-mul-index-2 Inv-loop μ-loop
+mul-index-2 c = omega (arith, c .before .before .before .before .pre .0 .spotted .most)
 
-element-copy-out-wide-2 : tie.Need-element-copy-out-wide-2 Inv-loop μ-loop
-element-copy-out-wide-2 c = omega (arith, c .before .before .before .before .pre .0 .spotted .most)
+element-copy-out-index-2 : tie.Need-element-copy-out-index-2 Inv-loop μ-loop
+element-copy-out-index-2 c = omega (arith, c .before .before .before .before .pre .0 .spotted .most)
 
-wide-requires-2 : tie.Need-wide-requires-2 Inv-loop μ-loop
-wide-requires-2 c κs = search needs
+index-requires-2 : tie.Need-index-requires-2 Inv-loop μ-loop
+index-requires-2 c κs = search needs
 
 joints-at-requires : tie.Need-joints-at-requires Inv-loop μ-loop
 joints-at-requires c κs =
@@ -43,8 +43,8 @@ joints-at-requires c κs =
     let u = s .pre .0 in
     let l = c .before .before .before .before .before .before .before .loop in
     let p = unit-bounds (l .i) u (search needs) in
-    let y = c .before .before .before .before .wide .ensures in
-    let x = c .before .before .wide2 .ensures in (
+    let y = c .before .before .before .before .index .ensures in
+    let x = c .before .before .index2 .ensures in (
       u .sized,
       u .long,
       rw y (p .0),
@@ -66,8 +66,8 @@ loop-again : tie.Need-loop-again Inv-loop μ-loop
 loop-again c =
     let s = c .before .before .before .before .before .before .before .before .before in
     let l = c .before .before .before .before .before .before .before .before .loop in
-    let y = c .before .before .before .before .before .wide .ensures in
-    let x = c .before .before .before .wide2 .ensures in (
+    let y = c .before .before .before .before .before .index .ensures in
+    let x = c .before .before .before .index2 .ensures in (
       omega arith,
       joining-more _ _ (entry (s .args .ids .now)) _ (s .args .rows .now) (s .args .columns .now) (l .i) (l .inv .1) y x
           (rw x (unit-bounds (l .i) (s .pre .0) (search needs) .1)) (c .joints-at .ensures),
@@ -83,12 +83,12 @@ joints-spec =
     Inv-loop
     μ-loop
     loop-holds
-    mul-wide
-    element-copy-out-wide
-    wide-requires
-    mul-wide-2
-    element-copy-out-wide-2
-    wide-requires-2
+    mul-index
+    element-copy-out-index
+    index-requires
+    mul-index-2
+    element-copy-out-index-2
+    index-requires-2
     joints-at-requires
     add-i
     loop-less

@@ -29,7 +29,7 @@ add-right : tie.Need-add-right
 add-right c = search needs
 
 add-join : tie.Need-add-join
-add-join c = omega (arith, cell-room (c .pre .0) (c .pre .2) (c .pre .3) .0, c .pre .0 .wide)
+add-join c = omega (arith, cell-room (c .pre .0) (c .pre .2) (c .pre .3) .0, c .pre .0 .broad)
 
 add-join-2 : tie.Need-add-join-2
 add-join-2 c = search needs

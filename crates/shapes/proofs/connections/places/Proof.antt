@@ -21,7 +21,7 @@ abbrev μ-loop : tie.MeasureT-loop
 μ-loop cells from to w rows₀ columns₀ width n i₀ rows columns i = n - i
 
 cast-width : tie.Need-cast-width Inv-loop μ-loop
-cast-width c = omega (arith, c .pre .0 .wide)
+cast-width c = omega (arith, c .pre .0 .broad)
 
 sub-n : tie.Need-sub-n Inv-loop μ-loop
 sub-n c = omega (arith, c .pre .0 .order)

@@ -28,63 +28,63 @@ loop-holds c = let s = c .before in (
       (s .args .mates .now) (s .args .from),
 )
 
-mul-wide : tie.Need-mul-wide Inv-loop μ-loop
-mul-wide c = search needs
+mul-index : tie.Need-mul-index Inv-loop μ-loop
+mul-index c = search needs
 
-element-copy-out-wide : tie.Need-element-copy-out-wide Inv-loop μ-loop
-element-copy-out-wide c = let s = c .before .before .before in omega (arith, s .pre .3 .low .end)
+element-copy-out-index : tie.Need-element-copy-out-index Inv-loop μ-loop
+element-copy-out-index c = let s = c .before .before .before in omega (arith, s .pre .3 .low .end)
 
-wide-requires : tie.Need-wide-requires Inv-loop μ-loop
-wide-requires c κs = search needs
+index-requires : tie.Need-index-requires Inv-loop μ-loop
+index-requires c κs = search needs
 
-mul-wide-2 : tie.Need-mul-wide-2 Inv-loop μ-loop
-mul-wide-2 c = let s = c .before .before .before .before .before in
+mul-index-2 : tie.Need-mul-index-2 Inv-loop μ-loop
+mul-index-2 c = let s = c .before .before .before .before .before in
     omega (
       arith,
-      c .wide .ensures,
+      c .index .ensures,
       (s .pre .3 .each _ (c .before .before .before .loop .inv .0) (c .before .before .loop-test .taken)) .few,
     )
 
-element-copy-out-wide-2 : tie.Need-element-copy-out-wide-2 Inv-loop μ-loop
-element-copy-out-wide-2 c = let s = c .before .before .before .before .before in
+element-copy-out-index-2 : tie.Need-element-copy-out-index-2 Inv-loop μ-loop
+element-copy-out-index-2 c = let s = c .before .before .before .before .before in
     omega (
       arith,
-      c .wide .ensures,
+      c .index .ensures,
       (s .pre .3 .each _ (c .before .before .before .loop .inv .0) (c .before .before .loop-test .taken)) .few,
     )
 
-wide-requires-2 : tie.Need-wide-requires-2 Inv-loop μ-loop
-wide-requires-2 c κs = search needs
+index-requires-2 : tie.Need-index-requires-2 Inv-loop μ-loop
+index-requires-2 c κs = search needs
 
-add-wide : tie.Need-add-wide Inv-loop μ-loop
-add-wide c = let s = c .before .before .before .before .before .before .before in
+add-index : tie.Need-add-index Inv-loop μ-loop
+add-index c = let s = c .before .before .before .before .before .before .before in
     omega (
       arith,
-      c .before .before .wide .ensures,
+      c .before .before .index .ensures,
       (s .pre .3 .each _ (c .before .before .before .before .before .loop .inv .0)
           (c .before .before .before .before .loop-test .taken)) .few,
     )
 
-mul-wide-3 : tie.Need-mul-wide-3 Inv-loop μ-loop
-mul-wide-3 c = let s = c .before .before .before .before .before .before .before in
+mul-index-3 : tie.Need-mul-index-3 Inv-loop μ-loop
+mul-index-3 c = let s = c .before .before .before .before .before .before .before in
     omega (
       arith,
-      c .before .before .wide .ensures,
+      c .before .before .index .ensures,
       (s .pre .3 .each _ (c .before .before .before .before .before .loop .inv .0)
           (c .before .before .before .before .loop-test .taken)) .few,
     )
 
-element-copy-out-wide-3 : tie.Need-element-copy-out-wide-3 Inv-loop μ-loop
-element-copy-out-wide-3 c = let s = c .before .before .before .before .before .before .before in
+element-copy-out-index-3 : tie.Need-element-copy-out-index-3 Inv-loop μ-loop
+element-copy-out-index-3 c = let s = c .before .before .before .before .before .before .before in
     omega (
       arith,
-      c .before .before .wide .ensures,
+      c .before .before .index .ensures,
       (s .pre .3 .each _ (c .before .before .before .before .before .loop .inv .0)
           (c .before .before .before .before .loop-test .taken)) .few,
     )
 
-wide-requires-3 : tie.Need-wide-requires-3 Inv-loop μ-loop
-wide-requires-3 c κs = search needs
+index-requires-3 : tie.Need-index-requires-3 Inv-loop μ-loop
+index-requires-3 c κs = search needs
 
 edge-requires : tie.Need-edge-requires Inv-loop μ-loop
 unfolding edgesIn
@@ -96,13 +96,13 @@ edge-requires c κs =
       s .pre .0,
       s .pre .1,
       s .pre .2,
-      rw (c .before .before .before .before .before .wide .ensures) (n .few),
+      rw (c .before .before .before .before .before .index .ensures) (n .few),
       rw (
-        c .before .wide3 .ensures,
-        c .before .before .before .wide2 .ensures,
-        c .before .before .before .before .before .wide .ensures,
+        c .before .index3 .ensures,
+        c .before .before .before .index2 .ensures,
+        c .before .before .before .before .before .index .ensures,
       ) (n .is),
-      rw (c .before .before .before .before .before .wide .ensures)
+      rw (c .before .before .before .before .before .index .ensures)
           (write-fits
           (edgeIn (s .args .h) (s .args .w) (s .args .colours .now) (s .args .borders .now) (s .args .ids .now))
           (s .args .mates .now) _ _ (c .before .before .before .before .before .before .before .before .loop .inv .0)
@@ -145,7 +145,7 @@ loop-again c =
             l .long,
             c .before .before .before .before .before .before .before .before .before .before .loop-test .taken,
           ))
-          (rw (c .before .before .before .before .before .before .before .before .wide .ensures) at
+          (rw (c .before .before .before .before .before .before .before .before .index .ensures) at
           (c .before .before .edge .ensures)),
     )
 
@@ -166,16 +166,16 @@ edges-of-spec =
     Inv-loop
     μ-loop
     loop-holds
-    mul-wide
-    element-copy-out-wide
-    wide-requires
-    mul-wide-2
-    element-copy-out-wide-2
-    wide-requires-2
-    add-wide
-    mul-wide-3
-    element-copy-out-wide-3
-    wide-requires-3
+    mul-index
+    element-copy-out-index
+    index-requires
+    mul-index-2
+    element-copy-out-index-2
+    index-requires-2
+    add-index
+    mul-index-3
+    element-copy-out-index-3
+    index-requires-3
     edge-requires
     add-i
     loop-less

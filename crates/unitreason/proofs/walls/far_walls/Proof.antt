@@ -1,11 +1,11 @@
--- A scan with the mates marked.
+-- A scan with the mates flagged.
 use borrow.Author.Needs.{needs}
 use Rattle.unitreason.specs.Writing.{farIn}
 use Rattle.unitreason.proofs.walls.far_walls.Statement.{statement}
 use Rattle.unitreason.proofs.walls.far_walls.Tie as tie
 
-marks-of-requires : tie.Need-marks-of-requires
-marks-of-requires c κs = search needs
+flags-of-requires : tie.Need-flags-of-requires
+flags-of-requires c κs = search needs
 
 scan-requires : tie.Need-scan-requires
 unfolding farIn
@@ -16,7 +16,7 @@ scan-requires c κs =
       s .pre .2,
       search needs,
       s .pre .3,
-      rw (c .before .before .marks-of .ensures) (s .pre .5),
+      rw (c .before .before .flags-of .ensures) (s .pre .5),
     )
 
 same-length : tie.Need-same-length
@@ -24,7 +24,7 @@ same-length c = search needs
 
 returns : tie.Need-returns
 unfolding farIn
-returns c = rw (c .before .before .before .before .before .marks-of .ensures) at (c .before .before .scan .ensures)
+returns c = rw (c .before .before .before .before .before .flags-of .ensures) at (c .before .before .scan .ensures)
 
 pub far-walls-spec : {M : Type 1} → statement M
-far-walls-spec = tie.close (tie.spec marks-of-requires scan-requires same-length returns)
+far-walls-spec = tie.close (tie.spec flags-of-requires scan-requires same-length returns)

@@ -9,26 +9,26 @@ use Rattle.unitreason.specs.Writing.{edgesIn, farIn, wallsIn}
 use Rattle.unitreason.proofs.walls.walls_of.Statement.{statement}
 use Rattle.unitreason.proofs.walls.walls_of.Tie as tie
 
-mul-wide : tie.Need-mul-wide
-mul-wide c = search needs
+mul-index : tie.Need-mul-index
+mul-index c = search needs
 
-element-copy-out-wide : tie.Need-element-copy-out-wide
-element-copy-out-wide c = search needs
+element-copy-out-index : tie.Need-element-copy-out-index
+element-copy-out-index c = search needs
 
-wide-requires : tie.Need-wide-requires
-wide-requires c κs = search needs
+index-requires : tie.Need-index-requires
+index-requires c κs = search needs
 
-add-wide : tie.Need-add-wide
-add-wide c = search needs
+add-index : tie.Need-add-index
+add-index c = search needs
 
-mul-wide-2 : tie.Need-mul-wide-2
-mul-wide-2 c = search needs
+mul-index-2 : tie.Need-mul-index-2
+mul-index-2 c = search needs
 
-element-copy-out-wide-2 : tie.Need-element-copy-out-wide-2
-element-copy-out-wide-2 c = search needs
+element-copy-out-index-2 : tie.Need-element-copy-out-index-2
+element-copy-out-index-2 c = search needs
 
-wide-requires-2 : tie.Need-wide-requires-2
-wide-requires-2 c κs = search needs
+index-requires-2 : tie.Need-index-requires-2
+index-requires-2 c κs = search needs
 
 edge-requires : tie.Need-edge-requires
 unfolding wallsIn
@@ -45,7 +45,7 @@ edge-requires c κs =
       s .pre .1,
       s .pre .2,
       s .pre .4 .few,
-      rw (c .before .wide2 .ensures, c .before .before .before .wide .ensures) (s .pre .4 .is),
+      rw (c .before .index2 .ensures, c .before .before .before .index .ensures) (s .pre .4 .is),
       room-first E M F _ _ (s .pre .6),
     )
 
@@ -83,14 +83,14 @@ far-walls-requires c κs =
       s .pre .1,
       s .pre .2,
       rw (
-        c .before .before .before .before .before .before .before .before .before .wide2 .ensures,
-        c .before .before .before .before .before .before .before .before .before .before .before .wide .ensures,
+        c .before .before .before .before .before .before .before .before .before .index2 .ensures,
+        c .before .before .before .before .before .before .before .before .before .before .before .index .ensures,
       )
           (s .pre .5),
       s .pre .3 .low,
       rw (
-        c .before .before .before .before .before .before .before .before .before .wide2 .ensures,
-        c .before .before .before .before .before .before .before .before .before .before .before .wide .ensures,
+        c .before .before .before .before .before .before .before .before .before .index2 .ensures,
+        c .before .before .before .before .before .before .before .before .before .before .before .index .ensures,
       )
           (room-third E M F (s .pre .6) (c .before .before .before .before .before .before .before .edge .ensures)
           (c .before .before .before .edges-of .ensures)),
@@ -105,23 +105,23 @@ returns c =
     wrote-more (c .before .before .before .before .before .before .before .before .before .before .edge .ensures)
     (wrote-more (c .before .before .before .before .before .before .edges-of .ensures)
     (rw (
-      c .before .before .before .before .before .before .before .before .before .before .before .before .wide2
+      c .before .before .before .before .before .before .before .before .before .before .before .before .index2
           .ensures,
       c .before .before .before .before .before .before .before .before .before .before .before .before
-          .before .before .wide .ensures,
+          .before .before .index .ensures,
     ) at (c .before .before .far-walls .ensures)))
 
 pub walls-of-spec : {M : Type 1} → statement M
 walls-of-spec =
     tie.close
     (tie.spec
-    mul-wide
-    element-copy-out-wide
-    wide-requires
-    add-wide
-    mul-wide-2
-    element-copy-out-wide-2
-    wide-requires-2
+    mul-index
+    element-copy-out-index
+    index-requires
+    add-index
+    mul-index-2
+    element-copy-out-index-2
+    index-requires-2
     edge-requires
     edges-of-requires
     far-walls-requires

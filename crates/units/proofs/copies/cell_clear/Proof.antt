@@ -5,7 +5,7 @@ use Prim.Native.Nat.{_+_, _/_, _%_, _<_}
 use native.Mathlib.Omega.{arith}
 use borrow.Author.Needs.{needs}
 use lib.Dec.{ltb}
-use Rattle.rules.specs.Codes.{marksIn}
+use Rattle.rules.specs.Codes.{statesIn}
 use Rattle.rules.specs.FlatLaws.{counts}
 use Rattle.rules.specs.Groups.{entry}
 use Rattle.reasons.specs.StepLaws.{row-of}
@@ -57,7 +57,7 @@ add-right : tie.Need-add-right
 add-right c = omega (arith, column-low c)
 
 add-joint-clear : tie.Need-add-joint-clear
-add-joint-clear c = omega (arith, c .pre .1, counts (c .pre .0 .sized) .cells, c .pre .0 .sized .wide)
+add-joint-clear c = omega (arith, c .pre .1, counts (c .pre .0 .sized) .cells, c .pre .0 .sized .broad)
 
 add-joint-clear-2 : tie.Need-add-joint-clear-2
 add-joint-clear-2 c = omega (arith, row-low c, c .pre .2 .down)
@@ -93,14 +93,14 @@ returns : tie.Need-returns
 returns c =
     let i = c .before in
     let s = i .before .before in
-    cell-yes (s .args .h) (s .args .w) (s .args .colours .now) (marksIn (s .args .borders .now)) (s .args .y)
+    cell-yes (s .args .h) (s .args .w) (s .args .colours .now) (statesIn (s .args .borders .now)) (s .args .y)
     (s .args .x) (entry (s .args .ids .now)) (s .args .g) (s .args .c) (row-of _ _ _ (s .pre .1) .column)
     (i .before .joint-clear .ensures) (i .if1 .taken) (c .joint-clear2 .ensures)
 
 returns-2 : tie.Need-returns-2
 returns-2 c =
     let s = c .before .before in
-    cell-no (s .args .h) (s .args .w) (s .args .colours .now) (marksIn (s .args .borders .now)) (s .args .y)
+    cell-no (s .args .h) (s .args .w) (s .args .colours .now) (statesIn (s .args .borders .now)) (s .args .y)
     (s .args .x) (entry (s .args .ids .now)) (s .args .g) (s .args .c) (row-of _ _ _ (s .pre .1) .column)
     (c .before .joint-clear .ensures) (c .if1 .left)
 

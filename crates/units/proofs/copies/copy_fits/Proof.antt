@@ -4,7 +4,7 @@ use Prim.Native.Nat.{ℕ, _+_, _-_, _*_, _/_, _%_, _≤_, _<_}
 use native.Mathlib.Omega.{arith}
 use lib.ListN.{getD}
 use Rattle.lists.specs.Lists.{all}
-use Rattle.rules.specs.Codes.{marksIn}
+use Rattle.rules.specs.Codes.{statesIn}
 use Rattle.rules.specs.Flat.{flat}
 use Rattle.rules.specs.Groups.{entry}
 use Rattle.rules.specs.Shapes.{shapeOf}
@@ -19,15 +19,15 @@ use Rattle.units.proofs.copies.copy_fits.Tie as tie
 
 abbrev Inv-loop : tie.InvT-loop
 Inv-loop h w colours borders ids g units first last o f y x i₀ i =
-    (first ≤ i) × (i ≤ last) × (fitsOf (puzzle h w colours) (marksIn borders) (shapeOf (flat h w) (entry ids) g) o
-    ≡ all (cellClear h w colours (marksIn borders) (entry ids) g y x) (part units i last))
+    (first ≤ i) × (i ≤ last) × (fitsOf (puzzle h w colours) (statesIn borders) (shapeOf (flat h w) (entry ids) g) o
+    ≡ all (cellClear h w colours (statesIn borders) (entry ids) g y x) (part units i last))
 
 abbrev μ-loop : tie.MeasureT-loop
 μ-loop h w colours borders ids g units first last o f y x i₀ i = last - i
 
 -- the rows and columns of the origin and of the unit's first cell
 record Low (w o f : ℕ) : Type 0 where
-  wide : 1 ≤ w
+  broad : 1 ≤ w
   row : o / w < 32
   column : o % w < 32
   first-row : f / w < 32
@@ -42,24 +42,24 @@ low c =
     let r = row-of (s .args .h) (s .args .w) (c .number-at .result)
     (rw e (unit-low z (s .pre .1) (s .args .first) (omega arith) (s .pre .1 .some))) in
     record {
-      wide = z .columns;
+      broad = z .columns;
       row = omega (arith, k .row, z .tall);
-      column = omega (arith, k .column, z .wide);
+      column = omega (arith, k .column, z .broad);
       first-row = omega (arith, r .row, z .tall);
-      first-column = omega (arith, r .column, z .wide);
+      first-column = omega (arith, r .column, z .broad);
     }
 
 number-at-requires : tie.Need-number-at-requires Inv-loop μ-loop
 number-at-requires c κs = omega (arith, c .pre .1 .some, c .pre .1 .end)
 
 div-y : tie.Need-div-y Inv-loop μ-loop
-div-y c = low c .wide
+div-y c = low c .broad
 
 mul-y : tie.Need-mul-y Inv-loop μ-loop
 mul-y c = omega (arith, low c .row)
 
 div-y-2 : tie.Need-div-y-2 Inv-loop μ-loop
-div-y-2 c = low c .wide
+div-y-2 c = low c .broad
 
 mul-y-2 : tie.Need-mul-y-2 Inv-loop μ-loop
 mul-y-2 c = omega (arith, low c .first-row)
@@ -71,13 +71,13 @@ add-y : tie.Need-add-y Inv-loop μ-loop
 add-y c = omega (arith, low c .row)
 
 rem-x : tie.Need-rem-x Inv-loop μ-loop
-rem-x c = low c .wide
+rem-x c = low c .broad
 
 mul-x : tie.Need-mul-x Inv-loop μ-loop
 mul-x c = omega (arith, low c .column)
 
 rem-x-2 : tie.Need-rem-x-2 Inv-loop μ-loop
-rem-x-2 c = low c .wide
+rem-x-2 c = low c .broad
 
 mul-x-2 : tie.Need-mul-x-2 Inv-loop μ-loop
 mul-x-2 c = omega (arith, low c .first-column)
@@ -95,7 +95,7 @@ loop-holds c =
       omega (arith, s .pre .1 .some),
       rw (c .number-at .ensures)
           (copy-cells (s .pre .0 .sized) (s .pre .1) (s .args .o) (s .args .colours .now)
-          (marksIn (s .args .borders .now))),
+          (statesIn (s .args .borders .now))),
     )
 
 number-at-requires-2 : tie.Need-number-at-requires-2 Inv-loop μ-loop
@@ -122,7 +122,7 @@ loop-less c = omega arith
 cell-is : (c : tie.After-cell-clear Inv-loop μ-loop) → let l = c .before .before .before in
     let n = l .before in let s = n .before in let a = s .args in
     c .cell-clear .result
-    ≡ cellClear (a .h) (a .w) (a .colours .now) (marksIn (a .borders .now)) (entry (a .ids .now)) (a .g)
+    ≡ cellClear (a .h) (a .w) (a .colours .now) (statesIn (a .borders .now)) (entry (a .ids .now)) (a .g)
     (2 * (a .o / a .w) + (64 - 2 * (n .number-at .result / a .w)))
     (2 * (a .o % a .w) + (64 - 2 * (n .number-at .result % a .w))) (getD (a .units .now) (l .loop .i) 0)
 cell-is c = rw (c .before .number-at2 .ensures) at (c .cell-clear .ensures)

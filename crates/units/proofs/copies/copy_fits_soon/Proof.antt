@@ -7,7 +7,7 @@ use native.Mathlib.Omega.{arith}
 use borrow.Author.Needs.{needs}
 use lib.ListN.{getD}
 use Rattle.lists.specs.Lists.{any}
-use Rattle.rules.specs.Codes.{marksIn}
+use Rattle.rules.specs.Codes.{statesIn}
 use Rattle.rules.specs.Flat.{flat}
 use Rattle.rules.specs.Groups.{entry}
 use Rattle.rules.specs.Shapes.{shapeOf}
@@ -23,11 +23,11 @@ use Rattle.units.proofs.copies.copy_fits_soon.Tie as tie
 
 -- the unit's shape fits at a cell
 abbrev fit : ℕ → ℕ → List ℕ → List ℕ → List ℕ → ℕ → ℕ → Bool
-fit h w colours borders ids g = fitsOf (puzzle h w colours) (marksIn borders) (shapeOf (flat h w) (entry ids) g)
+fit h w colours borders ids g = fitsOf (puzzle h w colours) (statesIn borders) (shapeOf (flat h w) (entry ids) g)
 
 abbrev Inv-loop : tie.InvT-loop
 Inv-loop h w colours borders ids g units first last cells offs q from to i₀ i =
-    (from ≤ i) × (i ≤ to) × (fitsAmong (puzzle h w colours) (marksIn borders) (shapeOf (flat h w) (entry ids) g)
+    (from ≤ i) × (i ≤ to) × (fitsAmong (puzzle h w colours) (statesIn borders) (shapeOf (flat h w) (entry ids) g)
     (soonIn cells offs q) ≡ any (fit h w colours borders ids g) (part cells i to))
 
 abbrev μ-loop : tie.MeasureT-loop

@@ -3,7 +3,7 @@ use Prim.Native.Nat.{_-_}
 use native.Mathlib.Omega.{arith}
 use borrow.Author.Needs.{needs}
 use Rattle.rules.specs.Check.{mates}
-use Rattle.rules.specs.Codes.{marksIn}
+use Rattle.rules.specs.Codes.{statesIn}
 use Rattle.search.specs.Mates.{OneOf}
 use Rattle.search.specs.Placing.{puzzle}
 use Rattle.units.specs.HeldLaws.{home-few, home-cells, mate-kept, nearby-more}
@@ -12,7 +12,7 @@ use Rattle.units.proofs.fitting.near_mate.Tie as tie
 
 -- what was asked for is a mate, if there is one
 one : (c : tie.After-some-mate) → let a = c .before .before .before .before .before .before .args in
-    OneOf (mates (puzzle (a .h) (a .w) (a .colours .now)) (marksIn (a .borders .now)) (a .p)) (c .some-mate .result)
+    OneOf (mates (puzzle (a .h) (a .w) (a .colours .now)) (statesIn (a .borders .now)) (a .p)) (c .some-mate .result)
 one c =
     let l = c .before in
     let s = l .before .before .before .before .before in

@@ -1,7 +1,7 @@
 -- The unit's cells and connections are written, and tried; the eight rows answer for the listed transforms.
 use mathlib.Core.Path.{_∙_}
 use Rattle.rules.specs.Check.{mates}
-use Rattle.rules.specs.Codes.{marksIn}
+use Rattle.rules.specs.Codes.{statesIn}
 use Rattle.search.specs.Placing.{puzzle}
 use Rattle.units.specs.ImageLaws.{jointed}
 use Rattle.units.specs.FitLaws.{rows-turned, unit-part, unit-placed}
@@ -42,10 +42,10 @@ returns c =
     let s = a .before .before .before in
     let p = a .places .ensures in
     let page = puzzle (s .args .h) (s .args .w) (s .args .colours .now) in
-    let marks = marksIn (s .args .borders .now) in
+    let states = statesIn (s .args .borders .now) in
     let e = c .written-fits .ensures in (
       e .0
-          ∙ rows-turned page marks (s .args .cells .now) (s .args .offs .now) (mates page marks (s .args .p))
+          ∙ rows-turned page states (s .args .cells .now) (s .args .offs .now) (mates page states (s .args .p))
           (unit-placed (s .pre .0 .drawn .sized) (s .pre .1) (p .0) (p .1)) (b .joints .ensures),
       record {
         rows = p .1 .rows;

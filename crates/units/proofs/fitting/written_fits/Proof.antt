@@ -3,7 +3,7 @@ use mathlib.Core.Bool.{Bool}
 use mathlib.Core.List.{List}
 use native.Mathlib.Omega.{arith}
 use Rattle.rules.specs.Check.{mates}
-use Rattle.rules.specs.Codes.{marksIn}
+use Rattle.rules.specs.Codes.{statesIn}
 use Rattle.rules.specs.Page.{Point, Puzzle}
 use Rattle.search.specs.Placing.{puzzle, bare}
 use Rattle.search.specs.Searching.{fitsBeside}
@@ -16,8 +16,8 @@ use Rattle.units.proofs.fitting.written_fits.Tie as tie
 abbrev fits : tie.Start → List Point → Bool
 fits s js =
     let page : Puzzle = puzzle (s .args .h) (s .args .w) (s .args .colours .now) in
-    fitsBeside page (marksIn (s .args .borders .now)) (bare js) (s .args .cells .now) (s .args .offs .now)
-    (mates page (marksIn (s .args .borders .now)) (s .args .p))
+    fitsBeside page (statesIn (s .args .borders .now)) (bare js) (s .args .cells .now) (s .args .offs .now)
+    (mates page (statesIn (s .args .borders .now)) (s .args .p))
 
 turn-row-requires : tie.Need-turn-row-requires
 turn-row-requires c κs =

@@ -2,7 +2,7 @@
 use mathlib.Core.Bool.{Bool}
 use Prim.Native.Nat.{ℕ, _-_}
 use native.Mathlib.Omega.{arith}
-use Rattle.rules.specs.Codes.{marksIn}
+use Rattle.rules.specs.Codes.{statesIn}
 use Rattle.search.specs.Placing.{puzzle}
 use Rattle.units.specs.Held.{Nearby}
 use Rattle.units.specs.Stuck.{Passed, fitsUnit}
@@ -13,14 +13,14 @@ use Rattle.units.proofs.singles.after_singles.Tie as tie
 
 abbrev Inv-loop : tie.InvT-loop
 Inv-loop h w colours borders units unit-offs count potential cells offs total near₀ sure u₀ near u =
-    Passed (fitsUnit (puzzle h w colours) (marksIn borders)) count u × Nearby h w colours borders near
+    Passed (fitsUnit (puzzle h w colours) (statesIn borders)) count u × Nearby h w colours borders near
 
 abbrev μ-loop : tie.MeasureT-loop
 μ-loop h w colours borders units unit-offs count potential cells offs total near₀ sure u₀ near u = count - u
 
 -- the test of a unit
 abbrev test : tie.Start Inv-loop μ-loop → ℕ → Bool
-test s = fitsUnit (puzzle (s .args .h) (s .args .w) (s .args .colours .now)) (marksIn (s .args .borders .now))
+test s = fitsUnit (puzzle (s .args .h) (s .args .w) (s .args .colours .now)) (statesIn (s .args .borders .now))
 
 all-near-requires : tie.Need-all-near-requires Inv-loop μ-loop
 all-near-requires c κs =

@@ -1,5 +1,5 @@
--- `mark_stack` meets its contract. The loop's invariant: `once` says whether none of the entries before i is an earlier
--- one, and exactly they are marked.
+-- `flag_stack` meets its contract. The loop's invariant: `once` says whether none of the entries before i is an earlier
+-- one, and exactly they are flagged.
 use mathlib.Core.Bool.{Bool, false, not}
 use mathlib.Core.Path.{_∙_, _≡_, sym, ap}
 use Prim.Native.Nat.{_-_, _<_, _≤_, ℕ}
@@ -9,9 +9,9 @@ use lib.ListN.{getD, getD-replicate, length, length-replicate, length-set}
 use Rattle.lists.specs.Tests.{all-none}
 use Rattle.board.specs.Alien.{stacked, onceEach}
 use Rattle.board.specs.ListExtras.{all-and}
-use Rattle.board.specs.ConditionLaws.{marks-more, stacked-none}
-use Rattle.board.proofs.conditions.mark_stack.Statement.{statement}
-use Rattle.board.proofs.conditions.mark_stack.Tie as tie
+use Rattle.board.specs.ConditionLaws.{flags-more, stacked-none}
+use Rattle.board.proofs.conditions.flag_stack.Statement.{statement}
+use Rattle.board.proofs.conditions.flag_stack.Tie as tie
 
 abbrev Inv-loop : tie.InvT-loop
 Inv-loop stack count seen₀ once₀ i₀ seen once i =
@@ -33,20 +33,20 @@ loop-holds c =
       λ x l. rw e (getD-replicate 1984 x false false l ∙ sym (stacked-none _ x)),
     )
 
-mul-wide : tie.Need-mul-wide Inv-loop μ-loop
-mul-wide c = omega arith
+mul-index : tie.Need-mul-index Inv-loop μ-loop
+mul-index c = omega arith
 
-element-copy-out-wide : tie.Need-element-copy-out-wide Inv-loop μ-loop
-element-copy-out-wide c = search needs
+element-copy-out-index : tie.Need-element-copy-out-index Inv-loop μ-loop
+element-copy-out-index c = search needs
 
-wide-requires : tie.Need-wide-requires Inv-loop μ-loop
-wide-requires c κs = tt
+index-requires : tie.Need-index-requires Inv-loop μ-loop
+index-requires c κs = tt
 
 -- an entry is a border's number
-small : (c : tie.After-wide Inv-loop μ-loop) → c .wide .result < 1984
+small : (c : tie.After-index Inv-loop μ-loop) → c .index .result < 1984
 small c =
     let d = c .before .before .before in
-    omega (arith, c .wide .ensures, d .before .pre .1 (d .loop .i) (c .before .before .loop-test .taken))
+    omega (arith, c .index .ensures, d .before .pre .1 (d .loop .i) (c .before .before .loop-test .taken))
 
 element-copy-out-once : tie.Need-element-copy-out-once Inv-loop μ-loop
 element-copy-out-once c = small c
@@ -65,13 +65,13 @@ unfolding onceEach
 loop-again c =
     let r = c .before .before .before .before .loop in
     let s = c .before .before .before .before .before .args .stack .now in
-    let w = c .before .wide in
+    let w = c .before .index in
     let e = w .ensures in (
       omega arith,
       all-and (r .i) _ (r .once) _ (r .inv .1)
           (ap not (r .inv .3 (w .result) (small (c .before)) ∙ ap (stacked s (r .i)) e)),
       simp length-set (r .inv .2),
-      marks-more _ (r .seen) (r .i) _ e (small (c .before)) (r .inv .2) (r .inv .3),
+      flags-more _ (r .seen) (r .i) _ e (small (c .before)) (r .inv .2) (r .inv .3),
     )
 
 returns : tie.Need-returns Inv-loop μ-loop
@@ -81,19 +81,19 @@ returns c =
     let q : r .i ≡ c .before .before .args .count = omega arith in
     record {
       tells = r .inv .1 ∙ ap (onceEach s) q;
-      marked = λ x l. r .inv .3 x l ∙ ap (λ n. stacked s n x) q;
+      flagged = λ x l. r .inv .3 x l ∙ ap (λ n. stacked s n x) q;
     }
 
-pub mark-stack-spec : {M : Type 1} → statement M
-mark-stack-spec =
+pub flag-stack-spec : {M : Type 1} → statement M
+flag-stack-spec =
     tie.close
     (tie.spec
     Inv-loop
     μ-loop
     loop-holds
-    mul-wide
-    element-copy-out-wide
-    wide-requires
+    mul-index
+    element-copy-out-index
+    index-requires
     element-copy-out-once
     element-write-seen
     add-i

@@ -1,36 +1,36 @@
--- The loop's invariant: the groups before i are marked, and no others.
+-- The loop's invariant: the groups before i are flagged, and no others.
 use Prim.Native.Nat.{_≤_, _-_}
 use mathlib.Core.Path.{_≡_}
 use native.Mathlib.Omega.{arith}
 use borrow.Author.Needs.{needs}
 use Rattle.reasons.specs.Arrays.{part}
 use Rattle.unitreason.specs.FlagLaws.{Flagged, flagged-none, flagged-more, flagged-all}
-use Rattle.unitreason.proofs.walls.marks_of.Statement.{statement}
-use Rattle.unitreason.proofs.walls.marks_of.Tie as tie
+use Rattle.unitreason.proofs.walls.flags_of.Statement.{statement}
+use Rattle.unitreason.proofs.walls.flags_of.Tie as tie
 
 abbrev Inv-loop : tie.InvT-loop
-Inv-loop mates from to marked₀ i₀ marked i = (from ≤ i) × (i ≤ to) × Flagged (part mates from i) marked
+Inv-loop mates from to flagged₀ i₀ flagged i = (from ≤ i) × (i ≤ to) × Flagged (part mates from i) flagged
 
 abbrev μ-loop : tie.MeasureT-loop
-μ-loop mates from to marked₀ i₀ marked i = to - i
+μ-loop mates from to flagged₀ i₀ flagged i = to - i
 
 loop-holds : tie.Need-loop-holds Inv-loop μ-loop
 loop-holds c = (omega arith, c .pre .order, flagged-none (c .args .mates .now) (c .args .from))
 
-mul-wide : tie.Need-mul-wide Inv-loop μ-loop
-mul-wide c = search needs
+mul-index : tie.Need-mul-index Inv-loop μ-loop
+mul-index c = search needs
 
-element-copy-out-wide : tie.Need-element-copy-out-wide Inv-loop μ-loop
-element-copy-out-wide c = let s = c .before .before in omega (arith, s .pre .end)
+element-copy-out-index : tie.Need-element-copy-out-index Inv-loop μ-loop
+element-copy-out-index c = let s = c .before .before in omega (arith, s .pre .end)
 
-wide-requires : tie.Need-wide-requires Inv-loop μ-loop
-wide-requires c κs = search needs
+index-requires : tie.Need-index-requires Inv-loop μ-loop
+index-requires c κs = search needs
 
-array-write-marked : tie.Need-array-write-marked Inv-loop μ-loop
-array-write-marked c = let s = c .before .before .before .before in
+array-write-flagged : tie.Need-array-write-flagged Inv-loop μ-loop
+array-write-flagged c = let s = c .before .before .before .before in
     omega (
       arith,
-      c .wide .ensures,
+      c .index .ensures,
       s .pre .each _ (c .before .before .before .loop .inv .0) (c .before .before .loop-test .taken),
     )
 
@@ -44,7 +44,7 @@ loop-again : tie.Need-loop-again Inv-loop μ-loop
 loop-again c = let s = c .before .before .before .before in (
   omega arith,
   omega arith,
-  rw (c .wide .ensures)
+  rw (c .index .ensures)
       (flagged-more (s .args .mates .now) (s .args .from) _ (c .before .before .before .loop .inv .0)
       (omega (arith, s .pre .end, s .pre .long))
       (s .pre .each _ (c .before .before .before .loop .inv .0) (c .before .before .loop-test .taken))
@@ -57,17 +57,17 @@ returns c =
     let e : c .before .loop .i ≡ s .args .to = omega arith in
     flagged-all (rw e at (c .before .loop .inv .2))
 
-pub marks-of-spec : {M : Type 1} → statement M
-marks-of-spec =
+pub flags-of-spec : {M : Type 1} → statement M
+flags-of-spec =
     tie.close
     (tie.spec
     Inv-loop
     μ-loop
     loop-holds
-    mul-wide
-    element-copy-out-wide
-    wide-requires
-    array-write-marked
+    mul-index
+    element-copy-out-index
+    index-requires
+    array-write-flagged
     add-i
     loop-less
     loop-again

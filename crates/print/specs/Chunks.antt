@@ -1,8 +1,8 @@
--- The text of a reason's literals, written piece by piece.
+-- The text of a reason's literals, written chunk by chunk.
 --
 --   codesIn ks a e      the numbers of reason memory from place a up to place e
 --   Putting ks a e m after next count   `after` is m with the texts of the literals from a up to next, count bytes
---   Put ks a e m after r                so it is for the piece r, and some literal is put where there is room
+--   Put ks a e m after r                so it is for the chunk r, and some literal is put where there is room
 --   show-append         the texts of two lists
 --   codes-none, codes-more, codes-append, codes-front   no literal, one more, two parts, and the memory's front
 --   putting-none, putting-more, putting-stop            no literal, one more, and the end
@@ -16,7 +16,7 @@ use lib.ListN.{length, take, getD}
 use lib.Seq.{length-take-le, getD-take}
 use Rattle.lists.specs.Table.{table, table-is}
 use Rattle.page.specs.Many.{showAll}
-use Rattle.print.specs.declared.Piece.{Piece}
+use Rattle.print.specs.declared.Chunk.{Chunk}
 use Rattle.print.specs.declared.Line.{Line}
 use Rattle.print.specs.Answers.{codeText, textOf}
 use Rattle.print.specs.Lines.{Written, Holds, written-none, written-more, written-length, holds-text, holds-short}
@@ -31,7 +31,7 @@ pub record Putting (ks : List ℕ) (a e : ℕ) (m after : List ℕ) (next count 
   pub fits : count ≤ length m
   pub written : Written m 0 (showAll codeText (codesIn ks a next)) after count
 
-pub record Put (ks : List ℕ) (a e : ℕ) (m after : List ℕ) (r : Piece) : Type 0 where
+pub record Put (ks : List ℕ) (a e : ℕ) (m after : List ℕ) (r : Chunk) : Type 0 where
   pub putting : Putting ks a e m after (r .next) (r .count)
   -- a buffer of 32 bytes or more takes one literal at least
   pub moves : a < e → a < length ks → 32 ≤ length m → a < r .next
@@ -52,7 +52,7 @@ codes-more ks a p h =
     let f : a + (p - a) ≡ p = omega arith in
     rw (e, f)
 
--- one piece after the other
+-- one chunk after the other
 pub codes-append : (ks : List ℕ) (a b n : ℕ) → a ≤ b → codesIn ks a b ++ codesIn ks b (b + n) ≡ codesIn ks a (b + n)
 codes-append ks a b zero h =
     let e : b + 0 ≡ b = omega arith in
@@ -124,7 +124,7 @@ putting-stop {ks} {m} {after} {a} {e} {next} {count} p stop =
         absurd (stop q (omega (arith, none-written p q .next)) x y (omega (arith, written-length (p .written))))
     go (no q) x y z = omega (arith, p .from)
 
-pub put-none : {ks m after : List ℕ} {a e : ℕ} {r : Piece} → Put ks a e m after r → r .next ≤ a → after ≡ m
+pub put-none : {ks m after : List ℕ} {a e : ℕ} {r : Chunk} → Put ks a e m after r → r .next ≤ a → after ≡ m
 put-none {a = a} {r = r} P h =
     let q : r .next ≡ a = omega (arith, P .putting .from) in
     none-written (P .putting) q .memory

@@ -1,8 +1,8 @@
 -- `next_part` meets its contract: a case law for each return.
 use borrow.Author.Needs.{needs}
 use Rattle.checker.specs.BlockCases.{part-first, part-later}
-use Rattle.checker.proofs.tallies.next_part.Statement.{statement}
-use Rattle.checker.proofs.tallies.next_part.Tie as tie
+use Rattle.checker.proofs.censuses.next_part.Statement.{statement}
+use Rattle.checker.proofs.censuses.next_part.Tie as tie
 
 either-requires : tie.Need-either-requires
 either-requires c κs = search needs

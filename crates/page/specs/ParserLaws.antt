@@ -1,4 +1,4 @@
--- Laws of the readers at a place of the bytes, one for each return of the code.
+-- Laws of the parsers at a place of the bytes, one for each return of the code.
 use mathlib.Core.Path.{_≡_, refl, sym, ap, _∙_}
 use mathlib.Core.Bool.{Bool, true, false, _&&_}
 use mathlib.Core.List.{List, [], _∷_, _++_, append-nil, append-assoc}
@@ -12,10 +12,10 @@ use lib.Seq.{drop-cons}
 use borrow.Author.Tests.{lt-ltb, le-ltb, le-leb, lt-leb, eq-eqb, ne-eqb, leb-true}
 use Rattle.lists.specs.Table.{table}
 use Rattle.lists.specs.Tests.{and-left, and-right}
-use Rattle.page.specs.Readers.{rest, strip, number, numberOn, mayFollow, put, digitsOn, digits, digit}
+use Rattle.page.specs.Parsers.{rest, strip, number, numberOn, mayFollow, put, digitsOn, digits, digit}
 use Rattle.page.specs.Places.{digitAt, digitsIn}
 
--- what was answered says what the reader gives
+-- what was answered says what the parser gives
 pub told : {R O : Type 0} (f : R → O) {r k : R} {o : O} → f r ≡ o → r ≡ k → o ≡ f k
 told f e h = sym e ∙ ap f h
 

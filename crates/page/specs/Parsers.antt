@@ -1,10 +1,10 @@
--- Readers: what the page's grammar is written with. A reader takes bytes off the front, and gives a value and the rest.
+-- Parsers: what the page's grammar is written with. A parser takes bytes off the front, and gives a value and the rest.
 --
---   Reader A            a function from bytes to a value of A and the bytes after it, or none
+--   Parser A            a function from bytes to a value of A and the bytes after it, or none
 --   rest s p            the bytes from place p on
 --   done a              reads nothing: the value a
 --   lead word r         the bytes of word, then r
---   trail r word        r, then the bytes of word
+--   followed r word        r, then the bytes of word
 --   both r q            r, then q: the pair of their values
 --   either r q          r, or q where r fails
 --   mapR f r            r, with f of its value
@@ -20,8 +20,8 @@ use lib.ListN.{length, drop}
 use lib.Dec.{ltb, leb, eqb}
 use Rattle.lists.specs.Lists.{orElse}
 
-abbrev pub Reader : Type 0 → Type 0
-Reader A = List ℕ → Option (A × List ℕ)
+abbrev pub Parser : Type 0 → Type 0
+Parser A = List ℕ → Option (A × List ℕ)
 
 unfoldable pub rest : List ℕ → ℕ → List ℕ
 rest s p = drop p s
@@ -34,50 +34,50 @@ strip (a ∷ word) (b ∷ s) = cond (eqb b a) (strip word s) none
 
 -- what was read goes on to f; what is left goes on to r
 module _ {A B : Type 0} where
-  unfoldable pub also : Option (A × List ℕ) → (A → Reader B) → Option (B × List ℕ)
+  unfoldable pub also : Option (A × List ℕ) → (A → Parser B) → Option (B × List ℕ)
   also none f = none
   also (some p) f = f (p .0) (p .1)
 
 module _ {A : Type 0} where
-  unfoldable pub onto : Option (List ℕ) → Reader A → Option (A × List ℕ)
+  unfoldable pub onto : Option (List ℕ) → Parser A → Option (A × List ℕ)
   onto none r = none
   onto (some s) r = r s
 
-  unfoldable pub done : A → Reader A
+  unfoldable pub done : A → Parser A
   done a s = some (a, s)
 
-  unfoldable pub lead : List ℕ → Reader A → Reader A
+  unfoldable pub lead : List ℕ → Parser A → Parser A
   lead word r s = onto (strip word s) r
 
-  unfoldable pub trail : Reader A → List ℕ → Reader A
-  trail r word s = also (r s) (λ a t. lead word (done a) t)
+  unfoldable pub followed : Parser A → List ℕ → Parser A
+  followed r word s = also (r s) (λ a t. lead word (done a) t)
 
-  unfoldable pub either : Reader A → Reader A → Reader A
+  unfoldable pub either : Parser A → Parser A → Parser A
   either r q s = orElse (r s) (q s)
 
 module _ {A B : Type 0} where
-  unfoldable pub both : Reader A → Reader B → Reader (A × B)
+  unfoldable pub both : Parser A → Parser B → Parser (A × B)
   both r q s = also (r s) (λ a t. also (q t) (λ b u. some ((a, b), u)))
 
-  unfoldable pub mapR : (A → B) → Reader A → Reader B
+  unfoldable pub mapR : (A → B) → Parser A → Parser B
   mapR f r s = also (r s) (λ a t. some (f a, t))
 
 module _ {A : Type 0} where
-  -- nothing where the reader failed; else its value before what k reads of the rest
+  -- nothing where the parser failed; else its value before what k reads of the rest
   unfoldable pub andOn : Option (A × List ℕ) → List ℕ → (List ℕ → List A × List ℕ) → List A × List ℕ
   andOn none s k = ([], s)
   andOn (some p) s k = (p .0 ∷ k (p .1) .0, k (p .1) .1)
 
   -- r as often as it succeeds, n times at most
-  unfoldable pub times : ℕ → Reader A → List ℕ → List A × List ℕ
+  unfoldable pub times : ℕ → Parser A → List ℕ → List A × List ℕ
   times zero r s = ([], s)
   times (suc n) r s = andOn (r s) s (times n r)
 
-  -- a reader that takes a byte succeeds at most as often as there are bytes
-  unfoldable pub many : Reader A → List ℕ → List A × List ℕ
+  -- a parser that takes a byte succeeds at most as often as there are bytes
+  unfoldable pub many : Parser A → List ℕ → List A × List ℕ
   many r s = times (length s) r s
 
-unfoldable pub rep : {A B : Type 0} → Reader A → Reader B → Reader (List A × B)
+unfoldable pub rep : {A B : Type 0} → Parser A → Parser B → Parser (List A × B)
 rep r q s = also (q (many r s .1)) (λ b t. some ((many r s .0, b), t))
 
 -- the byte is one of 0 to 9, whose value is the byte less 48
@@ -89,12 +89,12 @@ unfoldable pub mayFollow : ℕ → ℕ → Bool
 mayFollow v b = leb 48 b && (leb b 57 && (ltb 0 v && leb (v * 10 + (b - 48)) 2147483647))
 
 -- the rest of a number that stood at v, up to the byte stop
-unfoldable pub numberOn : ℕ → ℕ → Reader ℕ
+unfoldable pub numberOn : ℕ → ℕ → Parser ℕ
 numberOn stop v [] = none
 numberOn stop v (b ∷ s) =
     cond (eqb b stop) (some (v, s)) (cond (mayFollow v b) (numberOn stop (v * 10 + (b - 48)) s) none)
 
-unfoldable pub number : ℕ → Reader ℕ
+unfoldable pub number : ℕ → Parser ℕ
 number stop [] = none
 number stop (b ∷ s) = cond (digit b) (numberOn stop (b - 48) s) none
 
@@ -104,11 +104,11 @@ put d none = none
 put d (some p) = some (d ∷ p .0, p .1)
 
 -- digits up to the byte stop
-unfoldable pub digitsOn : ℕ → Reader (List ℕ)
+unfoldable pub digitsOn : ℕ → Parser (List ℕ)
 digitsOn stop [] = none
 digitsOn stop (b ∷ s) =
     cond (eqb b stop) (some ([], s)) (cond (digit b) (put (b - 48) (digitsOn stop s)) none)
 
-unfoldable pub digits : ℕ → Reader (List ℕ)
+unfoldable pub digits : ℕ → Parser (List ℕ)
 digits stop [] = none
 digits stop (b ∷ s) = cond (digit b) (put (b - 48) (digitsOn stop s)) none

@@ -1,7 +1,7 @@
--- Tests of marks and colours as facts, and the parts of a reason.
+-- Tests of states and colours as facts, and the parts of a reason.
 --
 --   contains-l, contains-r, has   what contains a reason contains its parts and its literals
---   open-is, wall-is, open-not-wall   tests of a mark
+--   open-is, wall-is, open-not-wall   tests of a state
 --   beq-eq, eq-beq, not-both, not-self, unlike-T   tests of two colours
 --   colour-listed       both colours are tried
 use mathlib.Core.Path.{_≡_, _∙_, refl}
@@ -12,26 +12,26 @@ use lib.Dec.{T}
 use Rattle.lists.specs.Lists.{_∈_}
 use Rattle.rules.specs.declared.Side.the-variants.{Wall, Open}
 use Rattle.rules.specs.declared.Literal.{Literal}
-use Rattle.rules.specs.Page.{Mark, undecided, decided, Has, Contains, isWall, isOpen}
+use Rattle.rules.specs.Page.{State, undecided, decided, Has, Contains, isWall, isOpen}
 
-pub contains-l : (σ : ℕ → Mark) (r q : List Literal) → Contains σ (r ++ q) → Contains σ r
+pub contains-l : (σ : ℕ → State) (r q : List Literal) → Contains σ (r ++ q) → Contains σ r
 unfolding Contains
 contains-l σ r q c l m = c l (Memᴰ·append-left q m)
 
-pub contains-r : (σ : ℕ → Mark) (r q : List Literal) → Contains σ (r ++ q) → Contains σ q
+pub contains-r : (σ : ℕ → State) (r q : List Literal) → Contains σ (r ++ q) → Contains σ q
 unfolding Contains
 contains-r σ r q c l m = c l (Memᴰ·append-right r m)
 
-pub has : (σ : ℕ → Mark) (r : List Literal) → Contains σ r → (l : Literal) → l ∈ r → Has σ l
+pub has : (σ : ℕ → State) (r : List Literal) → Contains σ r → (l : Literal) → l ∈ r → Has σ l
 unfolding Contains
 has σ r c l m = c l m
 
-pub open-is : (m : Mark) → T (isOpen m) → m ≡ decided Open
+pub open-is : (m : State) → T (isOpen m) → m ≡ decided Open
 open-is undecided t = absurd t
 open-is (decided Wall) t = absurd t
 open-is (decided Open) t = refl
 
-pub wall-is : (m : Mark) → T (isWall m) → m ≡ decided Wall
+pub wall-is : (m : State) → T (isWall m) → m ≡ decided Wall
 wall-is undecided t = absurd t
 wall-is (decided Open) t = absurd t
 wall-is (decided Wall) t = refl
@@ -46,7 +46,7 @@ pub eq-beq : (a b : Bool) → a ≡ b → T (Bool·beq a b)
 eq-beq true b e = rw (← e) tt
 eq-beq false b e = rw (← e) tt
 
-pub open-not-wall : (m : Mark) → T (isOpen m) → m ≡ decided Wall → ⊥
+pub open-not-wall : (m : State) → T (isOpen m) → m ≡ decided Wall → ⊥
 open-not-wall m t e = rw e at t
 
 pub not-both : (a b : Bool) → T (not (Bool·beq a b)) → b ≡ not a

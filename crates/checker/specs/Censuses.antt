@@ -1,11 +1,11 @@
--- Tallies: what step 1 counts of a block's cells, and that it may be counted cell by cell.
+-- Censuses: what step 1 counts of a block's cells, and that it may be counted cell by cell.
 --
 --   optionOf k          a clue as the rules have it
 --   ofColour c xs       the cells of colour c among xs
 --   ownUnit xs c        the potential unit of the first of them, 0 if there is none
 --   partOf c xs         what they are
---   tallyOf xs          what step 1 asks of the cells xs
---   nextPart, nextTally the same with one cell more
+--   censusOf xs          what step 1 asks of the cells xs
+--   nextPart, nextCensus the same with one cell more
 use mathlib.Core.Path.{_≡_, refl, sym, ap, _∙_}
 use mathlib.Core.Bool.{Bool, true, false, _||_, cond, Bool·beq}
 use mathlib.Core.List.{List, [], _∷_, _++_, append-nil}
@@ -21,7 +21,7 @@ use Rattle.rules.specs.Check.{isSome, blockClue}
 use Rattle.checker.specs.declared.Clue.{Clue}
 use Rattle.checker.specs.declared.Clue.the-variants.{Free, Is}
 use Rattle.checker.specs.declared.Part.{Part}
-use Rattle.checker.specs.declared.Tally.{Tally}
+use Rattle.checker.specs.declared.Census.{Census}
 
 abbrev pub headOf : (ℕ → ℕ) → List ℕ → ℕ
 headOf f [] = 0
@@ -48,18 +48,18 @@ abbrev pub firstClue : Clue → Clue → Clue
 firstClue Free k = k
 firstClue (Is n) k = Is n
 
--- a tally with one cell more, of colour c
-unfoldable pub nextTally : Tally → Bool → ℕ → Clue → Tally
-nextTally t true u k =
+-- a census with one cell more, of colour c
+unfoldable pub nextCensus : Census → Bool → ℕ → Clue → Census
+nextCensus t true u k =
     record { zero = t .zero; one = nextPart (t .one) u (isSome (optionOf k)); clue = firstClue (t .clue) k }
-nextTally t false u k =
+nextCensus t false u k =
     record { zero = nextPart (t .zero) u (isSome (optionOf k)); one = t .one; clue = firstClue (t .clue) k }
 
 abbrev pub noPart : Part
 noPart = record { size = 0; unit = 0; clued = false }
 
-abbrev pub noTally : Tally
-noTally = record { zero = noPart; one = noPart; clue = Free }
+abbrev pub noCensus : Census
+noCensus = record { zero = noPart; one = noPart; clue = Free }
 
 module _ (colourAt : ℕ → Bool) (clueAt : ℕ → Option ℕ) (unitAt : ℕ → ℕ) where
   unfoldable pub ofColour : Bool → List ℕ → List ℕ
@@ -75,8 +75,8 @@ module _ (colourAt : ℕ → Bool) (clueAt : ℕ → Option ℕ) (unitAt : ℕ �
   partOf c xs =
       record { size = length (ofColour c xs); unit = ownUnit xs c; clued = hasClue (ofColour c xs) }
 
-  unfoldable pub tallyOf : List ℕ → Tally
-  tallyOf xs =
+  unfoldable pub censusOf : List ℕ → Census
+  censusOf xs =
       record { zero = partOf false xs; one = partOf true xs; clue = clueIn (blockClue clueAt xs) }
 
   -- ---- laws
@@ -141,21 +141,21 @@ module _ (colourAt : ℕ → Bool) (clueAt : ℕ → Option ℕ) (unitAt : ℕ �
       go none (some k) = refl
       go (some n) k = refl
 
-  pub tally-none : tallyOf [] ≡ noTally
-  unfolding tallyOf partOf ownUnit ofColour filter blockClue firstHit hasClue any
-  tally-none = refl
+  pub census-none : censusOf [] ≡ noCensus
+  unfolding censusOf partOf ownUnit ofColour filter blockClue firstHit hasClue any
+  census-none = refl
 
   -- one cell more is counted
-  pub tally-more : (xs : List ℕ) (x : ℕ)
-      → tallyOf (snoc xs x) ≡ nextTally (tallyOf xs) (colourAt x) (unitAt x) (clueIn (clueAt x))
-  unfolding tallyOf nextTally
-  tally-more xs x = go (colourAt x) refl
+  pub census-more : (xs : List ℕ) (x : ℕ)
+      → censusOf (snoc xs x) ≡ nextCensus (censusOf xs) (colourAt x) (unitAt x) (clueIn (clueAt x))
+  unfolding censusOf nextCensus
+  census-more xs x = go (colourAt x) refl
     where
       k : isSome (clueAt x) ≡ isSome (optionOf (clueIn (clueAt x)))
       k = ap isSome (sym (option-clue (clueAt x)))
 
       go : (c : Bool) → colourAt x ≡ c
-          → tallyOf (snoc xs x) ≡ nextTally (tallyOf xs) c (unitAt x) (clueIn (clueAt x))
+          → censusOf (snoc xs x) ≡ nextCensus (censusOf xs) c (unitAt x) (clueIn (clueAt x))
       go true e = λ i. record {
         zero = part-more false xs x false (ap (λ d. Bool·beq d false) e) i;
         one = (part-more true xs x true (ap (λ d. Bool·beq d true) e) ∙ ap (nextPart (partOf true xs) (unitAt x)) k)

@@ -1,9 +1,9 @@
--- `tally_fault` meets its contract: the faults in their order.
+-- `census_fault` meets its contract: the faults in their order.
 use mathlib.Core.Path.{_∙_}
-use Rattle.checker.specs.Faults.{tallyFault}
+use Rattle.checker.specs.Faults.{censusFault}
 use borrow.Author.Needs.{needs}
-use Rattle.checker.proofs.blocks.tally_fault.Statement.{statement}
-use Rattle.checker.proofs.blocks.tally_fault.Tie as tie
+use Rattle.checker.proofs.blocks.census_fault.Statement.{statement}
+use Rattle.checker.proofs.blocks.census_fault.Tie as tie
 
 small-fault-requires : tie.Need-small-fault-requires
 small-fault-requires c κs = search needs
@@ -21,7 +21,7 @@ or-fault-requires-2 : tie.Need-or-fault-requires-2
 or-fault-requires-2 c κs = search needs
 
 returns : tie.Need-returns
-unfolding tallyFault
+unfolding censusFault
 returns c =
     c .or-fault2 .ensures
     ∙ rw (
@@ -31,8 +31,8 @@ returns c =
       c .before .before .before .before .small-fault .ensures,
     )
 
-pub tally-fault-spec : {M : Type 1} → statement M
-tally-fault-spec =
+pub census-fault-spec : {M : Type 1} → statement M
+census-fault-spec =
     tie.close
     (tie.spec
     small-fault-requires

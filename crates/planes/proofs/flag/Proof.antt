@@ -5,8 +5,8 @@ use native.Mathlib.Omega.{arith}
 use borrow.Author.Needs.{needs}
 use lib.ListN.{length-set}
 use Rattle.planes.specs.MaskLaws.{masked-more, place-in}
-use Rattle.planes.proofs.mark.Statement.{statement}
-use Rattle.planes.proofs.mark.Tie as tie
+use Rattle.planes.proofs.flag.Statement.{statement}
+use Rattle.planes.proofs.flag.Tie as tie
 
 -- the cell's row and column
 low : (s : tie.Start) → (s .args .c / s .args .w < 32) × (s .args .c % s .args .w < 32)
@@ -41,8 +41,8 @@ returns c =
           .args .c) (low s .0) (omega (arith, low s .1)) m,
     )
 
-pub mark-spec : {M : Type 1} → statement M
-mark-spec =
+pub flag-spec : {M : Type 1} → statement M
+flag-spec =
     tie.close
     (tie.spec
     div-y

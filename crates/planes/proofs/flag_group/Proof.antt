@@ -1,4 +1,4 @@
--- The loop's invariant: the cells before i are marked.
+-- The loop's invariant: the cells before i are flagged.
 use mathlib.Core.Path.{_≡_}
 use mathlib.Core.List.{List, _++_}
 use Prim.Native.Nat.{ℕ, _*_, _-_, _≤_, _<_}
@@ -10,8 +10,8 @@ use Rattle.reasons.specs.Arrays.{part}
 use Rattle.search.specs.SearchLaws.{cells-at}
 use Rattle.planes.specs.Masks.{Masked}
 use Rattle.planes.specs.MaskLaws.{group-none, group-more}
-use Rattle.planes.proofs.mark_group.Statement.{statement}
-use Rattle.planes.proofs.mark_group.Tie as tie
+use Rattle.planes.proofs.flag_group.Statement.{statement}
+use Rattle.planes.proofs.flag_group.Tie as tie
 
 abbrev Inv-loop : tie.InvT-loop
 Inv-loop h w cells from to mask₀ i₀ mask i = (from ≤ i) × (i ≤ to) × (length mask ≡ 33)
@@ -29,8 +29,8 @@ loop-holds c = (
       xs m,
 )
 
-mul-mark : tie.Need-mul-mark Inv-loop μ-loop
-mul-mark c = search needs
+mul-flag : tie.Need-mul-flag Inv-loop μ-loop
+mul-flag c = search needs
 
 -- the next cell is on the page
 cell : (c : tie.In-loop Inv-loop μ-loop)
@@ -38,14 +38,14 @@ cell : (c : tie.In-loop Inv-loop μ-loop)
     .before .args .w
 cell c = cells-at (c .before .before .pre .1) (c .before .loop .i) (c .before .loop .inv .0) (c .loop-test .taken)
 
-element-copy-out-mark : tie.Need-element-copy-out-mark Inv-loop μ-loop
-element-copy-out-mark c = omega (arith, c .before .before .pre .1 .end)
+element-copy-out-flag : tie.Need-element-copy-out-flag Inv-loop μ-loop
+element-copy-out-flag c = omega (arith, c .before .before .pre .1 .end)
 
-cast-mark : tie.Need-cast-mark Inv-loop μ-loop
-cast-mark c = omega (arith, cell (c .before), counts (c .before .before .before .pre .0) .cells)
+cast-flag : tie.Need-cast-flag Inv-loop μ-loop
+cast-flag c = omega (arith, cell (c .before), counts (c .before .before .before .pre .0) .cells)
 
-mark-requires : tie.Need-mark-requires Inv-loop μ-loop
-mark-requires c κs =
+flag-requires : tie.Need-flag-requires Inv-loop μ-loop
+flag-requires c κs =
     let i = c .before .before in
     (i .before .before .pre .0, cell i, i .before .loop .inv .2)
 
@@ -62,10 +62,10 @@ loop-again c =
     let s = l .before in (
       omega arith,
       omega arith,
-      c .mark .ensures .0,
+      c .flag .ensures .0,
       λ xs m.
           group-more (s .args .w) (s .args .cells .now) (s .args .from) xs (l .loop .i) (l .loop .inv .0)
-          (omega (arith, s .pre .1 .end, s .pre .1 .long)) (c .mark .ensures .1 _ (l .loop .inv .3 xs m)),
+          (omega (arith, s .pre .1 .end, s .pre .1 .long)) (c .flag .ensures .1 _ (l .loop .inv .3 xs m)),
     )
 
 returns : tie.Need-returns Inv-loop μ-loop
@@ -75,17 +75,17 @@ returns c =
     let e : l .loop .i ≡ s .args .to = omega (arith, c .loop-test .left, l .loop .inv .1) in
     (l .loop .inv .2, λ xs m. rw e at (l .loop .inv .3 xs m))
 
-pub mark-group-spec : {M : Type 1} → statement M
-mark-group-spec =
+pub flag-group-spec : {M : Type 1} → statement M
+flag-group-spec =
     tie.close
     (tie.spec
     Inv-loop
     μ-loop
     loop-holds
-    mul-mark
-    element-copy-out-mark
-    cast-mark
-    mark-requires
+    mul-flag
+    element-copy-out-flag
+    cast-flag
+    flag-requires
     add-i
     loop-less
     loop-again

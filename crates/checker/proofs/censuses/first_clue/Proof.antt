@@ -1,7 +1,7 @@
 -- The first clue, where there is one.
 use borrow.Author.Needs.{needs}
-use Rattle.checker.proofs.tallies.first_clue.Statement.{statement}
-use Rattle.checker.proofs.tallies.first_clue.Tie as tie
+use Rattle.checker.proofs.censuses.first_clue.Statement.{statement}
+use Rattle.checker.proofs.censuses.first_clue.Tie as tie
 
 enum-told : tie.Need-enum-told
 enum-told c = search needs

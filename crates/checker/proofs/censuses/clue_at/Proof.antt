@@ -1,8 +1,8 @@
 -- `clue_at` meets its contract: the place is read with its sign, and the two cases are those of `clueOf`.
 use mir.Facts.{toZ-ofZ}
 use Rattle.checker.specs.BlockCases.{clue-is, clue-free, clue-fits}
-use Rattle.checker.proofs.tallies.clue_at.Statement.{statement}
-use Rattle.checker.proofs.tallies.clue_at.Tie as tie
+use Rattle.checker.proofs.censuses.clue_at.Statement.{statement}
+use Rattle.checker.proofs.censuses.clue_at.Tie as tie
 
 cast-t4 : tie.Need-cast-t4
 cast-t4 c =

@@ -1,4 +1,4 @@
--- `tally` meets its contract: after each turn the parts and the first clue are those of the cells passed.
+-- `census` meets its contract: after each turn the parts and the first clue are those of the cells passed.
 use Prim.Native.Nat.{_≤_, _<_, _-_}
 use mathlib.Core.Path.{_≡_, ap, _∙_}
 use mathlib.Core.Logic.{⊎-elim}
@@ -10,47 +10,47 @@ use mir.Facts.{toZ-ofZ}
 use mir.Syntax.{w32}
 use borrow.Author.Needs.{needs, sfits-of}
 use Rattle.rules.specs.Codes.{clueOf}
-use Rattle.checker.specs.declared.Tally.{Tally}
-use Rattle.checker.specs.Tallies.{clueIn, nextPart, nextTally}
-use Rattle.checker.specs.Tallied.{tallied, tallied-none, tallied-more, tallied-size}
-use Rattle.checker.specs.BlockCases.{tally-one, tally-zero}
-use Rattle.checker.proofs.tallies.tally.Statement.{statement}
-use Rattle.checker.proofs.tallies.tally.Tie as tie
+use Rattle.checker.specs.declared.Census.{Census}
+use Rattle.checker.specs.Censuses.{clueIn, nextPart, nextCensus}
+use Rattle.checker.specs.Surveyed.{surveyed, surveyed-none, surveyed-more, surveyed-size}
+use Rattle.checker.specs.BlockCases.{census-one, census-zero}
+use Rattle.checker.proofs.censuses.census.Statement.{statement}
+use Rattle.checker.proofs.censuses.census.Tie as tie
 
 abbrev Inv-loop : tie.InvT-loop
 Inv-loop colours clues ids cells from to zero₀ one₀ first₀ i₀ zero one first i =
-    (from ≤ i) × (i ≤ to) × (record { zero = zero; one = one; clue = first } ≡ tallied colours clues ids cells from i)
+    (from ≤ i) × (i ≤ to) × (record { zero = zero; one = one; clue = first } ≡ surveyed colours clues ids cells from i)
 
 abbrev μ-loop : tie.MeasureT-loop
 μ-loop colours clues ids cells from to zero₀ one₀ first₀ i₀ zero one first i = to - i
 
 -- a listed cell is one of 1,024
-small : (c : tie.After-wide Inv-loop μ-loop) → c .wide .result < 1024
+small : (c : tie.After-index Inv-loop μ-loop) → c .index .result < 1024
 small c =
     let l = c .before .before .before .loop in
     let h = c .before .before .before .before .pre .cells (l .i) (l .inv .0) (c .before .before .loop-test .taken) in
-    omega (arith, h, c .wide .ensures)
+    omega (arith, h, c .index .ensures)
 
 loop-holds : tie.Need-loop-holds Inv-loop μ-loop
-loop-holds c = (omega arith, omega (arith, c .pre), tallied-none _ _ _ _ _)
+loop-holds c = (omega arith, omega (arith, c .pre), surveyed-none _ _ _ _ _)
 
-mul-wide : tie.Need-mul-wide Inv-loop μ-loop
-mul-wide c = search needs
+mul-index : tie.Need-mul-index Inv-loop μ-loop
+mul-index c = search needs
 
-element-copy-out-wide : tie.Need-element-copy-out-wide Inv-loop μ-loop
-element-copy-out-wide c = omega (arith, c .before .before .pre)
+element-copy-out-index : tie.Need-element-copy-out-index Inv-loop μ-loop
+element-copy-out-index c = omega (arith, c .before .before .pre)
 
-wide-requires : tie.Need-wide-requires Inv-loop μ-loop
-wide-requires c κs = tt
+index-requires : tie.Need-index-requires Inv-loop μ-loop
+index-requires c κs = tt
 
-mul-wide-2 : tie.Need-mul-wide-2 Inv-loop μ-loop
-mul-wide-2 c = omega (arith, small c)
+mul-index-2 : tie.Need-mul-index-2 Inv-loop μ-loop
+mul-index-2 c = omega (arith, small c)
 
-element-copy-out-wide-2 : tie.Need-element-copy-out-wide-2 Inv-loop μ-loop
-element-copy-out-wide-2 c = small c
+element-copy-out-index-2 : tie.Need-element-copy-out-index-2 Inv-loop μ-loop
+element-copy-out-index-2 c = small c
 
-wide-requires-2 : tie.Need-wide-requires-2 Inv-loop μ-loop
-wide-requires-2 c κs = tt
+index-requires-2 : tie.Need-index-requires-2 Inv-loop μ-loop
+index-requires-2 c κs = tt
 
 mul-clue-at : tie.Need-mul-clue-at Inv-loop μ-loop
 mul-clue-at c = omega (arith, small (c .before .before))
@@ -70,8 +70,8 @@ first-clue-requires c κs = search needs
 element-copy-out-if1 : tie.Need-element-copy-out-if1 Inv-loop μ-loop
 element-copy-out-if1 c = small (c .before .before .before .before .before .before)
 
--- where the arms meet: the tally has one cell more
-abbrev was : tie.Joined1 Inv-loop μ-loop → Tally
+-- where the arms meet: the census has one cell more
+abbrev was : tie.Joined1 Inv-loop μ-loop → Census
 was c =
     let l = c .before .before .before .before .before .before .before .before .before .before .before .loop in
     record { zero = l .zero; one = l .one; clue = l .first }
@@ -80,18 +80,18 @@ next : (c : tie.Joined1 Inv-loop μ-loop)
     → let k = c .before .before .before .before in
     let a = c .before .before .before .before .before .before .before .before .before .before .before .before .args in
     record { zero = c .if1 .zero; one = c .if1 .one; clue = c .before .before .first-clue .result }
-    ≡ nextTally (was c) (eqb (getD (a .colours .now) (k .before .before .before .before .wide .result) 0) 1)
-    (k .before .before .wide2 .result) (k .clue-at .result)
+    ≡ nextCensus (was c) (eqb (getD (a .colours .now) (k .before .before .before .before .index .result) 0) 1)
+    (k .before .before .index2 .result) (k .clue-at .result)
 next c =
     let k = c .before .before .before in
     let f = c .before .before .first-clue .ensures in
     ⊎-elim
     (λ w.
     rw (w .2, w .3)
-    (tally-one (was c) _ _ _ _ _ (w .0 .taken) (w .1 .ensures ∙ ap (nextPart _ _) (k .is-clue .ensures)) f))
+    (census-one (was c) _ _ _ _ _ (w .0 .taken) (w .1 .ensures ∙ ap (nextPart _ _) (k .is-clue .ensures)) f))
     (λ w.
     rw (w .2, w .3)
-    (tally-zero (was c) _ _ _ _ _ (w .0 .left) (w .1 .ensures ∙ ap (nextPart _ _) (k .is-clue .ensures)) f))
+    (census-zero (was c) _ _ _ _ _ (w .0 .left) (w .1 .ensures ∙ ap (nextPart _ _) (k .is-clue .ensures)) f))
     (c .if1 .came)
 
 next-part-requires : tie.Need-next-part-requires Inv-loop μ-loop
@@ -99,8 +99,8 @@ next-part-requires c κs =
     let l = c .before .before .before .before .before .before .before .before .before .before .before .loop in
     let a = c .before .before .before .before .before .before .before .before .before .before .before .before .args in
     let p = c .before .before .before .before .before .before .before .before .before .before .before .before .pre in
-    let e = ap (λ (t : Tally). t .one .size) (l .inv .2) in
-    let z = tallied-size (a .colours .now) (a .clues .now) (a .ids .now) (a .cells .now) (a .from) (l .i) in
+    let e = ap (λ (t : Census). t .one .size) (l .inv .2) in
+    let z = surveyed-size (a .colours .now) (a .clues .now) (a .ids .now) (a .cells .now) (a .from) (l .i) in
     omega (arith, e, z, p)
 
 next-part-requires-2 : tie.Need-next-part-requires-2 Inv-loop μ-loop
@@ -108,8 +108,8 @@ next-part-requires-2 c κs =
     let l = c .before .before .before .before .before .before .before .before .before .before .before .loop in
     let a = c .before .before .before .before .before .before .before .before .before .before .before .before .args in
     let p = c .before .before .before .before .before .before .before .before .before .before .before .before .pre in
-    let e = ap (λ (t : Tally). t .zero .size) (l .inv .2) in
-    let z = tallied-size (a .colours .now) (a .clues .now) (a .ids .now) (a .cells .now) (a .from) (l .i) in
+    let e = ap (λ (t : Census). t .zero .size) (l .inv .2) in
+    let z = surveyed-size (a .colours .now) (a .clues .now) (a .ids .now) (a .cells .now) (a .from) (l .i) in
     omega (arith, e, z, p)
 
 add-i : tie.Need-add-i Inv-loop μ-loop
@@ -126,36 +126,36 @@ loop-again c =
     let a = c .before .before .before .before .before .before .before .before .before .before .before .before .args in
     let p = c .before .before .before .before .before .before .before .before .before .before .before .before .pre in
     let q = c .before .before .before .before in
-    let clue = getD (a .clues .now) (q .before .before .before .before .wide .result) (pos 0) in
+    let clue = getD (a .clues .now) (q .before .before .before .before .index .result) (pos 0) in
     let g = sfits-of (q .before .clue-at-arg .given) in
     let k = ap (λ z. clueIn (clueOf z)) (toZ-ofZ {w = w32} {z = clue} g) in (
       omega arith,
       omega arith,
-      next c ∙ rw (l .inv .2, q .clue-at .ensures ∙ k, q .before .before .wide2 .ensures)
-          (tallied-more (a .colours .now) (a .clues .now) (a .ids .now) (a .cells .now) (a .from) (l .i) _ (l .inv .0)
-          (omega (arith, p .long, p .within)) (q .before .before .before .before .wide .ensures)),
+      next c ∙ rw (l .inv .2, q .clue-at .ensures ∙ k, q .before .before .index2 .ensures)
+          (surveyed-more (a .colours .now) (a .clues .now) (a .ids .now) (a .cells .now) (a .from) (l .i) _ (l .inv .0)
+          (omega (arith, p .long, p .within)) (q .before .before .before .before .index .ensures)),
     )
 
 returns : tie.Need-returns Inv-loop μ-loop
-unfolding tallied
+unfolding surveyed
 returns c =
     let a = c .before .before .args in
     let e : c .before .loop .i ≡ a .to = omega arith in
-    c .before .loop .inv .2 ∙ ap (tallied (a .colours .now) (a .clues .now) (a .ids .now) (a .cells .now) (a .from)) e
+    c .before .loop .inv .2 ∙ ap (surveyed (a .colours .now) (a .clues .now) (a .ids .now) (a .cells .now) (a .from)) e
 
-pub tally-spec : {M : Type 1} → statement M
-tally-spec =
+pub census-spec : {M : Type 1} → statement M
+census-spec =
     tie.close
     (tie.spec
     Inv-loop
     μ-loop
     loop-holds
-    mul-wide
-    element-copy-out-wide
-    wide-requires
-    mul-wide-2
-    element-copy-out-wide-2
-    wide-requires-2
+    mul-index
+    element-copy-out-index
+    index-requires
+    mul-index-2
+    element-copy-out-index-2
+    index-requires-2
     mul-clue-at
     element-copy-out-clue-at
     clue-at-requires

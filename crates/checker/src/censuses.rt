@@ -5,13 +5,13 @@ ghost use Prim.Native.Nat.{_+_, _-_, _<_};
 ghost use Rattle.rules.specs.Codes.{clueOf, coloursIn, cluesIn};
 ghost use Rattle.rules.specs.Groups.{entry};
 ghost use Rattle.rules.specs.Check.{isSome};
-ghost use Rattle.checker.specs.Tallies.{clueIn, optionOf, firstClue, nextPart, tallyOf};
+ghost use Rattle.checker.specs.Censuses.{clueIn, optionOf, firstClue, nextPart, censusOf};
 ghost use Rattle.reasons.specs.Arrays.{part};
 ghost use Rattle.checker.specs.Arrays.{Listed};
+use crate::Census;
 use crate::Clue;
 use crate::Part;
-use crate::Tally;
-use crate::wide;
+use rules::index;
 
 // The clue that a place of a board spells.
 pub fn clue_at(k: i32) -> Clue
@@ -75,16 +75,16 @@ pub fn first_clue(a: Clue, b: Clue) -> Clue
 }
 
 // What step 1 asks of the cells from..to of a list.
-pub fn tally<'a>(
+pub fn census<'a>(
     colours: &'a [u8; 1024],
     clues: &'a [i32; 1024],
     ids: &'a [u16; 1024],
     cells: &'a [u16; 1024],
     from: usize,
     to: usize,
-) -> Tally
+) -> Census
     requires { ⌜ Listed from to (now cells) ⌝ }
-    ensures { λ r. ⌜ r ≡ tallyOf (coloursIn (now (colours .entry))) (cluesIn (now (clues .entry)))
+    ensures { λ r. ⌜ r ≡ censusOf (coloursIn (now (colours .entry))) (cluesIn (now (clues .entry)))
         (entry (now (ids .entry)))
         (part (now (cells .entry)) from to) ⌝ }
 {
@@ -101,8 +101,8 @@ pub fn tally<'a>(
     let mut first = Clue::Free;
     let mut i = from;
     while i < to {
-        let c = wide(cells[i]);
-        let unit = wide(ids[c]);
+        let c = index(cells[i]);
+        let unit = index(ids[c]);
         let clue = clue_at(clues[c]);
         let clued = is_clue(clue);
         first = first_clue(first, clue);
@@ -113,7 +113,7 @@ pub fn tally<'a>(
         }
         i += 1;
     }
-    Tally {
+    Census {
         zero,
         one,
         clue: first,
