@@ -1,12 +1,23 @@
 -- The book of a list of calls: what each call answers, from the puzzle and the calls alone.
 --
---   Asked               a call with its arguments; of reason memory only the length
---   Reply               refused with a number, done, or the answer of a check
---   states ls            the borders with exactly the literals ls decided
---   reply Z ls a        what the book answers to a when its sequence is ls
---   after Z ls a        its sequence afterwards
---   sequence Z as       its sequence after the list as
---   replies Z as        its answers to the list
+--   Asked                 a call with its arguments; of reason memory only the length
+--   Reply                 refused with a number, done, or the answer of a check
+--   stateIf test m n      the state m where the test holds, otherwise n
+--   states ls             the borders with exactly the literals ls decided
+--   names ls b            the border b is in the sequence ls
+--   withLast ls l         the sequence ls with the literal l put last
+--   withoutLast ls        ls with the last literal taken off
+--   bareOr ls r           refused with 8 on the empty sequence, otherwise r
+--   decideReply Z ls l    what a decide of l answers: refused with 6 or 7, or done
+--   decideAfter Z ls l    the sequence after it
+--   replyTo Z ls n c      what the call c answers, where reason memory has n places
+--   reply Z ls a          what the book answers to a when its sequence is ls
+--   afterCall Z ls c      the sequence after the call c
+--   after Z ls a          the book's sequence after a
+--   sequenceFrom Z ls as  the sequence after the list as, where it is ls before
+--   repliesFrom Z ls as   the answers to the list as, where the sequence is ls before
+--   sequence Z as         the book's sequence after the list as
+--   replies Z as          its answers to the list
 use mathlib.Core.Bool.{Bool, true, false, cond}
 use mathlib.Core.List.{List, [], _∷_, _++_}
 use Prim.Native.Nat.{ℕ}

@@ -1,14 +1,47 @@
 -- Check: the first hit is the reason.
 --
 --   Reason              a list of literals
---   hitIf test r        the reason r where the test holds
+--   hitIf test r        the reason r where the test holds, otherwise no hit
+--   isSome o            o is a number, not none
+--   clash k l           k and l are clues that differ
+--   blockClue clue xs   the first clue among the cells xs
+--   Answer              pass with a count, or conflict with a reason
+--   insideBlock B       Inside of block B
+--   insideUnit U        Inside of unit U
+--   edgeOf P            Edge of potential unit P
+--   sizeOf P            how many cells potential unit P has
+--   coloured c xs       the cells of colour c among xs
+--   strayFrom x y       y has the colour of cell x, but another potential unit
+--   cellHit B ys x      (a) and (b) of step 1 for cell x of block B; ys are the earlier cells of B
+--   cellHits B ys xs    the first such hit at the cells xs of B; ys are the cells before them
+--   smallHit B xs c o   the hit of step 1 where the potential unit of o, B's first cell of colour c, is smaller than
+--                       B's count of the other colour; xs are the cells of B
+--   bigHit B xs n c o   the hit of step 1 where the clue n is above the size of that potential unit
+--   clueHit B xs k      the hits of step 1 for the clue k of block B
+--   blockHitOn B xs     step 1 for block B with the cells xs
 --   blockHit B          step 1 for block B
+--   wallHit x h         step 2 for cell x and one neighbour
 --   wallHits x          step 2 for cell x
+--   touches Q c h       the hop h leads from cell c to an other-coloured cell of potential unit Q, not over a wall
+--   adjacent P Q        the potential units P and Q are adjacent
 --   mates P             the potential units adjacent to P, by number
+--   ended last          a placement with every connection read: blocked by the last wall, or it fits if there is none
+--   judge last os       the placement whose connections still to be read have the borders os; `last` is the last wall
+--                       so far
 --   laid t o            the placement of the transform t with its origin at cell o
+--   isFit p             the placement p fits
+--   blockers p          the blocker of p as a wall literal, if it has one
 --   transformsOf U      the listed transforms of unit U; none for a number that no unit has
+--   placements U P      the placements of unit U in potential unit P, in order
+--   farWallsAt P c      the walls from cell c to other-coloured cells whose potential unit is not adjacent to P
+--   farWalls P          those of all cells of P
+--   unitReason U P      the reason of step 3 for unit U in potential unit P
+--   unitHitIn U P       step 3 for unit U in potential unit P
+--   unitHitOn U xs      step 3 for unit U with the cells xs
 --   unitHit U           step 3 for unit U
 --   hit Z s             the first hit of the three steps
+--   undecidedCount Z s  the count of undecided borders
+--   answerOf n o        conflict with the reason o; pass with n where o is no hit
 --   check Z s           pass with the count of undecided borders, or the reason
 use mathlib.Core.Bool.{Bool, true, false, not, _&&_, _||_, cond, Bool·beq}
 use mathlib.Core.List.{List, [], _∷_, _++_, map}

@@ -1,11 +1,12 @@
 -- Codes: the numbers that stand for states, sides, colours, clues and literals in a board, an image or reason memory.
 --
---   stateOf v            the state that a border place with the number v has
+--   stateOf v           the state that a border place with the number v has
 --   codeOf side         the number of a decided border
---   statesIn bs          the borders that an array of such numbers spells
+--   statesIn bs         the borders that an array of such numbers spells
 --   coloursIn cs        the colours that an array of numbers spells
 --   clueOf k            no clue below 0, otherwise the clue k
 --   cluesIn ks          the clues that an array of signed numbers spells
+--   sideCode side       what a literal's number adds for its side
 --   literalCode l       what reason memory holds for the literal l
 --   put m from ls       reason memory m with the literals ls written from the place `from`
 use mathlib.Core.Bool.{Bool, cond}

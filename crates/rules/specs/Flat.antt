@@ -1,11 +1,19 @@
 -- Board's numbering: the flat page of h rows and w columns.
 --
 --   Sized h w           a page's size
+--   hopIf test b c      the hop over border b to cell c where the test holds, otherwise none
 --   cellAt y x          the number of cell (y,x)
 --   rightOf y x         the border right of cell (y,x)
 --   belowOf y x         the border below cell (y,x)
 --   borderCount         how many borders there are
 --   hopAbove, hopBelow, hopLeft, hopRight   the neighbour of (y,x) there, if there is one
+--   aroundAt y x        the neighbours of (y,x) above, below, left and right
+--   aheadAt y x         its neighbours below and right
+--   flatFirst b         the cell above or left of border b
+--   flatSecond b        the cell below or right of border b
+--   flatPlace c         the place of cell c: its row and column
+--   flatReadsAt y x     the border that the doubled place (y,x) reads; none if it is off the page
+--   flatReadsIn l y x   the same with the layer l and signs; none in another layer or below 0
 --   flatReads p         the border that a doubled place reads; none if it is off the page
 --   flat h w            the page
 use mathlib.Core.Bool.{Bool, true, false, _&&_, cond}

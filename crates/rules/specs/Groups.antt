@@ -1,12 +1,17 @@
 -- Groups: blocks, units and potential units, and their numbers.
 --
---   labels G link       for each cell the first cell of its group, the borders taken in order
---   isFirst L x         x is the first cell of its group
---   numbers G link      for each cell the number of its group
---   groupCount G link   how many groups there are
---   members G number g  the cells of group g, in row order; none if no group has the number g
---   joinsPotential      the borders that join the cells of a potential unit
---   blockOf, unitOf, potentialOf            the number of a cell's block, unit, potential unit
+--   entry L x             the entry of cell x in the list L
+--   rename lo hi l        lo where l is hi, otherwise l
+--   merge test a b L      the labels L with the groups a and b made one, known by a if the test holds, else by b
+--   mergeIf test a b L    where the test holds, these two made one, known by the earlier; otherwise L
+--   mergeAll G link L bs  the same for the two cells of each of the borders bs that pass the test link, in order
+--   labels G link         for each cell the first cell of its group, the borders taken in order
+--   isFirst L x           x is the first cell of its group
+--   numbers G link        for each cell the number of its group
+--   groupCount G link     how many groups there are
+--   members G number g    the cells of group g, in row order; none if no group has the number g
+--   joinsPotential        the borders that join the cells of a potential unit
+--   blockOf, unitOf, potentialOf   the number of a cell's block, unit, potential unit
 --   blockCount, unitCount, potentialCount   how many there are
 use mathlib.Core.Bool.{Bool, true, false, not, _&&_, cond}
 use mathlib.Core.List.{List, [], _∷_, map}

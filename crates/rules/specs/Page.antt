@@ -7,7 +7,7 @@
 --   Shape          cells, and connections in doubled coordinates
 --   Page           the geometry as plain data; Flat has the flat page
 --   Puzzle         a page with its colours and its clues
---   State           what a border has: undecided, or decided with a side
+--   State          what a border has: undecided, or decided with a side
 --   Has s l        the setting s contains the literal l; l holds on the board with the borders s
 --   Contains s r   every literal of r
 --   isWall, isOpen, isUndecided   tests of a state

@@ -1,6 +1,7 @@
 -- Rules, by relations: what a solution is.
 --
 --   Joined G link c x   x is joined to c by hops over borders that pass the test link
+--   oneColour Z b       the two cells of border b have one colour
 --   joinsBlock, joinsUnit   the borders that join the cells of a block, of a unit
 --   SameBlock x y, SameUnit x y   x and y are cells of one block, of one unit
 --   UnitHas x n         the unit of x has n cells

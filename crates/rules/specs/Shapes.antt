@@ -1,13 +1,21 @@
 -- Shapes: a group's cells and connections, and the transforms of a shape.
 --
---   before p q          p stands before q, by layer, row and column
+--   lessℤ a b, sameℤ a b  tests of two coordinates: a is below b, a equals b
 --   samePoint, samePoints   tests for equal places, for equal lists of places
---   sort ps             the places in order
---   normal ps js        the shape of sorted cells, its first cell shifted to the origin
---   turned g t          the shape t turned by g
---   sameShape t u       t and u have the same cells
---   shapeOf G number g  the shape of group g
---   flatTransforms t    the listed transforms of a shape on a flat page
+--   before p q            p stands before q, by layer, row and column
+--   insert p ps           p put into the sorted places ps
+--   sort ps               the places in order
+--   shiftBy v ps          the places ps, each shifted by v
+--   normal ps js          the shape of sorted cells, its first cell shifted to the origin
+--   turned g t            the shape t turned by g
+--   sameShape t u         t and u have the same cells
+--   connectionsAt G number g c   the connections of cell c to cells of group g, below then right
+--   shapeOf G number g    the shape of group g
+--   withHalf t            the shape, and the half turn if different
+--   quarters q listed     the quarter q alone where one shape is listed, else q followed by half, then q
+--   withQuarter t listed  the listed shapes, and these if the quarter turn of t differs
+--   withFlip t listed     the listed shapes, and the flips of all of them if the flip of t is not yet listed
+--   flatTransforms t      the listed transforms of a shape on a flat page
 use mathlib.Core.Bool.{Bool, true, false, _&&_, _||_, cond}
 use mathlib.Core.List.{List, [], _∷_, _++_, map}
 use Prim.Native.Nat.{ℕ}

@@ -1,10 +1,20 @@
 -- Turns and reflections as rows of a table: for each new coordinate, which old one it is, and its sign.
 --
---   Axis, Row, Turn     a row of the table: for each new coordinate the old axis and whether its sign changes
---   apply t p           the place p turned by the row t
---   compose a b         the row that does b, then a
---   keep, half, quarter, flip   the rows that 01 names
---   flatTable           the eight rows of a flat page: signs and swaps of (y,x)
+--   Axis, Row, Turn         a row of the table: for each new coordinate the old axis and whether its sign changes
+--   coordinate a p          the coordinate of the place p along the axis a
+--   signed minus k          k with its sign changed if minus
+--   read r p                the new coordinate of p that r gives
+--   apply t p               the place p turned by the row t
+--   rowOf a t               what the row t has for the new coordinate along the axis a
+--   composeRow r t          what r gives of a place that t has turned
+--   compose a b             the row that does b, then a
+--   plus a, minus a         the old coordinate along a with its sign kept, with its sign changed
+--   flatTurn r c            the row that gives the new row by r and the new column by c, and keeps the layer
+--   keep                    the row that changes nothing
+--   half, quarter, flip     the rows that 01 names
+--   halfQuarter, flipHalf   the quarter followed by the half; the half followed by the flip
+--   flipQuarter, flipHalfQuarter   the quarter followed by the flip; the quarter followed by the half, then the flip
+--   flatTable               the eight rows of a flat page: signs and swaps of (y,x)
 use mathlib.Core.Bool.{Bool, true, false, xor}
 use mathlib.Core.List.{List, [], _∷_}
 use lib.IntN.{ℤ, negℤ}
