@@ -1,5 +1,6 @@
 -- Decimal numbers as bytes.
 --
+--   decimalIn k n       the same as decimal n, where k is any number above n
 --   decimal n           the digits of n, the largest first, without leading zeros
 use mathlib.Core.Bool.{cond}
 use mathlib.Core.List.{List, [], _∷_, _++_}

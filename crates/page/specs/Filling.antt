@@ -1,6 +1,8 @@
 -- Filling a page's arrays: digits laid one after the other, clues stored at their cells.
 --
---   Lays a ds b         what is laid after b stands as if it were laid after ds, after a
+--   Lays a ds b           what is laid after b stands as if it were laid after ds, after a
+--   Laying a ds out rest  of the digits ds, laid after a, all but those of `rest` are laid in `out`
+--   Stores w c            the bounds of a clue that was read, on a page of w columns, at most 32
 use mathlib.Core.Path.{_≡_, refl, sym, ap, _∙_}
 use mathlib.Core.List.{List, [], _∷_, _++_}
 use mathlib.Core.Option.{some}

@@ -1,11 +1,28 @@
 -- The page's grammar, 01's "Page program": what a page's bytes spell.
 --
---   Sheet               a page as written: the size, the rows of digits, the clues, the calls
---   size, row, clue     the parsers of these lines
---   call                the parser of a call's line: (decide b s), (undo) or (check)
---   sheet               the parser of the whole, from (page to the last )
---   cluesFit h w cs     each clue is on the page of h rows and w columns, and no cell is given twice
---   pageOf s            the page that the bytes s spell, if they are well formed
+--   Sheet                    a page as written: the size, the rows of digits, the clues, the calls
+--   space, bracket, newline  the bytes of a space, of `)`, of a newline
+--   pageWord                 the first line, `(page`
+--   sizeWord, rowWord, clueWord, decideWord   what these lines start with, up to the space
+--   undoWord, checkWord      the lines `(undo)` and `(check)`
+--   wallWord, openWord       how the line of a decide ends: `1)` for wall, `0)` for open
+--   endWord                  the last line, `)`
+--   size, row                the parsers of these lines
+--   clueFrom p               the clue of a row, a column and a number that were read
+--   clue                     the parser of a clue's line
+--   side                     the parser of a decide's side, to the end of its line
+--   decideFrom p             the call of a border number and a side that were read
+--   decide                   the parser of a decide's line
+--   call                     the parser of a call's line: (decide b s), (undo) or (check)
+--   close                    the parser of the last line
+--   SheetParts               the size, the rows, the clues and the calls as they are read
+--   sheetFrom p              the page of these
+--   sheet                    the parser of the whole, from (page to the last )
+--   onPage h w c             the cell of the clue c is on the page of h rows and w columns
+--   sameCell c d             the clues c and d have the same cell
+--   cluesFit h w cs          each clue is on the page of h rows and w columns, and no cell is given twice
+--   whole o                  the page that was read, if nothing stands after it and its clues fit
+--   pageOf s                 the page that the bytes s spell, if they are well formed
 use mathlib.Core.Bool.{Bool, true, not, _&&_, cond}
 use mathlib.Core.List.{List, [], _∷_}
 use mathlib.Core.Option.{Option, none, some}

@@ -3,13 +3,17 @@
 --   Verdict             refused with a number, or accepted with the page
 --   sizeFits h w        height and width are 1 to 32
 --   rowsFit h w rows    there are h rows, each of w digits
+--   low d               the digit d is 0 or 1
 --   twoColours rows     every digit is 0 or 1
 --   cluesLow most cs    no clue is above most
+--   judgeSheet p        the verdict on the well formed page p: refused with 1, 2, 3 or 11, or accepted
+--   verdict o           the verdict on what was read: refused with 10 where it is no page
 --   judge s             the verdict on the bytes s
 --   coloursOf p         the puzzle's colours, row by row
 --   clueOn z cs y x     the clue at cell (y, x); z where there is none
 --   cluesOf p           the puzzle's clues, row by row
 --   colourArray rows    the colours as an array of 1,024 places, 0 where no digit stands
+--   placed w m cs       the array m with the clues cs stored at their cells' numbers
 --   clueArray w cs      the clues as an array of 1,024 places, −1 where no clue stands; none above 32 columns
 use mathlib.Core.Bool.{Bool, _&&_, cond}
 use mathlib.Core.List.{List, [], _∷_}

@@ -1,8 +1,11 @@
 -- A page as text. `pageOf` reads exactly the texts of pages whose numbers, rows and clues fit.
 --
+--   counted n stop      the text of a number and the byte stop
+--   Count n             n is at most 2147483647
 --   showSize, showRow, showClue, showCall   the text of a line
---   showSheet p         the text of a page
+--   showSide side       the end of a decide's line, from its side on
 --   ClueFit, CallFit    the numbers of the line are at most 2147483647
+--   showSheet p         the text of a page
 --   SheetFit p          so are those of the page, and each row has digits only, and one at least
 use mathlib.Core.Path.{_≡_, refl}
 use mathlib.Core.Logic.{_⊎_, inl, inr, ⊎-elim}

@@ -2,15 +2,26 @@
 --
 --   Parser A            a function from bytes to a value of A and the bytes after it, or none
 --   rest s p            the bytes from place p on
+--   strip word s        the bytes after word, if s starts with it
+--   also o f            what f of the value read in o reads of the bytes left; none where nothing was read
+--   onto o r            what r reads of the bytes o; none where o is none
 --   done a              reads nothing: the value a
 --   lead word r         the bytes of word, then r
---   followed r word        r, then the bytes of word
---   both r q            r, then q: the pair of their values
+--   followed r word     r, then the bytes of word
 --   either r q          r, or q where r fails
+--   both r q            r, then q: the pair of their values
 --   mapR f r            r, with f of its value
+--   andOn o s k         the value read in o before what k reads of the bytes left; no value and the bytes s where
+--                       nothing was read
+--   times n r           r as often as it succeeds, n times at most: the values and the rest
 --   many r              r as often as it succeeds, up to the first failure: the values and the rest
 --   rep r q             any number of r, then q
+--   digit b             the byte b is one of 0 to 9
+--   mayFollow v b       the byte b is a digit that may stand after the number v
+--   numberOn stop v     the rest of a number that is v so far, and the byte stop after it
 --   number stop         a decimal number without leading zeros, at most 2147483647, and the byte stop after it
+--   put d o             d before the digits read in o
+--   digitsOn stop       any number of digits, and the byte stop after them: the digits' values
 --   digits stop         one digit or more, and the byte stop after them: the digits' values
 use mathlib.Core.Bool.{Bool, _&&_, cond}
 use mathlib.Core.List.{List, [], _∷_}
