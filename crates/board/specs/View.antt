@@ -2,8 +2,9 @@
 --
 --   puzzleIn h w cs ks   the puzzle of that size with the colours cs and the clues ks
 --   puzzleOf b           the puzzle of a board
---   statesOf b            its borders
+--   statesOf b           its borders
 --   sideIn v             the side that a decided border's place v stands for
+--   literalIn bs n       the border n with the side that the array bs has for it
 --   literalsOf b         its stack with the sides, oldest first
 --   replyOf o            an outcome of a decide or an undo as the book's reply
 --

@@ -1,5 +1,8 @@
 -- How many numbers below a bound pass a test, with its laws.
 -- Assumes nothing.
+--
+--   bit b               1 for true, 0 for false
+--   countBelow n f      how many numbers below n pass the test f
 use mathlib.Core.Path.{_≡_, refl, ap, ap₂, sym, _∙_}
 use mathlib.Core.Bool.{Bool, true, false, not, _||_}
 use mathlib.Core.Logic.{⊎-elim}

@@ -1,14 +1,16 @@
 -- Lists: what the definitions of crate rules are written with. Every function computes.
 --
 --   x ∈ xs              x is an element of xs
---   Distinct xs         no element stands in xs twice
+--   keep test x xs      xs with x before it where the test holds, otherwise xs
 --   filter p xs         the elements that pass the test, in order
 --   any p xs, all p xs  some element passes; every element passes
 --   orElse a b          a where it is some, otherwise b
 --   head? xs            the first element, if there is one
 --   flatMap f xs        the lists f gives, one after the other
 --   firstHit f xs       the first some that f gives
+--   rangeFrom i n       n numbers from i on, in order
 --   range n             0 to n - 1, in order
+--   Distinct xs         no element stands in xs twice
 use mathlib.Core.Bool.{Bool, true, false, _&&_, _||_}
 use mathlib.Core.List.{List, [], _∷_, _++_, List·Memᴰ}
 use mathlib.Core.Option.{Option, some, none}

@@ -1,5 +1,7 @@
 -- The list of a function's values below a bound, and a loop that stores them one by one.
 -- Assumes nothing.
+--
+--   table n f           the values of f at 0 to n - 1, in order
 use mathlib.Core.Path.{_≡_, refl, ap, sym, _∙_}
 use mathlib.Core.List.{List, [], _∷_, _++_, List·Memᴰ·not-nil, List·Memᴰ·append-cases, List·Memᴰ·eq-of-singleton}
 use mathlib.Core.Logic.{⊎-elim, _⊎_, inl, inr}
