@@ -1,12 +1,14 @@
 -- Breaches: the first wall between two cells of one block, and the reason that goes with it.
 --
---   noBreach            nothing was found
---   orBreach a b        a, or b where a found nothing
---   hopBreach x h       the breach over the hop h from cell x
---   breachOn x hops     the first breach over some hops from x
---   breachFrom f k i    the first breach at the cells from i on, of k
---   breachReason b      step 2's reason
---   breach-hits         step 2's hit is the reason of the first breach
+--   noBreach               nothing was found
+--   orBreach a b           a, or b where a found nothing
+--   isBreach x h           the border of the hop h from cell x is wall, and both its cells are in one block
+--   hopBreach x h          the breach over the hop h from cell x
+--   breachOn x hops        the first breach over some hops from x
+--   breachFrom f k i       the first breach at the cells from i on, of k
+--   firstBreach G s block  the first breach on the page
+--   breachReason b         step 2's reason
+--   breach-hits            step 2's hit is the reason of the first breach
 use mathlib.Core.Path.{_≡_, refl, sym}
 use mathlib.Core.Bool.{Bool, true, false, _&&_, cond}
 use mathlib.Core.List.{List, [], _∷_, _++_}

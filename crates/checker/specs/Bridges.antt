@@ -3,6 +3,7 @@
 --   puzzleIn h w cs ks         the puzzle that arrays of colours and clues spell
 --   groupsIn kind h w cs bs    its groups of one kind, as `groups_of` gives them
 --   numberOf kind, countOf kind   blockOf, unitOf, potentialOf, and their counts, by kind
+--   faultIn B                  the fault of block B, by these arrays
 use mathlib.Core.Path.{_≡_, refl, sym, ap, fun-ext, _∙_}
 use mathlib.Core.Bool.{Bool}
 use mathlib.Core.List.{List}

@@ -1,11 +1,17 @@
 -- Censuses: what step 1 counts of a block's cells, and that it may be counted cell by cell.
 --
+--   headOf f xs         what f gives for the first of xs, 0 if there is none
 --   optionOf k          a clue as the rules have it
+--   clueIn o            a clue of the rules as the code has it
+--   nextPart p u k      the part p with one cell more, of potential unit u; k says whether it has a clue
+--   firstClue j k       the clue j, or k where j is none
+--   nextCensus t c u k  the census t with one cell more, of colour c, potential unit u and clue k
+--   noPart, noCensus    the part and the census of no cell
 --   ofColour c xs       the cells of colour c among xs
 --   ownUnit xs c        the potential unit of the first of them, 0 if there is none
---   partOf c xs         what they are
---   censusOf xs          what step 1 asks of the cells xs
---   nextPart, nextCensus the same with one cell more
+--   hasClue xs          one of the cells xs has a clue
+--   partOf c xs         what step 1 asks of the cells of colour c among xs
+--   censusOf xs         what step 1 asks of the cells xs
 use mathlib.Core.Path.{_≡_, refl, sym, ap, _∙_}
 use mathlib.Core.Bool.{Bool, true, false, _||_, cond, Bool·beq}
 use mathlib.Core.List.{List, [], _∷_, _++_, append-nil}

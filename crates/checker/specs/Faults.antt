@@ -1,14 +1,20 @@
 -- Faults: what step 1 finds wrong with a block, by numbers alone, and the reason that goes with it.
 --
---   faultReason B f     the reason of block B with the fault f
---   orFault f g         f, or g where f is Clear
---   firstFault f xs     the first fault that f gives
---   scanFault q k u c j the fault at a cell of colour c, potential unit u and clue j
+--   orFault f g          f, or g where f is Clear
+--   isClear f            nothing is wrong
+--   firstFault f xs      the first fault that f gives
+--   scanFault q n c u k  the fault at a cell of colour c, potential unit u and clue k
+--   smallFault p o size  the fault where the potential unit of the part p, of this size, is smaller than the other part
+--                        o
+--   bigFault n p size    the fault where the clue n is above the size of the part p's potential unit
+--   clueFault k p o a b  the fault of the clue k; p and o are the two parts, a and b the sizes of their potential units
 --   censusFault t a b    the fault that a census shows; a and b are the sizes of the two potential units
---   scanOn xs           the first fault at one of the cells xs
---   faultOn xs          the fault of the cells xs
---   blockFault B        the fault of block B
---   block-fault         step 1's hit at block B is the reason of its fault
+--   cellFault q n x      the fault at cell x
+--   scanOn xs            the first fault at one of the cells xs
+--   faultOn sizeAt xs    the fault of the cells xs
+--   faultReason B f      the reason of block B with the fault f
+--   blockFault B         the fault of block B
+--   block-fault          step 1's hit at block B is the reason of its fault
 use mathlib.Core.Path.{_≡_, refl, sym, ap, _∙_}
 use mathlib.Core.Bool.{Bool, true, false, not, _&&_, _||_, cond}
 use mathlib.Core.List.{List, [], _∷_, _++_, append-nil}

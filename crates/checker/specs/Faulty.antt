@@ -1,5 +1,6 @@
 -- The first block with which something is wrong.
 --
+--   at i f              block i with the fault f
 --   faultyFrom f k i    the first number from i on, of k, at which f finds something wrong; else i + k and Clear
 --   firstFaulty f n     the same of 0 to n - 1
 --   faulty-hits         step 1's hit is the reason of the first faulty block
