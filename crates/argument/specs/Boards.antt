@@ -3,6 +3,8 @@
 --   puzzle h w colours clues   the puzzle of a page, clue −1 for none
 --   Says Z borders answer      Check answers so on that puzzle with those borders, 0 undecided, 1 wall, 2 open
 --   Lists Z borders n          its unit number 0 has n transforms
+--   pair clues                 the puzzle of 1×2 with the colours 01
+--   four                       the puzzle of 1×4 with the colours 0011, without clues
 --   Boards                     all the boards
 use mathlib.Core.Path.{_≡_, refl}
 use mathlib.Core.List.{List, [], _∷_}

@@ -2,6 +2,8 @@
 --
 --   Onto a ps qs        qs are the places ps turned by the row a and shifted
 --   Image a t u         the shape u is t turned by the row a and shifted, with its connections
+--   rotations           the rows of the table that do not flip
+--   reflections         the rows of the table that flip
 use mathlib.Core.Path.{_≡_, refl, sym, ap, _∙_, subst}
 use mathlib.Core.Logic.{_⊎_, inl, inr}
 use mathlib.Core.Bool.{Bool, true, false, _&&_, cond, xor}

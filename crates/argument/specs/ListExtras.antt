@@ -5,7 +5,7 @@
 --   count-mono, count-grows, count-inj   a count grows at each number that passes, and there only
 --   count-find          each value below a count is the count before a number that passes
 --   flat-le, flat-two   how long a flatMap is, and two of them
---   length-filter, filter-two   how long a filter is, and two that exclude each other
+--   filter-two          how long two filters are that exclude each other
 --   inject-onto         an injection into a list that is no longer meets every element
 use mathlib.Core.Path.{_≡_, refl, ap, sym, subst}
 use mathlib.Core.Logic.{_⊎_, inl, inr, ⊎-elim}

@@ -2,6 +2,8 @@
 -- of it (FlatPage, FlatList).
 --
 --   Bordered G          neighbours stay on the page, and go both ways over the border between them
+--   at3 l y x           the place with the layer l, the row y and the column x
+--   steps               the six steps to a neighbour
 --   Near p q            q is one step from p
 --   Turns ts            turns keep sums and steps, and no two places fall together
 --   Placed G            cells have different places, and a doubled place reads the border between two near cells

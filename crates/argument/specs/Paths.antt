@@ -3,7 +3,8 @@
 --   Reached a f x       x is the start, or is among the found cells f
 --   Chain, Linked       each found cell was found from a cell reached before it, over an open border
 --   Shut f y            every neighbour of y over an open border is reached
---   found-all           what the search finds is a chain, and every reached cell is shut
+--   Searched f          the found cells f are a chain, and every reached cell is shut
+--   found-all           what the search finds is so
 --   path-joins          a setting that contains Path(a, b) has a and b in one block
 use mathlib.Core.Path.{_≡_, _∙_, refl, ap, sym, subst}
 use mathlib.Core.Logic.{_⊎_, inl, inr}

@@ -2,11 +2,10 @@
 --
 --   bordersOf ls        the borders that a sequence names
 --   Clean Z ls          the sequence names borders of the page, none of them twice
+--   with-without        putting a literal last undoes taking the last literal off
 --   clean-none, clean-with, clean-without   the empty sequence is so; with a literal put last; with the last taken off
---   without-last, with-without    taking the last literal off undoes putting one last
---   states-with          what a literal put last changes
---   states-none   a border that is not named is undecided
---   states-exact         exactly the sequence's literals are decided
+--   states-with         what a literal put last changes
+--   states-exact        exactly the sequence's literals are decided
 --   undecided-left      so the undecided borders are those that the sequence leaves
 use mathlib.Core.Path.{_≡_, _∙_, refl, ap, sym, subst}
 use mathlib.Core.Logic.{_⊎_, inl, inr, _↔_}

@@ -3,9 +3,14 @@
 --
 --   sameAxis, sameRow, sameTurn   tests for equal rows
 --   hasTurn a ts        the row a is in the table ts
+--   bothAxes a b        one of the axes a and b is row, the other column
 --   signedSwap t        t keeps the layer, and keeps or swaps row and column, with any signs
+--   product ts          the row that does the rows ts one after the other, the last first
+--   makings             for each row of the table, in order, the quarter turns and flips that it is made from
 --   TableRules ts       the rules of a table: all signed swaps and nothing else, each once, closed under composition,
 --                       with inverses, and made from the quarter turn and the flip
+--   inverses a b        the rows a and b undo each other
+--   undone ts a         the table ts has a row that undoes a
 --   Swaps ts            the functions ts are the eight signed swaps, each once
 use mathlib.Core.Path.{_≡_, refl, sym, ap, _∙_, subst}
 use mathlib.Core.Logic.{_⊎_, inl, inr}
