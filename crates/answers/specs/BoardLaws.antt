@@ -1,6 +1,7 @@
 -- The board of an accepted page: making it is not refused.
 --
 --   cells-few           the cells are at most 1,024
+--   Clued most k        the clue k is −1 or more, and at most 2147483647 where most is
 --   page-board          the board that the code makes is the page's
 --   page-accepted       its puzzle is accepted
 use mathlib.Core.Path.{_≡_, refl, sym, ap}
@@ -44,7 +45,7 @@ all-get f [] i e h = absurd (omega arith)
 all-get f (x ∷ xs) zero e h = and-left (f x) (all f xs) e
 all-get f (x ∷ xs) (suc i) e h = all-get f xs i (and-right (f x) (all f xs) e) (omega arith)
 
--- a clue of a page is −1, or at most so much
+-- the bounds of a page's clue, where no clue is above most
 pub record Clued (most : ℕ) (k : ℤ) : Type 0 where
   pub least : leZ (negsuc 0) k ≡ true
   pub upto : most ≤ 2147483647 → leZ k (pos 2147483647) ≡ true

@@ -15,7 +15,7 @@
 --   left s r m          what is left to print at the run r
 --   stepsAt s g at      a number that falls with every chunk; 0 where all is printed
 --   steps s r           that number at the run r
---   memoryAt s g b at m the memory m after the chunk of the stage g
+--   memoryAt s g b at m   the memory m after the chunk of the stage g
 --   memoryNext s q n m  the memory m after a call of `next` on the run q with a buffer of n bytes
 --   Goes s t k o r m out       at the run r the chunk put into the buffer o, which is `out` then, and what is left are
 --                              the text t, the bytes beyond the chunk are as they were, and fewer than k steps are left

@@ -1,6 +1,7 @@
 -- What the page program prints for a page: the answers of the book.
 --
 --   ask c               a call, with reason memory for 16,384 literals
+--   puzzleOn p          the puzzle of an accepted page
 --   pageReplies v       the book's answers for a page with the verdict v
 --   pageText s          the output for the bytes s
 use mathlib.Core.List.{List, [], _∷_, map}

@@ -80,7 +80,7 @@ chunks-left {s} {q} {m} (over e) = ap (λ (g : Stage). leftAt s g (q .board) (q 
 chunks-left (chunk {r = r} {out = out} n p) =
     ap (λ (t : List ℕ). take (r .count) out ++ t) (chunks-left p) ∙ n .prints
 
--- "It prints `(answers`, one line a check or refused call, `)`": what is written for the bytes s, with reason memory for
--- 16,384 literals, is the text of the book's answers to the page's calls; or its refusal alone
+-- "It prints `(answers`, one line a check or refused call, `)`": what is written for the bytes s, with reason memory
+-- for 16,384 literals, is the text of the book's answers to the page's calls; or its refusal alone
 pub printed : (s m text : List ℕ) → length m ≡ 16384 → Chunks s firstRun m text → text ≡ pageText s
 printed s m text l p = chunks-left p ∙ first-left s m l

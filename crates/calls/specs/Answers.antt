@@ -10,6 +10,7 @@
 --   checkMemory b m   the memory m after it
 --   ended o           how a decide or an undo ended, as the answer of a call
 --   stepped b a       a board with an answer
+--   steppedBy r       what a decide or an undo returned, as a board with an answer
 --   callOf b c m      what the call c returns on the board b with the memory m lent
 --   callMemory b c m  the memory m after it
 use mathlib.Core.Bool.{cond}

@@ -2,6 +2,8 @@
 --
 --   Answers h w cs ks calls rs   on the board of that puzzle, each with memory for 16,384 literals, the calls answer rs
 --   small-clues, run-answers     how that follows from the book
+--   Pair ks calls rs             so they do on 1×2 with the colours 01 and the clues ks
+--   Four calls rs                so they do on 1×4 with the colours 0011, without clues
 --   SmallRuns                    the boards, and the page of 01's example
 use mathlib.Core.Path.{_≡_, refl, ap, _∙_}
 use mathlib.Core.Bool.{true}

@@ -1,5 +1,7 @@
 -- Answers as text, 01's "Page program": what the page program prints.
 --
+--   answersWord         the first line, `(answers`
+--   refusedWord, passWord, conflictWord   what these lines start with
 --   letter side         w for wall, o for open
 --   showLiteral l       a space, the border's number and the letter
 --   showReply r         the line of a call's answer; a call that is done has none

@@ -1,6 +1,6 @@
 -- Bytes written into memory, lines that grow, and their laws.
 --
---   Written m at ds e r the memory e is m with the bytes ds from `at` on, up to r, and no other byte changed
+--   Written m at ds e r   the memory e is m with the bytes ds from `at` on, up to r, and no other byte changed
 --   Longer a ds b       the line b is the line a with the bytes ds more
 --   start               the line of no bytes
 --   Holds l ds          the line l holds the bytes ds and is 0 beyond them
