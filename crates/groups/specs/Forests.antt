@@ -1,10 +1,10 @@
 -- How the array of parents stands to the labels of crate rules.
 --
---   after G link k    the labels once the first k borders are taken
---   Labelled n L      L has for each of n cells a label that is no later, and is its own label
---   Forest p          p has for each of 1,024 cells a parent that is no later
---   Rep n p L         each cell's root in the forest p is its label in L
---   Linked h w link p p represents the labels once all borders of a page are taken
+--   after G link k      the labels once the first k borders are taken
+--   Labelled n L        L has for each of n cells a label that is no later, and is its own label
+--   Forest p            p has for each of 1,024 cells a parent that is no later
+--   Rep n p L           each cell's root in the forest p is its label in L
+--   Linked h w link p   p represents the labels once all borders of a page are taken
 use mathlib.Core.Path.{_≡_}
 use mathlib.Core.Bool.{Bool}
 use mathlib.Core.List.{List}

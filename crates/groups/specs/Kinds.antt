@@ -1,10 +1,10 @@
 -- The three kinds of groups, by the borders that join their cells.
 --
---   linkOf kind Z s        the test of a border, for the puzzle Z with the borders s
---   coloured h w cs        the flat page with the colours that an array spells, and no clues
---   joinsIn kind h w cs bs the same test, for arrays of colours and borders
---   oneColourBy a b        the colours a and b are one
---   joinsBy kind v a b     the same of a border's number and its two cells' colours: what the code computes
+--   linkOf kind Z s         the test of a border, for the puzzle Z with the borders s
+--   coloured h w cs         the flat page with the colours that an array spells, and no clues
+--   joinsIn kind h w cs bs  the same test, for arrays of colours and borders
+--   oneColourBy a b         the colours a and b are one
+--   joinsBy kind v a b      the same of a border's number and its two cells' colours: what the code computes
 use mathlib.Core.Bool.{Bool, not, _&&_, Bool·beq}
 use mathlib.Core.List.{List}
 use mathlib.Core.Option.{none}

@@ -3,7 +3,7 @@
 --   leftAt h w link c       cell c is joined to the cell left of it
 --   aboveAt h w link c      cell c is joined to the cell above it
 --   flagAt flags c          flag c of a list of flags
---   Flagged n f flags        the list has 1,024 flags, and the first n are those of f
+--   Flagged n f flags       the list has 1,024 flags, and the first n are those of f
 --   Tied n w left above L   of the first n cells, any two that are joined have one label in L
 --   Scanned n w left above p cs k   of the first n cells: each has a root for parent, no two cells that are not joined
 --                           step by step have the same, and any labels that follow the parents, and do not part the

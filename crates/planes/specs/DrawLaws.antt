@@ -1,5 +1,6 @@
 -- Laws of the loop that draws the planes.
 --
+--   Line h w y               the cells and the borders of row y, and those below them, are within their arrays
 --   Drawing h w cs bs n p    the first n doubled rows are drawn in p
 use mathlib.Core.Path.{_≡_, ap, sym, _∙_}
 use mathlib.Core.Bool.{Bool, true, false, cond}

@@ -1,9 +1,10 @@
 -- Placing: what the code of a placement is measured by.
 --
---   puzzle h w cs       the page of h rows and w columns with the colours that an array spells; a placement looks
---                       at no clue
+--   puzzle h w cs       the page of h rows and w columns with the colours that an array spells; a placement looks at no
+--                       clue
 --   Drawn h w cs        the page's size is right, and the colours are 0 and 1
 --   lowered v           the coordinate that stands in an array as v: coordinates are raised by 64
+--   raised y x          the place whose coordinates stand in arrays as y and x
 --   RaisedAt ys xs i    the raised connection i is small, and one of its coordinates is odd
 --   Raised ys xs n      so are all n of them
 --   pointAt ys xs i     the connection i of a transform whose raised coordinates stand in two arrays
@@ -12,8 +13,8 @@
 --   readRaised y x      the border that a raised doubled place reads
 --   between c s f t b   what the border b between the cells f and t does to a placement, by colours c and states s
 --   readingOf Z s o     what a connection that reads o does to a placement
---   fitsOf Z s t o      the transform t fits with its origin at cell o
 --   isClear r           it neither ends the placement nor is a wall
+--   fitsOf Z s t o      the transform t fits with its origin at cell o
 use mathlib.Core.Path.{_≡_}
 use mathlib.Core.Bool.{Bool, true, false, cond, Bool·beq}
 use mathlib.Core.List.{List, [], map}

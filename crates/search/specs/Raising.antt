@@ -2,6 +2,7 @@
 --
 --   liftOf minus base a   the raised coordinate of a, its sign changed if minus, shifted by what base stands for
 --   turnOf swap r c       the row of the table: whether the coordinates change places, and the signs of the new ones
+--   pointOf y x           the connection (y,x)
 --   pointsOf down across n   the connections that two arrays of coordinates spell
 --   movedBy g v js        the connections js turned by g and shifted by v
 --   Lifts minus base k    the coordinate k, turned and shifted, stays a byte, raised

@@ -4,15 +4,17 @@
 --   spotAt R C i        the place whose row is R's entry i and whose column is C's
 --   spots R C n         the first n of these places
 --   leastImage r ps     the first in order of the places ps turned by row r
---   onto r ps           the shift that lays this first image on the first of ps
---   cellIn h w number g y x  (y,x) is a cell of the page, and of group g
+--   firstOf ps          the first of the places ps; the origin if there is none
+--   onto r ps           the shift that lays the least image on the first of ps
+--   cellIn h w number g y x   (y,x) is a cell of the page, and of group g
+--   hasCellIn h w number g l y x   the same of signed coordinates, in the layer l
 --   hasCell h w number g p   p is a cell of the page, and of group g
+--   places, joints      a group's places, and its connections, both where they stand on the page
 --   within h w number g R C n r v   the images of the places by row r, shifted by v, are cells of group g
 --   Near p              the place is on the largest page or a turn of it
 --   SpotIn R C i        the place of entry i is on the largest page
 --   Spotted R C n       n places, at least one, each on the largest page
 --   UnitAt h w ids g R C n   these are the places of group g by the list of numbers ids
---   places, joints      a group's places, and its connections, both where they stand on the page
 use mathlib.Core.Bool.{Bool, false, _&&_}
 use mathlib.Core.List.{List, [], _∷_, map}
 use mathlib.Core.Path.{_≡_}

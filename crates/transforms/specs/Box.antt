@@ -2,10 +2,11 @@
 --
 --   undone r              the row that undoes row r of the table
 --   reversed s            the row that leads back from where s leads, as the code has it
+--   corner                the first place of the box
 --   boxAt i               place i of the box: rows and columns from -33 to 32, row by row
 --   boxSize               how many places it has
 --   ofImage h w number g r p   p is a cell of the image of group g by row r: the way back leads to a cell of the group
---   cellAt h w number g r m i  place i of the box, shifted back by m, if it is a cell of the image
+--   cellAt h w number g r m i   place i of the box, shifted back by m, if it is a cell of the image
 --   sweep h w number g r m n   those of the first n places
 --   movedBack r m js      connections turned by row r, and shifted back by twice m
 use mathlib.Core.Bool.{Bool, cond}

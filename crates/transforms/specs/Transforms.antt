@@ -8,8 +8,8 @@
 --   answered o n t      an outcome, how many transforms the unit has, and the counts of one of them
 --   kthAnswer ts k      what is returned of transform k of a list
 --   kthMemory ts k m    the lent memory m after it is written
---   transformOf b u k n what asking a board for transform k of unit u returns, where n numbers of memory are lent
---   memoryAfter b u k m the lent memory m afterwards
+--   transformOf b u k n   what asking a board for transform k of unit u returns, where n numbers of memory are lent
+--   memoryAfter b u k m   the lent memory m afterwards
 --   Wrote m from ps after next   the places ps were written into m from the number `from`: `after` is the memory
 --                       afterwards, and `next` the place after the last number
 use mathlib.Core.Path.{_≡_}

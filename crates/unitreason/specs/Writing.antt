@@ -5,12 +5,14 @@
 --   Mated                each of its entries is the number of such a group
 --   flag, flagsOf xs     1 for yes, 0 for no; for each number below 1024 whether it is one of xs
 --   edgesIn gs           Edge of each of the groups gs, over the arrays
+--   farIn gs xs          the walls from the cells xs to other-coloured cells whose potential unit is not one of gs
 --   wallsIn              Edge(P), Edge of each adjacent unit, then the walls to units that are not adjacent
+--   clued h w cs k       the puzzle with the colours that an array spells, and any clues k
 --   Arranged             the arrays of the units and the potential units, and the list of P's mates
 --   blocksBy r           the blockers of the placements of the unit's image by row r of the table
 --   blocksListed l       those of its images by the listed rows
---   Asked                what a caller gives for unit U: the groups of the page
 --   Imaged               the places, the connections and the listed rows of unit U
+--   Asked                what a caller gives for unit U: the groups of the page
 use mathlib.Core.Path.{_≡_}
 use mathlib.Core.Bool.{Bool, true, false}
 use mathlib.Core.List.{List, _++_}

@@ -4,7 +4,7 @@
 --   clearAt .. y x d    the connection d, shifted by what y and x stand for, is clear
 --   cellClear .. g y x c   so are the connections of cell c of group g, below then right
 --   soonEnd first last  where the first eight of the places first to last end
---   soonIn cells offs Q the first eight cells of group Q
+--   soonIn cells offs Q   the first eight cells of group Q
 use mathlib.Core.Path.{_≡_}
 use mathlib.Core.Bool.{Bool, cond}
 use mathlib.Core.List.{List}

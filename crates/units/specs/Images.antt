@@ -1,7 +1,8 @@
 -- A unit's images as the search reads them.
 --
 --   raiseOf v           the shift back by twice v, raised by 64
---   imageJoints r ps js the connections js of the cells ps, turned by row r, and shifted back by twice the first image
+--   imageJoints r ps js   the connections js of the cells ps, turned by row r, and shifted back by twice the first
+--                       image
 --   Jointed D A k       the k connections in the memory are on the largest page
 use mathlib.Core.List.{List, map}
 use Prim.Native.Nat.{ℕ, _+_, _-_, _*_, _<_, _≤_}
