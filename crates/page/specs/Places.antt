@@ -3,6 +3,7 @@
 --   digitAt s p         the value of the digit at place p
 --   digitsIn s a e      the values of the digits from place a up to place e
 --   placeOf s r         what is left at the place r
+--   gotNumber, gotDigits, gotSize, gotRow, gotClue, gotCall   the value that was read, and what is left
 --   allFrom r s p       what r reads, one value after the other, from place p on
 --   endFrom r s p       what is left then
 --   left o              what is left after what was read
@@ -11,7 +12,6 @@
 --   sheetAt s p         the page whose parts stand at the places p
 --   formOf s r          that page, or none
 --   judgedOf s r        the number, or that page
---   gotNumber, gotDigits, gotSize, gotRow, gotClue, gotCall   the value that was read, and what is left
 use mathlib.Core.List.{List}
 use mathlib.Core.Option.{Option, none, some}
 use Prim.Native.Nat.{ℕ, _+_, _-_}

@@ -3,15 +3,15 @@
 --   On h w y x          the raised doubled place (y,x) lies on the page
 --   borderAt h w y x    the border there
 --   wallOf h w bs y x   it is a wall, by the borders bs
---   backOf h w bs .. y x n   the placement with its origin at (y,x), n connections read from the last one on: the first
---                       wall is the blocker
 --   noWalls             borders of which none is wall
 --   Survived p m h ys xs n rows   rows has the origins of the mask m at which all n connections are clear by p
---   Lain h w rows ys xs n         at the origins in rows every connection is on the page
---   placedAt .. y x     the placement with its origin at (y,x), which cannot lie there unless rows has that origin
+--   Lain h w rows ys xs n   at the origins in rows every connection is on the page
 --   Placed h w places   for each cell 32 times its row, and its column
 --   blockerOf p         the blocker of a placement, if it has one
---   blockIn .. o        that of the placement with its origin at cell o
+--   backOf h w bs .. y x n   the placement with its origin at (y,x), n connections read from the last one on: the first
+--                       wall is the blocker
+--   placedAt .. y x     the placement with its origin at (y,x), which cannot lie there unless rows has that origin
+--   blockIn .. o        the blocker of the placement with its origin at cell o, if it has one
 use mathlib.Core.Path.{_≡_}
 use mathlib.Core.Bool.{Bool, true, cond}
 use mathlib.Core.List.{List, [], _∷_}

@@ -5,9 +5,9 @@
 --   kindOf k              the kind of groups with the number k: blocks, units, potential units
 --   sideOf s              open for 0, otherwise wall
 --   groupsIn h w cs bs k  the groups of that kind, for lists of colours and borders
+--   reasonWords ..        Inside(G) (open) or Edge(G) (wall) of the group g, as literal codes
 --   Long g                the lengths of groups' lists
 --   groupWords g          groups as one list: numbers, count, cells, starts
---   reasonWords ..        Inside(G) (open) or Edge(G) (wall) of the group g, as literal codes
 --   pathWords ..          Path(a, b), as literal codes
 --   Written m ws m′ r     the words ws were written into the memory m from its start: m′ is the memory afterwards, and
 --                         r their number

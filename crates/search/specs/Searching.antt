@@ -1,11 +1,12 @@
 -- Searching: where a transform is laid, and what that gives.
 --
---   Beside              a part of the list of mates; each of its entries is a group of the page
 --   groupIn cells offs Q   the cells of group Q, by the list of cells and the places where the groups start
+--   Beside              a part of the list of mates; each of its entries is a group of the page
 --   fitsAmong t xs      the transform t fits at one of the cells xs
---   fitsBeside t gs     it fits at a cell of one of the groups
 --   blockOf t o         the blocker of the placement of t with its origin at cell o, if it has one
---   blocksAmong t xs, blocksBeside t gs   the blockers of its placements there, in order
+--   blocksAmong t xs    the blockers of its placements at the cells xs, in order
+--   fitsBeside t gs     it fits at a cell of one of the groups gs
+--   blocksBeside t gs   the blockers of its placements at the cells of these, in order
 use mathlib.Core.Bool.{Bool}
 use mathlib.Core.Path.{_≡_}
 use mathlib.Core.List.{List}

@@ -3,9 +3,9 @@
 --   jointIf b y x       the doubled place (y,x), if b
 --   Room D A k          the memory has a place k
 --   Grown D A k js D′ A′ r   the memory D and A with k places, and js written after them: r places
---   JointIn D A j       the doubled place of entry j is on the largest page, and lies between two cells
---   Joining h w number g R C D A k i   it has the k connections of the first i cells of R and C
 --   Joined h w number g D A k   the memory D and A has the k connections of group g
+--   Joining h w number g R C D A k i   it has the k connections of the first i cells of R and C
+--   JointIn D A j       the doubled place of entry j is on the largest page, and lies between two cells
 use mathlib.Core.Path.{_≡_}
 use mathlib.Core.Bool.{Bool, true, false}
 use mathlib.Core.List.{List, [], _∷_, _++_}

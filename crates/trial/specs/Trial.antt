@@ -4,8 +4,8 @@
 --                               memory; 0 if there was none
 --   checksMemory b times m      the memory m after them
 --   streamMemory b ls m         the memory m after deciding the literals ls on the board b, with a check after each
---   boardIn h w cs ks codes     the board of a puzzle with the literals of the codes decided one after another
---   made h w cs ks              the number of making that puzzle's board: 0 where it is made
+--   made h w cs ks              the number of making a puzzle's board: 0 where it is made
+--   boardIn h w cs ks codes     the board of that puzzle with the literals of the codes decided one after another
 --   trialNumber, trialMemory    both for that board; the refusal's number, and the memory as it was, where no board is
 --                               made
 --   trialStreamMemory           the memory after the stream and one more check of its last board

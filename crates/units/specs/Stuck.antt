@@ -1,10 +1,10 @@
 -- Step 3's search for a unit that does not fit.
 --
---   fitsOn U xs         a placement of unit U fits; xs are its cells
---   fitsUnit U          the same
 --   firstFrom f i n, firstFail f n   the first number from i on, from 0 on, that fails the test, among n
 --   Passed f n i        the first of n numbers that fails the test is the first from i on
 --   headOf xs           the first of some cells
+--   fitsOn U xs         a placement of unit U fits; xs are its cells
+--   fitsUnit U          the same
 --   potentialIn U       the potential unit of unit U: that of its first cell
 --   stuckHit n U        step 3's hit, where U is the first of n units that does not fit, or n
 --   Sorted              the arrays of the units and of the potential units
