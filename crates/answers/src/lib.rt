@@ -1,5 +1,6 @@
-// What the page program prints, one chunk after another. A run says how far a page's answers are printed; `next` puts
-// the next chunk into a lent buffer. The program only reads the page, calls `next` and writes what it put.
+// What the page program prints, one chunk after another, and that it is the book's text. A run says how far a page's
+// answers are printed; `next` puts the next chunk into a lent buffer. The program only reads the page, calls `next` and
+// writes what it put.
 ghost use mathlib.Core.Path.{_≡_};
 ghost use mathlib.Core.List.{List, _++_};
 ghost use Prim.Native.Nat.{ℕ, _+_, _-_, _*_, _≤_};

@@ -1,4 +1,4 @@
-// The board: its limits, making one, decide and undo, and the test for alien boards.
+// A board by value: its limits, fresh, decide, undo and the alien test; decide on a board's lent arrays.
 ghost use mathlib.Core.Path.{_≡_};
 ghost use Prim.Native.Nat.{_-_, _<_, _≤_};
 ghost use lib.ListN.{getD};

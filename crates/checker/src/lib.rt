@@ -1,4 +1,4 @@
-// Check: the three steps of 01's Check, over the arrays of a board and its groups.
+// Steps 1 and 2 of the check: what they find, and the reasons they write.
 pub mod blocks; // blocks.rt: step 1
 mod censuses; // censuses.rt: what it asks of a block's cells
 pub mod walls; // walls.rt: step 2

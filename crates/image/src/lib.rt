@@ -1,4 +1,5 @@
-// The board image: 11,076 bytes that the host lends, and the calls on them.
+// A board image made, read, tested and rewritten: the exported `dbchoco_fresh`, `dbchoco_decide`, `dbchoco_undo`,
+// `dbchoco_check` and `dbchoco_calls`.
 ghost use mathlib.Core.Path.{_≡_};
 ghost use mathlib.Core.Bool.{false};
 ghost use Prim.Native.Nat.{_*_, _<_};

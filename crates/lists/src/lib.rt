@@ -1,1 +1,1 @@
-// Lists, counting and tables, as laws in specs/. There is no code here.
+// Laws on lists, counting and tables. There is no code here.

@@ -1,4 +1,5 @@
-// Bit planes: step 3's yes or no for all origins of a row at once.
+// The borders that are clear as rows of bits: step 3's yes or no for all origins of a row at once, and the blockers of
+// a unit that fits nowhere.
 ghost use mathlib.Core.Path.{_≡_};
 ghost use mathlib.Core.List.{List, [], _∷_, _++_};
 ghost use Prim.Native.Nat.{ℕ, _+_, _-_, _*_, _/_, _%_, _<_, _≤_, _^_};

@@ -1,1 +1,1 @@
-// That the alien test is exact: which boards decides and undos can produce. There is no code here, only specs/.
+// A board is alien exactly if decides and undos cannot produce it. There is no code here.

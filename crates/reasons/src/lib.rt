@@ -1,4 +1,4 @@
-// 01's reasons: Inside, Edge and Path, written into lent reason memory.
+// Inside, Edge and Path, written into lent reason memory.
 ghost use mathlib.Core.Path.{_≡_};
 ghost use mathlib.Core.List.{[], _∷_};
 ghost use Prim.Native.Nat.{_+_, _*_, _<_, _≤_};

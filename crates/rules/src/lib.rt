@@ -1,4 +1,5 @@
-// The types that the definitions and the code share, and numbers as indices.
+// The types that the definitions and the code share, and numbers as indices; specs/ has 01's definitions of the rules,
+// the numbering, Check and the book.
 ghost use mathlib.Core.Path.{_≡_};
 
 // The side of a decided border.

@@ -1,4 +1,4 @@
-// Shapes: the eight rows of signs and swaps, a unit's shape, and its listed transforms.
+// The eight rows of signs and swaps, a unit's connections, and which rows are listed.
 ghost use mathlib.Core.Path.{_≡_};
 ghost use mathlib.Core.Bool.{true, cond};
 ghost use Prim.Native.Nat.{_+_, _-_, _*_, _<_};

@@ -1,4 +1,4 @@
-// Transforms handed back: the cells and the connections of a unit's listed transform.
+// A unit's k-th listed transform, its cells and its connections, written into lent memory.
 ghost use mathlib.Core.Path.{_≡_};
 ghost use mathlib.Core.List.{[], _∷_};
 ghost use Prim.Native.Nat.{_+_, _*_, _≤_, _<_};

@@ -1,5 +1,5 @@
-// For tests alone: the check exported over numbers and slices, so that it can be compared with the published Rust and
-// timed. A literal is its code: 2 times the border, plus 1 for wall.
+// For tests alone: the check exported, to be compared with the published Rust and timed. A literal is its code: 2 times
+// the border, plus 1 for wall.
 ghost use mathlib.Core.Path.{_≡_};
 ghost use mathlib.Core.List.{map};
 ghost use lib.ListN.{length};

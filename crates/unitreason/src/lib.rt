@@ -1,4 +1,4 @@
-// The reason of a unit that fits nowhere beside its potential unit, written into lent reason memory.
+// Step 3 of the check: the reason of a unit that fits nowhere, written into lent reason memory.
 ghost use mathlib.Core.Path.{_≡_};
 ghost use mathlib.Core.Option.{Option};
 ghost use Prim.Native.Nat.{ℕ, _+_, _≤_};
