@@ -4,8 +4,6 @@ mod censuses; // censuses.rt: what it asks of a block's cells
 pub mod walls; // walls.rt: step 2
 pub mod write; // write.rt: their reasons
 
-ghost use mathlib.Core.Path.{_≡_};
-
 // A cell's clue.
 pub enum Clue {
     Free,
