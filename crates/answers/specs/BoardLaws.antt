@@ -21,9 +21,9 @@ use Rattle.lists.specs.Tests.{and-left, and-right, all-every}
 use Rattle.rules.specs.FlatLaws.{counts}
 use Rattle.board.specs.declared.Returned.{Returned}
 use Rattle.board.specs.Alien.{sizeRight, cellsOf, coloursRight, cluesRight}
+use Rattle.board.specs.Accepted.{Accepted}
 use Rattle.board.specs.Cases.{fresh-done}
 use Rattle.board.specs.ConditionLaws.{sized, size-is, cells-of}
-use Rattle.calls.specs.Runs.{Accepted}
 use Rattle.page.specs.declared.Clue.{Clue}
 use Rattle.page.specs.Grammar.{Sheet}
 use Rattle.page.specs.Judge.{accepted, judge, low, cluesLow, coloursOf, clueOn, cluesOf}

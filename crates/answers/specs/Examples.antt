@@ -8,9 +8,9 @@ use Rattle.lists.specs.Table.{table}
 use Rattle.rules.specs.Page.{wallAt}
 use Rattle.rules.specs.Check.{pass, conflict}
 use Rattle.rules.specs.Book.{Asked, Reply, done, answered, replies}
-use Rattle.calls.specs.Runs.{Lent}
-use Rattle.calls.specs.Demand3Laws.{demand3}
-use Rattle.calls.specs.SmallRuns.{small-runs}
+use Rattle.demand3.specs.Runs.{Lent}
+use Rattle.demand3.specs.Demand3Laws.{demand3}
+use Rattle.demand3.specs.SmallRuns.{small-runs}
 use Rattle.page.specs.Decimal.{decimalIn, decimal}
 use Rattle.page.specs.Examples.{sample, samplePage, sample-accepted}
 use Rattle.page.specs.Judge.{Verdict, coloursOf, clueOn, cluesOf}

@@ -32,10 +32,10 @@ use Rattle.rules.specs.Book.{refused, answered}
 use Rattle.board.specs.declared.Board.{Board}
 use Rattle.board.specs.Alien.{cellsOf}
 use Rattle.board.specs.Board.{numberOf, zeroBoard}
+use Rattle.board.specs.Accepted.{madeBoard}
 use Rattle.calls.specs.declared.Answer.{Answer}
 use Rattle.calls.specs.declared.Answer.the-variants as answer
 use Rattle.calls.specs.Answers.{told, callOf, callMemory}
-use Rattle.calls.specs.Runs.{startOf}
 use Rattle.page.specs.Grammar.{Sheet, endWord, call}
 use Rattle.page.specs.Judge as judgement
 use Rattle.page.specs.Judge.{Verdict, judge, coloursOf, cluesOf, colourArray, clueArray}
@@ -47,13 +47,13 @@ use Rattle.answers.specs.declared.Stage.the-variants.{Begin, Refused, Ca
 use Rattle.answers.specs.declared.Run.{Run}
 
 unfoldable pub startBoard : Sheet → Board
-startBoard p = startOf (p .height) (p .width) (coloursOf p) (cluesOf p)
+startBoard p = madeBoard (p .height) (p .width) (coloursOf p) (cluesOf p)
 
 -- the arrays are cut to the page's cells
 unfoldable pub boardAt : Sheet → Board
 boardAt p =
     let n = cellsOf (p .height) (p .width) in
-    startOf (p .height) (p .width) (take n (colourArray (p .rows))) (take n (clueArray (p .width) (p .clues)))
+    madeBoard (p .height) (p .width) (take n (colourArray (p .rows))) (take n (clueArray (p .width) (p .clues)))
 
 -- "one line a check or refused call, `)`": each call is given the board and the memory that the last one returned
 unfoldable pub callsText : Board → List ℕ → List Call → List ℕ

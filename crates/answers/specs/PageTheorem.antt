@@ -13,8 +13,8 @@ use Rattle.rules.specs.Book.{Asked, Reply, refused, replies}
 use Rattle.board.specs.declared.Board.{Board}
 use Rattle.calls.specs.Answers.{told, callOf, callMemory}
 use Rattle.calls.specs.AnswerLaws.{length-call}
-use Rattle.calls.specs.Runs.{Lent, askedOf, toldBy, runFrom}
-use Rattle.calls.specs.Demand3Laws.{demand3}
+use Rattle.demand3.specs.Runs.{Lent, askedOf, toldBy, runFrom}
+use Rattle.demand3.specs.Demand3Laws.{demand3}
 use Rattle.page.specs.Grammar.{Sheet, endWord}
 use Rattle.page.specs.Judge as judgement
 use Rattle.page.specs.Judge.{Verdict, judge, coloursOf, cluesOf}

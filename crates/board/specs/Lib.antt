@@ -1,6 +1,7 @@
 pub mod ListExtras
 pub mod Alien
 pub mod Board
+pub mod Accepted
 pub mod View
 pub mod ConditionLaws
 pub mod Cases

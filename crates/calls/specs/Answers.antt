@@ -4,6 +4,7 @@
 --   literalOf v       the literal that the number v stands for in reason memory
 --   reasonIn m n      the n literals at the start of the memory m
 --   told a m          an answer as the book's reply; a reason is read from the memory m
+--   memoryAs m r      the memory m after the reply r of the book
 --   asAnswer f        what Check gives, as the answer of a call
 --   written m f       the memory m after that answer
 --   checkAnswer b n   what a check of the board b answers, where n is the length of the memory
@@ -14,15 +15,15 @@
 --   callOf b c m      what the call c returns on the board b with the memory m lent
 --   callMemory b c m  the memory m after it
 use mathlib.Core.Bool.{cond}
-use mathlib.Core.List.{List, map}
+use mathlib.Core.List.{List, _++_, map}
 use Prim.Native.Nat.{ℕ, _+_, _/_, _%_}
 use lib.Dec.{eqb, ltb}
-use lib.ListN.{length, take}
+use lib.ListN.{length, take, drop}
 use Rattle.rules.specs.declared.Side.the-variants.{Wall, Open}
 use Rattle.rules.specs.declared.Literal.{Literal}
 use Rattle.rules.specs.declared.Call.{Call}
 use Rattle.rules.specs.declared.Call.the-variants.{Decide, Undo, Check}
-use Rattle.rules.specs.Codes.{put}
+use Rattle.rules.specs.Codes.{literalCode, put}
 use Rattle.rules.specs.Check.{Answer as Found, pass, conflict, check}
 use Rattle.rules.specs.Book.{Reply, refused, done, answered}
 use Rattle.board.specs.declared.Board.{Board}
@@ -57,6 +58,13 @@ told Done m = done
 told (Pass n) m = answered (pass n)
 told (Conflict n) m = answered (conflict (reasonIn m n))
 told (Refused o) m = refused (numberOf o)
+
+-- "An answered check writes its literals from the start of the memory and nothing beyond; a pass writes none"
+abbrev pub memoryAs : List ℕ → Reply → List ℕ
+memoryAs m (refused n) = m
+memoryAs m done = m
+memoryAs m (answered (pass n)) = m
+memoryAs m (answered (conflict r)) = map literalCode r ++ drop (length r) m
 
 -- ---- check
 abbrev pub asAnswer : Found → Answer

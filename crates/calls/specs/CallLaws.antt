@@ -28,9 +28,8 @@ use Rattle.board.specs.NativeLaws.{native-has}
 use Rattle.board.specs.ViewLaws.{states-literals}
 use Rattle.board.specs.StepLaws.{decide-reply, undo-reply}
 use Rattle.calls.specs.declared.Answer.the-variants.{Done, Refused}
-use Rattle.calls.specs.Answers.{reasonIn, told, asAnswer, written, checkAnswer, checkMemory, ended, callOf}
-use Rattle.calls.specs.Answers.{callMemory}
-use Rattle.calls.specs.Runs.{memoryAs}
+use Rattle.calls.specs.Answers.{reasonIn, told, memoryAs, asAnswer, written, checkAnswer, checkMemory, ended}
+use Rattle.calls.specs.Answers.{callOf, callMemory}
 use Rattle.calls.specs.AnswerLaws.{reason-in, put-start, memory-found}
 
 -- how a decide or an undo ended

@@ -1,12 +1,6 @@
 pub mod Answers
 pub mod Known
-pub mod Runs
-pub mod Demand3
 pub mod AnswerLaws
 pub mod CallLaws
 pub mod NumberLaws
-pub mod RunLaws
-pub mod Demand3Laws
-pub mod SmallRuns
-pub mod RunWitness
 pub mod CheckLaws

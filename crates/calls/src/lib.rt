@@ -1,4 +1,4 @@
-// `check`, `call`, and the check on a board's lent arrays; specs/ has runs of calls, and demand 3.
+// `check`, `call`, and the check on a board's lent arrays.
 ghost use mathlib.Core.Path.{_≡_};
 ghost use Prim.Native.Nat.{_*_, _≤_};
 ghost use lib.ListN.{length};

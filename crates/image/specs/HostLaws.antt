@@ -12,8 +12,8 @@ use borrow.Author.Tests.{eqb-true, eqb-false}
 use lib.Dec.{eqb}
 use lib.IntN.{ℤ}
 use lib.ListN.{length, getD, take, replicate}
+use Rattle.board.specs.Accepted.{Accepted, madeBoard}
 use Rattle.board.specs.View.{puzzleIn}
-use Rattle.calls.specs.Runs.{Accepted, startOf}
 use Rattle.image.specs.Image.{imageOf, imageNumber, imageAfter}
 use Rattle.image.specs.Runs.{Sent, altering, sentNumber, sentImage, sentBytes, Got, imageRun, imageFrom}
 use Rattle.image.specs.Series.{codeCall, doneOf, imageDone}
@@ -122,9 +122,9 @@ host-heard s (c ∷ calls) =
     ∙ sym (run-append s (singles s c) (singlesFrom (hostImage s c) calls))
 
 pub host-demand : (h w : ℕ) (cs : List ℕ) (ks : List ℤ) → Accepted h w cs ks → (calls : List HostCall)
-    → HostDemand (imageOf (startOf h w cs ks)) (startOf h w cs ks) (puzzleIn h w cs ks) calls
+    → HostDemand (imageOf (madeBoard h w cs ks)) (madeBoard h w cs ks) (puzzleIn h w cs ks) calls
 host-demand h w cs ks A calls =
-    let s = imageOf (startOf h w cs ks) in
+    let s = imageOf (madeBoard h w cs ks) in
     record {
       demand = image-demand h w cs ks A (singlesFrom s calls);
       answers = host-heard s calls;

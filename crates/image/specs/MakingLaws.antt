@@ -22,11 +22,11 @@ use Rattle.lists.specs.Padded.{padded}
 use Rattle.board.specs.ListExtras.{length-padded}
 use Rattle.board.specs.declared.Returned.{Returned}
 use Rattle.board.specs.Board.{numberOf, freshBoard, freshOf, Small}
+use Rattle.board.specs.Accepted.{Accepted, madeBoard}
 use Rattle.board.specs.View.{puzzleIn}
 use Rattle.board.specs.DecideLaws.{done-returned}
 use Rattle.board.specs.FreshLaws.{Made, made-is}
-use Rattle.calls.specs.Runs.{Accepted, startOf}
-use Rattle.calls.specs.Demand3Laws.{start-bare}
+use Rattle.demand3.specs.Demand3Laws.{start-bare}
 use Rattle.image.specs.Image.{twoBytes, fourBytes, clueBytes, bitsOf, imageOf, rightLength, imageAlien}
 use Rattle.image.specs.Making.{freshNumber, freshImage}
 use Rattle.image.specs.Hosts.{HostCall, HostDemand}
@@ -143,14 +143,14 @@ module _ (h w : ℕ) (cs : List ℕ) (ks : List ℤ) (s : List ℕ) where
     number-done q = rw (eq-eqb made 0 p, long-is s q)
 
     -- what a number of 0 says of the puzzle
-    pub made-of : Made h w cs ks (startOf h w cs ks)
+    pub made-of : Made h w cs ks (madeBoard h w cs ks)
     made-of = made-is (done-returned (freshOf h w cs ks) p)
 
   pub bytes-refused : (freshNumber h w cs ks s ≡ 0 → ⊥) → freshImage h w cs ks s ≡ s
   unfolding freshImage
   bytes-refused p = rw (ne-eqb (freshNumber h w cs ks s) 0 p)
 
-  pub bytes-done : freshNumber h w cs ks s ≡ 0 → freshImage h w cs ks s ≡ imageOf (startOf h w cs ks)
+  pub bytes-done : freshNumber h w cs ks s ≡ 0 → freshImage h w cs ks s ≡ imageOf (madeBoard h w cs ks)
   unfolding freshImage
   bytes-done p = rw (eq-eqb (freshNumber h w cs ks s) 0 p)
 
@@ -177,16 +177,16 @@ module _ (h w : ℕ) (cs : List ℕ) (ks : List ℤ) (s : List ℕ) where
   )
 
   module _ (A : Accepted h w cs ks) (q : length s ≡ 11076) where
-    pub fresh-image : freshImage h w cs ks s ≡ imageOf (startOf h w cs ks)
+    pub fresh-image : freshImage h w cs ks s ≡ imageOf (madeBoard h w cs ks)
     fresh-image = bytes-done h w cs ks s (accepted-zero A q)
 
     pub fresh-known : imageAlien (freshImage h w cs ks s) ≡ false
     fresh-known =
         let b = start-bare h w cs ks A in
-        ap imageAlien fresh-image ∙ image-known (startOf h w cs ks) (record { known = b .known; typed = b .typed })
+        ap imageAlien fresh-image ∙ image-known (madeBoard h w cs ks) (record { known = b .known; typed = b .typed })
 
     pub fresh-demand : (calls : List HostCall)
-        → HostDemand (freshImage h w cs ks s) (startOf h w cs ks) (puzzleIn h w cs ks) calls
+        → HostDemand (freshImage h w cs ks s) (madeBoard h w cs ks) (puzzleIn h w cs ks) calls
     fresh-demand calls =
-        subst (λ (t : List ℕ). HostDemand t (startOf h w cs ks) (puzzleIn h w cs ks) calls) (sym fresh-image)
+        subst (λ (t : List ℕ). HostDemand t (madeBoard h w cs ks) (puzzleIn h w cs ks) calls) (sym fresh-image)
         (host-demand h w cs ks A calls)

@@ -23,12 +23,13 @@ use Rattle.board.specs.declared.Outcome.{Outcome}
 use Rattle.board.specs.declared.Outcome.the-variants.{Done, Size, Ragged, Colour, Clue}
 use Rattle.board.specs.declared.Outcome.the-variants.{Alien, Border, Taken, Bare, Short}
 use Rattle.board.specs.Board.{numberOf, decideOf, undoOf}
+use Rattle.board.specs.Accepted.{Accepted, madeBoard}
 use Rattle.board.specs.View.{puzzleIn, puzzleOf, statesOf}
 use Rattle.board.specs.StepLaws.{Kept, decide-kept, undo-kept}
 use Rattle.calls.specs.Answers.{answerNumber, written, checkAnswer, checkMemory, ended, callOf, callMemory}
 use Rattle.calls.specs.CallLaws.{reason-short}
-use Rattle.calls.specs.Runs.{Accepted, startOf, Given, givenBy, boardAfter, runFrom}
-use Rattle.calls.specs.Demand3Laws.{start-bare, demand3}
+use Rattle.demand3.specs.Runs.{Given, givenBy, boardAfter, runFrom}
+use Rattle.demand3.specs.Demand3Laws.{start-bare, demand3}
 use Rattle.image.specs.Image.{imageOf, Proper, sideOf, decideLiteral, ImageCall, decide, undo, numberBy}
 use Rattle.image.specs.Image.{boardBy, imageNumber, imageAfter, places, bytesAfter, bytesBy}
 use Rattle.image.specs.Image.{checkNumber, checkBytes}
@@ -162,12 +163,12 @@ run-image b P (c ∷ calls) =
     ap (λ (s : List ℕ). imageFrom s calls) (step-image b P c) ∙ run-image (after b c) (step-proper b P c) calls
 
 pub image-demand : (h w : ℕ) (cs : List ℕ) (ks : List ℤ) → Accepted h w cs ks → (calls : List Sent)
-    → ImageDemand (imageOf (startOf h w cs ks)) (startOf h w cs ks) (puzzleIn h w cs ks) calls
+    → ImageDemand (imageOf (madeBoard h w cs ks)) (madeBoard h w cs ks) (puzzleIn h w cs ks) calls
 image-demand h w cs ks A calls =
     let S = start-bare h w cs ks A in
-    let P : Proper (startOf h w cs ks) = record { known = S .known; typed = S .typed } in
+    let P : Proper (madeBoard h w cs ks) = record { known = S .known; typed = S .typed } in
     record {
       demand = demand3 h w cs ks A (map lentFor calls);
-      answers = run-read (startOf h w cs ks) P calls;
-      image = run-image (startOf h w cs ks) P calls;
+      answers = run-read (madeBoard h w cs ks) P calls;
+      image = run-image (madeBoard h w cs ks) P calls;
     }

@@ -20,8 +20,8 @@ use Rattle.rules.specs.declared.Call.the-variants.{Decide, Undo, Check}
 use Rattle.rules.specs.Page.{Puzzle}
 use Rattle.board.specs.declared.Board.{Board}
 use Rattle.calls.specs.Answers.{answerNumber}
-use Rattle.calls.specs.Runs.{Lent, Given, boardAfter, runFrom}
-use Rattle.calls.specs.Demand3.{Demand3}
+use Rattle.demand3.specs.Runs.{Lent, Given, boardAfter, runFrom}
+use Rattle.demand3.specs.Demand3.{Demand3}
 use Rattle.image.specs.Image.{imageOf, ImageCall, decide, undo, decideLiteral, imageNumber, imageAfter}
 use Rattle.image.specs.Image.{checkNumber, checkBytes}
 

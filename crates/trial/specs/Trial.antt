@@ -17,8 +17,8 @@ use lib.IntN.{ℤ}
 use Rattle.rules.specs.declared.Literal.{Literal}
 use Rattle.board.specs.declared.Board.{Board}
 use Rattle.board.specs.Board.{numberOf, freshOf, decideOf}
+use Rattle.board.specs.Accepted.{madeBoard, decidesOf}
 use Rattle.calls.specs.Answers.{literalOf, answerNumber, checkAnswer, checkMemory}
-use Rattle.calls.specs.Runs.{startOf, decidesOf}
 
 unfoldable pub checksNumber : Board → ℕ → ℕ → ℕ
 checksNumber b n zero = 0
@@ -37,7 +37,7 @@ module _ (h w : ℕ) (cs : List ℕ) (ks : List ℤ) where
   made = numberOf (freshOf h w cs ks .outcome)
 
   abbrev pub boardIn : List ℕ → Board
-  boardIn codes = decidesOf (startOf h w cs ks) (map literalOf codes)
+  boardIn codes = decidesOf (madeBoard h w cs ks) (map literalOf codes)
 
   unfoldable pub trialNumber : List ℕ → ℕ → ℕ → ℕ
   trialNumber codes times n = cond (eqb made 0) (checksNumber (boardIn codes) n times) made
@@ -47,4 +47,4 @@ module _ (h w : ℕ) (cs : List ℕ) (ks : List ℤ) where
 
   unfoldable pub trialStreamMemory : List ℕ → List ℕ → List ℕ
   trialStreamMemory codes m =
-      cond (eqb made 0) (checkMemory (boardIn codes) (streamMemory (startOf h w cs ks) (map literalOf codes) m)) m
+      cond (eqb made 0) (checkMemory (boardIn codes) (streamMemory (madeBoard h w cs ks) (map literalOf codes) m)) m

@@ -12,10 +12,10 @@ use Rattle.rules.specs.declared.Literal.{Literal}
 use Rattle.rules.specs.declared.Call.the-variants.{Check}
 use Rattle.board.specs.declared.Board.{Board}
 use Rattle.board.specs.Board.{decideOf}
+use Rattle.board.specs.Accepted.{madeBoard, decidesOf}
 use Rattle.calls.specs.Answers.{literalOf, answerNumber, checkAnswer, checkMemory, callOf, callMemory}
 use Rattle.calls.specs.AnswerLaws.{length-call}
 use Rattle.calls.specs.NumberLaws.{InRange, call-range}
-use Rattle.calls.specs.Runs.{startOf, decidesOf}
 use Rattle.trial.specs.Trial.{checksNumber, checksMemory, streamMemory, made, boardIn}
 use Rattle.trial.specs.Trial.{trialNumber, trialMemory, trialStreamMemory}
 
@@ -97,7 +97,7 @@ module _ (h w : ℕ) (cs : List ℕ) (ks : List ℤ) (codes : List ℕ) (times :
     unfolding trialMemory
     memory-made = rw e
 
-    pub stream-made : checkMemory (boardIn h w cs ks codes) (streamMemory (startOf h w cs ks) (map literalOf codes) m)
+    pub stream-made : checkMemory (boardIn h w cs ks codes) (streamMemory (madeBoard h w cs ks) (map literalOf codes) m)
         ≡ trialStreamMemory h w cs ks codes m
     unfolding trialStreamMemory
     stream-made = rw e

@@ -7,8 +7,8 @@ use borrow.Author.Needs.{needs}
 use lib.ListN.{length, drop}
 use Rattle.board.specs.declared.Board.{Board}
 use Rattle.board.specs.Alien.{boardOf}
+use Rattle.board.specs.Accepted.{decidesOf}
 use Rattle.calls.specs.Answers.{literalOf}
-use Rattle.calls.specs.Runs.{decidesOf}
 use Rattle.trial.specs.TrialLaws.{decides-more, decides-none}
 use Rattle.trial.proofs.decided.Statement.{statement}
 use Rattle.trial.proofs.decided.Tie as tie

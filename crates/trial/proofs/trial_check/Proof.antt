@@ -7,8 +7,8 @@ use lib.ListN.{length}
 use Rattle.board.specs.declared.Board.{Board}
 use Rattle.board.specs.declared.Returned.{Returned}
 use Rattle.board.specs.Board.{numberOf}
+use Rattle.board.specs.Accepted.{decidesOf}
 use Rattle.calls.specs.Answers.{literalOf}
-use Rattle.calls.specs.Runs.{decidesOf}
 use Rattle.trial.specs.Trial.{checksNumber, checksMemory, made, boardIn}
 use Rattle.trial.specs.TrialLaws.{number-refused, memory-refused, number-made, memory-made}
 use Rattle.trial.proofs.trial_check.Statement.{statement}

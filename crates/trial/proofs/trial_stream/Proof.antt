@@ -8,8 +8,8 @@ use lib.ListN.{length}
 use Rattle.board.specs.declared.Board.{Board}
 use Rattle.board.specs.declared.Returned.{Returned}
 use Rattle.board.specs.Board.{numberOf}
+use Rattle.board.specs.Accepted.{madeBoard, decidesOf}
 use Rattle.calls.specs.Answers.{literalOf, answerNumber, checkAnswer, checkMemory}
-use Rattle.calls.specs.Runs.{startOf, decidesOf}
 use Rattle.trial.specs.Trial.{streamMemory, made, boardIn}
 use Rattle.trial.specs.TrialLaws.{number-refused, stream-refused, number-made, stream-made, number-more}
 use Rattle.trial.specs.TrialLaws.{stream-length}
@@ -56,7 +56,7 @@ returns-2 c =
     let ls = map literalOf (a .codes .now) in
     let d : _ ≡ boardIn (a .h) (a .w) (a .colours .now) (a .clues .now) (a .codes .now) =
     s .streamed .ensures .0 ∙ ap (λ (r : Returned). decidesOf (r .board) ls) (r .before .fresh .ensures) in
-    let t : _ ≡ streamMemory (startOf (a .h) (a .w) (a .colours .now) (a .clues .now)) ls m =
+    let t : _ ≡ streamMemory (madeBoard (a .h) (a .w) (a .colours .now) (a .clues .now)) ls m =
     s .streamed .ensures .1 ∙ ap (λ (r : Returned). streamMemory (r .board) ls m) (r .before .fresh .ensures) in
     let n : _ ≡ length m = ap length t ∙ stream-length _ ls m in
     let e = c .before .before .check-once .ensures in (

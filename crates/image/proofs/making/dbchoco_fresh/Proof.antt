@@ -6,7 +6,7 @@ use Rattle.rules.specs.FlatLaws.{counts}
 use Rattle.board.specs.Board.{freshOf, numberOf}
 use Rattle.board.specs.FreshLaws.{Made}
 use Rattle.board.specs.declared.Returned.{Returned}
-use Rattle.calls.specs.Runs.{startOf}
+use Rattle.board.specs.Accepted.{madeBoard}
 use Rattle.image.specs.Image.{imageOf}
 use Rattle.image.specs.MakingLaws.{number-refused, number-other, number-done, made-of, bytes-refused, bytes-done}
 use Rattle.image.proofs.making.dbchoco_fresh.Statement.{statement}
@@ -22,7 +22,7 @@ here c = c .number .ensures ∙ ap (λ (r : Returned). numberOf (r .outcome)) (c
 puzzle : (c : tie.After-number) → c .number .result ≡ 0
     → let a = c .before .before .before .before .args in
     Made (a .height) (a .width) (a .colours .now) (a .clues .now)
-    (startOf (a .height) (a .width) (a .colours .now) (a .clues .now))
+    (madeBoard (a .height) (a .width) (a .colours .now) (a .clues .now))
 puzzle c e = let a = c .before .before .before .before .args in made-of _ _ _ _ (a .image .now) (sym (here c) ∙ e)
 
 fresh-requires : tie.Need-fresh-requires

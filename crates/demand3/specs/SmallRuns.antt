@@ -36,9 +36,10 @@ use Rattle.rules.specs.Book.{decideAfter, replyTo, afterCall, repliesFrom, repl
 use Rattle.board.specs.declared.Outcome.the-variants.{Done}
 use Rattle.board.specs.Alien.{sizeRight, coloursRight, cluesRight}
 use Rattle.board.specs.Board.{freshOf, Small}
+use Rattle.board.specs.Accepted.{madeBoard}
 use Rattle.board.specs.View.{puzzleIn}
-use Rattle.calls.specs.Runs.{startOf, Lent, askedOf, toldBy, runFrom}
-use Rattle.calls.specs.Demand3Laws.{demand3}
+use Rattle.demand3.specs.Runs.{Lent, askedOf, toldBy, runFrom}
+use Rattle.demand3.specs.Demand3Laws.{demand3}
 
 abbrev lend : List ℕ → Call → Lent
 lend m c = record { call = c; memory = m }
@@ -48,7 +49,7 @@ ask n c = record { call = c; places = n }
 
 pub record Answers (h w : ℕ) (cs : List ℕ) (ks : List ℤ) (calls : List Call) (rs : List Reply) : Type 0 where
   pub answers : (m : List ℕ) → length m ≡ 16384
-      → map toldBy (runFrom (startOf h w cs ks) (map (lend m) calls)) ≡ rs
+      → map toldBy (runFrom (madeBoard h w cs ks) (map (lend m) calls)) ≡ rs
 
 asked-lent : (m : List ℕ) (calls : List Call) → map askedOf (map (lend m) calls) ≡ map (ask (length m)) calls
 asked-lent m [] = refl

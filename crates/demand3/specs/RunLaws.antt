@@ -31,16 +31,17 @@ use Rattle.board.specs.declared.Outcome.the-variants.{Done, Border, Taken}
 use Rattle.board.specs.declared.Returned.{Returned}
 use Rattle.board.specs.Alien.{isAlien}
 use Rattle.board.specs.Board.{returned, pushed, decideOf, undoOf, Typed}
+use Rattle.board.specs.Accepted.{decidesOf}
 use Rattle.board.specs.View.{puzzleIn, puzzleOf, literalsOf}
 use Rattle.board.specs.Cases.{decide-done, undo-bare}
 use Rattle.board.specs.NativeLaws.{native-has}
 use Rattle.board.specs.DecideLaws.{decide-keeps, decided-typed, undo-decide}
 use Rattle.board.specs.ViewLaws.{decided-puzzle, literals-length, names-decided}
 use Rattle.board.specs.LiteralLaws.{literals-decided}
-use Rattle.calls.specs.Answers.{callOf}
-use Rattle.calls.specs.Runs.{Lent, askedOf, Given, givenBy, toldBy, boardAfter, runFrom, decidesOf, memoryAs}
-use Rattle.calls.specs.Runs.{memories}
+use Rattle.calls.specs.Answers.{memoryAs, callOf}
+use Rattle.demand3.specs.Runs.{Lent, askedOf, Given, givenBy, toldBy, boardAfter, runFrom}
+use Rattle.demand3.specs.Runs.{memories}
 use Rattle.calls.specs.CallLaws.{call-told, call-written}
 
 pub data Built (start : Board) : List Literal → Board → Type 0 where
   none : Built start [] start

@@ -23,9 +23,10 @@ use Rattle.rules.specs.Book.{answered, states, sequence, replies}
 use Rattle.argument.specs.Demand.{Full, SameSides, Passes}
 use Rattle.board.specs.declared.Board.{Board}
 use Rattle.board.specs.Alien.{isAlien}
+use Rattle.board.specs.Accepted.{decidesOf}
 use Rattle.board.specs.View.{puzzleOf, statesOf, literalsOf}
-use Rattle.calls.specs.Runs.{Lent, askedOf, Given, givenBy, toldBy, boardAfter, runFrom, decidesOf}
-use Rattle.calls.specs.Runs.{memories}
+use Rattle.demand3.specs.Runs.{Lent, askedOf, Given, givenBy, toldBy, boardAfter, runFrom}
+use Rattle.demand3.specs.Runs.{memories}
 
 pub record Standing (start : Board) (Z : Puzzle) (ls : List Literal) (b : Board) : Type 0 where
   -- its stack with the sides, oldest first

@@ -20,11 +20,12 @@ use Rattle.argument.specs.Witness.{open-solves, wall-fails}
 use Rattle.board.specs.declared.Board.{Board}
 use Rattle.board.specs.Alien.{sizeRight, coloursRight, cluesRight}
 use Rattle.board.specs.Board.{freshOf}
+use Rattle.board.specs.Accepted.{Accepted, madeBoard}
 use Rattle.board.specs.View.{puzzleIn}
-use Rattle.calls.specs.Runs.{Accepted, startOf, Lent}
-use Rattle.calls.specs.Demand3.{RuledOut, StoodAt}
-use Rattle.calls.specs.Demand3Laws.{stood-run, start-bare, start-puzzle, demand3}
-use Rattle.calls.specs.SmallRuns.{small-clues}
+use Rattle.demand3.specs.Runs.{Lent}
+use Rattle.demand3.specs.Demand3.{RuledOut, StoodAt}
+use Rattle.demand3.specs.Demand3Laws.{stood-run, start-bare, start-puzzle, demand3}
+use Rattle.demand3.specs.SmallRuns.{small-clues}
 
 -- 1×2, 01, the clue 1 at (0,0)
 abbrev cs : List ℕ
@@ -34,7 +35,7 @@ abbrev ks : List ℤ
 ks = pos 1 ∷ negsuc 0 ∷ []
 
 abbrev pub start : Board
-start = startOf 1 2 cs ks
+start = madeBoard 1 2 cs ks
 
 accepted : Accepted 1 2 cs ks
 unfolding all freshOf sizeRight coloursRight cluesRight allBelow

@@ -23,14 +23,15 @@ use Rattle.argument.specs.FlatDemand.{flat-demand}
 use Rattle.board.specs.declared.Board.{Board}
 use Rattle.board.specs.declared.Outcome.{Outcome}
 use Rattle.board.specs.Board.{returned}
+use Rattle.board.specs.Accepted.{Accepted, madeBoard}
 use Rattle.board.specs.View.{puzzleIn, puzzleOf, statesOf, literalsOf}
 use Rattle.board.specs.NativeLaws.{native-has}
 use Rattle.board.specs.FreshLaws.{Made, made-is, made-keeps, made-typed}
 use Rattle.board.specs.ViewLaws.{fresh-puzzle, literals-fresh, states-literals}
-use Rattle.calls.specs.Runs.{Accepted, startOf, Lent, askedOf, givenBy, toldBy, boardAfter}
-use Rattle.calls.specs.Demand3.{Standing, Answered, RuledOut, StoodAt, Demand3}
-use Rattle.calls.specs.RunLaws.{Built, none, Facts, Bare, built-facts, built-after, step-told, run-told}
-use Rattle.calls.specs.RunLaws.{run-written}
+use Rattle.demand3.specs.Runs.{Lent, askedOf, givenBy, toldBy, boardAfter}
+use Rattle.demand3.specs.Demand3.{Standing, Answered, RuledOut, StoodAt, Demand3}
+use Rattle.demand3.specs.RunLaws.{Built, none, Facts, Bare, built-facts, built-after, step-told, run-told}
+use Rattle.demand3.specs.RunLaws.{run-written}
 
 -- a list of calls, split where the book's list is
 record Split (calls : List Lent) (earlier : List Asked) (a : Asked) : Type 0 where
@@ -241,10 +242,10 @@ module _ (start : Board) (S : Bare start) (D : (asked : List Asked) → BookDema
 
 -- ---- an accepted puzzle
 module _ (h w : ℕ) (cs : List ℕ) (ks : List ℤ) (A : Accepted h w cs ks) where
-  pub accepted-made : Made h w cs ks (startOf h w cs ks)
-  accepted-made = made-is (ap (λ (o : Outcome). returned o (startOf h w cs ks)) (A .made))
+  pub accepted-made : Made h w cs ks (madeBoard h w cs ks)
+  accepted-made = made-is (ap (λ (o : Outcome). returned o (madeBoard h w cs ks)) (A .made))
 
-  pub start-bare : Bare (startOf h w cs ks)
+  pub start-bare : Bare (madeBoard h w cs ks)
   start-bare =
       record {
         known = made-keeps accepted-made;
@@ -252,15 +253,15 @@ module _ (h w : ℕ) (cs : List ℕ) (ks : List ℤ) (A : Accepted h w cs ks) wh
         empty = ap literalsOf (accepted-made .is) ∙ literals-fresh h w cs ks;
       }
 
-  pub start-puzzle : puzzleOf (startOf h w cs ks) ≡ puzzleIn h w cs ks
+  pub start-puzzle : puzzleOf (madeBoard h w cs ks) ≡ puzzleIn h w cs ks
   start-puzzle = ap puzzleOf (accepted-made .is) ∙ fresh-puzzle h w cs ks
 
   book-holds : (asked : List Asked) → BookDemand (puzzleIn h w cs ks) asked
   unfolding puzzleIn
   book-holds = let s = accepted-made .size in flat-demand h w (omega arith) (coloursIn cs) (cluesIn ks)
 
-  pub demand3 : (calls : List Lent) → Demand3 (startOf h w cs ks) (puzzleIn h w cs ks) calls
+  pub demand3 : (calls : List Lent) → Demand3 (madeBoard h w cs ks) (puzzleIn h w cs ks) calls
   demand3 calls =
-      subst (λ Z. Demand3 (startOf h w cs ks) Z calls) start-puzzle
-      (from-book (startOf h w cs ks) start-bare
+      subst (λ Z. Demand3 (madeBoard h w cs ks) Z calls) start-puzzle
+      (from-book (madeBoard h w cs ks) start-bare
       (λ asked. subst (λ Z. BookDemand Z asked) (sym start-puzzle) (book-holds asked)) calls)
