@@ -1,7 +1,7 @@
 // The page program: a page on standard input, its answers on standard output. It reads the whole page, and then writes
-// chunk after chunk as crate answers puts them.
+// chunk after chunk as crate transcript puts them.
 //
-// What the chunks are together is proved in crate answers (specs/PageTheorem, `printed`). Here it is proved that the
+// What the chunks are together is proved in crate transcript (specs/PageTheorem, `printed`). Here it is proved that the
 // program is safe, keeps to fixed memory, has room for one byte more than a page has and for 16,384 literals, and ends.
 // To be read, and tested: that `answer` begins with `first()`, calls `next` on what the last call left, and writes each
 // chunk once. Assumed, since nothing proves C: that `read` and `write` do what POSIX says of them, each returns, and
@@ -49,9 +49,9 @@ fn read_page(page: &mut [u8]) -> Input
 fn answer(s: &[u8], memory: &mut [u16], out: &mut [u8]) -> bool
     requires { ⌜ (32 ≤ length (now out)) × (length (now memory) ≡ 16384) ⌝ }
 {
-    let mut run = answers::first();
-    while answers::goes_on(run) {
-        run = answers::next(s, run, memory, out);
+    let mut run = transcript::first();
+    while transcript::goes_on(run) {
+        run = transcript::next(s, run, memory, out);
         let n = run.count;
         if !io::write_all(STDOUT_FILENO, &out[..n]) {
             return false;

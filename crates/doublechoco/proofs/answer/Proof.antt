@@ -4,7 +4,7 @@ use mathlib.Core.Path.{_≡_, sym, _∙_}
 use Prim.Native.Nat.{_≤_}
 use borrow.Author.Needs.{needs}
 use lib.ListN.{length}
-use Rattle.answers.specs.Left.{steps}
+use Rattle.transcript.specs.Left.{steps}
 use Rattle.doublechoco.proofs.answer.Statement.{statement}
 use Rattle.doublechoco.proofs.answer.Tie as tie
 

@@ -1,6 +1,6 @@
-// What the page program prints, one chunk after another, and that it is the book's text. A run says how far a page's
-// answers are printed; `next` puts the next chunk into a lent buffer. The program only reads the page, calls `next` and
-// writes what it put.
+// The output of the page program, chunk by chunk, and that it is the book's text. A run says how far a page's answers
+// are printed; `next` puts the next chunk into a lent buffer. The program only reads the page, calls `next` and writes
+// what it put.
 ghost use mathlib.Core.Path.{_≡_};
 ghost use mathlib.Core.List.{List, _++_};
 ghost use Prim.Native.Nat.{ℕ, _+_, _-_, _*_, _≤_};
@@ -12,8 +12,8 @@ ghost use Rattle.print.specs.Lines.{Holds};
 ghost use Rattle.page.specs.Grammar.{endWord, call};
 ghost use Rattle.page.specs.Judge.{judge};
 ghost use Rattle.page.specs.Places.{sheetAt, allFrom};
-ghost use Rattle.answers.specs.Left.{firstRun, goesOn, boardAt, verdictText, linesFrom, literalsText};
-ghost use Rattle.answers.specs.Left.{lineOf, stageOf, firstMemory, Goes, Next};
+ghost use Rattle.transcript.specs.Left.{firstRun, goesOn, boardAt, verdictText, linesFrom, literalsText};
+ghost use Rattle.transcript.specs.Left.{lineOf, stageOf, firstMemory, Goes, Next};
 use board::Board;
 use board::Outcome;
 use calls::Answer;

@@ -6,11 +6,11 @@ use native.Mathlib.Omega.{arith}
 use Rattle.page.specs.Places.{judgedOf}
 use Rattle.page.specs.ParserLaws.{told}
 use Rattle.print.specs.Answers.{answersWord}
-use Rattle.answers.specs.Left.{leftAt, stepsAt}
-use Rattle.answers.specs.LeftLaws.{put-goes, refused-left, accepted-left}
+use Rattle.transcript.specs.Left.{leftAt, stepsAt}
+use Rattle.transcript.specs.LeftLaws.{put-goes, refused-left, accepted-left}
 use borrow.Author.Needs.{needs}
-use Rattle.answers.proofs.begin.Statement.{statement}
-use Rattle.answers.proofs.begin.Tie as tie
+use Rattle.transcript.proofs.begin.Statement.{statement}
+use Rattle.transcript.proofs.begin.Tie as tie
 
 answers-line-requires : tie.Need-answers-line-requires
 answers-line-requires c κs = search needs

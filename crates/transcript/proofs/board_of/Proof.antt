@@ -4,11 +4,11 @@ use Rattle.board.specs.declared.Returned.{Returned}
 use Rattle.page.specs.Places.{sheetAt}
 -- `board_of` meets its contract: the arrays are cut to the page's cells.
 use native.Mathlib.Omega.{arith}
-use Rattle.answers.specs.Left.{boardAt}
-use Rattle.answers.specs.BoardLaws.{cells-few}
+use Rattle.transcript.specs.Left.{boardAt}
+use Rattle.transcript.specs.BoardLaws.{cells-few}
 use borrow.Author.Needs.{needs}
-use Rattle.answers.proofs.board_of.Statement.{statement}
-use Rattle.answers.proofs.board_of.Tie as tie
+use Rattle.transcript.proofs.board_of.Statement.{statement}
+use Rattle.transcript.proofs.board_of.Tie as tie
 
 cell-count-requires : tie.Need-cell-count-requires
 cell-count-requires c κs = search needs

@@ -3,10 +3,10 @@ use mathlib.Core.Path.{sym, ap}
 use mathlib.Core.List.{[]}
 use native.Mathlib.Omega.{arith}
 use Rattle.print.specs.Lines.{Holds, start, written-none, holds-as}
-use Rattle.answers.specs.Left.{lineOf}
+use Rattle.transcript.specs.Left.{lineOf}
 use borrow.Author.Needs.{needs}
-use Rattle.answers.proofs.line_of.Statement.{statement}
-use Rattle.answers.proofs.line_of.Tie as tie
+use Rattle.transcript.proofs.line_of.Statement.{statement}
+use Rattle.transcript.proofs.line_of.Tie as tie
 
 enum-told : tie.Need-enum-told
 enum-told c = search needs

@@ -1,9 +1,9 @@
--- What the page program prints for a page: the answers of the book.
+-- Transcript: what the page program prints for a page, the answers of the book.
 --
 --   ask c               a call, with reason memory for 16,384 literals
 --   puzzleOn p          the puzzle of an accepted page
 --   pageReplies v       the book's answers for a page with the verdict v
---   pageText s          the output for the bytes s
+--   transcript s        the output for the bytes s
 use mathlib.Core.List.{List, [], _∷_, map}
 use Prim.Native.Nat.{ℕ}
 use Rattle.rules.specs.declared.Call.{Call}
@@ -27,5 +27,5 @@ pageReplies (judgement.refused n) = refused n ∷ []
 pageReplies (judgement.accepted p) = replies (puzzleOn p) (map ask (p .calls))
 
 -- "It prints `(answers`, one line a check or refused call, `)`"
-unfoldable pub pageText : List ℕ → List ℕ
-pageText s = showAnswers (pageReplies (judge s))
+unfoldable pub transcript : List ℕ → List ℕ
+transcript s = showAnswers (pageReplies (judge s))

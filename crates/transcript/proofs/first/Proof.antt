@@ -1,10 +1,10 @@
 -- `first` meets its contract: its board is the all-zero one.
 use mathlib.Core.Path.{ap}
 use Rattle.board.specs.declared.Board.{Board}
-use Rattle.answers.specs.declared.Stage.the-variants.{Begin}
+use Rattle.transcript.specs.declared.Stage.the-variants.{Begin}
 use borrow.Author.Needs.{needs}
-use Rattle.answers.proofs.first.Statement.{statement}
-use Rattle.answers.proofs.first.Tie as tie
+use Rattle.transcript.proofs.first.Statement.{statement}
+use Rattle.transcript.proofs.first.Tie as tie
 
 zero-requires : tie.Need-zero-requires
 zero-requires c κs = search needs

@@ -1,12 +1,12 @@
 -- `next` meets its contract, stage by stage.
 use mathlib.Core.Path.{refl}
 use native.Mathlib.Omega.{arith}
-use Rattle.answers.specs.Left.{leftAt, stepsAt, memoryAt}
-use Rattle.answers.specs.declared.Stage.the-variants.{Begin, Refused, Calls, Reason, Last}
-use Rattle.answers.specs.LeftLaws.{put-goes, next-goes, next-short, next-over}
+use Rattle.transcript.specs.Left.{leftAt, stepsAt, memoryAt}
+use Rattle.transcript.specs.declared.Stage.the-variants.{Begin, Refused, Calls, Reason, Last}
+use Rattle.transcript.specs.LeftLaws.{put-goes, next-goes, next-short, next-over}
 use borrow.Author.Needs.{needs}
-use Rattle.answers.proofs.next.Statement.{statement}
-use Rattle.answers.proofs.next.Tie as tie
+use Rattle.transcript.proofs.next.Statement.{statement}
+use Rattle.transcript.proofs.next.Tie as tie
 
 returns : tie.Need-returns
 returns c = next-short _ _ _ _ (search needs)

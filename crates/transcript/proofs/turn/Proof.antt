@@ -1,10 +1,10 @@
 -- `turn` meets its contract: no call is left, or the call's line begins.
 use Rattle.page.specs.Places.{gotCall}
 use Rattle.page.specs.ParserLaws.{told}
-use Rattle.answers.specs.LeftLaws.{turn-end, turn-goes}
+use Rattle.transcript.specs.LeftLaws.{turn-end, turn-goes}
 use borrow.Author.Needs.{needs}
-use Rattle.answers.proofs.turn.Statement.{statement}
-use Rattle.answers.proofs.turn.Tie as tie
+use Rattle.transcript.proofs.turn.Statement.{statement}
+use Rattle.transcript.proofs.turn.Tie as tie
 
 call-at-requires : tie.Need-call-at-requires
 call-at-requires c κs = search needs

@@ -1,9 +1,9 @@
 -- `stage_of` meets its contract, answer by answer.
 use mathlib.Core.Path.{sym, ap}
-use Rattle.answers.specs.Left.{stageOf}
+use Rattle.transcript.specs.Left.{stageOf}
 use borrow.Author.Needs.{needs}
-use Rattle.answers.proofs.stage_of.Statement.{statement}
-use Rattle.answers.proofs.stage_of.Tie as tie
+use Rattle.transcript.proofs.stage_of.Statement.{statement}
+use Rattle.transcript.proofs.stage_of.Tie as tie
 
 enum-told : tie.Need-enum-told
 enum-told c = search needs

@@ -1,6 +1,6 @@
 pub mod Left
 pub mod LeftLaws
-pub mod PageAnswers
+pub mod Transcript
 pub mod BoardLaws
 pub mod PageTheorem
 pub mod Examples

@@ -1,8 +1,8 @@
 -- `reason` meets its contract: some literals more, or the end of the line.
-use Rattle.answers.specs.LeftLaws.{reason-more, reason-end}
+use Rattle.transcript.specs.LeftLaws.{reason-more, reason-end}
 use borrow.Author.Needs.{needs}
-use Rattle.answers.proofs.reason.Statement.{statement}
-use Rattle.answers.proofs.reason.Tie as tie
+use Rattle.transcript.proofs.reason.Statement.{statement}
+use Rattle.transcript.proofs.reason.Tie as tie
 
 put-literals-requires : tie.Need-put-literals-requires
 put-literals-requires c κs = search needs

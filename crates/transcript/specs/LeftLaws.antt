@@ -52,13 +52,13 @@ use Rattle.print.specs.declared.Chunk.{Chunk}
 use Rattle.print.specs.Answers.{letter, showLiteral, showReply, codeText, textOf, conflictWord}
 use Rattle.print.specs.Lines.{Holds, Written, written-length, written-front, written-rest, holds-text, holds-short}
 use Rattle.print.specs.Chunks.{codesIn, Put, codes-none, codes-more, show-append, put-none}
-use Rattle.answers.specs.declared.Stage.{Stage}
-use Rattle.answers.specs.declared.Stage.the-variants.{Refused, Calls, Reason, Last, Over}
-use Rattle.answers.specs.declared.Run.{Run}
-use Rattle.answers.specs.Left.{boardAt, callsText, verdictText, literalsText, lineOf, stageOf, goesOn}
-use Rattle.answers.specs.Left.{linesFrom, leftAt, left, stepsAt, steps, Goes, Next}
-use Rattle.answers.specs.Left.{firstMemory, memoryAt, memoryNext}
-use Rattle.answers.specs.BoardLaws.{page-board}
+use Rattle.transcript.specs.declared.Stage.{Stage}
+use Rattle.transcript.specs.declared.Stage.the-variants.{Refused, Calls, Reason, Last, Over}
+use Rattle.transcript.specs.declared.Run.{Run}
+use Rattle.transcript.specs.Left.{boardAt, callsText, verdictText, literalsText, lineOf, stageOf, goesOn}
+use Rattle.transcript.specs.Left.{linesFrom, leftAt, left, stepsAt, steps, Goes, Next}
+use Rattle.transcript.specs.Left.{firstMemory, memoryAt, memoryNext}
+use Rattle.transcript.specs.BoardLaws.{page-board}
 
 pub put-goes : (s : List ℕ) (r : Run) {line : Line} {ds text m before out : List ℕ} {most : ℕ} → Holds line ds
     → Written before 0 (textOf line) out (r .count) → 32 ≤ length before → ds ++ left s r m ≡ text

@@ -5,8 +5,8 @@ use Rattle.rules.specs.Book.{refused}
 use Rattle.print.specs.Answers.{showReply}
 use Rattle.print.specs.Lines.{holds-as}
 use borrow.Author.Needs.{needs}
-use Rattle.answers.proofs.refusal.Statement.{statement}
-use Rattle.answers.proofs.refusal.Tie as tie
+use Rattle.transcript.proofs.refusal.Statement.{statement}
+use Rattle.transcript.proofs.refusal.Tie as tie
 
 number-requires : tie.Need-number-requires
 number-requires c κs = search needs

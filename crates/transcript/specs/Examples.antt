@@ -17,8 +17,8 @@ use Rattle.page.specs.Judge.{Verdict, coloursOf, clueOn, cluesOf}
 use Rattle.page.specs.Many.{showAll}
 use Rattle.print.specs.Answers.{showLiteral, showReply, showAnswers}
 use Rattle.print.specs.Examples.{sampleText}
-use Rattle.answers.specs.PageAnswers.{ask, puzzleOn, pageReplies, pageText}
-use Rattle.answers.specs.BoardLaws.{page-accepted}
+use Rattle.transcript.specs.Transcript.{ask, puzzleOn, pageReplies, transcript}
+use Rattle.transcript.specs.BoardLaws.{page-accepted}
 
 -- the book's answers, those of the decides and of the undo among them
 abbrev sampleReplies : List Reply
@@ -32,7 +32,7 @@ module _ (m : List ℕ) (l : length m ≡ 16384) where
   abbrev lent : List Lent
   lent = map (λ c. record { call = c; memory = m }) (samplePage .calls)
 
-  -- the answers of a run on the page's board (crate calls, SmallRuns) are the book's, by demand 3
+  -- the answers of a run on the page's board (crate demand3, SmallRuns) are the book's, by demand 3
   sample-book : replies (puzzleOn samplePage) (map ask (samplePage .calls)) ≡ sampleReplies
   unfolding coloursOf cluesOf flatMap table clueOn
   sample-book =
@@ -41,8 +41,8 @@ module _ (m : List ℕ) (l : length m ≡ 16384) where
       ∙ small-runs .page .answers m l
 
 -- the page of document 01 prints what document 01 says
-pub sample-text : pageText sample ≡ sampleText
-unfolding pageText pageReplies decimalIn decimal showAll showLiteral showReply showAnswers
+pub sample-text : transcript sample ≡ sampleText
+unfolding transcript pageReplies decimalIn decimal showAll showLiteral showReply showAnswers
 sample-text =
     ap (λ (v : Verdict). showAnswers (pageReplies v)) sample-accepted
     ∙ ap showAnswers (sample-book (replicate 16384 0) (length-replicate {A = ℕ} 16384 0))

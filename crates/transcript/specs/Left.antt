@@ -42,9 +42,9 @@ use Rattle.page.specs.Judge.{Verdict, judge, coloursOf, cluesOf, colourArray, c
 use Rattle.page.specs.Many.{showAll}
 use Rattle.page.specs.Places.{allFrom}
 use Rattle.print.specs.Answers.{answersWord, conflictWord, showReply, codeText}
-use Rattle.answers.specs.declared.Stage.{Stage}
-use Rattle.answers.specs.declared.Stage.the-variants.{Begin, Refused, Calls, Reason, Last, Over}
-use Rattle.answers.specs.declared.Run.{Run}
+use Rattle.transcript.specs.declared.Stage.{Stage}
+use Rattle.transcript.specs.declared.Stage.the-variants.{Begin, Refused, Calls, Reason, Last, Over}
+use Rattle.transcript.specs.declared.Run.{Run}
 
 unfoldable pub startBoard : Sheet → Board
 startBoard p = madeBoard (p .height) (p .width) (coloursOf p) (cluesOf p)

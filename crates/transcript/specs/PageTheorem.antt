@@ -20,12 +20,12 @@ use Rattle.page.specs.Judge as judgement
 use Rattle.page.specs.Judge.{Verdict, judge, coloursOf, cluesOf}
 use Rattle.page.specs.Many.{showAll}
 use Rattle.print.specs.Answers.{answersWord, showReply, showAnswers}
-use Rattle.answers.specs.declared.Stage.{Stage}
-use Rattle.answers.specs.declared.Stage.the-variants.{Over}
-use Rattle.answers.specs.declared.Run.{Run}
-use Rattle.answers.specs.Left.{startBoard, callsText, verdictText, firstRun, leftAt, left, Next}
-use Rattle.answers.specs.PageAnswers.{ask, puzzleOn, pageReplies, pageText}
-use Rattle.answers.specs.BoardLaws.{page-accepted}
+use Rattle.transcript.specs.declared.Stage.{Stage}
+use Rattle.transcript.specs.declared.Stage.the-variants.{Over}
+use Rattle.transcript.specs.declared.Run.{Run}
+use Rattle.transcript.specs.Left.{startBoard, callsText, verdictText, firstRun, leftAt, left, Next}
+use Rattle.transcript.specs.Transcript.{ask, puzzleOn, pageReplies, transcript}
+use Rattle.transcript.specs.BoardLaws.{page-accepted}
 
 unfoldable pub lentFrom : Board → List ℕ → List Call → List Lent
 lentFrom b m [] = []
@@ -64,8 +64,8 @@ module _ (s m : List ℕ) (l : length m ≡ 16384) where
   verdict-book (judgement.refused n) e = rw (append-nil (showReply (refused n)))
   verdict-book (judgement.accepted p) e = calls-book p e
 
-  pub first-left : left s firstRun m ≡ pageText s
-  unfolding leftAt pageText showAnswers
+  pub first-left : left s firstRun m ≡ transcript s
+  unfolding leftAt transcript showAnswers
   first-left = ap (λ (t : List ℕ). answersWord ++ t) (verdict-book (judge s) refl)
 
 -- the run goes from chunk to chunk as `next` says, with the memory that it left, and each chunk has a buffer
@@ -82,5 +82,5 @@ chunks-left (chunk {r = r} {out = out} n p) =
 
 -- "It prints `(answers`, one line a check or refused call, `)`": what is written for the bytes s, with reason memory
 -- for 16,384 literals, is the text of the book's answers to the page's calls; or its refusal alone
-pub printed : (s m text : List ℕ) → length m ≡ 16384 → Chunks s firstRun m text → text ≡ pageText s
+pub printed : (s m text : List ℕ) → length m ≡ 16384 → Chunks s firstRun m text → text ≡ transcript s
 printed s m text l p = chunks-left p ∙ first-left s m l

@@ -29,7 +29,7 @@ use Rattle.page.specs.Grammar.{Sheet}
 use Rattle.page.specs.Judge.{accepted, judge, low, cluesLow, coloursOf, clueOn, cluesOf}
 use Rattle.page.specs.PageTheorem as pages
 use Rattle.page.specs.PuzzleLaws.{colours-low}
-use Rattle.answers.specs.Left.{startBoard, boardAt}
+use Rattle.transcript.specs.Left.{startBoard, boardAt}
 
 pub cells-few : (h w : ℕ) → cellsOf h w ≤ 1024
 unfolding cellsOf
