@@ -20,7 +20,7 @@ use Rattle.rules.specs.Turns.{apply, keep}
 use Rattle.rules.specs.Codes.{coloursIn, cluesIn}
 use Rattle.rules.specs.Flat.{flat, cellAt, rightOf, borderCount, hopIf, hopAbove, hopBelow, hopLeft, hopRight}
 use Rattle.rules.specs.Flat.{aroundAt, flatFirst, flatSecond}
-use Rattle.rules.specs.Book.{Asked, states, stateIf, names, sequence, replies, done, answered, sequenceFrom}
+use Rattle.rules.specs.Book.{Asked, ask, states, stateIf, names, sequence, replies, done, answered, sequenceFrom}
 use Rattle.rules.specs.Book.{repliesFrom, replyTo, afterCall, decideReply, decideAfter}
 use Rattle.rules.specs.Check.{check}
 use Rattle.argument.specs.Points.{add-assoc, add-comm, add-opposite, add-origin, origin}
@@ -179,7 +179,7 @@ wall-fails S =
 
 -- a decision and a check, with memory enough
 abbrev pub calls : Literal → List Asked
-calls l = record { call = Decide l; places = 0 } ∷ record { call = Check; places = 16384 } ∷ []
+calls l = ask 0 (Decide l) ∷ ask 16384 Check ∷ []
 
 pub record Witness : Type 0 where
   -- a solution, and a full setting that is none

@@ -20,6 +20,7 @@
 --   decisionsIn, decisionsRight b   the stack has exactly the decided borders, each once
 --   unusedIn, unusedZero b  the unused places are 0
 --   boardOf h w cs ks bs st n   the board with these arrays
+--   boardWith b bs st n   the board b with these borders, this stack and this count
 --   isAlien b               decides and undos cannot produce b from a fresh board; crate reach has the proof
 use mathlib.Core.Path.{_≡_}
 use mathlib.Core.Bool.{Bool, false, not, cond, _&&_, Bool·beq}
@@ -117,6 +118,9 @@ unusedZero b = unusedIn (b .height) (b .width) (b .colours) (b .clues) (b .borde
 abbrev pub boardOf : ℕ → ℕ → List ℕ → List ℤ → List ℕ → List ℕ → ℕ → Board
 boardOf h w cs ks bs st n =
     record { height = h; width = w; colours = cs; clues = ks; borders = bs; stack = st; count = n }
+
+abbrev pub boardWith : Board → List ℕ → List ℕ → ℕ → Board
+boardWith b bs st n = boardOf (b .height) (b .width) (b .colours) (b .clues) bs st n
 
 -- "a board or image that decides and undos cannot produce from a fresh board"
 unfoldable pub isAlien : Board → Bool

@@ -29,7 +29,7 @@ use Rattle.board.specs.declared.Outcome.{Outcome}
 use Rattle.board.specs.declared.Outcome.the-variants.{Done, Size, Ragged, Colour, Clue}
 use Rattle.board.specs.declared.Outcome.the-variants.{Alien, Border, Taken, Bare, Short}
 use Rattle.board.specs.declared.Returned.{Returned}
-use Rattle.board.specs.Alien.{sizeRight, coloursRight, cluesRight, isAlien}
+use Rattle.board.specs.Alien.{sizeRight, coloursRight, cluesRight, boardOf, boardWith, isAlien}
 
 -- "Numbers and words for unfit calls"
 abbrev pub numberOf : Outcome → ℕ
@@ -46,28 +46,12 @@ numberOf Short = 9
 
 abbrev pub zeroBoard : Board
 zeroBoard =
-    record {
-      height = 0;
-      width = 0;
-      colours = replicate 1024 0;
-      clues = replicate 1024 (pos 0);
-      borders = replicate 1984 0;
-      stack = replicate 1984 0;
-      count = 0;
-    }
+    boardOf 0 0 (replicate 1024 0) (replicate 1024 (pos 0)) (replicate 1984 0) (replicate 1984 0) 0
 
 -- "A fresh board has every border undecided"
 abbrev pub freshBoard : ℕ → ℕ → List ℕ → List ℤ → Board
 freshBoard h w cs ks =
-    record {
-      height = h;
-      width = w;
-      colours = padded 1024 0 cs;
-      clues = padded 1024 (pos 0) ks;
-      borders = replicate 1984 0;
-      stack = replicate 1984 0;
-      count = 0;
-    }
+    boardOf h w (padded 1024 0 cs) (padded 1024 (pos 0) ks) (replicate 1984 0) (replicate 1984 0) 0
 
 abbrev pub returned : Outcome → Board → Returned
 returned o b = record { outcome = o; board = b }
@@ -85,29 +69,13 @@ freshOf h w cs ks =
 
 -- "Decide sets a border and pushes it"
 abbrev pub pushed : Board → ℕ → ℕ → Board
-pushed b n v =
-    record {
-      height = b .height;
-      width = b .width;
-      colours = b .colours;
-      clues = b .clues;
-      borders = set (b .borders) n v;
-      stack = set (b .stack) (b .count) n;
-      count = b .count + 1;
-    }
+pushed b n v = boardWith b (set (b .borders) n v) (set (b .stack) (b .count) n) (b .count + 1)
 
 -- "undo pops the last and makes it undecided"; the freed place of the stack is 0
 abbrev pub popped : Board → Board
 popped b =
-    record {
-      height = b .height;
-      width = b .width;
-      colours = b .colours;
-      clues = b .clues;
-      borders = set (b .borders) (getD (b .stack) (b .count - 1) 0) 0;
-      stack = set (b .stack) (b .count - 1) 0;
-      count = b .count - 1;
-    }
+    boardWith b (set (b .borders) (getD (b .stack) (b .count - 1) 0) 0) (set (b .stack) (b .count - 1) 0)
+    (b .count - 1)
 
 -- "Other refusals return the board given"
 unfoldable pub decideOf : Board → Literal → Returned

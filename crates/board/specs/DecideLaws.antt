@@ -21,7 +21,7 @@ use Rattle.board.specs.declared.Outcome.{Outcome}
 use Rattle.board.specs.declared.Outcome.the-variants.{Done, Size, Ragged, Colour, Clue}
 use Rattle.board.specs.declared.Outcome.the-variants.{Alien, Border, Taken, Bare, Short}
 use Rattle.board.specs.declared.Returned.{Returned}
-use Rattle.board.specs.Alien.{stacked, isAlien}
+use Rattle.board.specs.Alien.{stacked, boardWith, isAlien}
 use Rattle.board.specs.Board.{numberOf, returned, pushed, popped, decideOf, undoOf, Typed}
 use Rattle.board.specs.ConditionLaws.{stacked-more}
 use Rattle.board.specs.Cases.{decide-alien, decide-border, decide-taken, decide-done}
@@ -221,30 +221,12 @@ module _ (b : Board) (N : Native b) (T : Typed b) (n v : ℕ) (k : n < borderCou
       ∙ set-set (b .stack) (b .count) n 0
       ∙ ap (λ y. set (b .stack) (b .count) y) (sym (N .noEntry (b .count) (omega arith)))
       ∙ set-getD (b .stack) (b .count) 0 in
-      λ i.
-      record {
-        height = b .height;
-        width = b .width;
-        colours = b .colours;
-        clues = b .clues;
-        borders = eb i;
-        stack = es i;
-        count = ec i;
-      }
+      λ i. boardWith b (eb i) (es i) (ec i)
 
 -- ---- an undo
 -- the board with its entry k taken off
 abbrev pub poppedAt : Board → ℕ → Board
-poppedAt b k =
-    record {
-      height = b .height;
-      width = b .width;
-      colours = b .colours;
-      clues = b .clues;
-      borders = set (b .borders) (getD (b .stack) k 0) 0;
-      stack = set (b .stack) k 0;
-      count = k;
-    }
+poppedAt b k = boardWith b (set (b .borders) (getD (b .stack) k 0) 0) (set (b .stack) k 0) k
 
 module _ (b : Board) (N : Native b) (T : Typed b) (k : ℕ) (e : b .count ≡ k + 1) where
   last : ℕ

@@ -17,7 +17,7 @@ use Rattle.rules.specs.Book.{states, withLast, withoutLast}
 use Rattle.board.specs.declared.Board.{Board}
 use Rattle.board.specs.declared.Outcome.the-variants.{Done}
 use Rattle.board.specs.ListExtras.{table-more}
-use Rattle.board.specs.Alien.{stacked, isAlien}
+use Rattle.board.specs.Alien.{stacked, boardOf, isAlien}
 use Rattle.board.specs.Board.{returned, pushed, decideOf, undoOf, Typed}
 use Rattle.board.specs.View.{statesOf, sideIn, literalIn, literalsOf}
 use Rattle.board.specs.NativeLaws.{Native, native-has, borders-fit, free-unstacked}
@@ -133,17 +133,7 @@ module _ (b d : Board) (M : Native b) (N : Native d) (S : Typed b) (T : Typed d)
       ∙ state-code (getD (d .borders) x 0) (code-small d N x))
 
   same : b .height ≡ d .height → b .width ≡ d .width → b .colours ≡ d .colours → b .clues ≡ d .clues → b ≡ d
-  same h w c k =
-      λ i.
-      record {
-        height = h i;
-        width = w i;
-        colours = c i;
-        clues = k i;
-        borders = same-borders i;
-        stack = same-stack i;
-        count = same-count i;
-      }
+  same h w c k = λ i. boardOf (h i) (w i) (c i) (k i) (same-borders i) (same-stack i) (same-count i)
 
 -- two boards of one puzzle that have the same sequence are equal
 pub same-board : (b d : Board) → isAlien b ≡ false → isAlien d ≡ false → Typed b → Typed d → b .height ≡ d .height

@@ -39,8 +39,8 @@ use Rattle.board.specs.DecideLaws.{decide-keeps, decided-typed, undo-decide}
 use Rattle.board.specs.ViewLaws.{decided-puzzle, literals-length, names-decided}
 use Rattle.board.specs.LiteralLaws.{literals-decided}
 use Rattle.calls.specs.Answers.{memoryAs, callOf}
-use Rattle.demand3.specs.Runs.{Lent, askedOf, Given, givenBy, toldBy, boardAfter, runFrom}
-use Rattle.demand3.specs.Runs.{memories}
+use Rattle.demand3.specs.Runs.{Lent, askedOf, Given, givenBy, toldBy, nextBoard, boardAfter}
+use Rattle.demand3.specs.Runs.{runFrom, memories}
 use Rattle.calls.specs.CallLaws.{call-told, call-written}
 
 pub data Built (start : Board) : List Literal → Board → Type 0 where
@@ -172,11 +172,11 @@ pub after-append : (b : Board) (calls later : List Lent)
     → boardAfter b (calls ++ later) ≡ boardAfter (boardAfter b calls) later
 unfolding boardAfter
 after-append b [] later = refl
-after-append b (c ∷ calls) later = after-append (callOf b (c .call) (c .memory) .board) calls later
+after-append b (c ∷ calls) later = after-append (nextBoard b c) calls later
 
 pub run-append : (b : Board) (calls later : List Lent)
     → runFrom b (calls ++ later) ≡ runFrom b calls ++ runFrom (boardAfter b calls) later
 unfolding boardAfter runFrom
 run-append b [] later = refl
 run-append b (c ∷ calls) later =
-    ap (λ (gs : List Given). givenBy b c ∷ gs) (run-append (callOf b (c .call) (c .memory) .board) calls later)
+    ap (λ (gs : List Given). givenBy b c ∷ gs) (run-append (nextBoard b c) calls later)

@@ -10,11 +10,12 @@ use Rattle.lists.specs.Lists.{any, all}
 use Rattle.lists.specs.Tests.{allBelow}
 use Rattle.rules.specs.declared.Side.{Side}
 use Rattle.rules.specs.declared.Side.the-variants.{Wall, Open}
+use Rattle.rules.specs.declared.Literal.{Literal}
 use Rattle.rules.specs.declared.Call.the-variants.{Decide, Check}
 use Rattle.rules.specs.Page.{Puzzle, State, undecided}
 use Rattle.rules.specs.Flat.{flat, borderCount}
 use Rattle.rules.specs.Check.{Answer as Found, check}
-use Rattle.rules.specs.Book.{Asked, states, names, decideReply, decideAfter, replyTo, afterCall, sequenceFrom}
+use Rattle.rules.specs.Book.{Asked, ask, states, names, decideReply, decideAfter, replyTo, afterCall, sequenceFrom}
 use Rattle.argument.specs.Demand.{Full, SameSides, Passes, StoodAt as BookStoodAt}
 use Rattle.argument.specs.Witness.{open-solves, wall-fails}
 use Rattle.board.specs.declared.Board.{Board}
@@ -22,7 +23,7 @@ use Rattle.board.specs.Alien.{sizeRight, coloursRight, cluesRight}
 use Rattle.board.specs.Board.{freshOf}
 use Rattle.board.specs.Accepted.{Accepted, madeBoard}
 use Rattle.board.specs.View.{puzzleIn}
-use Rattle.demand3.specs.Runs.{Lent}
+use Rattle.demand3.specs.Runs.{Lent, lend}
 use Rattle.demand3.specs.Demand3.{RuledOut, StoodAt}
 use Rattle.demand3.specs.Demand3Laws.{stood-run, start-bare, start-puzzle, demand3}
 use Rattle.demand3.specs.SmallRuns.{small-clues}
@@ -41,22 +42,23 @@ accepted : Accepted 1 2 cs ks
 unfolding all freshOf sizeRight coloursRight cluesRight allBelow
 accepted = record { small = small-clues ks refl; made = refl }
 
--- the border's side, as a setting
+-- the border's side, as a literal and as a setting
+abbrev first : Side → Literal
+first d = record { border = 0; side = d }
+
 abbrev pub setting : Side → ℕ → State
-setting d = states (record { border = 0; side = d } ∷ [])
+setting d = states (first d ∷ [])
 
 -- a decide of that side and a check, with the memory m
 abbrev pub deciding : Side → List ℕ → List Lent
-deciding d m =
-    record { call = Decide (record { border = 0; side = d }); memory = m } ∷ record { call = Check; memory = m } ∷ []
+deciding d m = lend m (Decide (first d)) ∷ lend m Check ∷ []
 
 -- what Check gives there
 abbrev pub found : Side → Found
 found d = check (puzzleIn 1 2 cs ks) (setting d)
 
 abbrev asked : Side → ℕ → List Asked
-asked d n =
-    record { call = Decide (record { border = 0; side = d }); places = n } ∷ record { call = Check; places = n } ∷ []
+asked d n = ask n (Decide (first d)) ∷ ask n Check ∷ []
 
 side-full : (d : Side) (b : ℕ) → b < 1 → setting d b ≡ undecided → ⊥
 unfolding states
@@ -67,11 +69,11 @@ book-stood : (d : Side) → BookStoodAt (puzzleIn 1 2 cs ks) (asked d 16384) (se
 unfolding puzzleIn flat borderCount sequenceFrom replyTo afterCall decideReply decideAfter names any Full SameSides
 book-stood d =
     record {
-      sequence = record { border = 0; side = d } ∷ [];
+      sequence = first d ∷ [];
       check =
           record {
-            earlier = record { call = Decide (record { border = 0; side = d }); places = 16384 } ∷ [];
-            call = record { call = Check; places = 16384 };
+            earlier = ask 16384 (Decide (first d)) ∷ [];
+            call = ask 16384 Check;
             later = [];
             split = refl;
             standing = refl;

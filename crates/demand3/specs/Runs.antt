@@ -1,10 +1,12 @@
 -- Runs: a list of calls on the board of an accepted puzzle, each call given the board that the last one returned.
 --
 --   Lent                 a call with the memory that is lent to it, as it stands then
+--   lend m c             the call c with the memory m lent
 --   askedOf c            the call as the book takes it: of memory only the length
 --   Given                what a call gives: its answer, and the memory as it stands when the call returns
 --   givenBy b c          what the call c gives on the board b
 --   toldBy g             that as the book's reply
+--   nextBoard b c        the board that the call c returns on the board b
 --   boardAfter b calls   the board after the calls, from the board b
 --   runFrom b calls      what the calls give, from the board b
 --   memories calls rs    the memories lent to the calls, each after its reply
@@ -12,7 +14,7 @@ use mathlib.Core.List.{List, [], _∷_}
 use Prim.Native.Nat.{ℕ}
 use lib.ListN.{length}
 use Rattle.rules.specs.declared.Call.{Call}
-use Rattle.rules.specs.Book.{Asked, Reply}
+use Rattle.rules.specs.Book.{Asked, ask, Reply}
 use Rattle.board.specs.declared.Board.{Board}
 use Rattle.calls.specs.declared.Answer.{Answer}
 use Rattle.calls.specs.Answers.{told, memoryAs, callOf, callMemory}
@@ -21,9 +23,13 @@ pub record Lent : Type 0 where
   pub call : Call
   pub memory : List ℕ
 
+-- every call of a run is made so
+abbrev pub lend : List ℕ → Call → Lent
+lend m c = record { call = c; memory = m }
+
 -- "the calls with their arguments, never a board, and of reason memory only the length"
 abbrev pub askedOf : Lent → Asked
-askedOf c = record { call = c .call; places = length (c .memory) }
+askedOf c = ask (length (c .memory)) (c .call)
 
 pub record Given : Type 0 where
   pub answer : Answer
@@ -36,13 +42,16 @@ givenBy b c =
 abbrev pub toldBy : Given → Reply
 toldBy g = told (g .answer) (g .memory)
 
+abbrev pub nextBoard : Board → Lent → Board
+nextBoard b c = callOf b (c .call) (c .memory) .board
+
 unfoldable pub boardAfter : Board → List Lent → Board
 boardAfter b [] = b
-boardAfter b (c ∷ calls) = boardAfter (callOf b (c .call) (c .memory) .board) calls
+boardAfter b (c ∷ calls) = boardAfter (nextBoard b c) calls
 
 unfoldable pub runFrom : Board → List Lent → List Given
 runFrom b [] = []
-runFrom b (c ∷ calls) = givenBy b c ∷ runFrom (callOf b (c .call) (c .memory) .board) calls
+runFrom b (c ∷ calls) = givenBy b c ∷ runFrom (nextBoard b c) calls
 
 unfoldable pub memories : List Lent → List Reply → List (List ℕ)
 memories [] rs = []

@@ -31,21 +31,15 @@ use Rattle.rules.specs.Check.{wallHit, wallHits, touches, adjacent, mates, judg
 use Rattle.rules.specs.Check.{farWallsAt, farWalls, unitReason, unitHitIn, unitHitOn, unitHit, hit, undecidedCount}
 use Rattle.rules.specs.Flat.{flat, cellAt, rightOf, belowOf, borderCount, hopIf, hopAbove, hopBelow, hopLeft}
 use Rattle.rules.specs.Flat.{hopRight, aroundAt, aheadAt, flatFirst, flatSecond, flatPlace, flatReadsAt, flatReads}
-use Rattle.rules.specs.Book.{Asked, Reply, refused, done, answered, states, names, withoutLast, decideReply}
+use Rattle.rules.specs.Book.{Asked, ask, Reply, refused, done, answered, states, names, withoutLast, decideReply}
 use Rattle.rules.specs.Book.{decideAfter, replyTo, afterCall, repliesFrom, replies}
 use Rattle.board.specs.declared.Outcome.the-variants.{Done}
 use Rattle.board.specs.Alien.{sizeRight, coloursRight, cluesRight}
 use Rattle.board.specs.Board.{freshOf, Small}
 use Rattle.board.specs.Accepted.{madeBoard}
 use Rattle.board.specs.View.{puzzleIn}
-use Rattle.demand3.specs.Runs.{Lent, askedOf, toldBy, runFrom}
+use Rattle.demand3.specs.Runs.{lend, askedOf, toldBy, runFrom}
 use Rattle.demand3.specs.Demand3Laws.{demand3}
-
-abbrev lend : List ℕ → Call → Lent
-lend m c = record { call = c; memory = m }
-
-abbrev ask : ℕ → Call → Asked
-ask n c = record { call = c; places = n }
 
 pub record Answers (h w : ℕ) (cs : List ℕ) (ks : List ℤ) (calls : List Call) (rs : List Reply) : Type 0 where
   pub answers : (m : List ℕ) → length m ≡ 16384

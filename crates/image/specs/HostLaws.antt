@@ -15,7 +15,7 @@ use lib.ListN.{length, getD, take, replicate}
 use Rattle.board.specs.Accepted.{Accepted, madeBoard}
 use Rattle.board.specs.View.{puzzleIn}
 use Rattle.image.specs.Image.{imageOf, imageNumber, imageAfter}
-use Rattle.image.specs.Runs.{Sent, altering, sentNumber, sentImage, sentBytes, Got, imageRun, imageFrom}
+use Rattle.image.specs.Runs.{Sent, altering, sentImage, Got, got, gotBy, imageRun, imageFrom}
 use Rattle.image.specs.Series.{codeCall, doneOf, imageDone}
 use Rattle.image.specs.Hosts.{HostCall, single, series, singles, heard, hostImage, singlesFrom, heardFrom}
 use Rattle.image.specs.Hosts.{hostFrom, HostDemand}
@@ -23,7 +23,7 @@ use Rattle.image.specs.RunLaws.{image-demand}
 
 -- ---- a list of calls in one call
 abbrev done : Got
-done = record { number = 0; bytes = [] }
+done = got 0 []
 
 module _ (s : List ℕ) (c : ℕ) (codes : List ℕ) where
   -- the image after the first call
@@ -49,7 +49,7 @@ module _ (s : List ℕ) (c : ℕ) (codes : List ℕ) where
       → replicate (count t) done ≡ imageRun s (made t)
   unfolding imageRun
   first-heard true q e =
-      ap₂ (λ (n : ℕ) (l : List Got). record { number = n; bytes = [] } ∷ l)
+      ap₂ (λ (n : ℕ) (l : List Got). got n [] ∷ l)
       (sym (eqb-true (imageNumber s (codeCall c)) 0 q)) e
   first-heard false q e = refl
 
@@ -86,8 +86,7 @@ run-append : (s : List ℕ) (a b : List Sent) → imageRun s (a ++ b) ≡ imageR
 unfolding imageRun imageFrom
 run-append s [] b = refl
 run-append s (c ∷ a) b =
-    ap (λ (l : List Got). record { number = sentNumber s c; bytes = sentBytes s c } ∷ l)
-    (run-append (sentImage s c) a b)
+    ap (λ (l : List Got). gotBy s c ∷ l) (run-append (sentImage s c) a b)
 
 from-append : (s : List ℕ) (a b : List Sent) → imageFrom s (a ++ b) ≡ imageFrom (imageFrom s a) b
 unfolding imageFrom

@@ -14,7 +14,7 @@ use Prim.Native.Nat.{ℕ}
 use lib.ListN.{take, replicate}
 use Rattle.rules.specs.Page.{Puzzle}
 use Rattle.board.specs.declared.Board.{Board}
-use Rattle.image.specs.Runs.{Sent, altering, sentNumber, sentImage, sentBytes, Got, imageRun, imageFrom}
+use Rattle.image.specs.Runs.{Sent, altering, sentImage, Got, got, gotBy, imageRun, imageFrom}
 use Rattle.image.specs.Runs.{ImageDemand}
 use Rattle.image.specs.Series.{codeCall, doneOf, imageDone}
 
@@ -29,8 +29,8 @@ singles s (series codes) = map (λ c. altering (codeCall c)) (take (doneOf s cod
 
 -- a call that is counted as done has returned 0
 abbrev pub heard : List ℕ → HostCall → List Got
-heard s (single c) = record { number = sentNumber s c; bytes = sentBytes s c } ∷ []
-heard s (series codes) = replicate (doneOf s codes) (record { number = 0; bytes = [] })
+heard s (single c) = gotBy s c ∷ []
+heard s (series codes) = replicate (doneOf s codes) (got 0 [])
 
 abbrev pub hostImage : List ℕ → HostCall → List ℕ
 hostImage s (single c) = sentImage s c

@@ -45,7 +45,7 @@ use Rattle.rules.specs.declared.Literal.{Literal}
 use Rattle.rules.specs.Codes.{literalCode}
 use Rattle.rules.specs.Check.{Answer, pass, conflict, check}
 use Rattle.board.specs.declared.Board.{Board}
-use Rattle.board.specs.Alien.{isAlien}
+use Rattle.board.specs.Alien.{boardOf, isAlien}
 use Rattle.board.specs.Board.{numberOf, decideOf, undoOf, Typed}
 use Rattle.board.specs.View.{puzzleOf, statesOf}
 use Rattle.calls.specs.Answers.{answerNumber, checkAnswer}
@@ -66,15 +66,12 @@ signed n = cond (ltb n 2147483648) (pos n) (negsuc (4294967295 - n))
 -- stack entries of 2 bytes"
 unfoldable pub spelledBoard : List ℕ → Board
 spelledBoard s =
-    record {
-      height = getD s 0 0;
-      width = getD s 1 0;
-      colours = table 1024 (λ i. getD s (2 + i) 0);
-      clues = table 1024 (λ i. signed (quad s (1026 + 4 * i)));
-      borders = table 1984 (λ i. getD s (5122 + i) 0);
-      stack = table 1984 (λ i. pair s (7108 + 2 * i));
-      count = pair s 7106;
-    }
+    boardOf (getD s 0 0) (getD s 1 0)
+    (table 1024 (λ i. getD s (2 + i) 0))
+    (table 1024 (λ i. signed (quad s (1026 + 4 * i))))
+    (table 1984 (λ i. getD s (5122 + i) 0))
+    (table 1984 (λ i. pair s (7108 + 2 * i)))
+    (pair s 7106)
 
 -- ---- a board as an image
 unfoldable pub twoBytes : ℕ → List ℕ

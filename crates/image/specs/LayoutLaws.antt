@@ -9,6 +9,7 @@ use lib.ListN.{length, getD, set, length-append, length-set, List·getD-append}
 use lib.Seq.{set-append-left, sets}
 use Rattle.lists.specs.Lists.{flatMap}
 use Rattle.board.specs.declared.Board.{Board}
+use Rattle.board.specs.Alien.{boardWith}
 use Rattle.board.specs.Board.{Typed}
 use Rattle.image.specs.ListExtras.{getD-past, sets-past, getD-sets-apart, length-flat, getD-flat, sets-flat}
 use Rattle.image.specs.Image.{twoBytes, fourBytes, bitsOf, clueBytes, imageOf, written}
@@ -45,42 +46,15 @@ module _ (a c k r : List ℕ) (p : length a ≡ 2) (q : length c ≡ 1024) (m : 
 module _ (b : Board) where
   -- the border n is v
   abbrev pub withBorder : ℕ → ℕ → Board
-  withBorder n v =
-      record {
-        height = b .height;
-        width = b .width;
-        colours = b .colours;
-        clues = b .clues;
-        borders = set (b .borders) n v;
-        stack = b .stack;
-        count = b .count;
-      }
+  withBorder n v = boardWith b (set (b .borders) n v) (b .stack) (b .count)
 
   -- the count is c
   abbrev pub withCount : ℕ → Board
-  withCount c =
-      record {
-        height = b .height;
-        width = b .width;
-        colours = b .colours;
-        clues = b .clues;
-        borders = b .borders;
-        stack = b .stack;
-        count = c;
-      }
+  withCount c = boardWith b (b .borders) (b .stack) c
 
   -- the entry i of the stack is e
   abbrev pub withEntry : ℕ → ℕ → Board
-  withEntry i e =
-      record {
-        height = b .height;
-        width = b .width;
-        colours = b .colours;
-        clues = b .clues;
-        borders = b .borders;
-        stack = set (b .stack) i e;
-        count = b .count;
-      }
+  withEntry i e = boardWith b (b .borders) (set (b .stack) i e) (b .count)
 
 -- ---- what is read
 module _ (b : Board) (T : Typed b) where

@@ -15,7 +15,7 @@ use lib.Signed.{leZ}
 use Rattle.lists.specs.Lists.{flatMap}
 use Rattle.lists.specs.Table.{table, table-is, getD-table, length-table}
 use Rattle.board.specs.declared.Board.{Board}
-use Rattle.board.specs.Alien.{isAlien}
+use Rattle.board.specs.Alien.{boardOf, isAlien}
 use Rattle.board.specs.Board.{Typed}
 use Rattle.board.specs.NativeLaws.{Native, native-has, borders-fit}
 use Rattle.image.specs.ListExtras.{drop-split, flat-part, table-part}
@@ -115,15 +115,12 @@ module _ (b : Board) (T : Typed b) (N : Native b) where
   written-read =
       sym
       (λ i.
-      record {
-        height = b .height;
-        width = b .width;
-        colours = table-is 1024 _ 0 (b .colours) (T .colours) (λ j l. sym (colour-at b T j l)) i;
-        clues = table-is 1024 _ (pos 0) (b .clues) (T .clues) clue-is i;
-        borders = table-is 1984 _ 0 (b .borders) (T .borders) (λ j l. sym (border-at b T j l)) i;
-        stack = table-is 1984 _ 0 (b .stack) (T .stack) entry-is i;
-        count = sym (pair-of (imageOf b) 7106 (b .count) (count-at b T) few) i;
-      })
+      boardOf (b .height) (b .width)
+      (table-is 1024 _ 0 (b .colours) (T .colours) (λ j l. sym (colour-at b T j l)) i)
+      (table-is 1024 _ (pos 0) (b .clues) (T .clues) clue-is i)
+      (table-is 1984 _ 0 (b .borders) (T .borders) (λ j l. sym (border-at b T j l)) i)
+      (table-is 1984 _ 0 (b .stack) (T .stack) entry-is i)
+      (sym (pair-of (imageOf b) 7106 (b .count) (count-at b T) few) i))
     where
       few : b .count < 65536
       few = omega (arith, N .few, borders-fit b N)

@@ -28,13 +28,13 @@ use Rattle.board.specs.View.{puzzleIn, puzzleOf, statesOf}
 use Rattle.board.specs.StepLaws.{Kept, decide-kept, undo-kept}
 use Rattle.calls.specs.Answers.{answerNumber, written, checkAnswer, checkMemory, ended, callOf, callMemory}
 use Rattle.calls.specs.CallLaws.{reason-short}
-use Rattle.demand3.specs.Runs.{Given, givenBy, boardAfter, runFrom}
+use Rattle.demand3.specs.Runs.{Given, givenBy, nextBoard, boardAfter, runFrom}
 use Rattle.demand3.specs.Demand3Laws.{start-bare, demand3}
 use Rattle.image.specs.Image.{imageOf, Proper, sideOf, decideLiteral, ImageCall, decide, undo, numberBy}
 use Rattle.image.specs.Image.{boardBy, imageNumber, imageAfter, places, bytesAfter, bytesBy}
 use Rattle.image.specs.Image.{checkNumber, checkBytes}
 use Rattle.image.specs.Runs.{Sent, altering, checking, sentNumber, sentImage, sentBytes, imageRun, imageFrom}
-use Rattle.image.specs.Runs.{codesIn, lentFor, Read, read, numbered, ImageDemand}
+use Rattle.image.specs.Runs.{codesIn, lentFor, Coded, coded, codedGot, codedGiven, ImageDemand}
 use Rattle.image.specs.LayoutLaws.{image-long}
 use Rattle.image.specs.RoundLaws.{board-image, long-is}
 use Rattle.image.specs.CodeLaws.{length-codes, codes-written, literals-small}
@@ -116,7 +116,7 @@ abbrev given : Board → Sent → Given
 given b c = givenBy b (lentFor c)
 
 abbrev after : Board → Sent → Board
-after b c = callOf b (lentFor c .call) (lentFor c .memory) .board
+after b c = nextBoard b (lentFor c)
 
 module _ (b : Board) (P : Proper b) where
   pub step-number : (c : Sent) → sentNumber (imageOf b) c ≡ answerNumber (given b c .answer)
@@ -146,13 +146,12 @@ module _ (b : Board) (P : Proper b) where
 
 -- ---- a list of calls
 pub run-read : (b : Board) → Proper b → (calls : List Sent)
-    → map read (imageRun (imageOf b) calls) ≡ map numbered (runFrom b (map lentFor calls))
+    → map codedGot (imageRun (imageOf b) calls) ≡ map codedGiven (runFrom b (map lentFor calls))
 unfolding imageRun runFrom
 run-read b P [] = refl
 run-read b P (c ∷ calls) =
-    ap₂ (λ (r : Read) (l : List Read). r ∷ l)
-    (λ i. record { number = step-number b P c i; codes = step-codes b P c i })
-    (ap (λ (s : List ℕ). map read (imageRun s calls)) (step-image b P c)
+    ap₂ (λ (r : Coded) (l : List Coded). r ∷ l) (ap₂ coded (step-number b P c) (step-codes b P c))
+    (ap (λ (s : List ℕ). map codedGot (imageRun s calls)) (step-image b P c)
     ∙ run-read (after b c) (step-proper b P c) calls)
 
 pub run-image : (b : Board) → Proper b → (calls : List Sent)

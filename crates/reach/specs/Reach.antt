@@ -21,7 +21,7 @@ use Rattle.rules.specs.Codes.{codeOf}
 use Rattle.board.specs.declared.Board.{Board}
 use Rattle.board.specs.declared.Outcome.the-variants.{Done}
 use Rattle.board.specs.ListExtras.{getD-padded, length-padded}
-use Rattle.board.specs.Alien.{coloursRight, clueRight, cluesRight, stacked, isAlien}
+use Rattle.board.specs.Alien.{coloursRight, clueRight, cluesRight, stacked, boardOf, boardWith, isAlien}
 use Rattle.board.specs.Board.{freshBoard, returned, pushed, freshOf, decideOf, Small, Typed}
 use Rattle.board.specs.View.{sideIn}
 use Rattle.board.specs.ConditionLaws.{size-is, stacked-none}
@@ -105,15 +105,10 @@ module _ (b : Board) (N : Native b) (T : Typed b) (e : b .count ≡ 0) where
   fresh-is =
       let f = few in
       λ i.
-      record {
-        height = b .height;
-        width = b .width;
-        colours = padded-take 0 1024 cells (b .colours) (T .colours) f (N .noColour) i;
-        clues = padded-take (pos 0) 1024 cells (b .clues) (T .clues) f (N .noClue) i;
-        borders = zeros 1984 (b .borders) (T .borders) border-zero i;
-        stack = zeros 1984 (b .stack) (T .stack) (λ j. N .noEntry j (omega arith)) i;
-        count = sym e i;
-      }
+      boardOf (b .height) (b .width) (padded-take 0 1024 cells (b .colours) (T .colours) f (N .noColour) i)
+      (padded-take (pos 0) 1024 cells (b .clues) (T .clues) f (N .noClue) i)
+      (zeros 1984 (b .borders) (T .borders) border-zero i)
+      (zeros 1984 (b .stack) (T .stack) (λ j. N .noEntry j (omega arith)) i) (sym e i)
 
   accepted : freshOf (b .height) (b .width) cs ks ≡ returned Done b
   unfolding cs ks cells coloursRight cluesRight
@@ -150,18 +145,11 @@ module _ (b : Board) (N : Native b) (T : Typed b) (k : ℕ) (e : b .count ≡ k 
       let v = getD (b .borders) last 0 in
       let p = side-of v (code-small b N last) (entry-held b N k (omega arith)) in
       λ i.
-      record {
-        height = b .height;
-        width = b .width;
-        colours = b .colours;
-        clues = b .clues;
-        borders =
-            (set-set (b .borders) last 0 (codeOf (sideIn v))
-            ∙ ap (λ y. set (b .borders) last y) p
-            ∙ set-getD (b .borders) last 0) i;
-        stack = (set-set (b .stack) k 0 last ∙ set-getD (b .stack) k 0) i;
-        count = sym e i;
-      }
+      boardWith b
+      ((set-set (b .borders) last 0 (codeOf (sideIn v))
+      ∙ ap (λ y. set (b .borders) last y) p
+      ∙ set-getD (b .borders) last 0) i)
+      ((set-set (b .stack) k 0 last ∙ set-getD (b .stack) k 0) i) (sym e i)
 
   redecided : decideOf (poppedAt b k) literal ≡ returned Done b
   unfolding last literal

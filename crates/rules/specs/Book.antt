@@ -1,6 +1,7 @@
 -- The book of a list of calls: what each call answers, from the puzzle and the calls alone.
 --
 --   Asked                 a call with its arguments; of reason memory only the length
+--   ask n c               the call c, with n places of reason memory lent
 --   Reply                 refused with a number, done, or the answer of a check
 --   stateIf test m n      the state m where the test holds, otherwise n
 --   states ls             the borders with exactly the literals ls decided
@@ -32,6 +33,10 @@ use Rattle.rules.specs.Check.{Answer, check}
 pub record Asked : Type 0 where
   pub call : Call
   pub places : ℕ
+
+-- every call of a list is made so
+abbrev pub ask : ℕ → Call → Asked
+ask n c = record { call = c; places = n }
 
 pub data Reply : Type 0 where
   refused : ℕ → Reply

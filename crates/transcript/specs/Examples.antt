@@ -7,8 +7,8 @@ use Rattle.lists.specs.Lists.{flatMap}
 use Rattle.lists.specs.Table.{table}
 use Rattle.rules.specs.Page.{wallAt}
 use Rattle.rules.specs.Check.{pass, conflict}
-use Rattle.rules.specs.Book.{Asked, Reply, done, answered, replies}
-use Rattle.demand3.specs.Runs.{Lent}
+use Rattle.rules.specs.Book.{Asked, ask, Reply, done, answered, replies}
+use Rattle.demand3.specs.Runs.{Lent, lend}
 use Rattle.demand3.specs.Demand3Laws.{demand3}
 use Rattle.demand3.specs.SmallRuns.{small-runs}
 use Rattle.page.specs.Decimal.{decimalIn, decimal}
@@ -17,7 +17,7 @@ use Rattle.page.specs.Judge.{Verdict, coloursOf, clueOn, cluesOf}
 use Rattle.page.specs.Many.{showAll}
 use Rattle.print.specs.Answers.{showLiteral, showReply, showAnswers}
 use Rattle.print.specs.Examples.{sampleText}
-use Rattle.transcript.specs.Transcript.{ask, puzzleOn, pageReplies, transcript}
+use Rattle.transcript.specs.Transcript.{puzzleOn, pageReplies, transcript}
 use Rattle.transcript.specs.BoardLaws.{page-accepted}
 
 -- the book's answers, those of the decides and of the undo among them
@@ -27,13 +27,13 @@ sampleReplies =
 
 module _ (m : List ℕ) (l : length m ≡ 16384) where
   abbrev asked : ℕ → List Asked
-  asked n = map (λ c. record { call = c; places = n }) (samplePage .calls)
+  asked n = map (ask n) (samplePage .calls)
 
   abbrev lent : List Lent
-  lent = map (λ c. record { call = c; memory = m }) (samplePage .calls)
+  lent = map (lend m) (samplePage .calls)
 
   -- the answers of a run on the page's board (crate demand3, SmallRuns) are the book's, by demand 3
-  sample-book : replies (puzzleOn samplePage) (map ask (samplePage .calls)) ≡ sampleReplies
+  sample-book : replies (puzzleOn samplePage) (map (ask 16384) (samplePage .calls)) ≡ sampleReplies
   unfolding coloursOf cluesOf flatMap table clueOn
   sample-book =
       ap (λ n. replies (puzzleOn samplePage) (asked n)) (sym l)

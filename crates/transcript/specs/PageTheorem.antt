@@ -9,11 +9,11 @@ use mathlib.Core.List.{List, [], _∷_, _++_, map, append-assoc, append-nil}
 use Prim.Native.Nat.{ℕ}
 use lib.ListN.{length, take}
 use Rattle.rules.specs.declared.Call.{Call}
-use Rattle.rules.specs.Book.{Asked, Reply, refused, replies}
+use Rattle.rules.specs.Book.{Asked, ask, Reply, refused, replies}
 use Rattle.board.specs.declared.Board.{Board}
 use Rattle.calls.specs.Answers.{told, callOf, callMemory}
 use Rattle.calls.specs.AnswerLaws.{length-call}
-use Rattle.demand3.specs.Runs.{Lent, askedOf, toldBy, runFrom}
+use Rattle.demand3.specs.Runs.{Lent, lend, askedOf, toldBy, runFrom}
 use Rattle.demand3.specs.Demand3Laws.{demand3}
 use Rattle.page.specs.Grammar.{Sheet, endWord}
 use Rattle.page.specs.Judge as judgement
@@ -24,18 +24,19 @@ use Rattle.transcript.specs.declared.Stage.{Stage}
 use Rattle.transcript.specs.declared.Stage.the-variants.{Over}
 use Rattle.transcript.specs.declared.Run.{Run}
 use Rattle.transcript.specs.Left.{startBoard, callsText, verdictText, firstRun, leftAt, left, Next}
-use Rattle.transcript.specs.Transcript.{ask, puzzleOn, pageReplies, transcript}
+use Rattle.transcript.specs.Transcript.{puzzleOn, pageReplies, transcript}
 use Rattle.transcript.specs.BoardLaws.{page-accepted}
 
 unfoldable pub lentFrom : Board → List ℕ → List Call → List Lent
 lentFrom b m [] = []
-lentFrom b m (c ∷ cs) = record { call = c; memory = m } ∷ lentFrom (callOf b c m .board) (callMemory b c m) cs
+lentFrom b m (c ∷ cs) = lend m c ∷ lentFrom (callOf b c m .board) (callMemory b c m) cs
 
-asked-from : (b : Board) (m : List ℕ) (cs : List Call) → length m ≡ 16384 → map askedOf (lentFrom b m cs) ≡ map ask cs
+asked-from : (b : Board) (m : List ℕ) (cs : List Call) → length m ≡ 16384
+    → map askedOf (lentFrom b m cs) ≡ map (ask 16384) cs
 unfolding lentFrom
 asked-from b m [] l = refl
 asked-from b m (c ∷ cs) l =
-    ap₂ (λ (n : ℕ) (asked : List Asked). record { call = c; places = n } ∷ asked) l
+    ap₂ (λ (n : ℕ) (asked : List Asked). ask n c ∷ asked) l
     (asked-from (callOf b c m .board) (callMemory b c m) cs (length-call b c m ∙ l))
 
 -- the lines are those of the run's answers
@@ -50,7 +51,8 @@ calls-run b m (c ∷ cs) =
 module _ (s m : List ℕ) (l : length m ≡ 16384) where
   -- demand 3, for the page's puzzle and its calls
   calls-book : (p : Sheet) → judge s ≡ judgement.accepted p
-      → callsText (startBoard p) m (p .calls) ≡ showAll showReply (replies (puzzleOn p) (map ask (p .calls))) ++ endWord
+      → callsText (startBoard p) m (p .calls)
+      ≡ showAll showReply (replies (puzzleOn p) (map (ask 16384) (p .calls))) ++ endWord
   unfolding startBoard
   calls-book p e =
       calls-run (startBoard p) m (p .calls)

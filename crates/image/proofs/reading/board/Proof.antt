@@ -1,6 +1,7 @@
 -- `board` meets its contract: each field is what its reader returns.
 use mathlib.Core.Path.{_∙_}
 use borrow.Author.Needs.{needs}
+use Rattle.board.specs.Alien.{boardOf}
 use Rattle.image.specs.Image.{spelledBoard}
 use Rattle.image.proofs.reading.board.Statement.{statement}
 use Rattle.image.proofs.reading.board.Tie as tie
@@ -45,16 +46,12 @@ returns : tie.Need-returns
 unfolding spelledBoard
 returns c =
     λ i.
-    record {
-      height = c .before .before .before .index-byte .ensures i;
-      width = c .before .index-byte2 .ensures i;
-      colours = c .before .before .before .before .before .before .before .before .before .before .before .before .copy
-          .ensures i;
-      clues = c .before .before .before .before .before .before .before .clues .ensures i;
-      borders = c .before .before .before .before .before .before .before .before .before .copy2 .ensures i;
-      stack = c .before .before .before .before .before .before .stack .ensures i;
-      count = (c .index .ensures ∙ c .before .before .before .before .before .two .ensures) i;
-    }
+    boardOf (c .before .before .before .index-byte .ensures i) (c .before .index-byte2 .ensures i)
+    (c .before .before .before .before .before .before .before .before .before .before .before .before .copy .ensures i)
+    (c .before .before .before .before .before .before .before .clues .ensures i)
+    (c .before .before .before .before .before .before .before .before .before .copy2 .ensures i)
+    (c .before .before .before .before .before .before .stack .ensures i)
+    ((c .index .ensures ∙ c .before .before .before .before .before .two .ensures) i)
 
 pub board-spec : {M : Type 1} → statement M
 board-spec =
