@@ -8,7 +8,7 @@ use lib.ListN.{length}
 use borrow.Author.Tests.{le-leb, lt-leb}
 use Rattle.lists.specs.Lists.{any}
 use Rattle.page.specs.declared.Clue.{Clue}
-use Rattle.page.specs.Parsers.{Parser, rest, also, onto, lead, both, mapR, rep, done, strip}
+use Rattle.page.specs.Parsers.{Parser, rest, also, onto, lead, both, mapR, rep, give, strip}
 use Rattle.page.specs.Grammar.{pageWord, endWord, size, row, clue, call, close, sheet, onPage, sameCell}
 use Rattle.page.specs.Grammar.{cluesFit, whole, pageOf}
 use Rattle.page.specs.declared.Line.{Line}
@@ -159,7 +159,7 @@ module _ {s : List ℕ} {h w rows clues calls end : ℕ} (b : Body s h w rows cl
       },
       rest s last,
     ))
-    unfolding pageOf whole sheet mapR also lead onto both rep close done endFrom allFrom
+    unfolding pageOf whole sheet mapR also lead onto both rep close give endFrom allFrom
     lines = rw (le-leb (length s) 65536 (b .short), b .paged, b .sized, ← b .rowed, ← b .clued, ← b .called, e)
 
     pub more-left : last < length s → pageOf s ≡ none

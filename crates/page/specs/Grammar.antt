@@ -12,7 +12,7 @@
 --   clue                     the parser of a clue's line
 --   side                     the parser of a decide's side, to the end of its line
 --   decideFrom p             the call of a border number and a side that were read
---   decide                   the parser of a decide's line
+--   decideCall               the parser of a decide's line
 --   call                     the parser of a call's line: (decide b s), (undo) or (check)
 --   close                    the parser of the last line
 --   SheetParts               the size, the rows, the clues and the calls as they are read
@@ -35,7 +35,7 @@ use Rattle.rules.specs.declared.Side.the-variants.{Wall, Open}
 use Rattle.rules.specs.declared.Call.{Call}
 use Rattle.rules.specs.declared.Call.the-variants.{Decide, Undo, Check}
 use Rattle.page.specs.declared.Clue.{Clue}
-use Rattle.page.specs.Parsers.{Parser, lead, followed, both, either, mapR, done, rep, number, digits}
+use Rattle.page.specs.Parsers.{Parser, lead, followed, both, either, mapR, give, rep, number, digits}
 
 pub record Sheet : Type 0 where
   pub height : ℕ
@@ -110,21 +110,21 @@ clue = mapR clueFrom (lead clueWord (both (number space) (both (number space) (f
 
 -- "`(decide b s)` (s is 1 for wall, 0 for open)"
 unfoldable pub side : Parser Side
-side = either (lead wallWord (done Wall)) (lead openWord (done Open))
+side = either (lead wallWord (give Wall)) (lead openWord (give Open))
 
 abbrev pub decideFrom : ℕ × Side → Call
 decideFrom p = Decide (record { border = p .0; side = p .1 })
 
-unfoldable pub decide : Parser Call
-decide = mapR decideFrom (lead decideWord (both (number space) side))
+unfoldable pub decideCall : Parser Call
+decideCall = mapR decideFrom (lead decideWord (both (number space) side))
 
 -- "calls `(decide b s)` .. `(undo)`, `(check)`"
 unfoldable pub call : Parser Call
-call = either (lead undoWord (done Undo)) (either (lead checkWord (done Check)) decide)
+call = either (lead undoWord (give Undo)) (either (lead checkWord (give Check)) decideCall)
 
 -- "and `)`"
 unfoldable pub close : Parser (Unit {0})
-close = lead endWord (done tt)
+close = lead endWord (give tt)
 
 -- "`(page`, `(size h w)`, one `(row digits)` a row .. any `(clue y x n)`, then calls .. and `)`"
 abbrev pub SheetParts : Type 0

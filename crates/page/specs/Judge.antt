@@ -1,14 +1,14 @@
 -- The judgement of a page: 01's numbers 10, 1, 2, 3, 11, in this order, or the puzzle and its calls.
 --
---   Verdict             refused with a number, or accepted with the page
+--   Judgement           rejected with a number, or accepted with the page
 --   sizeFits h w        height and width are 1 to 32
 --   rowsFit h w rows    there are h rows, each of w digits
 --   low d               the digit d is 0 or 1
 --   twoColours rows     every digit is 0 or 1
 --   cluesLow most cs    no clue is above most
---   judgeSheet p        the verdict on the well formed page p: refused with 1, 2, 3 or 11, or accepted
---   verdict o           the verdict on what was read: refused with 10 where it is no page
---   judge s             the verdict on the bytes s
+--   judgeSheet p        the judgement of the well formed page p: rejected with 1, 2, 3 or 11, or accepted
+--   judgeRead o         the judgement of what was read: rejected with 10 where it is no page
+--   judgementOf s       the judgement of the bytes s
 --   coloursOf p         the puzzle's colours, row by row
 --   clueOn z cs y x     the clue at cell (y, x); z where there is none
 --   cluesOf p           the puzzle's clues, row by row
@@ -28,9 +28,9 @@ use Rattle.lists.specs.Table.{table}
 use Rattle.page.specs.declared.Clue.{Clue}
 use Rattle.page.specs.Grammar.{Sheet, pageOf}
 
-pub data Verdict : Type 0 where
-  refused : ℕ → Verdict
-  accepted : Sheet → Verdict
+pub data Judgement : Type 0 where
+  rejected : ℕ → Judgement
+  accepted : Sheet → Judgement
 
 -- 1: "h or w outside 1 to 32"
 unfoldable pub sizeFits : ℕ → ℕ → Bool
@@ -51,23 +51,23 @@ twoColours rows = all (λ ds. all low ds) rows
 unfoldable pub cluesLow : ℕ → List Clue → Bool
 cluesLow most cs = all (λ c. leb (c .n) most) cs
 
-unfoldable pub judgeSheet : Sheet → Verdict
+unfoldable pub judgeSheet : Sheet → Judgement
 judgeSheet p =
     cond (sizeFits (p .height) (p .width))
     (cond (rowsFit (p .height) (p .width) (p .rows))
     (cond (twoColours (p .rows))
-    (cond (cluesLow (p .height * p .width / 2) (p .clues)) (accepted p) (refused 11))
-    (refused 3))
-    (refused 2))
-    (refused 1)
+    (cond (cluesLow (p .height * p .width / 2) (p .clues)) (accepted p) (rejected 11))
+    (rejected 3))
+    (rejected 2))
+    (rejected 1)
 
 -- 10: "page malformed, clue cell off the page or given twice"
-unfoldable pub verdict : Option Sheet → Verdict
-verdict none = refused 10
-verdict (some p) = judgeSheet p
+unfoldable pub judgeRead : Option Sheet → Judgement
+judgeRead none = rejected 10
+judgeRead (some p) = judgeSheet p
 
-unfoldable pub judge : List ℕ → Verdict
-judge s = verdict (pageOf s)
+unfoldable pub judgementOf : List ℕ → Judgement
+judgementOf s = judgeRead (pageOf s)
 
 -- "Cell (y,x) is number y·w+x"
 unfoldable pub coloursOf : Sheet → List ℕ

@@ -16,8 +16,8 @@ use Rattle.rules.specs.Flat.{Sized}
 use Rattle.page.specs.Grammar.{Sheet, pageOf}
 use Rattle.page.specs.Places.{digitAt, digitsIn}
 use Rattle.page.specs.ListExtras.{all-table}
-use Rattle.page.specs.Judge.{refused, accepted, sizeFits, rowsFit, low, twoColours, cluesLow}
-use Rattle.page.specs.Judge.{judgeSheet, verdict, judge}
+use Rattle.page.specs.Judge.{rejected, accepted, sizeFits, rowsFit, low, twoColours, cluesLow}
+use Rattle.page.specs.Judge.{judgeSheet, judgeRead, judgementOf}
 
 pub sized : (h w : ℕ) → sizeFits h w ≡ true → Sized h w
 unfolding sizeFits
@@ -99,24 +99,24 @@ module _ (h w : ℕ) {rows : List (List ℕ)} where
         rw (e, eq-eqb (length ds) w q)
         (ap (λ (b : Bool). all (λ (k : List ℕ). eqb (length k) w) more && b) (one-less h (length more) p))
 
--- the verdict
+-- the judgement
 module _ (p : Sheet) where
-  pub not-sized : sizeFits (p .height) (p .width) ≡ false → judgeSheet p ≡ refused 1
+  pub not-sized : sizeFits (p .height) (p .width) ≡ false → judgeSheet p ≡ rejected 1
   unfolding judgeSheet
   not-sized e = rw e
 
   module _ (a : sizeFits (p .height) (p .width) ≡ true) where
-    pub ragged : rowsFit (p .height) (p .width) (p .rows) ≡ false → judgeSheet p ≡ refused 2
+    pub ragged : rowsFit (p .height) (p .width) (p .rows) ≡ false → judgeSheet p ≡ rejected 2
     unfolding judgeSheet
     ragged e = rw (a, e)
 
     module _ (b : rowsFit (p .height) (p .width) (p .rows) ≡ true) where
-      pub coloured : twoColours (p .rows) ≡ false → judgeSheet p ≡ refused 3
+      pub coloured : twoColours (p .rows) ≡ false → judgeSheet p ≡ rejected 3
       unfolding judgeSheet
       coloured e = rw (a, b, e)
 
       module _ (c : twoColours (p .rows) ≡ true) where
-        pub misprint : cluesLow (p .height * p .width / 2) (p .clues) ≡ false → judgeSheet p ≡ refused 11
+        pub misprint : cluesLow (p .height * p .width / 2) (p .clues) ≡ false → judgeSheet p ≡ rejected 11
         unfolding judgeSheet
         misprint e = rw (a, b, c, e)
 
@@ -125,10 +125,10 @@ module _ (p : Sheet) where
         right e = rw (a, b, c, e)
 
 module _ (s : List ℕ) where
-  pub malformed : pageOf s ≡ none → judge s ≡ refused 10
-  unfolding judge verdict
+  pub malformed : pageOf s ≡ none → judgementOf s ≡ rejected 10
+  unfolding judgementOf judgeRead
   malformed e = rw e
 
-  pub formed : (p : Sheet) → pageOf s ≡ some p → judge s ≡ judgeSheet p
-  unfolding judge verdict
+  pub formed : (p : Sheet) → pageOf s ≡ some p → judgementOf s ≡ judgeSheet p
+  unfolding judgementOf judgeRead
   formed p e = rw e

@@ -13,7 +13,7 @@ use native.Mathlib.Omega.{arith}
 use lib.Dec.{ltb, leb, eqb}
 use borrow.Author.Tests.{lt-ltb, le-ltb, le-leb, eq-eqb, ne-eqb, eqb-true, leb-true, ltb-true, ltb-false}
 use Rattle.lists.specs.Tests.{and-left, and-right}
-use Rattle.page.specs.Parsers.{number, numberOn, mayFollow, digit, digits, digitsOn, put}
+use Rattle.page.specs.Parsers.{number, numberOn, mayFollow, digit, digits, digitsOn, withDigit}
 use Rattle.page.specs.Decimal.{decimalIn, decimal}
 use Rattle.page.specs.ParserLaws.{may, digit-low, digit-high}
 use Rattle.page.specs.Printed.{Prints}
@@ -175,7 +175,7 @@ digitBytes (d ∷ ds) = (48 + d) ∷ digitBytes ds
 
 module _ (stop : ℕ) (apart : 57 < stop ⊎ stop < 48) where
   digits-on-complete : (ds t : List ℕ) → AllDigits ds → digitsOn stop (digitBytes ds ++ (stop ∷ t)) ≡ some (ds, t)
-  unfolding AllDigits digitsOn put digitBytes
+  unfolding AllDigits digitsOn withDigit digitBytes
   digits-on-complete [] t f = rw (eq-eqb stop stop refl)
   digits-on-complete (d ∷ ds) t f =
       let h : d ≤ 9 = f .0 in
@@ -191,12 +191,12 @@ module _ (stop : ℕ) (apart : 57 < stop ⊎ stop < 48) where
   abbrev Row : List ℕ → List ℕ → List ℕ → Type 0
   Row s ds t = (s ≡ digitBytes ds ++ (stop ∷ t)) × AllDigits ds
 
-  put-sound : (b : ℕ) (o : Option (List ℕ × List ℕ)) (s a t : List ℕ) → digit b ≡ true
-      → ((ds u : List ℕ) → o ≡ some (ds, u) → Row s ds u) → put (b - 48) o ≡ some (a, t)
+  digit-sound : (b : ℕ) (o : Option (List ℕ × List ℕ)) (s a t : List ℕ) → digit b ≡ true
+      → ((ds u : List ℕ) → o ≡ some (ds, u) → Row s ds u) → withDigit (b - 48) o ≡ some (a, t)
       → Row (b ∷ s) a t × RowFit a
-  unfolding put AllDigits RowFit digitBytes
-  put-sound b none s a t h f e = let z : _≡_ {A = ℕ} 0 1 = cc in absurd (omega arith)
-  put-sound b (some x) s a t h f e =
+  unfolding withDigit AllDigits RowFit digitBytes
+  digit-sound b none s a t h f e = let z : _≡_ {A = ℕ} 0 1 = cc in absurd (omega arith)
+  digit-sound b (some x) s a t h f e =
       let m : _≡_ {A = List ℕ × List ℕ} ((b - 48) ∷ x .0, x .1) (a, t) = cc in
       let ma : (b - 48) ∷ x .0 ≡ a = ap (λ (y : List ℕ × List ℕ). y .0) m in
       let mt : x .1 ≡ t = ap (λ (y : List ℕ × List ℕ). y .1) m in
@@ -213,18 +213,18 @@ module _ (stop : ℕ) (apart : 57 < stop ⊎ stop < 48) where
   digits-on-sound (b ∷ s) a t e = go (digits-on-sound s) (eqb b stop) (digit b) refl refl e
     where
       go : ((a t : List ℕ) → digitsOn stop s ≡ some (a, t) → Row s a t) → (x y : Bool) → eqb b stop ≡ x → digit b ≡ y
-          → cond x (some ([], s)) (cond y (put (b - 48) (digitsOn stop s)) none) ≡ some (a, t) → Row (b ∷ s) a t
+          → cond x (some ([], s)) (cond y (withDigit (b - 48) (digitsOn stop s)) none) ≡ some (a, t) → Row (b ∷ s) a t
       go ih true y h k e =
           let m : _≡_ {A = List ℕ × List ℕ} ([], s) (a, t) = cc in
           let ma : [] ≡ a = ap (λ (y : List ℕ × List ℕ). y .0) m in
           let mt : s ≡ t = ap (λ (y : List ℕ × List ℕ). y .1) m in
           let q : b ≡ stop = eqb-true b stop h in
           (rw (← ma, ← mt, q), rw (← ma) tt)
-      go ih false true h k e = put-sound b (digitsOn stop s) s a t k ih e .0
+      go ih false true h k e = digit-sound b (digitsOn stop s) s a t k ih e .0
       go ih false false h k e = let z : _≡_ {A = ℕ} 0 1 = cc in absurd (omega arith)
 
   digits-complete : (ds t : List ℕ) → RowFit ds → digits stop ((digitBytes ds ++ (stop ∷ [])) ++ t) ≡ some (ds, t)
-  unfolding digits put RowFit digitBytes
+  unfolding digits withDigit RowFit digitBytes
   digits-complete [] t f = absurd f
   digits-complete (d ∷ ds) t f =
       let h : d ≤ 9 = f .0 in
@@ -242,10 +242,10 @@ module _ (stop : ℕ) (apart : 57 < stop ⊎ stop < 48) where
   digits-sound [] a t e = let z : _≡_ {A = ℕ} 0 1 = cc in absurd (omega arith)
   digits-sound (b ∷ s) a t e = go (digit b) refl e
     where
-      go : (y : Bool) → digit b ≡ y → cond y (put (b - 48) (digitsOn stop s)) none ≡ some (a, t)
+      go : (y : Bool) → digit b ≡ y → cond y (withDigit (b - 48) (digitsOn stop s)) none ≡ some (a, t)
           → (b ∷ s ≡ (digitBytes a ++ (stop ∷ [])) ++ t) × RowFit a
       go true h k =
-          let v : Row (b ∷ s) a t × RowFit a = put-sound b (digitsOn stop s) s a t h (digits-on-sound s) k in
+          let v : Row (b ∷ s) a t × RowFit a = digit-sound b (digitsOn stop s) s a t h (digits-on-sound s) k in
           (rw append-assoc (v .0 .0), v .1)
       go false h k = let z : _≡_ {A = ℕ} 0 1 = cc in absurd (omega arith)
 

@@ -20,12 +20,12 @@ use Rattle.rules.specs.declared.Side.the-variants.{Wall, Open}
 use Rattle.rules.specs.declared.Call.{Call}
 use Rattle.rules.specs.declared.Call.the-variants.{Decide, Undo, Check}
 use Rattle.page.specs.declared.Clue.{Clue}
-use Rattle.page.specs.Parsers.{also, onto, lead, either, mapR, done, strip, number}
+use Rattle.page.specs.Parsers.{also, onto, lead, either, mapR, give, strip, number}
 use Rattle.page.specs.Grammar.{Sheet, clueFrom, decideFrom, sheetFrom, space, bracket, newline}
 use Rattle.page.specs.Grammar.{pageWord, sizeWord, rowWord, clueWord, decideWord, undoWord, checkWord}
-use Rattle.page.specs.Grammar.{wallWord, openWord, endWord, size, row, clue, side, decide, call, close, sheet}
+use Rattle.page.specs.Grammar.{wallWord, openWord, endWord, size, row, clue, side, decideCall, call, close, sheet}
 use Rattle.page.specs.Decimal.{decimal}
-use Rattle.page.specs.Printed.{Prints, Takes, takes-printed, reshow, refit, done-prints, lead-prints}
+use Rattle.page.specs.Printed.{Prints, Takes, takes-printed, reshow, refit, give-prints, lead-prints}
 use Rattle.page.specs.Printed.{followed-prints, either-prints, both-prints, map-prints}
 use Rattle.page.specs.NumberText.{RowFit, digitBytes, number-prints, digits-prints}
 use Rattle.page.specs.Many.{showAll, AllFit, rep-prints}
@@ -89,8 +89,8 @@ unfolding side showSide lead onto strip
 side-prints =
     refit (λ _. Unit {0})
     (either-prints
-    (reshow showSide (lead-prints wallWord (done-prints Wall)) (λ a e. rw (← e)))
-    (reshow showSide (lead-prints openWord (done-prints Open)) (λ a e. rw (← e)))
+    (reshow showSide (lead-prints wallWord (give-prints Wall)) (λ a e. rw (← e)))
+    (reshow showSide (lead-prints openWord (give-prints Open)) (λ a e. rw (← e)))
     (λ a t e. rw (← e)))
     (λ a f. tt) sides
   where
@@ -104,8 +104,8 @@ DecideFit (Decide l) = Count (l .border)
 DecideFit Undo = ⊥
 DecideFit Check = ⊥
 
-decide-prints : Prints decide showCall DecideFit
-unfolding decide showCall DecideFit
+decide-prints : Prints decideCall showCall DecideFit
+unfolding decideCall showCall DecideFit
 decide-prints =
     map-prints decideFrom showCall DecideFit (lead-prints decideWord (both-prints spaced side-prints))
     (λ a f. (refl, f .0)) from
@@ -120,19 +120,19 @@ unfolding call showCall lead onto strip CallFit DecideFit
 call-prints =
     refit CallFit
     (either-prints
-    (reshow showCall (lead-prints undoWord (done-prints Undo)) (λ a e. rw (← e)))
+    (reshow showCall (lead-prints undoWord (give-prints Undo)) (λ a e. rw (← e)))
     (either-prints
-    (reshow showCall (lead-prints checkWord (done-prints Check)) (λ a e. rw (← e)))
+    (reshow showCall (lead-prints checkWord (give-prints Check)) (λ a e. rw (← e)))
     decide-prints decide-check)
     (λ a t. ⊎-elim (λ e. rw (← e)) (decide-undo a t)))
     to from
   where
-    decide-check : (a : Call) (t : List ℕ) → DecideFit a → lead checkWord (done Check) (showCall a ++ t) ≡ none
+    decide-check : (a : Call) (t : List ℕ) → DecideFit a → lead checkWord (give Check) (showCall a ++ t) ≡ none
     decide-check (Decide l) t f = refl
     decide-check Undo t f = absurd f
     decide-check Check t f = absurd f
 
-    decide-undo : (a : Call) (t : List ℕ) → DecideFit a → lead undoWord (done Undo) (showCall a ++ t) ≡ none
+    decide-undo : (a : Call) (t : List ℕ) → DecideFit a → lead undoWord (give Undo) (showCall a ++ t) ≡ none
     decide-undo (Decide l) t f = refl
     decide-undo Undo t f = absurd f
     decide-undo Check t f = absurd f
@@ -169,7 +169,7 @@ call-takes = takes-printed call showCall CallFit 1 call-prints long
 
 -- a line is not read where one of a later kind stands
 call-not : (t : List ℕ) → call (bracket ∷ t) ≡ none
-unfolding call decide either orElse mapR also lead onto strip
+unfolding call decideCall either orElse mapR also lead onto strip
 call-not t = refl
 
 clue-not : (ks : List Call) (u t : List ℕ) → clue ((showAll showCall ks ++ (bracket ∷ u)) ++ t) ≡ none
@@ -209,7 +209,7 @@ sheet-prints =
     (both-prints size-prints
     (rep-prints row-prints
     (rep-prints clue-prints
-    (rep-prints call-prints (lead-prints endWord (done-prints (tt {0}))) call-takes (λ b t f. call-not (10 ∷ t)))
+    (rep-prints call-prints (lead-prints endWord (give-prints (tt {0}))) call-takes (λ b t f. call-not (10 ∷ t)))
     clue-takes (λ c t f. clue-not (c .0) (10 ∷ []) t))
     row-takes (λ c t f. row-not (c .0) (c .1 .0) (10 ∷ []) t))))
     (λ a f. (

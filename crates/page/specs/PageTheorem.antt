@@ -2,7 +2,7 @@
 --
 --   Spells s p          the bytes s are the text of the page p, and all that 01 asks of form holds
 --   page-sound, page-complete   `pageOf s ≡ some p` exactly where s spells p
---   Puzzle s p          the bytes s are accepted as the page p: what its arrays hold
+--   PagePuzzle s p      the bytes s are accepted as the page p: what its arrays hold
 use mathlib.Core.Path.{_≡_, refl, sym, ap, _∙_, subst}
 use mathlib.Core.Bool.{Bool, true, false, cond}
 use mathlib.Core.List.{List, [], _∷_, append-nil}
@@ -15,7 +15,7 @@ use lib.ListN.{length, take}
 use Rattle.rules.specs.FlatLaws.{counts}
 use Rattle.page.specs.Grammar.{Sheet, cluesFit, sheet, whole, pageOf}
 use Rattle.page.specs.PageText.{showSheet, SheetFit, sheet-prints}
-use Rattle.page.specs.Judge.{accepted, verdict, judge, coloursOf, cluesOf}
+use Rattle.page.specs.Judge.{accepted, judgeRead, judgementOf, coloursOf, cluesOf}
 use Rattle.page.specs.Judge.{colourArray, clueArray}
 use Rattle.page.specs.PuzzleLaws.{Makes, makes, colours-length, colours-front, clues-length, clues-front}
 
@@ -56,7 +56,7 @@ page-sound s p e = go (leb (length s) 65536) refl e
     go true h k = on (sheet s) refl k (leb-true (length s) 65536 h)
     go false h k = let z : _≡_ {A = ℕ} 0 1 = cc in absurd (omega arith)
 
-pub record Puzzle (s : List ℕ) (p : Sheet) : Type 0 where
+pub record PagePuzzle (s : List ℕ) (p : Sheet) : Type 0 where
   pub spells : Spells s p
   pub makes : Makes p
   pub cells : p .height * p .width ≤ 1024
@@ -66,11 +66,11 @@ pub record Puzzle (s : List ℕ) (p : Sheet) : Type 0 where
   pub clues : take (p .height * p .width) (clueArray (p .width) (p .clues)) ≡ cluesOf p
 
 -- an accepted page is well formed and makes a board, and its arrays begin with the puzzle's lists
-pub puzzle : (s : List ℕ) (p : Sheet) → judge s ≡ accepted p → Puzzle s p
-unfolding judge verdict
+pub puzzle : (s : List ℕ) (p : Sheet) → judgementOf s ≡ accepted p → PagePuzzle s p
+unfolding judgementOf judgeRead
 puzzle s p e = go (pageOf s) refl e
   where
-    all : pageOf s ≡ some p → Makes p → Puzzle s p
+    all : pageOf s ≡ some p → Makes p → PagePuzzle s p
     all h m =
         let k : Spells s p = page-sound s p h in
         let n : p .height * p .width ≤ 1024 = counts (m .size) .cells in
@@ -85,7 +85,7 @@ puzzle s p e = go (pageOf s) refl e
           clues = clues-front p (k .clues) (m .size .broad) n;
         }
 
-    go : (o : Option Sheet) → pageOf s ≡ o → verdict o ≡ accepted p → Puzzle s p
+    go : (o : Option Sheet) → pageOf s ≡ o → judgeRead o ≡ accepted p → PagePuzzle s p
     go none h k = let z : _≡_ {A = ℕ} 0 1 = cc in absurd (omega arith)
     go (some q) h k =
         let m = makes q p k in

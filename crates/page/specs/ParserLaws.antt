@@ -12,7 +12,7 @@ use lib.Seq.{drop-cons}
 use borrow.Author.Tests.{lt-ltb, le-ltb, le-leb, lt-leb, eq-eqb, ne-eqb, leb-true}
 use Rattle.lists.specs.Table.{table}
 use Rattle.lists.specs.Tests.{and-left, and-right}
-use Rattle.page.specs.Parsers.{rest, strip, number, numberOn, mayFollow, put, digitsOn, digits, digit}
+use Rattle.page.specs.Parsers.{rest, strip, number, numberOn, mayFollow, withDigit, digitsOn, digits, digit}
 use Rattle.page.specs.Places.{digitAt, digitsIn}
 
 -- what was answered says what the parser gives
@@ -154,10 +154,10 @@ unfolding after
 after-nil none = refl
 after-nil (some p) = refl
 
-after-put : (ds : List ℕ) (d : ℕ) (o : Option (List ℕ × List ℕ)) → after ds (put d o) ≡ after (ds ++ (d ∷ [])) o
-unfolding after put
-after-put ds d none = refl
-after-put ds d (some p) = rw append-assoc
+after-digit : (ds : List ℕ) (d : ℕ) (o : Option (List ℕ × List ℕ)) → after ds (withDigit d o) ≡ after (ds ++ (d ∷ [])) o
+unfolding after withDigit
+after-digit ds d none = refl
+after-digit ds d (some p) = rw append-assoc
 
 module _ (s : List ℕ) (p stop : ℕ) where
   pub digits-none : length s ≤ p → digits stop (rest s p) ≡ none
@@ -175,7 +175,7 @@ module _ (s : List ℕ) (p stop : ℕ) where
       rw (
         digits-in-more s p p (omega arith),
         digits-in-none s p,
-        ← after-put [] (getD s p 0 - 48) (digitsOn stop (rest s (p + 1))),
+        ← after-digit [] (getD s p 0 - 48) (digitsOn stop (rest s (p + 1))),
         rest-more s p h,
         e,
       )
@@ -202,7 +202,7 @@ module _ (s : List ℕ) (p stop : ℕ) where
   digits-more a l h n e =
       rw (
         digits-in-more s a p l,
-        ← after-put (digitsIn s a p) (getD s p 0 - 48) (digitsOn stop (rest s (p + 1))),
+        ← after-digit (digitsIn s a p) (getD s p 0 - 48) (digitsOn stop (rest s (p + 1))),
         rest-more s p h,
         ne-eqb (getD s p 0) stop n,
         e,

@@ -5,7 +5,7 @@
 --   strip word s        the bytes after word, if s starts with it
 --   also o f            what f of the value read in o reads of the bytes left; none where nothing was read
 --   onto o r            what r reads of the bytes o; none where o is none
---   done a              reads nothing: the value a
+--   give a              reads nothing: the value a
 --   lead word r         the bytes of word, then r
 --   followed r word     r, then the bytes of word
 --   either r q          r, or q where r fails
@@ -20,7 +20,7 @@
 --   mayFollow v b       the byte b is a digit that may stand after the number v
 --   numberOn stop v     the rest of a number that is v so far, and the byte stop after it
 --   number stop         a decimal number without leading zeros, at most 2147483647, and the byte stop after it
---   put d o             d before the digits read in o
+--   withDigit d o       d before the digits read in o
 --   digitsOn stop       any number of digits, and the byte stop after them: the digits' values
 --   digits stop         one digit or more, and the byte stop after them: the digits' values
 use mathlib.Core.Bool.{Bool, _&&_, cond}
@@ -54,14 +54,14 @@ module _ {A : Type 0} where
   onto none r = none
   onto (some s) r = r s
 
-  unfoldable pub done : A → Parser A
-  done a s = some (a, s)
+  unfoldable pub give : A → Parser A
+  give a s = some (a, s)
 
   unfoldable pub lead : List ℕ → Parser A → Parser A
   lead word r s = onto (strip word s) r
 
   unfoldable pub followed : Parser A → List ℕ → Parser A
-  followed r word s = also (r s) (λ a t. lead word (done a) t)
+  followed r word s = also (r s) (λ a t. lead word (give a) t)
 
   unfoldable pub either : Parser A → Parser A → Parser A
   either r q s = orElse (r s) (q s)
@@ -110,16 +110,16 @@ number stop [] = none
 number stop (b ∷ s) = cond (digit b) (numberOn stop (b - 48) s) none
 
 -- d before the digits that were read
-unfoldable pub put : ℕ → Option (List ℕ × List ℕ) → Option (List ℕ × List ℕ)
-put d none = none
-put d (some p) = some (d ∷ p .0, p .1)
+unfoldable pub withDigit : ℕ → Option (List ℕ × List ℕ) → Option (List ℕ × List ℕ)
+withDigit d none = none
+withDigit d (some p) = some (d ∷ p .0, p .1)
 
 -- digits up to the byte stop
 unfoldable pub digitsOn : ℕ → Parser (List ℕ)
 digitsOn stop [] = none
 digitsOn stop (b ∷ s) =
-    cond (eqb b stop) (some ([], s)) (cond (digit b) (put (b - 48) (digitsOn stop s)) none)
+    cond (eqb b stop) (some ([], s)) (cond (digit b) (withDigit (b - 48) (digitsOn stop s)) none)
 
 unfoldable pub digits : ℕ → Parser (List ℕ)
 digits stop [] = none
-digits stop (b ∷ s) = cond (digit b) (put (b - 48) (digitsOn stop s)) none
+digits stop (b ∷ s) = cond (digit b) (withDigit (b - 48) (digitsOn stop s)) none

@@ -20,7 +20,7 @@ use Rattle.lists.specs.Table.{table}
 use Rattle.rules.specs.declared.Call.{Call}
 use Rattle.page.specs.Parsers.{Parser, rest, many}
 use Rattle.page.specs.Grammar.{Sheet, row, clue, call}
-use Rattle.page.specs.Judge.{Verdict, refused, accepted}
+use Rattle.page.specs.Judge.{Judgement, rejected, accepted}
 use Rattle.page.specs.declared.Clue.{Clue}
 use Rattle.page.specs.declared.Place.{Place}
 use Rattle.page.specs.declared.Place.the-variants as place
@@ -112,6 +112,6 @@ unfoldable pub formOf : List ℕ → Form → Option Sheet
 formOf s (formRead.Good p) = some (sheetAt s p)
 formOf s formRead.Bad = none
 
-unfoldable pub judgedOf : List ℕ → Judged → Verdict
-judgedOf s (judged.Refused n) = refused n
+unfoldable pub judgedOf : List ℕ → Judged → Judgement
+judgedOf s (judged.Refused n) = rejected n
 judgedOf s (judged.Accepted p) = accepted (sheetAt s p)

@@ -13,7 +13,7 @@ use lib.ListN.{length, length-append}
 use lib.Dec.{eqb}
 use borrow.Author.Tests.{eq-eqb, eqb-true}
 use Rattle.lists.specs.Lists.{orElse}
-use Rattle.page.specs.Parsers.{Parser, also, onto, lead, followed, both, either, mapR, done, strip}
+use Rattle.page.specs.Parsers.{Parser, also, onto, lead, followed, both, either, mapR, give, strip}
 
 pub record Prints {A : Type 0} (r : Parser A) (show : A → List ℕ) (Fit : A → Type 0) : Type 0 where
   pub sound : (s : List ℕ) (a : A) (t : List ℕ) → r s ≡ some (a, t) → (s ≡ show a ++ t) × Fit a
@@ -64,9 +64,9 @@ module _ {A : Type 0} where
         complete = λ a t g. R .complete a t (from a g);
       }
 
-  pub done-prints : (a : A) → Prints (done a) (λ _. []) (λ b. a ≡ b)
-  unfolding done
-  done-prints a =
+  pub give-prints : (a : A) → Prints (give a) (λ _. []) (λ b. a ≡ b)
+  unfolding give
+  give-prints a =
       record {
         sound = λ s b t e. let m : _≡_ {A = A × List ℕ} (a, s) (b, t) = cc in
             (ap (λ (p : A × List ℕ). p .1) m, ap (λ (p : A × List ℕ). p .0) m);
@@ -92,7 +92,7 @@ module _ {A : Type 0} where
 
   pub followed-prints : (w : List ℕ) {r : Parser A} {show : A → List ℕ} {F : A → Type 0} → Prints r show F
       → Prints (followed r w) (λ a. show a ++ w) F
-  unfolding followed also lead onto done
+  unfolding followed also lead onto give
   followed-prints w {r} {show} {F} R =
       record {
         sound = λ s a t e. go s a t (r s) refl e;

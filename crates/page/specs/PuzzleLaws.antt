@@ -21,7 +21,7 @@ use Rattle.lists.specs.Tests.{and-left, and-right}
 use Rattle.rules.specs.Flat.{Sized}
 use Rattle.page.specs.declared.Clue.{Clue}
 use Rattle.page.specs.Grammar.{Sheet, onPage, sameCell, cluesFit}
-use Rattle.page.specs.Judge.{Verdict, refused, accepted, sizeFits, rowsFit, low, twoColours, cluesLow}
+use Rattle.page.specs.Judge.{Judgement, rejected, accepted, sizeFits, rowsFit, low, twoColours, cluesLow}
 use Rattle.page.specs.Judge.{judgeSheet, coloursOf, clueOn, cluesOf, colourArray, placed, clueArray}
 use Rattle.page.specs.JudgeLaws.{sized}
 
@@ -181,7 +181,7 @@ clues-front p e l s =
     (getD-replicate 1024 i (negsuc 0) (pos 0) (omega arith))))
 
 -- an accepted page makes a board
-cond-accepted : (b : Bool) (v : Verdict) (n : ℕ) (p : Sheet) → cond b v (refused n) ≡ accepted p
+cond-accepted : (b : Bool) (v : Judgement) (n : ℕ) (p : Sheet) → cond b v (rejected n) ≡ accepted p
     → (b ≡ true) × (v ≡ accepted p)
 cond-accepted true v n p e = (refl, e)
 cond-accepted false v n p e = let z : _≡_ {A = ℕ} 0 1 = cc in absurd (omega arith)

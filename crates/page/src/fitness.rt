@@ -131,7 +131,7 @@ fn half(h: usize, w: usize) -> usize
     h * w / 2
 }
 
-// The verdict on a well formed page: 1, 2, 3, 11, or accepted.
+// The judgement of a well formed page: 1, 2, 3, 11, or accepted.
 pub fn judge_parts(s: &[u8], p: Parts) -> Judged
     ensures { λ r. ⌜ judgedOf (now (s .entry)) r ≡ judgeSheet (sheetAt (now (s .entry)) p) ⌝ }
 {

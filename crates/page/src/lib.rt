@@ -3,7 +3,7 @@
 ghost use mathlib.Core.Path.{_≡_};
 ghost use Rattle.page.specs.Parsers.{rest};
 ghost use Rattle.page.specs.Grammar.{call};
-ghost use Rattle.page.specs.Judge.{judge, colourArray, clueArray};
+ghost use Rattle.page.specs.Judge.{judgementOf, colourArray, clueArray};
 ghost use Rattle.page.specs.Places.{sheetAt, judgedOf, gotCall};
 use rules::Call;
 
@@ -86,7 +86,7 @@ pub enum Judged {
 
 // The judgement of a page's bytes: 10, 1, 2, 3, 11, in this order, or accepted.
 pub fn judge(s: &[u8]) -> Judged
-    ensures { λ r. ⌜ judgedOf (now (s .entry)) r ≡ judge (now (s .entry)) ⌝ }
+    ensures { λ r. ⌜ judgedOf (now (s .entry)) r ≡ judgementOf (now (s .entry)) ⌝ }
 {
     let Form::Good(p) = whole::form_of(s) else {
         return Judged::Refused(10);

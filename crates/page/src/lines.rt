@@ -1,7 +1,7 @@
 // One line of a page at a place of the bytes: the size, a row, a clue, a call.
 ghost use mathlib.Core.Path.{_≡_};
 ghost use Rattle.page.specs.Parsers.{rest};
-ghost use Rattle.page.specs.Grammar.{size, row, clue, decide, call};
+ghost use Rattle.page.specs.Grammar.{size, row, clue, decideCall, call};
 ghost use Rattle.page.specs.Places.{gotSize, gotRow, gotClue, gotCall};
 use crate::CallRead;
 use crate::Clue;
@@ -74,7 +74,7 @@ pub fn clue_at(s: &[u8], at: usize) -> ClueRead
 
 // `(decide b s)`
 fn decide_at(s: &[u8], at: usize) -> CallRead
-    ensures { λ r. ⌜ gotCall (now (s .entry)) r ≡ decide (rest (now (s .entry)) at) ⌝ }
+    ensures { λ r. ⌜ gotCall (now (s .entry)) r ≡ decideCall (rest (now (s .entry)) at) ⌝ }
 {
     let Place::At(a) = bytes::word_at(s, at, b"(decide ") else {
         return CallRead::No;

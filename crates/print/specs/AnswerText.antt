@@ -20,12 +20,11 @@ use Rattle.rules.specs.Codes.{literalCode, sideCode}
 use Rattle.rules.specs.Check.{pass, conflict}
 use Rattle.rules.specs.Book.{Reply, refused, done, answered}
 use Rattle.page.specs.Parsers.{Parser, also, onto, lead, followed, either, mapR, rep, strip, number, numberOn}
-use Rattle.page.specs.Parsers.{mayFollow}
-use Rattle.page.specs.Parsers as parsers
+use Rattle.page.specs.Parsers.{give, mayFollow}
 use Rattle.page.specs.Grammar.{bracket, newline, endWord}
 use Rattle.page.specs.Decimal.{decimal}
 use Rattle.page.specs.PageText.{counted, Count}
-use Rattle.page.specs.Printed.{Prints, Takes, takes-printed, refit, done-prints, lead-prints, followed-prints}
+use Rattle.page.specs.Printed.{Prints, Takes, takes-printed, refit, give-prints, lead-prints, followed-prints}
 use Rattle.page.specs.Printed.{either-prints, map-prints}
 use Rattle.page.specs.NumberText.{number-prints, read-decimal}
 use Rattle.page.specs.Many.{showAll, AllFit, rep-prints}
@@ -46,10 +45,10 @@ unfoldable pub reply : Parser Reply
 reply =
     either (mapR refused (lead refusedWord (followed (number bracket) newline)))
     (either (mapR (λ n. answered (pass n)) (lead passWord (followed (number bracket) newline)))
-    (mapR conflictFrom (lead conflictWord (rep literal (lead endWord (parsers.done (tt {0})))))))
+    (mapR conflictFrom (lead conflictWord (rep literal (lead endWord (give (tt {0})))))))
 
 unfoldable pub answers : Parser (List Reply)
-answers = mapR (λ p. p .0) (lead answersWord (rep reply (lead endWord (parsers.done (tt {0})))))
+answers = mapR (λ p. p .0) (lead answersWord (rep reply (lead endWord (give (tt {0})))))
 
 abbrev LiteralFit : Literal → Type 0
 LiteralFit l = Count (l .border)
@@ -109,8 +108,8 @@ numbered : (word : List ℕ)
     → Prints (lead word (followed (number bracket) newline)) (λ n. word ++ (counted n bracket ++ newline)) Count
 numbered word = lead-prints word (followed-prints newline (number-prints bracket (inr (omega arith))))
 
-ended : Prints (lead endWord (parsers.done (tt {0}))) (λ u. endWord) (λ u. tt ≡ u)
-ended = lead-prints endWord (done-prints (tt {0}))
+ended : Prints (lead endWord (give (tt {0}))) (λ u. endWord) (λ u. tt ≡ u)
+ended = lead-prints endWord (give-prints (tt {0}))
 
 -- which of the three lines a reply has
 unfoldable Refused : Reply → Type 0
@@ -154,7 +153,7 @@ literal-not : (t : List ℕ) → literal (endWord ++ t) ≡ none
 unfolding literal lead onto strip
 literal-not t = refl
 
-conflict-prints : Prints (mapR conflictFrom (lead conflictWord (rep literal (lead endWord (parsers.done (tt {0}))))))
+conflict-prints : Prints (mapR conflictFrom (lead conflictWord (rep literal (lead endWord (give (tt {0}))))))
     showReply Clashed
 unfolding showReply Clashed
 conflict-prints =

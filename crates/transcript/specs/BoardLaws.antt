@@ -26,7 +26,7 @@ use Rattle.board.specs.Cases.{fresh-done}
 use Rattle.board.specs.ConditionLaws.{sized, size-is, cells-of}
 use Rattle.page.specs.declared.Clue.{Clue}
 use Rattle.page.specs.Grammar.{Sheet}
-use Rattle.page.specs.Judge.{accepted, judge, low, cluesLow, coloursOf, clueOn, cluesOf}
+use Rattle.page.specs.Judge.{accepted, judgementOf, low, cluesLow, coloursOf, clueOn, cluesOf}
 use Rattle.page.specs.PageTheorem as pages
 use Rattle.page.specs.PuzzleLaws.{colours-low}
 use Rattle.transcript.specs.Left.{startBoard, boardAt}
@@ -62,8 +62,8 @@ clued-on most (c ∷ cs) y x e =
     go true h k = record { least = refl; upto = λ l. le-leb (c .n) 2147483647 (omega arith) }
     go false h k = k
 
-module _ (s : List ℕ) (p : Sheet) (e : judge s ≡ accepted p) where
-  page : pages.Puzzle s p
+module _ (s : List ℕ) (p : Sheet) (e : judgementOf s ≡ accepted p) where
+  page : pages.PagePuzzle s p
   page = pages.puzzle s p e
 
   pub page-board : boardAt p ≡ startBoard p

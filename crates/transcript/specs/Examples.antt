@@ -13,7 +13,7 @@ use Rattle.demand3.specs.Demand3Laws.{demand3}
 use Rattle.demand3.specs.SmallRuns.{small-runs}
 use Rattle.page.specs.Decimal.{decimalIn, decimal}
 use Rattle.page.specs.Examples.{sample, samplePage, sample-accepted}
-use Rattle.page.specs.Judge.{Verdict, coloursOf, clueOn, cluesOf}
+use Rattle.page.specs.Judge.{Judgement, coloursOf, clueOn, cluesOf}
 use Rattle.page.specs.Many.{showAll}
 use Rattle.print.specs.Answers.{showLiteral, showReply, showAnswers}
 use Rattle.print.specs.Examples.{sampleText}
@@ -44,5 +44,5 @@ module _ (m : List ℕ) (l : length m ≡ 16384) where
 pub sample-text : transcript sample ≡ sampleText
 unfolding transcript pageReplies decimalIn decimal showAll showLiteral showReply showAnswers
 sample-text =
-    ap (λ (v : Verdict). showAnswers (pageReplies v)) sample-accepted
+    ap (λ (v : Judgement). showAnswers (pageReplies v)) sample-accepted
     ∙ ap showAnswers (sample-book (replicate 16384 0) (length-replicate {A = ℕ} 16384 0))

@@ -4,7 +4,7 @@
 --   boardAt p           the board that the code makes of a page
 --   callsText b m cs    the lines of the calls cs from the board b on, with the memory m lent, and the last line
 --   firstMemory b m cs  the memory m after the first of the calls cs on the board b; m where there is none
---   verdictText m v     what is printed after the first line, by the verdict on the page
+--   judgedText m v      what is printed after the first line, by the judgement of the page
 --   literalsText m a e  the literals of the memory m from place a up to place e
 --   lineOf a            the line of an answer, or its part before the literals
 --   stageOf a           what is printed after that
@@ -37,8 +37,7 @@ use Rattle.calls.specs.declared.Answer.{Answer}
 use Rattle.calls.specs.declared.Answer.the-variants as answer
 use Rattle.calls.specs.Answers.{told, callOf, callMemory}
 use Rattle.page.specs.Grammar.{Sheet, endWord, call}
-use Rattle.page.specs.Judge as judgement
-use Rattle.page.specs.Judge.{Verdict, judge, coloursOf, cluesOf, colourArray, clueArray}
+use Rattle.page.specs.Judge.{Judgement, rejected, accepted, judgementOf, coloursOf, cluesOf, colourArray, clueArray}
 use Rattle.page.specs.Many.{showAll}
 use Rattle.page.specs.Places.{allFrom}
 use Rattle.print.specs.Answers.{answersWord, conflictWord, showReply, codeText}
@@ -68,9 +67,9 @@ firstMemory b m [] = m
 firstMemory b m (c ∷ cs) = callMemory b c m
 
 -- "A page that makes no board prints just that line between these"
-unfoldable pub verdictText : List ℕ → Verdict → List ℕ
-verdictText m (judgement.refused n) = showReply (refused n) ++ endWord
-verdictText m (judgement.accepted p) = callsText (startBoard p) m (p .calls)
+unfoldable pub judgedText : List ℕ → Judgement → List ℕ
+judgedText m (rejected n) = showReply (refused n) ++ endWord
+judgedText m (accepted p) = callsText (startBoard p) m (p .calls)
 
 unfoldable pub literalsText : List ℕ → ℕ → ℕ → List ℕ
 literalsText m a e = showAll codeText (drop a (take e m))
@@ -104,7 +103,7 @@ module _ (s : List ℕ) where
   linesFrom b at m = callsText b m (allFrom call s at)
 
   unfoldable pub leftAt : Stage → Board → ℕ → List ℕ → List ℕ
-  leftAt Begin b at m = answersWord ++ verdictText m (judge s)
+  leftAt Begin b at m = answersWord ++ judgedText m (judgementOf s)
   leftAt (Refused n) b at m = showReply (refused n) ++ endWord
   leftAt Calls b at m = linesFrom b at m
   leftAt (Reason a e) b at m = literalsText m a e ++ (endWord ++ linesFrom b at m)

@@ -40,8 +40,7 @@ use Rattle.calls.specs.CallLaws.{reason-short}
 use Rattle.page.specs.declared.Parts.{Parts}
 use Rattle.page.specs.FormLaws.{from-none, from-more}
 use Rattle.page.specs.Grammar.{endWord, call}
-use Rattle.page.specs.Judge as judgement
-use Rattle.page.specs.Judge.{judge}
+use Rattle.page.specs.Judge.{rejected, accepted, judgementOf}
 use Rattle.page.specs.Many.{showAll, passes}
 use Rattle.page.specs.PageText.{counted, call-takes}
 use Rattle.page.specs.Places.{sheetAt, allFrom}
@@ -55,7 +54,7 @@ use Rattle.print.specs.Chunks.{codesIn, Put, codes-none, codes-more, show-appen
 use Rattle.transcript.specs.declared.Stage.{Stage}
 use Rattle.transcript.specs.declared.Stage.the-variants.{Refused, Calls, Reason, Last, Over}
 use Rattle.transcript.specs.declared.Run.{Run}
-use Rattle.transcript.specs.Left.{boardAt, callsText, verdictText, literalsText, lineOf, stageOf, goesOn}
+use Rattle.transcript.specs.Left.{boardAt, callsText, judgedText, literalsText, lineOf, stageOf, goesOn}
 use Rattle.transcript.specs.Left.{linesFrom, leftAt, left, stepsAt, steps, Goes, Next}
 use Rattle.transcript.specs.Left.{firstMemory, memoryAt, memoryNext}
 use Rattle.transcript.specs.BoardLaws.{page-board}
@@ -201,17 +200,17 @@ turn-less s b c m at next h = few-less s (callOf b c m .answer) at next (call-fe
 
 -- ---- the page
 module _ (s m : List ℕ) where
-  pub refused-left : (n : ℕ) → judge s ≡ judgement.refused n
-      → showReply (refused n) ++ endWord ≡ verdictText m (judge s)
-  unfolding verdictText
+  pub refused-left : (n : ℕ) → judgementOf s ≡ rejected n
+      → showReply (refused n) ++ endWord ≡ judgedText m (judgementOf s)
+  unfolding judgedText
   refused-left n e = rw e
 
-  pub accepted-left : (p : Parts) (b : Board) → judge s ≡ judgement.accepted (sheetAt s p) → b ≡ boardAt (sheetAt s p)
-      → linesFrom s b (p .calls) m ≡ verdictText m (judge s)
-  unfolding verdictText linesFrom sheetAt
+  pub accepted-left : (p : Parts) (b : Board) → judgementOf s ≡ accepted (sheetAt s p) → b ≡ boardAt (sheetAt s p)
+      → linesFrom s b (p .calls) m ≡ judgedText m (judgementOf s)
+  unfolding judgedText linesFrom sheetAt
   accepted-left p b e q =
       ap (λ (d : Board). callsText d m (sheetAt s p .calls)) (q ∙ page-board s (sheetAt s p) e)
-      ∙ ap (verdictText m) (sym e)
+      ∙ ap (judgedText m) (sym e)
 
 -- ---- chunks of a reason
 module _ (s : List ℕ) (b : Board) (at : ℕ) (m : List ℕ) (from to : ℕ) where

@@ -16,14 +16,13 @@ use Rattle.calls.specs.AnswerLaws.{length-call}
 use Rattle.demand3.specs.Runs.{Lent, lend, askedOf, toldBy, runFrom}
 use Rattle.demand3.specs.Demand3Laws.{demand3}
 use Rattle.page.specs.Grammar.{Sheet, endWord}
-use Rattle.page.specs.Judge as judgement
-use Rattle.page.specs.Judge.{Verdict, judge, coloursOf, cluesOf}
+use Rattle.page.specs.Judge.{Judgement, rejected, accepted, judgementOf, coloursOf, cluesOf}
 use Rattle.page.specs.Many.{showAll}
 use Rattle.print.specs.Answers.{answersWord, showReply, showAnswers}
 use Rattle.transcript.specs.declared.Stage.{Stage}
 use Rattle.transcript.specs.declared.Stage.the-variants.{Over}
 use Rattle.transcript.specs.declared.Run.{Run}
-use Rattle.transcript.specs.Left.{startBoard, callsText, verdictText, firstRun, leftAt, left, Next}
+use Rattle.transcript.specs.Left.{startBoard, callsText, judgedText, firstRun, leftAt, left, Next}
 use Rattle.transcript.specs.Transcript.{puzzleOn, pageReplies, transcript}
 use Rattle.transcript.specs.BoardLaws.{page-accepted}
 
@@ -50,7 +49,7 @@ calls-run b m (c ∷ cs) =
 
 module _ (s m : List ℕ) (l : length m ≡ 16384) where
   -- demand 3, for the page's puzzle and its calls
-  calls-book : (p : Sheet) → judge s ≡ judgement.accepted p
+  calls-book : (p : Sheet) → judgementOf s ≡ accepted p
       → callsText (startBoard p) m (p .calls)
       ≡ showAll showReply (replies (puzzleOn p) (map (ask 16384) (p .calls))) ++ endWord
   unfolding startBoard
@@ -61,14 +60,14 @@ module _ (s m : List ℕ) (l : length m ≡ 16384) where
       (lentFrom (startBoard p) m (p .calls)) .answers
       ∙ ap (replies (puzzleOn p)) (asked-from (startBoard p) m (p .calls) l))
 
-  verdict-book : (v : Verdict) → judge s ≡ v → verdictText m v ≡ showAll showReply (pageReplies v) ++ endWord
-  unfolding verdictText pageReplies showAll
-  verdict-book (judgement.refused n) e = rw (append-nil (showReply (refused n)))
-  verdict-book (judgement.accepted p) e = calls-book p e
+  judged-book : (v : Judgement) → judgementOf s ≡ v → judgedText m v ≡ showAll showReply (pageReplies v) ++ endWord
+  unfolding judgedText pageReplies showAll
+  judged-book (rejected n) e = rw (append-nil (showReply (refused n)))
+  judged-book (accepted p) e = calls-book p e
 
   pub first-left : left s firstRun m ≡ transcript s
   unfolding leftAt transcript showAnswers
-  first-left = ap (λ (t : List ℕ). answersWord ++ t) (verdict-book (judge s) refl)
+  first-left = ap (λ (t : List ℕ). answersWord ++ t) (judged-book (judgementOf s) refl)
 
 -- the run goes from chunk to chunk as `next` says, with the memory that it left, and each chunk has a buffer
 pub data Chunks (s : List ℕ) : Run → List ℕ → List ℕ → Type 0 where

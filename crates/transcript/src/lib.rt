@@ -10,9 +10,9 @@ ghost use Rattle.board.specs.Board.{numberOf};
 ghost use Rattle.print.specs.Answers.{answersWord, showReply};
 ghost use Rattle.print.specs.Lines.{Holds};
 ghost use Rattle.page.specs.Grammar.{endWord, call};
-ghost use Rattle.page.specs.Judge.{judge};
+ghost use Rattle.page.specs.Judge.{judgementOf};
 ghost use Rattle.page.specs.Places.{sheetAt, allFrom};
-ghost use Rattle.transcript.specs.Left.{firstRun, goesOn, boardAt, verdictText, linesFrom, literalsText};
+ghost use Rattle.transcript.specs.Left.{firstRun, goesOn, boardAt, judgedText, linesFrom, literalsText};
 ghost use Rattle.transcript.specs.Left.{lineOf, stageOf, firstMemory, Goes, Next};
 use board::Board;
 use board::Outcome;
@@ -83,7 +83,7 @@ fn board_of(s: &[u8], p: Parts) -> Board
 fn begin(s: &[u8], out: &mut [u8]) -> Run
     requires { ⌜ 32 ≤ length (now out) ⌝ }
     ensures { λ r.
-        ⌜ ((m : List ℕ) → Goes (now (s .entry)) (answersWord ++ verdictText m (judge (now (s .entry))))
+        ⌜ ((m : List ℕ) → Goes (now (s .entry)) (answersWord ++ judgedText m (judgementOf (now (s .entry))))
         (length (now (s .entry)) * 20000 + 3) (now (out .entry)) r m (now (out .exit))) ⌝ }
 {
     let count = print::put_line(out, 0, print::answers_line());

@@ -1,4 +1,4 @@
--- `judge` meets its contract: 10 where the page is malformed, and otherwise the verdict on its parts.
+-- `judge` meets its contract: 10 where the page is malformed, and otherwise the judgement of its parts.
 use Rattle.page.specs.JudgeLaws.{malformed, formed}
 use Rattle.page.specs.Places.{judgedOf, formOf}
 use Rattle.page.specs.ParserLaws.{told}

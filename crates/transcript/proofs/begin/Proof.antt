@@ -1,4 +1,4 @@
--- `begin` meets its contract: the first line is put, and the rest is by the verdict.
+-- `begin` meets its contract: the first line is put, and the rest is by the judgement.
 use mathlib.Core.Path.{ap}
 use mathlib.Core.List.{List, _++_}
 use Prim.Native.Nat.{ℕ}

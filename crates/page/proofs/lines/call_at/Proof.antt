@@ -3,7 +3,7 @@ use Rattle.lists.specs.Lists.{orElse}
 use Rattle.page.specs.Grammar.{call}
 use Rattle.page.specs.Places.{gotCall, placeOf}
 use Rattle.page.specs.ParserLaws.{told}
-use Rattle.page.specs.Parsers.{either, lead, onto, done}
+use Rattle.page.specs.Parsers.{either, lead, onto, give}
 use borrow.Author.Needs.{needs}
 use Rattle.page.proofs.lines.call_at.Statement.{statement}
 use Rattle.page.proofs.lines.call_at.Tie as tie
@@ -36,7 +36,7 @@ decide-at-requires : tie.Need-decide-at-requires
 decide-at-requires c κs = search needs
 
 returns : tie.Need-returns
-unfolding call either orElse lead onto done gotCall placeOf
+unfolding call either orElse lead onto give gotCall placeOf
 returns c = rw (
   told (placeOf _) (c .before .before .before .before .before .before .before .word-at .ensures)
       (c .before .before .before .before .before .enum-told .given .1),
@@ -45,7 +45,7 @@ returns c = rw (
 )
 
 returns-2 : tie.Need-returns-2
-unfolding call either orElse lead onto done gotCall placeOf
+unfolding call either orElse lead onto give gotCall placeOf
 returns-2 c = rw (
   told (placeOf _) (c .before .before .before .before .before .before .before .word-at .ensures)
       (c .before .before .before .before .before .enum-told .given .1),
@@ -53,7 +53,7 @@ returns-2 c = rw (
 )
 
 returns-3 : tie.Need-returns-3
-unfolding call either orElse lead onto done gotCall placeOf
+unfolding call either orElse lead onto give gotCall placeOf
 returns-3 c = rw (told (placeOf _) (c .before .before .before .word-at .ensures) (c .before .a .given .1))
 
 pub call-at-spec : {M : Type 1} → statement M

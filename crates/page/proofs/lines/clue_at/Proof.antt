@@ -2,7 +2,7 @@
 use Rattle.page.specs.Grammar.{clue}
 use Rattle.page.specs.Places.{gotClue, placeOf, gotNumber}
 use Rattle.page.specs.ParserLaws.{told}
-use Rattle.page.specs.Parsers.{mapR, lead, both, followed, done, onto, also}
+use Rattle.page.specs.Parsers.{mapR, lead, both, followed, give, onto, also}
 use borrow.Author.Needs.{needs}
 use Rattle.page.proofs.lines.clue_at.Statement.{statement}
 use Rattle.page.proofs.lines.clue_at.Tie as tie
@@ -20,7 +20,7 @@ enum-told : tie.Need-enum-told
 enum-told c = search needs
 
 returns : tie.Need-returns
-unfolding clue mapR lead both followed done onto also gotClue placeOf gotNumber
+unfolding clue mapR lead both followed give onto also gotClue placeOf gotNumber
 returns c = rw (told (placeOf _) (c .before .before .word-at .ensures) (c .enum-told .given .1))
 
 number-at-requires : tie.Need-number-at-requires
@@ -33,7 +33,7 @@ enum-told-2 : tie.Need-enum-told-2
 enum-told-2 c = search needs
 
 returns-2 : tie.Need-returns-2
-unfolding clue mapR lead both followed done onto also gotClue placeOf gotNumber
+unfolding clue mapR lead both followed give onto also gotClue placeOf gotNumber
 returns-2 c = rw (
   told (placeOf _) (c .before .before .before .before .before .before .word-at .ensures)
       (c .before .before .before .before .a .given .1),
@@ -50,7 +50,7 @@ enum-told-3 : tie.Need-enum-told-3
 enum-told-3 c = search needs
 
 returns-3 : tie.Need-returns-3
-unfolding clue mapR lead both followed done onto also gotClue placeOf gotNumber
+unfolding clue mapR lead both followed give onto also gotClue placeOf gotNumber
 returns-3 c = rw (
   told (placeOf _)
       (c .before .before .before .before .before .before .before .before .before .before .word-at .ensures)
@@ -70,7 +70,7 @@ enum-told-4 : tie.Need-enum-told-4
 enum-told-4 c = search needs
 
 returns-4 : tie.Need-returns-4
-unfolding clue mapR lead both followed done onto also gotClue placeOf gotNumber
+unfolding clue mapR lead both followed give onto also gotClue placeOf gotNumber
 returns-4 c = rw (
   told (placeOf _)
       (c .before .before .before .before .before .before .before .before .before .before .before .before .before .before
@@ -96,7 +96,7 @@ enum-told-5 : tie.Need-enum-told-5
 enum-told-5 c = search needs
 
 returns-5 : tie.Need-returns-5
-unfolding clue mapR lead both followed done onto also gotClue placeOf gotNumber
+unfolding clue mapR lead both followed give onto also gotClue placeOf gotNumber
 returns-5 c = rw (
   told (placeOf _)
       (c .before .before .before .before .before .before .before .before .before .before .before .before .before .before
@@ -115,7 +115,7 @@ returns-5 c = rw (
 )
 
 returns-6 : tie.Need-returns-6
-unfolding clue mapR lead both followed done onto also gotClue placeOf gotNumber
+unfolding clue mapR lead both followed give onto also gotClue placeOf gotNumber
 returns-6 c = rw (
   told (placeOf _)
       (c .before .before .before .before .before .before .before .before .before .before .before .before .before .before

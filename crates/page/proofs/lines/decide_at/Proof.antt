@@ -1,9 +1,9 @@
 -- `decide_at` meets its contract: each word and number read is what the parser reads there.
 use Rattle.lists.specs.Lists.{orElse}
-use Rattle.page.specs.Grammar.{decide, side}
+use Rattle.page.specs.Grammar.{decideCall, side}
 use Rattle.page.specs.Places.{gotCall, placeOf, gotNumber}
 use Rattle.page.specs.ParserLaws.{told}
-use Rattle.page.specs.Parsers.{mapR, either, lead, onto, both, also, done}
+use Rattle.page.specs.Parsers.{mapR, either, lead, onto, both, also, give}
 use borrow.Author.Needs.{needs}
 use Rattle.page.proofs.lines.decide_at.Statement.{statement}
 use Rattle.page.proofs.lines.decide_at.Tie as tie
@@ -21,7 +21,7 @@ enum-told : tie.Need-enum-told
 enum-told c = search needs
 
 returns : tie.Need-returns
-unfolding decide side mapR either orElse lead onto both also done gotCall placeOf gotNumber
+unfolding decideCall side mapR either orElse lead onto both also give gotCall placeOf gotNumber
 returns c = rw (told (placeOf _) (c .before .before .word-at .ensures) (c .enum-told .given .1))
 
 number-at-requires : tie.Need-number-at-requires
@@ -34,7 +34,7 @@ enum-told-2 : tie.Need-enum-told-2
 enum-told-2 c = search needs
 
 returns-2 : tie.Need-returns-2
-unfolding decide side mapR either orElse lead onto both also done gotCall placeOf gotNumber
+unfolding decideCall side mapR either orElse lead onto both also give gotCall placeOf gotNumber
 returns-2 c = rw (
   told (placeOf _) (c .before .before .before .before .before .before .word-at .ensures)
       (c .before .before .before .before .a .given .1),
@@ -66,7 +66,7 @@ enum-told-4 : tie.Need-enum-told-4
 enum-told-4 c = search needs
 
 returns-3 : tie.Need-returns-3
-unfolding decide side mapR either orElse lead onto both also done gotCall placeOf gotNumber
+unfolding decideCall side mapR either orElse lead onto both also give gotCall placeOf gotNumber
 returns-3 c = rw (
   told (placeOf _)
       (c .before .before .before .before .before .before .before .before .before .before .before .before .before .before
@@ -81,7 +81,7 @@ returns-3 c = rw (
 )
 
 returns-4 : tie.Need-returns-4
-unfolding decide side mapR either orElse lead onto both also done gotCall placeOf gotNumber
+unfolding decideCall side mapR either orElse lead onto both also give gotCall placeOf gotNumber
 returns-4 c = rw (
   told (placeOf _)
       (c .before .before .before .before .before .before .before .before .before .before .before .before .before .before
@@ -97,7 +97,7 @@ returns-4 c = rw (
 )
 
 returns-5 : tie.Need-returns-5
-unfolding decide side mapR either orElse lead onto both also done gotCall placeOf gotNumber
+unfolding decideCall side mapR either orElse lead onto both also give gotCall placeOf gotNumber
 returns-5 c = rw (
   told (placeOf _)
       (c .before .before .before .before .before .before .before .before .before .before .before .before .word-at

@@ -2,7 +2,7 @@
 use Rattle.page.specs.Grammar.{row}
 use Rattle.page.specs.Places.{gotRow, placeOf, gotDigits}
 use Rattle.page.specs.ParserLaws.{told}
-use Rattle.page.specs.Parsers.{lead, followed, done, onto, also}
+use Rattle.page.specs.Parsers.{lead, followed, give, onto, also}
 use borrow.Author.Needs.{needs}
 use Rattle.page.proofs.lines.row_at.Statement.{statement}
 use Rattle.page.proofs.lines.row_at.Tie as tie
@@ -20,7 +20,7 @@ enum-told : tie.Need-enum-told
 enum-told c = search needs
 
 returns : tie.Need-returns
-unfolding row lead followed done onto also gotRow placeOf gotDigits
+unfolding row lead followed give onto also gotRow placeOf gotDigits
 returns c = rw (told (placeOf _) (c .before .before .word-at .ensures) (c .enum-told .given .1))
 
 digits-at-requires : tie.Need-digits-at-requires
@@ -33,7 +33,7 @@ enum-told-2 : tie.Need-enum-told-2
 enum-told-2 c = search needs
 
 returns-2 : tie.Need-returns-2
-unfolding row lead followed done onto also gotRow placeOf gotDigits
+unfolding row lead followed give onto also gotRow placeOf gotDigits
 returns-2 c = rw (
   told (placeOf _) (c .before .before .before .before .before .before .word-at .ensures)
       (c .before .before .before .before .from .given .1),
@@ -53,7 +53,7 @@ enum-told-3 : tie.Need-enum-told-3
 enum-told-3 c = search needs
 
 returns-3 : tie.Need-returns-3
-unfolding row lead followed done onto also gotRow placeOf gotDigits
+unfolding row lead followed give onto also gotRow placeOf gotDigits
 returns-3 c = rw (
   told (placeOf _)
       (c .before .before .before .before .before .before .before .before .before .before .before .word-at .ensures)
@@ -64,7 +64,7 @@ returns-3 c = rw (
 )
 
 returns-4 : tie.Need-returns-4
-unfolding row lead followed done onto also gotRow placeOf gotDigits
+unfolding row lead followed give onto also gotRow placeOf gotDigits
 returns-4 c = rw (
   told (placeOf _)
       (c .before .before .before .before .before .before .before .before .before .before .before .before .word-at

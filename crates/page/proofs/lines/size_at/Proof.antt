@@ -2,7 +2,7 @@
 use Rattle.page.specs.Grammar.{size}
 use Rattle.page.specs.Places.{gotSize, placeOf, gotNumber}
 use Rattle.page.specs.ParserLaws.{told}
-use Rattle.page.specs.Parsers.{lead, both, followed, done, onto, also}
+use Rattle.page.specs.Parsers.{lead, both, followed, give, onto, also}
 use borrow.Author.Needs.{needs}
 use Rattle.page.proofs.lines.size_at.Statement.{statement}
 use Rattle.page.proofs.lines.size_at.Tie as tie
@@ -20,7 +20,7 @@ enum-told : tie.Need-enum-told
 enum-told c = search needs
 
 returns : tie.Need-returns
-unfolding size lead both followed done onto also gotSize placeOf gotNumber
+unfolding size lead both followed give onto also gotSize placeOf gotNumber
 returns c = rw (told (placeOf _) (c .before .before .word-at .ensures) (c .enum-told .given .1))
 
 number-at-requires : tie.Need-number-at-requires
@@ -33,7 +33,7 @@ enum-told-2 : tie.Need-enum-told-2
 enum-told-2 c = search needs
 
 returns-2 : tie.Need-returns-2
-unfolding size lead both followed done onto also gotSize placeOf gotNumber
+unfolding size lead both followed give onto also gotSize placeOf gotNumber
 returns-2 c = rw (
   told (placeOf _) (c .before .before .before .before .before .before .word-at .ensures)
       (c .before .before .before .before .a .given .1),
@@ -50,7 +50,7 @@ enum-told-3 : tie.Need-enum-told-3
 enum-told-3 c = search needs
 
 returns-3 : tie.Need-returns-3
-unfolding size lead both followed done onto also gotSize placeOf gotNumber
+unfolding size lead both followed give onto also gotSize placeOf gotNumber
 returns-3 c = rw (
   told (placeOf _)
       (c .before .before .before .before .before .before .before .before .before .before .word-at .ensures)
@@ -73,7 +73,7 @@ enum-told-4 : tie.Need-enum-told-4
 enum-told-4 c = search needs
 
 returns-4 : tie.Need-returns-4
-unfolding size lead both followed done onto also gotSize placeOf gotNumber
+unfolding size lead both followed give onto also gotSize placeOf gotNumber
 returns-4 c = rw (
   told (placeOf _)
       (c .before .before .before .before .before .before .before .before .before .before .before .before .before .before
@@ -87,7 +87,7 @@ returns-4 c = rw (
 )
 
 returns-5 : tie.Need-returns-5
-unfolding size lead both followed done onto also gotSize placeOf gotNumber
+unfolding size lead both followed give onto also gotSize placeOf gotNumber
 returns-5 c = rw (
   told (placeOf _)
       (c .before .before .before .before .before .before .before .before .before .before .before .before .before .before
