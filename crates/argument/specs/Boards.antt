@@ -21,7 +21,7 @@ use Rattle.rules.specs.Reasons.{gather, insideAt, inside, edgeAt, edge, isFound
 use Rattle.rules.specs.Turns.{apply}
 use Rattle.rules.specs.Shapes.{samePoints, insert, sort, shiftBy, normal, turned, connectionsAt, shapeOf, withHalf}
 use Rattle.rules.specs.Shapes.{quarters, withQuarter, withFlip, flatTransforms}
-use Rattle.rules.specs.Check.{Answer, pass, conflict, check, hitIf, blockClue, insideBlock, insideUnit, edgeOf, sizeOf}
+use Rattle.rules.specs.Check.{Verdict, pass, conflict, check, hitIf, blockClue, insideBlock, insideUnit, edgeOf, sizeOf}
 use Rattle.rules.specs.Check.{coloured, strayFrom, cellHit, cellHits, smallHit, bigHit, clueHit, blockHitOn, blockHit}
 use Rattle.rules.specs.Check.{wallHit, wallHits, touches, adjacent, mates, judge, laid, transformsOf, placements}
 use Rattle.rules.specs.Check.{farWallsAt, farWalls, unitReason, unitHitIn, unitHitOn, unitHit, hit, undecidedCount}
@@ -31,7 +31,7 @@ use Rattle.rules.specs.Flat.{hopRight, aroundAt, aheadAt, flatFirst, flatSecond
 abbrev pub puzzle : ℕ → ℕ → List ℕ → List ℤ → Puzzle
 puzzle h w cs ks = record { page = flat h w; colour = coloursIn cs; clue = cluesIn ks }
 
-abbrev pub Says : Puzzle → List ℕ → Answer → Type 0
+abbrev pub Says : Puzzle → List ℕ → Verdict → Type 0
 Says Z bs a = check Z (statesIn bs) ≡ a
 
 abbrev pub Lists : Puzzle → List ℕ → ℕ → Type 0

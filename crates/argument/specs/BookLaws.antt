@@ -13,7 +13,7 @@ use Rattle.rules.specs.declared.Literal.{Literal}
 use Rattle.rules.specs.declared.Call.{Call}
 use Rattle.rules.specs.declared.Call.the-variants.{Decide, Undo, Check}
 use Rattle.rules.specs.Page.{Puzzle}
-use Rattle.rules.specs.Check.{Answer, check}
+use Rattle.rules.specs.Check.{Verdict, check}
 use Rattle.rules.specs.Book.{Asked, Reply, refused, done, answered, states, names, withLast, bareOr, decideReply}
 use Rattle.rules.specs.Book.{decideAfter, replyTo, reply, afterCall, after, sequenceFrom, repliesFrom, sequence}
 use Rattle.rules.specs.Book.{replies}
@@ -71,7 +71,7 @@ replies-append Z calls a more =
     (sym (sequence-append Z calls (a ∷ [])))
 
 module _ (Z : Puzzle) (ls : List Literal) where
-  call-answered : (n : ℕ) (c : Call) (r : Answer) → replyTo Z ls n c ≡ answered r
+  call-answered : (n : ℕ) (c : Call) (r : Verdict) → replyTo Z ls n c ≡ answered r
       → (c ≡ Check) × (check Z (states ls) ≡ r)
   unfolding replyTo decideReply
   call-answered n (Decide l) r e = go (ltb (l .border) (Z .page .borders)) (names ls (l .border)) e
@@ -93,6 +93,6 @@ module _ (Z : Puzzle) (ls : List Literal) where
       go true f = let z : _≡_ {A = ℕ} 0 1 = cc in absurd (omega arith)
       go false f = let u : check Z (states ls) ≡ r = cc in (refl, u)
 
-  pub answered-check : (a : Asked) (r : Answer) → reply Z ls a ≡ answered r
+  pub answered-check : (a : Asked) (r : Verdict) → reply Z ls a ≡ answered r
       → (a .call ≡ Check) × (check Z (states ls) ≡ r)
   answered-check a r e = call-answered (a .places) (a .call) r e

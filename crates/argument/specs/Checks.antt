@@ -13,7 +13,7 @@ use native.Mathlib.Omega.{arith}
 use Rattle.lists.specs.ListLaws.{first-none, mem-range, range-lt}
 use Rattle.rules.specs.Page.{Puzzle, State, Contains}
 use Rattle.rules.specs.Rules.{Solution}
-use Rattle.rules.specs.Check.{Reason, Answer, pass, conflict, hit, undecidedCount, answerOf, check}
+use Rattle.rules.specs.Check.{Reason, Verdict, pass, conflict, hit, undecidedCount, verdictOf, check}
 use Rattle.argument.specs.PageLaws.{Bordered, Placed, Listed}
 use Rattle.argument.specs.Demand.{Full, Passes}
 use Rattle.argument.specs.Hits.{Each, each-some, each-or, each-first, else-none}
@@ -25,15 +25,15 @@ use Rattle.argument.specs.Held.{held-forms}
 use Rattle.argument.specs.Complete.{solved}
 
 -- the answer and the hit
-answer-hit : (n : ℕ) (o : Option Reason) (r : Reason) → answerOf n o ≡ conflict r → o ≡ some r
+answer-hit : (n : ℕ) (o : Option Reason) (r : Reason) → verdictOf n o ≡ conflict r → o ≡ some r
 answer-hit n none r e = let z : _≡_ {A = ℕ} 0 1 = cc in absurd (omega arith)
 answer-hit n (some q) r e = let u : q ≡ r = cc in ap some u
 
-answer-none : (n : ℕ) (o : Option Reason) (k : ℕ) → answerOf n o ≡ pass k → o ≡ none
+answer-none : (n : ℕ) (o : Option Reason) (k : ℕ) → verdictOf n o ≡ pass k → o ≡ none
 answer-none n none k e = refl
 answer-none n (some q) k e = let z : _≡_ {A = ℕ} 0 1 = cc in absurd (omega arith)
 
-pub check-kind : (r : Answer) → Passes r ⊎ ((q : Reason) × (r ≡ conflict q))
+pub check-kind : (r : Verdict) → Passes r ⊎ ((q : Reason) × (r ≡ conflict q))
 check-kind (pass n) = inl (n, refl)
 check-kind (conflict q) = inr (q, refl)
 

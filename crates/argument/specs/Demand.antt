@@ -1,14 +1,14 @@
 -- Demand 3 for the book: a single claim about a whole list of calls.
 --
---   Full Z s                  the setting s leaves no border of the page undecided
---   SameSides Z s σ           s and σ have the same states on the page's borders
---   Answered Z calls ls r     somewhere in the list a check was answered with r, when the sequence was ls
---   HandedOut Z calls ls r    somewhere in the list the reason r was handed out, when the sequence was ls
---   RuledOut Z calls σ        σ contains all literals of some reason handed out in the list
---   StoodAt Z calls σ r       σ stood at a check of the list that was answered with r
---   Passes r                  the answer r is a pass
---   PassedAt Z calls σ        σ stood at a check of the list that was answered with a pass
---   BookDemand Z calls        the claim
+--   Full Z s                    the setting s leaves no border of the page undecided
+--   SameSides Z s σ             s and σ have the same states on the page's borders
+--   BookAnswered Z calls ls r   somewhere in the list a check was answered with r, when the sequence was ls
+--   BookHandedOut Z calls ls r  somewhere in the list the reason r was handed out, when the sequence was ls
+--   BookRuledOut Z calls σ      σ contains all literals of some reason handed out in the list
+--   BookStoodAt Z calls σ r     σ stood at a check of the list that was answered with r
+--   Passes r                    the answer r is a pass
+--   BookPassedAt Z calls σ      σ stood at a check of the list that was answered with a pass
+--   BookDemand Z calls          the claim
 use mathlib.Core.Path.{_≡_}
 use mathlib.Core.Logic.{_↔_}
 use mathlib.Core.List.{List, _∷_, _++_}
@@ -16,7 +16,7 @@ use Prim.Native.Nat.{ℕ, _<_}
 use Rattle.rules.specs.declared.Literal.{Literal}
 use Rattle.rules.specs.Page.{Puzzle, State, undecided, Contains}
 use Rattle.rules.specs.Rules.{Solution}
-use Rattle.rules.specs.Check.{Reason, Answer, pass, conflict}
+use Rattle.rules.specs.Check.{Reason, Verdict, pass, conflict}
 use Rattle.rules.specs.Book.{Asked, answered, states, reply, sequence}
 
 module _ (Z : Puzzle) where
@@ -28,7 +28,7 @@ module _ (Z : Puzzle) where
   SameSides s σ = (b : ℕ) → b < Z .page .borders → s b ≡ σ b
 
   -- "A check is answered if not refused"; the sequence then is the one that the calls before it lead to
-  pub record Answered (calls : List Asked) (ls : List Literal) (r : Answer) : Type 0 where
+  pub record BookAnswered (calls : List Asked) (ls : List Literal) (r : Verdict) : Type 0 where
     pub earlier : List Asked
     pub call : Asked
     pub later : List Asked
@@ -37,42 +37,43 @@ module _ (Z : Puzzle) where
     pub answer : reply Z ls call ≡ answered r
 
   -- "a reason handed out is the literals it wrote"
-  abbrev pub HandedOut : List Asked → List Literal → Reason → Type 0
-  HandedOut calls ls r = Answered calls ls (conflict r)
+  abbrev pub BookHandedOut : List Asked → List Literal → Reason → Type 0
+  BookHandedOut calls ls r = BookAnswered calls ls (conflict r)
 
   -- a full setting is ruled out by the list if it contains all literals of some reason handed out in it
-  pub record RuledOut (calls : List Asked) (σ : ℕ → State) : Type 0 where
+  pub record BookRuledOut (calls : List Asked) (σ : ℕ → State) : Type 0 where
     pub sequence : List Literal
     pub reason : Reason
-    pub given : HandedOut calls sequence reason
+    pub given : BookHandedOut calls sequence reason
     pub contains : Contains σ reason
 
   -- "A full setting stood at a check if the board then had no undecided border and the setting's sides"
-  pub record StoodAt (calls : List Asked) (σ : ℕ → State) (r : Answer) : Type 0 where
+  pub record BookStoodAt (calls : List Asked) (σ : ℕ → State) (r : Verdict) : Type 0 where
     pub sequence : List Literal
-    pub check : Answered calls sequence r
+    pub check : BookAnswered calls sequence r
     pub full : Full (states sequence)
     pub sides : SameSides (states sequence) σ
 
-abbrev pub Passes : Answer → Type 0
+abbrev pub Passes : Verdict → Type 0
 Passes r = (n : ℕ) × (r ≡ pass n)
 
-abbrev pub PassedAt : Puzzle → List Asked → (ℕ → State) → Type 0
-PassedAt Z calls σ = (n : ℕ) × StoodAt Z calls σ (pass n)
+abbrev pub BookPassedAt : Puzzle → List Asked → (ℕ → State) → Type 0
+BookPassedAt Z calls σ = (n : ℕ) × BookStoodAt Z calls σ (pass n)
 
 pub record BookDemand (Z : Puzzle) (calls : List Asked) : Type 0 where
   -- each reason handed out held on the board it was handed out on
-  pub held : (ls : List Literal) (r : Reason) → HandedOut Z calls ls r → Contains (states ls) r
+  pub held : (ls : List Literal) (r : Reason) → BookHandedOut Z calls ls r → Contains (states ls) r
   -- no solution is ruled out
-  pub noSolution : (σ : ℕ → State) → Solution Z σ → RuledOut Z calls σ → ⊥
+  pub noSolution : (σ : ℕ → State) → Solution Z σ → BookRuledOut Z calls σ → ⊥
   -- a full setting that stood at an answered check passed there exactly when it is a solution ..
-  pub verdict : (σ : ℕ → State) (r : Answer) → StoodAt Z calls σ r → (Passes r ↔ Solution Z σ)
+  pub verdict : (σ : ℕ → State) (r : Verdict) → BookStoodAt Z calls σ r → (Passes r ↔ Solution Z σ)
   -- .. and otherwise is ruled out
-  pub otherwise : (σ : ℕ → State) (r : Answer) → StoodAt Z calls σ r → (Passes r → ⊥) → RuledOut Z calls σ
+  pub otherwise : (σ : ℕ → State) (r : Verdict) → BookStoodAt Z calls σ r → (Passes r → ⊥) → BookRuledOut Z calls σ
   -- a longer list rules out no less
-  pub monotone : (more : List Asked) (σ : ℕ → State) → RuledOut Z calls σ → RuledOut Z (calls ++ more) σ
+  pub monotone : (more : List Asked) (σ : ℕ → State) → BookRuledOut Z calls σ → BookRuledOut Z (calls ++ more) σ
   -- what passed is ruled out in no longer list, and what is ruled out passes in no longer list
-  pub staysIn : (more : List Asked) (σ : ℕ → State) → PassedAt Z calls σ → RuledOut Z (calls ++ more) σ → ⊥
-  pub staysOut : (more : List Asked) (σ : ℕ → State) → RuledOut Z calls σ → PassedAt Z (calls ++ more) σ → ⊥
+  pub staysIn : (more : List Asked) (σ : ℕ → State) → BookPassedAt Z calls σ → BookRuledOut Z (calls ++ more) σ → ⊥
+  pub staysOut : (more : List Asked) (σ : ℕ → State) → BookRuledOut Z calls σ → BookPassedAt Z (calls ++ more) σ → ⊥
   -- no verdict turns: where the same full setting stood twice, it passed both times or neither time
-  pub sameVerdict : (σ : ℕ → State) (q r : Answer) → StoodAt Z calls σ q → StoodAt Z calls σ r → (Passes q ↔ Passes r)
+  pub sameVerdict : (σ : ℕ → State) (q r : Verdict) → BookStoodAt Z calls σ q → BookStoodAt Z calls σ r
+      → (Passes q ↔ Passes r)

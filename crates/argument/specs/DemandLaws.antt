@@ -9,18 +9,18 @@ use Prim.Native.Nat.{ℕ}
 use Rattle.rules.specs.declared.Literal.{Literal}
 use Rattle.rules.specs.Page.{Puzzle, State, Contains}
 use Rattle.rules.specs.Rules.{Solution}
-use Rattle.rules.specs.Check.{Reason, Answer, pass, conflict, check}
+use Rattle.rules.specs.Check.{Reason, Verdict, pass, conflict, check}
 use Rattle.rules.specs.Book.{Asked, states, sequence}
 use Rattle.argument.specs.PageLaws.{Bordered, Placed, Listed}
-use Rattle.argument.specs.Demand.{SameSides, Answered, RuledOut, StoodAt, Passes, BookDemand}
+use Rattle.argument.specs.Demand.{SameSides, BookAnswered, BookRuledOut, BookStoodAt, Passes, BookDemand}
 use Rattle.argument.specs.Agrees.{sides-sym, solution-agrees}
 use Rattle.argument.specs.Checks.{check-kind, check-holds, check-sound, check-full}
 use Rattle.argument.specs.Sequences.{Clean, decided-mem}
 use Rattle.argument.specs.BookLaws.{sequence-clean, answered-check}
 
 module _ (Z : Puzzle) where
-  pub answered-longer : (calls more : List Asked) (ls : List Literal) (r : Answer) → Answered Z calls ls r
-      → Answered Z (calls ++ more) ls r
+  pub answered-longer : (calls more : List Asked) (ls : List Literal) (r : Verdict) → BookAnswered Z calls ls r
+      → BookAnswered Z (calls ++ more) ls r
   answered-longer calls more ls r a = record {
     earlier = a .earlier;
     call = a .call;
@@ -30,7 +30,8 @@ module _ (Z : Puzzle) where
     answer = a .answer;
   }
 
-  pub ruled-longer : (calls more : List Asked) (σ : ℕ → State) → RuledOut Z calls σ → RuledOut Z (calls ++ more) σ
+  pub ruled-longer : (calls more : List Asked) (σ : ℕ → State) → BookRuledOut Z calls σ
+      → BookRuledOut Z (calls ++ more) σ
   ruled-longer calls more σ q = record {
     sequence = q .sequence;
     reason = q .reason;
@@ -38,8 +39,8 @@ module _ (Z : Puzzle) where
     contains = q .contains;
   }
 
-  pub stood-longer : (calls more : List Asked) (σ : ℕ → State) (r : Answer) → StoodAt Z calls σ r
-      → StoodAt Z (calls ++ more) σ r
+  pub stood-longer : (calls more : List Asked) (σ : ℕ → State) (r : Verdict) → BookStoodAt Z calls σ r
+      → BookStoodAt Z (calls ++ more) σ r
   stood-longer calls more σ r q = record {
     sequence = q .sequence;
     check = answered-longer calls more (q .sequence) r (q .check);
@@ -48,11 +49,11 @@ module _ (Z : Puzzle) where
   }
 
   -- the answer is check's, on the states of the sequence
-  checked : (calls : List Asked) (ls : List Literal) (r : Answer) → Answered Z calls ls r → check Z (states ls) ≡ r
+  checked : (calls : List Asked) (ls : List Literal) (r : Verdict) → BookAnswered Z calls ls r → check Z (states ls) ≡ r
   checked calls ls r a = answered-check Z ls (a .call) r (a .answer) .1
 
   -- the setting that stood has the literals of a reason that holds there
-  stood-contains : (calls : List Asked) (σ : ℕ → State) (r : Answer) (q : StoodAt Z calls σ r) (reason : Reason)
+  stood-contains : (calls : List Asked) (σ : ℕ → State) (r : Verdict) (q : BookStoodAt Z calls σ r) (reason : Reason)
       → Contains (states (q .sequence)) reason → Contains σ reason
   unfolding Contains SameSides
   stood-contains calls σ r q reason c l m =
@@ -62,12 +63,12 @@ module _ (Z : Puzzle) where
       sym (q .sides (l .border) h) ∙ c l m
 
 module _ (Z : Puzzle) (K : Bordered (Z .page)) (P : Placed (Z .page)) (I : Listed (Z .page)) where
-  none-ruled : (calls : List Asked) (σ : ℕ → State) → Solution Z σ → RuledOut Z calls σ → ⊥
+  none-ruled : (calls : List Asked) (σ : ℕ → State) → Solution Z σ → BookRuledOut Z calls σ → ⊥
   none-ruled calls σ sol q =
       check-sound Z K P I (states (q .sequence)) (q .reason)
       (checked Z calls (q .sequence) (conflict (q .reason)) (q .given)) σ sol (q .contains)
 
-  verdicts : (calls : List Asked) (σ : ℕ → State) (r : Answer) → StoodAt Z calls σ r → (Passes r ↔ Solution Z σ)
+  verdicts : (calls : List Asked) (σ : ℕ → State) (r : Verdict) → BookStoodAt Z calls σ r → (Passes r ↔ Solution Z σ)
   verdicts calls σ r q =
       let e = checked Z calls (q .sequence) r (q .check) in
       let c = check-full Z K P I (states (q .sequence)) (q .full) in (
@@ -78,17 +79,18 @@ module _ (Z : Puzzle) (K : Bordered (Z .page)) (P : Placed (Z .page)) (I : Liste
             (p .0, sym e ∙ p .1),
       )
 
-  failed : (calls : List Asked) (σ : ℕ → State) (r : Answer) → StoodAt Z calls σ r → (Passes r → ⊥) → RuledOut Z calls σ
+  failed : (calls : List Asked) (σ : ℕ → State) (r : Verdict) → BookStoodAt Z calls σ r → (Passes r → ⊥)
+      → BookRuledOut Z calls σ
   failed calls σ r q n = go (check-kind r)
     where
-      go : Passes r ⊎ ((reason : Reason) × (r ≡ conflict reason)) → RuledOut Z calls σ
+      go : Passes r ⊎ ((reason : Reason) × (r ≡ conflict reason)) → BookRuledOut Z calls σ
       go (inl p) = absurd (n p)
       go (inr c) =
           let e = checked Z calls (q .sequence) r (q .check) ∙ c .1 in
           record {
             sequence = q .sequence;
             reason = c .0;
-            given = subst (Answered Z calls (q .sequence)) (c .1) (q .check);
+            given = subst (BookAnswered Z calls (q .sequence)) (c .1) (q .check);
             contains = stood-contains Z calls σ r q (c .0) (check-holds Z K P I (states (q .sequence)) (c .0) e);
           }
 

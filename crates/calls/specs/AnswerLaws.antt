@@ -23,7 +23,7 @@ use Rattle.rules.specs.declared.Literal.{Literal}
 use Rattle.rules.specs.declared.Call.{Call}
 use Rattle.rules.specs.declared.Call.the-variants.{Decide, Undo, Check}
 use Rattle.rules.specs.Codes.{sideCode, literalCode, put}
-use Rattle.rules.specs.Check.{Answer as Found, pass, conflict, check}
+use Rattle.rules.specs.Check.{Verdict, pass, conflict, check}
 use Rattle.board.specs.declared.Board.{Board}
 use Rattle.board.specs.declared.Outcome.the-variants.{Alien, Short}
 use Rattle.board.specs.Alien.{isAlien}
@@ -74,7 +74,7 @@ put-start m r h =
     let e = length-map r literalCode in
     sets-eq (map literalCode r) m 0 (omega arith) ∙ simp (length-map, zero-add)
 
-pub length-written : (m : List ℕ) (f : Found) → length (written m f) ≡ length m
+pub length-written : (m : List ℕ) (f : Verdict) → length (written m f) ≡ length m
 unfolding put
 length-written m (pass n) = refl
 length-written m (conflict r) = simp length-sets
@@ -109,7 +109,7 @@ length-check : (b : Board) (m : List ℕ) → length (checkMemory b m) ≡ lengt
 unfolding checkMemory
 length-check b m = go (isAlien b) (ltb (length m) 16384)
   where
-    f : Found
+    f : Verdict
     f = check (puzzleOf b) (statesOf b)
 
     go : (x y : Bool) → length (cond x m (cond y m (written m f))) ≡ length m

@@ -24,7 +24,7 @@ use Rattle.rules.specs.declared.Literal.{Literal}
 use Rattle.rules.specs.declared.Call.{Call}
 use Rattle.rules.specs.declared.Call.the-variants.{Decide, Undo, Check}
 use Rattle.rules.specs.Codes.{literalCode, put}
-use Rattle.rules.specs.Check.{Answer as Found, pass, conflict, check}
+use Rattle.rules.specs.Check.{Verdict, pass, conflict, check}
 use Rattle.rules.specs.Book.{Reply, refused, done, answered}
 use Rattle.board.specs.declared.Board.{Board}
 use Rattle.board.specs.declared.Outcome.{Outcome}
@@ -67,12 +67,12 @@ memoryAs m (answered (pass n)) = m
 memoryAs m (answered (conflict r)) = map literalCode r ++ drop (length r) m
 
 -- ---- check
-abbrev pub asAnswer : Found → Answer
+abbrev pub asAnswer : Verdict → Answer
 asAnswer (pass n) = Pass n
 asAnswer (conflict r) = Conflict (length r)
 
 -- "An answered check writes its literals from the start of the memory and nothing beyond; a pass writes none"
-abbrev pub written : List ℕ → Found → List ℕ
+abbrev pub written : List ℕ → Verdict → List ℕ
 written m (pass n) = m
 written m (conflict r) = put m 0 r
 

@@ -15,7 +15,7 @@ use lib.ListN.{length, drop}
 use Rattle.rules.specs.declared.Call.{Call}
 use Rattle.rules.specs.declared.Call.the-variants.{Decide, Undo, Check}
 use Rattle.rules.specs.Codes.{literalCode}
-use Rattle.rules.specs.Check.{Reason, Answer as Found, pass, conflict, check}
+use Rattle.rules.specs.Check.{Reason, Verdict, pass, conflict, check}
 use Rattle.rules.specs.Book.{refused, done, answered, states, replyTo}
 use Rattle.argument.specs.FlatDemand.{flat-short}
 use Rattle.board.specs.declared.Board.{Board}
@@ -48,15 +48,15 @@ kept-ended o m = go (eqb (numberOf o) 0)
     go false = refl
 
 -- an answered check, where the reason fits the memory
-Fits : List ℕ → Found → Type 0
+Fits : List ℕ → Verdict → Type 0
 Fits m f = (r : Reason) → f ≡ conflict r → length r ≤ length m
 
-found-written : (m : List ℕ) (f : Found) → Fits m f → written m f ≡ memoryAs m (answered f)
+found-written : (m : List ℕ) (f : Verdict) → Fits m f → written m f ≡ memoryAs m (answered f)
 unfolding Fits
 found-written m (pass n) h = refl
 found-written m (conflict r) h = put-start m r (h r refl)
 
-found-told : (m : List ℕ) (f : Found) → Fits m f → told (asAnswer f) (written m f) ≡ answered f
+found-told : (m : List ℕ) (f : Verdict) → Fits m f → told (asAnswer f) (written m f) ≡ answered f
 unfolding Fits
 found-told m (pass n) h = refl
 found-told m (conflict r) h =
@@ -71,7 +71,7 @@ module _ (b : Board) (t : isAlien b ≡ false) where
       flat-short (b .height) (b .width) (omega arith) _ _ s (statesOf b) r e
 
   module _ (m : List ℕ) where
-    found : Found
+    found : Verdict
     found = check (puzzleOf b) (statesOf b)
 
     found-states : check (puzzleOf b) (states (literalsOf b)) ≡ found

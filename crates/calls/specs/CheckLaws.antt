@@ -12,7 +12,7 @@ use native.Mathlib.Decide.{decLt}
 use native.Mathlib.Omega.{arith}
 use lib.ListN.{length}
 use Rattle.rules.specs.Codes.{statesIn}
-use Rattle.rules.specs.Check.{Reason, Answer as Found, hit, check, answerOf, undecidedCount}
+use Rattle.rules.specs.Check.{Reason, Verdict, hit, check, verdictOf, undecidedCount}
 use Rattle.board.specs.declared.Board.{Board}
 use Rattle.board.specs.Alien.{isAlien, bordersOf}
 use Rattle.board.specs.View.{puzzleOf, statesOf}
@@ -29,7 +29,7 @@ use Rattle.calls.specs.Answers.{asAnswer, written}
 use Rattle.calls.specs.Known.{foundIn}
 
 -- what Check gives of a board's arrays
-abbrev foundOn : Board → Found
+abbrev foundOn : Board → Verdict
 foundOn b = foundIn (b .height) (b .width) (b .colours) (b .clues) (b .borders)
 
 -- the count of a pass
@@ -66,9 +66,9 @@ module _ (b : Board) (t : isAlien b ≡ false) where
   abbrev hitOf : Option Reason
   hitOf = hit (puzzleIn (b .height) (b .width) (b .colours) (b .clues)) (statesIn (b .borders))
 
-  checked : (o : Option Reason) → hitOf ≡ o → foundOn b ≡ answerOf (freeOn b) o
+  checked : (o : Option Reason) → hitOf ≡ o → foundOn b ≡ verdictOf (freeOn b) o
   unfolding check puzzleOf statesOf view.puzzleIn
-  checked o e = ap (answerOf (freeOn b)) e
+  checked o e = ap (verdictOf (freeOn b)) e
 
   module _ (m after : List ℕ) where
     pub nothing-found : Answers hitOf m after Nothing

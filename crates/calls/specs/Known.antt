@@ -8,7 +8,7 @@ use mathlib.Core.List.{List}
 use Prim.Native.Nat.{ℕ}
 use lib.IntN.{ℤ}
 use Rattle.rules.specs.Codes.{statesIn}
-use Rattle.rules.specs.Check.{Answer as Found, check}
+use Rattle.rules.specs.Check.{Verdict, check}
 use Rattle.board.specs.Alien.{boardOf, isAlien}
 use Rattle.checker.specs.Bridges.{puzzleIn}
 
@@ -16,5 +16,5 @@ pub record Known (h w : ℕ) (cs : List ℕ) (ks : List ℤ) (bs : List ℕ) (n 
   pub stack : List ℕ
   pub native : isAlien (boardOf h w cs ks bs stack n) ≡ false
 
-abbrev pub foundIn : ℕ → ℕ → List ℕ → List ℤ → List ℕ → Found
+abbrev pub foundIn : ℕ → ℕ → List ℕ → List ℤ → List ℕ → Verdict
 foundIn h w cs ks bs = check (puzzleIn h w cs ks) (statesIn bs)

@@ -23,7 +23,7 @@ use Rattle.rules.specs.declared.Call.the-variants.{Decide, Undo, Check}
 use Rattle.rules.specs.Page.{Puzzle, State, isUndecided}
 use Rattle.rules.specs.Flat.{flat}
 use Rattle.rules.specs.FlatLaws.{borders-le}
-use Rattle.rules.specs.Check.{Reason, Answer as Found, pass, conflict, hit, undecidedCount, answerOf, check}
+use Rattle.rules.specs.Check.{Reason, Verdict as Found, pass, conflict, hit, undecidedCount, verdictOf, check}
 use Rattle.board.specs.declared.Board.{Board}
 use Rattle.board.specs.declared.Outcome.{Outcome}
 use Rattle.board.specs.declared.Outcome.the-variants.{Done as Fine, Size, Ragged, Colour, Clue}
@@ -59,7 +59,7 @@ pub check-count : (Z : Puzzle) (s : ℕ → State) (n : ℕ) → check Z s ≡ p
 unfolding check
 check-count Z s n e = go (hit Z s) e
   where
-    go : (o : Option Reason) → answerOf (undecidedCount Z s) o ≡ pass n → n ≡ undecidedCount Z s
+    go : (o : Option Reason) → verdictOf (undecidedCount Z s) o ≡ pass n → n ≡ undecidedCount Z s
     go none f = cc
     go (some r) f = let z : _≡_ {A = ℕ} 0 1 = cc in absurd (omega arith)
 

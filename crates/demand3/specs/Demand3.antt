@@ -18,7 +18,7 @@ use Prim.Native.Nat.{ℕ}
 use Rattle.rules.specs.declared.Literal.{Literal}
 use Rattle.rules.specs.Page.{Puzzle, State, Contains}
 use Rattle.rules.specs.Rules.{Solution}
-use Rattle.rules.specs.Check.{Reason, Answer as Found, pass, conflict}
+use Rattle.rules.specs.Check.{Reason, Verdict, pass, conflict}
 use Rattle.rules.specs.Book.{answered, states, sequence, replies}
 use Rattle.argument.specs.Demand.{Full, SameSides, Passes}
 use Rattle.board.specs.declared.Board.{Board}
@@ -41,7 +41,7 @@ pub record Standing (start : Board) (Z : Puzzle) (ls : List Literal) (b : Board)
 
 module _ (start : Board) where
   -- "A check is answered if not refused"; a reason is read from the memory as it stood when the check returned
-  pub record Answered (calls : List Lent) (b : Board) (f : Found) : Type 0 where
+  pub record Answered (calls : List Lent) (b : Board) (f : Verdict) : Type 0 where
     pub earlier : List Lent
     pub call : Lent
     pub later : List Lent
@@ -61,7 +61,7 @@ module _ (start : Board) where
     pub contains : Contains σ reason
 
   -- "A full setting stood at a check if the board then had no undecided border and the setting's sides"
-  pub record StoodAt (calls : List Lent) (σ : ℕ → State) (f : Found) : Type 0 where
+  pub record StoodAt (calls : List Lent) (σ : ℕ → State) (f : Verdict) : Type 0 where
     pub board : Board
     pub check : Answered calls board f
     pub full : Full (puzzleOf board) (statesOf board)
@@ -87,12 +87,12 @@ pub record Demand3 (start : Board) (Z : Puzzle) (calls : List Lent) : Type 0 whe
   -- 5. no solution is ruled out
   pub noSolution : (σ : ℕ → State) → Solution Z σ → RuledOut start calls σ → ⊥
   -- 6. a full setting that stood at an answered check passed there exactly when it is a solution ..
-  pub verdict : (σ : ℕ → State) (f : Found) → StoodAt start calls σ f → (Passes f ↔ Solution Z σ)
+  pub verdict : (σ : ℕ → State) (f : Verdict) → StoodAt start calls σ f → (Passes f ↔ Solution Z σ)
   -- .. and otherwise is ruled out
-  pub otherwise : (σ : ℕ → State) (f : Found) → StoodAt start calls σ f → (Passes f → ⊥) → RuledOut start calls σ
+  pub otherwise : (σ : ℕ → State) (f : Verdict) → StoodAt start calls σ f → (Passes f → ⊥) → RuledOut start calls σ
   -- 7. no verdict turns: what passed is ruled out in no longer list, what is ruled out passes in no longer list ..
   pub staysIn : (more : List Lent) (σ : ℕ → State) → PassedAt start calls σ → RuledOut start (calls ++ more) σ → ⊥
   pub staysOut : (more : List Lent) (σ : ℕ → State) → RuledOut start calls σ → PassedAt start (calls ++ more) σ → ⊥
   -- .. and where the same full setting stood twice, it passed both times or neither time
-  pub sameVerdict : (σ : ℕ → State) (f g : Found) → StoodAt start calls σ f → StoodAt start calls σ g
+  pub sameVerdict : (σ : ℕ → State) (f g : Verdict) → StoodAt start calls σ f → StoodAt start calls σ g
       → (Passes f ↔ Passes g)

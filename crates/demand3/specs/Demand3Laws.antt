@@ -15,10 +15,9 @@ use Rattle.rules.specs.declared.Literal.{Literal}
 use Rattle.rules.specs.Page.{State, Contains}
 use Rattle.rules.specs.Rules.{Solution}
 use Rattle.rules.specs.Codes.{coloursIn, cluesIn}
-use Rattle.rules.specs.Check.{Reason, Answer as Found, pass, conflict}
+use Rattle.rules.specs.Check.{Reason, Verdict, pass, conflict}
 use Rattle.rules.specs.Book.{Asked, states, reply, sequence}
-use Rattle.argument.specs.Demand.{Passes, BookDemand}
-use Rattle.argument.specs.Demand.{Answered as BookAnswered, RuledOut as BookRuledOut, StoodAt as BookStoodAt}
+use Rattle.argument.specs.Demand.{BookAnswered, BookRuledOut, BookStoodAt, Passes, BookDemand}
 use Rattle.argument.specs.FlatDemand.{flat-demand}
 use Rattle.board.specs.declared.Board.{Board}
 use Rattle.board.specs.declared.Outcome.{Outcome}
@@ -81,13 +80,13 @@ module _ (start : Board) (S : Bare start) where
 
   -- ---- what the run answers is what the book answers
   module _ (calls : List Lent) where
-    pub answered-facts : {b : Board} {f : Found} → Answered start calls b f → Facts start (literalsOf b) b
+    pub answered-facts : {b : Board} {f : Verdict} → Answered start calls b f → Facts start (literalsOf b) b
     answered-facts {b} a =
         let g = after-facts (a .earlier) in
         subst (λ c. Facts start (literalsOf c) c) (a .standing)
         (subst (λ ls. Facts start ls (boardAfter start (a .earlier))) (sym (g .stack)) g)
 
-    pub answered-book : {b : Board} {f : Found} → Answered start calls b f
+    pub answered-book : {b : Board} {f : Verdict} → Answered start calls b f
         → BookAnswered (puzzleOf start) (map askedOf calls) (literalsOf b) f
     answered-book {b} {f} a =
         let g = after-facts (a .earlier) in
@@ -106,7 +105,7 @@ module _ (start : Board) (S : Bare start) where
               ∙ a .answer;
         }
 
-    pub answered-run : {ls : List Literal} {f : Found} → BookAnswered (puzzleOf start) (map askedOf calls) ls f
+    pub answered-run : {ls : List Literal} {f : Verdict} → BookAnswered (puzzleOf start) (map askedOf calls) ls f
         → (b : Board) × Answered start calls b f × Facts start ls b
     answered-run {ls} {f} a =
         let s = split-asked calls (a .earlier) (a .call) (a .later) (a .split) in
@@ -145,7 +144,7 @@ module _ (start : Board) (S : Bare start) where
         record { board = r .0; reason = q .reason; given = r .1; contains = q .contains }
 
     -- ---- stood
-    pub stood-book : (σ : ℕ → State) (f : Found) → StoodAt start calls σ f
+    pub stood-book : (σ : ℕ → State) (f : Verdict) → StoodAt start calls σ f
         → BookStoodAt (puzzleOf start) (map askedOf calls) σ f
     stood-book σ f q =
         let g = answered-facts (q .check) in
@@ -157,7 +156,7 @@ module _ (start : Board) (S : Bare start) where
           sides = rw (← e, ← (g .puzzle)) (q .sides);
         }
 
-    pub stood-run : (σ : ℕ → State) (f : Found) → BookStoodAt (puzzleOf start) (map askedOf calls) σ f
+    pub stood-run : (σ : ℕ → State) (f : Verdict) → BookStoodAt (puzzleOf start) (map askedOf calls) σ f
         → StoodAt start calls σ f
     stood-run σ f q =
         let r = answered-run (q .check) in
@@ -170,7 +169,7 @@ module _ (start : Board) (S : Bare start) where
         }
 
 -- ---- a longer list
-answered-longer : (start : Board) (calls more : List Lent) {b : Board} {f : Found} → Answered start calls b f
+answered-longer : (start : Board) (calls more : List Lent) {b : Board} {f : Verdict} → Answered start calls b f
     → Answered start (calls ++ more) b f
 answered-longer start calls more a =
     record {
@@ -214,7 +213,7 @@ module _ (start : Board) (S : Bare start) (D : (asked : List Asked) → BookDema
   none-ruled : (calls : List Lent) (σ : ℕ → State) → Solution (puzzleOf start) σ → RuledOut start calls σ → ⊥
   none-ruled calls σ s q = D (map askedOf calls) .noSolution σ s (ruled-book start S calls σ q)
 
-  verdicts : (calls : List Lent) (σ : ℕ → State) (f : Found) → StoodAt start calls σ f
+  verdicts : (calls : List Lent) (σ : ℕ → State) (f : Verdict) → StoodAt start calls σ f
       → (Passes f ↔ Solution (puzzleOf start) σ)
   verdicts calls σ f q = D (map askedOf calls) .verdict σ f (stood-book start S calls σ f q)
 

@@ -14,9 +14,9 @@ use Rattle.rules.specs.declared.Literal.{Literal}
 use Rattle.rules.specs.declared.Call.the-variants.{Decide, Check}
 use Rattle.rules.specs.Page.{Puzzle, State, undecided}
 use Rattle.rules.specs.Flat.{flat, borderCount}
-use Rattle.rules.specs.Check.{Answer as Found, check}
+use Rattle.rules.specs.Check.{Verdict, check}
 use Rattle.rules.specs.Book.{Asked, ask, states, names, decideReply, decideAfter, replyTo, afterCall, sequenceFrom}
-use Rattle.argument.specs.Demand.{Full, SameSides, Passes, StoodAt as BookStoodAt}
+use Rattle.argument.specs.Demand.{Full, SameSides, BookStoodAt, Passes}
 use Rattle.argument.specs.Witness.{open-solves, wall-fails}
 use Rattle.board.specs.declared.Board.{Board}
 use Rattle.board.specs.Alien.{sizeRight, coloursRight, cluesRight}
@@ -54,7 +54,7 @@ abbrev pub deciding : Side → List ℕ → List Lent
 deciding d m = lend m (Decide (first d)) ∷ lend m Check ∷ []
 
 -- what Check gives there
-abbrev pub found : Side → Found
+abbrev pub found : Side → Verdict
 found d = check (puzzleIn 1 2 cs ks) (setting d)
 
 abbrev asked : Side → ℕ → List Asked

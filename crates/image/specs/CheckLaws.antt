@@ -15,7 +15,7 @@ use borrow.Author.Tests.{ne-eqb, ltb-true, ltb-false, lt-ltb, le-ltb}
 use lib.IntN.{ℤ}
 use lib.ListN.{length}
 use Rattle.rules.specs.Codes.{statesIn, coloursIn, cluesIn}
-use Rattle.rules.specs.Check.{Answer as Found, pass, conflict, check}
+use Rattle.rules.specs.Check.{Verdict, pass, conflict, check}
 use Rattle.argument.specs.FlatDemand.{flat-bound}
 use Rattle.board.specs.declared.Board.{Board}
 use Rattle.board.specs.Alien.{isAlien, boardOf}
@@ -74,7 +74,7 @@ module _ (s m : List ℕ) (e : length s ≡ 11076) (b : Board) (q : b ≡ spelle
         let k : m ≡ bytesBy b m = rw (a, few) in
         (n ∙ number-is, k ∙ bytes-is)
 
-    abbrev found : Found
+    abbrev found : Verdict
     found = foundIn (b .height) (b .width) (b .colours) (b .clues) (b .borders)
 
     pub found-checked : isShort m ≡ false
@@ -113,7 +113,7 @@ Fits k (Pass n) = Unit {0}
 Fits k (Conflict n) = n ≤ k
 Fits k (Refused o) = Unit {0}
 
-pub record Checks (m codes : List ℕ) (f : Found) (a : Answer) : Type 0 where
+pub record Checks (m codes : List ℕ) (f : Verdict) (a : Answer) : Type 0 where
   pub number : (x : Answer) → a ≡ x → answerNumber x ≡ answerNumber (asAnswer f)
   pub range : (x : Answer) → a ≡ x → InRange x
   pub fits : (x : Answer) → a ≡ x → Fits (length codes) x
@@ -125,19 +125,19 @@ module _ {h w : ℕ} {cs : List ℕ} {ks : List ℤ} {bs : List ℕ} {n : ℕ} (
   abbrev b : Board
   b = boardOf h w cs ks bs (K .stack) n
 
-  abbrev f : Found
+  abbrev f : Verdict
   f = foundIn h w cs ks bs
 
   in-range : InRange (asAnswer f)
   in-range = rw (same-found b) (found-range b (K .native) (check (puzzleOf b) (statesOf b)) refl)
 
-  fit : (g : Found) → f ≡ g → Fits (length before) (asAnswer g)
+  fit : (g : Verdict) → f ≡ g → Fits (length before) (asAnswer g)
   fit (pass x) e = tt
   fit (conflict r) e =
       let z = native-has b (K .native) .size in
       omega (arith, flat-bound h w (omega (arith, z .columns)) (coloursIn cs) (cluesIn ks) (statesIn bs) r e)
 
-  after : (g : Found) → f ≡ g → left m (written before g) (asAnswer g) ≡ bytesAfter m g
+  after : (g : Verdict) → f ≡ g → left m (written before g) (asAnswer g) ≡ bytesAfter m g
   after (pass x) e = refl
   after (conflict r) e = codes-put m _ before r (fit (conflict r) e) refl
 

@@ -43,7 +43,7 @@ use Rattle.rules.specs.declared.Side.{Side}
 use Rattle.rules.specs.declared.Side.the-variants.{Wall, Open}
 use Rattle.rules.specs.declared.Literal.{Literal}
 use Rattle.rules.specs.Codes.{literalCode}
-use Rattle.rules.specs.Check.{Answer, pass, conflict, check}
+use Rattle.rules.specs.Check.{Verdict, pass, conflict, check}
 use Rattle.board.specs.declared.Board.{Board}
 use Rattle.board.specs.Alien.{boardOf, isAlien}
 use Rattle.board.specs.Board.{numberOf, decideOf, undoOf, Typed}
@@ -161,7 +161,7 @@ abbrev pub places : List ℕ → ℕ
 places m = length m / 2
 
 -- "An answered check writes its literals from the start of the memory and nothing beyond; a pass writes none"
-abbrev pub bytesAfter : List ℕ → Answer → List ℕ
+abbrev pub bytesAfter : List ℕ → Verdict → List ℕ
 bytesAfter m (pass n) = m
 bytesAfter m (conflict ls) = putBytes m ls
 

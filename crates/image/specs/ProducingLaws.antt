@@ -14,7 +14,7 @@ use lib.Dec.{eqb, ltb}
 use lib.ListN.{length, getD}
 use Rattle.rules.specs.Flat.{borderCount}
 use Rattle.rules.specs.Codes.{sideCode, codeOf}
-use Rattle.rules.specs.Check.{Answer as Found, pass, conflict, check}
+use Rattle.rules.specs.Check.{Verdict, pass, conflict, check}
 use Rattle.board.specs.declared.Board.{Board}
 use Rattle.board.specs.declared.Returned.{Returned}
 use Rattle.board.specs.Alien.{isAlien}
@@ -110,7 +110,7 @@ check-else : (b : Board) → isAlien b ≡ false → (n : ℕ) → answerNumber 
 unfolding checkAnswer
 check-else b k n = rw k (go (ltb n 16384) (check (puzzleOf b) (statesOf b)))
   where
-    go : (x : Bool) (f : Found) → answerNumber (cond x (Refused Short) (asAnswer f)) ≡ 5 → ⊥
+    go : (x : Bool) (f : Verdict) → answerNumber (cond x (Refused Short) (asAnswer f)) ≡ 5 → ⊥
     go true f e = eqb-false 9 5 refl e
     go false (pass m) e = above 32 m (omega arith) e
     go false (conflict r) e = above 65536 (length r) (omega arith) e

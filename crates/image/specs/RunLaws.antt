@@ -17,7 +17,7 @@ use Rattle.rules.specs.declared.Side.{Side}
 use Rattle.rules.specs.declared.Side.the-variants.{Wall, Open}
 use Rattle.rules.specs.declared.Literal.{Literal}
 use Rattle.rules.specs.Codes.{sideCode}
-use Rattle.rules.specs.Check.{Answer as Found, pass, conflict, check}
+use Rattle.rules.specs.Check.{Verdict, pass, conflict, check}
 use Rattle.board.specs.declared.Board.{Board}
 use Rattle.board.specs.declared.Outcome.{Outcome}
 use Rattle.board.specs.declared.Outcome.the-variants.{Done, Size, Ragged, Colour, Clue}
@@ -78,7 +78,7 @@ module _ (b : Board) (P : Proper b) where
   unfolding checkBytes
   bytes-image m = rw (long-is (imageOf b) (image-long b (P .typed)), board-image b P)
 
-  bytes-known : (m : List ℕ) (f : Found) → check (puzzleOf b) (statesOf b) ≡ f → 16384 ≤ places m
+  bytes-known : (m : List ℕ) (f : Verdict) → check (puzzleOf b) (statesOf b) ≡ f → 16384 ≤ places m
       → codesIn (bytesAfter m f) ≡ written (codesIn m) f
   bytes-known m (pass n) e h = refl
   bytes-known m (conflict r) e h =
@@ -90,7 +90,7 @@ module _ (b : Board) (P : Proper b) where
   check-codes m =
       ap codesIn (bytes-image m) ∙ rw (P .known, length-codes m) (go (ltb (length m / 2) 16384) refl)
     where
-      f : Found
+      f : Verdict
       f = check (puzzleOf b) (statesOf b)
 
       go : (x : Bool) → ltb (length m / 2) 16384 ≡ x

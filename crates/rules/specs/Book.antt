@@ -28,7 +28,7 @@ use Rattle.rules.specs.declared.Literal.{Literal}
 use Rattle.rules.specs.declared.Call.{Call}
 use Rattle.rules.specs.declared.Call.the-variants.{Decide, Undo, Check}
 use Rattle.rules.specs.Page.{Puzzle, State, undecided, decided}
-use Rattle.rules.specs.Check.{Answer, check}
+use Rattle.rules.specs.Check.{Verdict, check}
 
 pub record Asked : Type 0 where
   pub call : Call
@@ -41,7 +41,7 @@ ask n c = record { call = c; places = n }
 pub data Reply : Type 0 where
   refused : ℕ → Reply
   done : Reply
-  answered : Answer → Reply
+  answered : Verdict → Reply
 
 abbrev pub stateIf : Bool → State → State → State
 stateIf true m n = m

@@ -5,7 +5,7 @@
 --   isSome o            o is a number, not none
 --   clash k l           k and l are clues that differ
 --   blockClue clue xs   the first clue among the cells xs
---   Answer              pass with a count, or conflict with a reason
+--   Verdict             pass with a count, or conflict with a reason
 --   insideBlock B       Inside of block B
 --   insideUnit U        Inside of unit U
 --   edgeOf P            Edge of potential unit P
@@ -41,7 +41,7 @@
 --   unitHit U           step 3 for unit U
 --   hit Z s             the first hit of the three steps
 --   undecidedCount Z s  the count of undecided borders
---   answerOf n o        conflict with the reason o; pass with n where o is no hit
+--   verdictOf n o       conflict with the reason o; pass with n where o is no hit
 --   check Z s           pass with the count of undecided borders, or the reason
 use mathlib.Core.Bool.{Bool, true, false, not, _&&_, _||_, cond, Bool·beq}
 use mathlib.Core.List.{List, [], _∷_, _++_, map}
@@ -81,9 +81,9 @@ clash none o = false
 unfoldable pub blockClue : (ℕ → Option ℕ) → List ℕ → Option ℕ
 blockClue clue xs = firstHit clue xs
 
-pub data Answer : Type 0 where
-  pass : ℕ → Answer
-  conflict : Reason → Answer
+pub data Verdict : Type 0 where
+  pass : ℕ → Verdict
+  conflict : Reason → Verdict
 
 module _ (Z : Puzzle) (s : ℕ → State) where
   -- Inside of a block, Inside of a unit, Edge of a potential unit
@@ -252,10 +252,10 @@ module _ (Z : Puzzle) (s : ℕ → State) where
   unfoldable pub undecidedCount : ℕ
   undecidedCount = countBelow (Z .page .borders) (λ b. isUndecided (s b))
 
-abbrev pub answerOf : ℕ → Option Reason → Answer
-answerOf n none = pass n
-answerOf n (some r) = conflict r
+abbrev pub verdictOf : ℕ → Option Reason → Verdict
+verdictOf n none = pass n
+verdictOf n (some r) = conflict r
 
 -- "No hit: pass, with the count of undecided borders"
-unfoldable pub check : Puzzle → (ℕ → State) → Answer
-check Z s = answerOf (undecidedCount Z s) (hit Z s)
+unfoldable pub check : Puzzle → (ℕ → State) → Verdict
+check Z s = verdictOf (undecidedCount Z s) (hit Z s)

@@ -24,7 +24,7 @@ use lib.Seq.{drop-cons, getD-take}
 use Rattle.rules.specs.declared.Side.the-variants.{Wall, Open}
 use Rattle.rules.specs.declared.Call.{Call}
 use Rattle.rules.specs.declared.Call.the-variants.{Decide, Undo, Check}
-use Rattle.rules.specs.Check.{Answer as Found, pass, conflict, check}
+use Rattle.rules.specs.Check.{Verdict, pass, conflict, check}
 use Rattle.rules.specs.Book.{refused}
 use Rattle.board.specs.declared.Board.{Board}
 use Rattle.board.specs.declared.Outcome.{Outcome}
@@ -173,7 +173,7 @@ check-few : (b : Board) (n : ℕ) → Few (checkAnswer b n)
 unfolding checkAnswer Few
 check-few b n = go (isAlien b) refl (ltb n 16384) (check (puzzleOf b) (statesOf b)) refl
   where
-    go : (x : Bool) → isAlien b ≡ x → (y : Bool) (f : Found) → check (puzzleOf b) (statesOf b) ≡ f
+    go : (x : Bool) → isAlien b ≡ x → (y : Bool) (f : Verdict) → check (puzzleOf b) (statesOf b) ≡ f
         → Few (cond x (answer.Refused Alien) (cond y (answer.Refused Short) (asAnswer f)))
     go true t y f e = tt
     go false t true f e = tt
