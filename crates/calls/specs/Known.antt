@@ -1,7 +1,7 @@
 -- Known: a board that is not alien, without its stack, and what Check gives of it.
 --
---   Known h w cs ks bs n   with some stack of n decisions these arrays are a board that is not alien
---   foundIn h w cs ks bs   what Check gives of the puzzle and the borders that these arrays spell
+--   KnownBoard h w cs ks bs n   with some stack of n decisions these arrays are a board that is not alien
+--   foundIn h w cs ks bs        what Check gives of the puzzle and the borders that these arrays spell
 use mathlib.Core.Path.{_≡_}
 use mathlib.Core.Bool.{false}
 use mathlib.Core.List.{List}
@@ -12,7 +12,7 @@ use Rattle.rules.specs.Check.{Verdict, check}
 use Rattle.board.specs.Alien.{boardOf, isAlien}
 use Rattle.checker.specs.Bridges.{puzzleIn}
 
-pub record Known (h w : ℕ) (cs : List ℕ) (ks : List ℤ) (bs : List ℕ) (n : ℕ) : Type 0 where
+pub record KnownBoard (h w : ℕ) (cs : List ℕ) (ks : List ℤ) (bs : List ℕ) (n : ℕ) : Type 0 where
   pub stack : List ℕ
   pub native : isAlien (boardOf h w cs ks bs stack n) ≡ false
 

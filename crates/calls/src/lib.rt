@@ -5,7 +5,7 @@ ghost use lib.ListN.{length};
 ghost use Rattle.board.specs.Alien.{boardOf};
 ghost use Rattle.calls.specs.Answers.{asAnswer, written, ended, steppedBy, checkAnswer, checkMemory, callOf};
 ghost use Rattle.calls.specs.Answers.{callMemory};
-ghost use Rattle.calls.specs.Known.{Known, foundIn};
+ghost use Rattle.calls.specs.Known.{KnownBoard, foundIn};
 use board::Board;
 use board::Outcome;
 use board::Returned;
@@ -61,7 +61,7 @@ pub fn answer_known<'a>(
     count: usize,
     memory: &mut [u16],
 ) -> Answer
-    requires { ⌜ Known h w (now colours) (now clues) (now borders) count × (14 * (h * w) ≤ length (now memory)) ⌝ }
+    requires { ⌜ KnownBoard h w (now colours) (now clues) (now borders) count × (14 * (h * w) ≤ length (now memory)) ⌝ }
     ensures { λ r.
         ⌜ (r ≡ asAnswer (foundIn h w (now (colours .entry)) (now (clues .entry)) (now (borders .entry))))
         × (now (memory .exit) ≡ written (now (memory .entry))

@@ -25,7 +25,7 @@ use Rattle.board.specs.declared.Board.{Board}
 use Rattle.board.specs.Alien.{isAlien}
 use Rattle.board.specs.Accepted.{decidesOf}
 use Rattle.board.specs.View.{puzzleOf, statesOf, literalsOf}
-use Rattle.demand3.specs.Runs.{Lent, askedOf, Given, givenBy, toldBy, boardAfter, runFrom}
+use Rattle.demand3.specs.Runs.{Lent, askedBy, Given, givenBy, toldBy, boardAfter, runFrom}
 use Rattle.demand3.specs.Runs.{memories}
 
 pub record Standing (start : Board) (Z : Puzzle) (ls : List Literal) (b : Board) : Type 0 where
@@ -73,13 +73,13 @@ PassedAt start calls σ = (n : ℕ) × StoodAt start calls σ (pass n)
 -- start is the board that making the puzzle's board returns, and Z the puzzle
 pub record Demand3 (start : Board) (Z : Puzzle) (calls : List Lent) : Type 0 where
   -- 1. the answers of the calls are the book's, refused ones included ..
-  pub answers : map toldBy (runFrom start calls) ≡ replies Z (map askedOf calls)
+  pub answers : map toldBy (runFrom start calls) ≡ replies Z (map askedBy calls)
   -- .. and each memory afterwards is what the book's answer says
-  pub memory : map (λ (g : Given). g .memory) (runFrom start calls) ≡ memories calls (replies Z (map askedOf calls))
+  pub memory : map (λ (g : Given). g .memory) (runFrom start calls) ≡ memories calls (replies Z (map askedBy calls))
   -- 2. after every part of the list from its start, the board is the fresh one with exactly the literals of the book's
   -- sequence decided
   pub stack : (earlier later : List Lent) → calls ≡ earlier ++ later
-      → Standing start Z (sequence Z (map askedOf earlier)) (boardAfter start earlier)
+      → Standing start Z (sequence Z (map askedBy earlier)) (boardAfter start earlier)
   -- 3. each reason handed out held on the board it was handed out on
   pub held : (b : Board) (r : Reason) → HandedOut start calls b r → Contains (statesOf b) r
   -- 4. a longer list rules out no less

@@ -27,7 +27,7 @@ use Rattle.board.specs.View.{puzzleIn, puzzleOf, statesOf, literalsOf}
 use Rattle.board.specs.NativeLaws.{native-has}
 use Rattle.board.specs.FreshLaws.{Made, made-is, made-keeps, made-typed}
 use Rattle.board.specs.ViewLaws.{fresh-puzzle, literals-fresh, states-literals}
-use Rattle.demand3.specs.Runs.{Lent, askedOf, givenBy, toldBy, boardAfter}
+use Rattle.demand3.specs.Runs.{Lent, askedBy, givenBy, toldBy, boardAfter}
 use Rattle.demand3.specs.Demand3.{Standing, Answered, RuledOut, StoodAt, Demand3}
 use Rattle.demand3.specs.RunLaws.{Built, none, Facts, Bare, built-facts, built-after, step-told, run-told}
 use Rattle.demand3.specs.RunLaws.{run-written}
@@ -38,10 +38,10 @@ record Split (calls : List Lent) (earlier : List Asked) (a : Asked) : Type 0 whe
   call : Lent
   later : List Lent
   split : calls ≡ before ++ (call ∷ later)
-  same : map askedOf before ≡ earlier
-  at : askedOf call ≡ a
+  same : map askedBy before ≡ earlier
+  at : askedBy call ≡ a
 
-split-more : {calls : List Lent} {earlier : List Asked} {a k : Asked} (c : Lent) → askedOf c ≡ k
+split-more : {calls : List Lent} {earlier : List Asked} {a k : Asked} (c : Lent) → askedBy c ≡ k
     → Split calls earlier a → Split (c ∷ calls) (k ∷ earlier) a
 split-more c q s =
     record {
@@ -54,25 +54,25 @@ split-more c q s =
     }
 
 split-asked : (calls : List Lent) (earlier : List Asked) (a : Asked) (later : List Asked)
-    → map askedOf calls ≡ earlier ++ (a ∷ later) → Split calls earlier a
+    → map askedBy calls ≡ earlier ++ (a ∷ later) → Split calls earlier a
 split-asked [] [] a later e = let z : _≡_ {A = ℕ} 0 1 = cc in absurd (omega arith)
 split-asked [] (k ∷ earlier) a later e = let z : _≡_ {A = ℕ} 0 1 = cc in absurd (omega arith)
 split-asked (c ∷ calls) [] a later e =
-    let q : askedOf c ≡ a = cc in
+    let q : askedBy c ≡ a = cc in
     record { before = []; call = c; later = calls; split = refl; same = refl; at = q }
 split-asked (c ∷ calls) (k ∷ earlier) a later e =
-    let q : askedOf c ≡ k = cc in
-    let p : map askedOf calls ≡ earlier ++ (a ∷ later) = cc in
+    let q : askedBy c ≡ k = cc in
+    let p : map askedBy calls ≡ earlier ++ (a ∷ later) = cc in
     split-more c q (split-asked calls earlier a later p)
 
 module _ (start : Board) (S : Bare start) where
   -- the board after some calls
   after-built : (calls : List Lent)
-      → Built start (sequence (puzzleOf start) (map askedOf calls)) (boardAfter start calls)
+      → Built start (sequence (puzzleOf start) (map askedBy calls)) (boardAfter start calls)
   after-built calls = built-after start S none calls
 
   after-facts : (calls : List Lent)
-      → Facts start (sequence (puzzleOf start) (map askedOf calls)) (boardAfter start calls)
+      → Facts start (sequence (puzzleOf start) (map askedBy calls)) (boardAfter start calls)
   after-facts calls = built-facts start S (after-built calls)
 
   facts-states : (ls : List Literal) (b : Board) → Facts start ls b → statesOf b ≡ states ls
@@ -87,30 +87,30 @@ module _ (start : Board) (S : Bare start) where
         (subst (λ ls. Facts start ls (boardAfter start (a .earlier))) (sym (g .stack)) g)
 
     pub answered-book : {b : Board} {f : Verdict} → Answered start calls b f
-        → BookAnswered (puzzleOf start) (map askedOf calls) (literalsOf b) f
+        → BookAnswered (puzzleOf start) (map askedBy calls) (literalsOf b) f
     answered-book {b} {f} a =
         let g = after-facts (a .earlier) in
-        let e : sequence (puzzleOf start) (map askedOf (a .earlier)) ≡ literalsOf b =
+        let e : sequence (puzzleOf start) (map askedBy (a .earlier)) ≡ literalsOf b =
         sym (g .stack) ∙ ap literalsOf (a .standing) in
         record {
-          earlier = map askedOf (a .earlier);
-          call = askedOf (a .call);
-          later = map askedOf (a .later);
-          split = ap (map askedOf) (a .split) ∙ map-append askedOf (a .earlier) (a .call ∷ a .later);
+          earlier = map askedBy (a .earlier);
+          call = askedBy (a .call);
+          later = map askedBy (a .later);
+          split = ap (map askedBy) (a .split) ∙ map-append askedBy (a .earlier) (a .call ∷ a .later);
           standing = e;
           answer =
-              ap (λ (ls : List Literal). reply (puzzleOf start) ls (askedOf (a .call))) (sym e)
+              ap (λ (ls : List Literal). reply (puzzleOf start) ls (askedBy (a .call))) (sym e)
               ∙ sym (step-told start S (after-built (a .earlier)) (a .call))
               ∙ ap (λ (c : Board). toldBy (givenBy c (a .call))) (a .standing)
               ∙ a .answer;
         }
 
-    pub answered-run : {ls : List Literal} {f : Verdict} → BookAnswered (puzzleOf start) (map askedOf calls) ls f
+    pub answered-run : {ls : List Literal} {f : Verdict} → BookAnswered (puzzleOf start) (map askedBy calls) ls f
         → (b : Board) × Answered start calls b f × Facts start ls b
     answered-run {ls} {f} a =
         let s = split-asked calls (a .earlier) (a .call) (a .later) (a .split) in
         let b = boardAfter start (s .before) in
-        let e : sequence (puzzleOf start) (map askedOf (s .before)) ≡ ls =
+        let e : sequence (puzzleOf start) (map askedBy (s .before)) ≡ ls =
         ap (sequence (puzzleOf start)) (s .same) ∙ a .standing in (
           b,
           record {
@@ -121,7 +121,7 @@ module _ (start : Board) (S : Bare start) where
             standing = refl;
             answer =
                 step-told start S (after-built (s .before)) (s .call)
-                ∙ ap (λ (k : List Literal). reply (puzzleOf start) k (askedOf (s .call))) e
+                ∙ ap (λ (k : List Literal). reply (puzzleOf start) k (askedBy (s .call))) e
                 ∙ ap (reply (puzzleOf start) ls) (s .at)
                 ∙ a .answer;
           },
@@ -129,7 +129,7 @@ module _ (start : Board) (S : Bare start) where
         )
 
     -- ---- ruled out
-    pub ruled-book : (σ : ℕ → State) → RuledOut start calls σ → BookRuledOut (puzzleOf start) (map askedOf calls) σ
+    pub ruled-book : (σ : ℕ → State) → RuledOut start calls σ → BookRuledOut (puzzleOf start) (map askedBy calls) σ
     ruled-book σ q =
         record {
           sequence = literalsOf (q .board);
@@ -138,14 +138,14 @@ module _ (start : Board) (S : Bare start) where
           contains = q .contains;
         }
 
-    pub ruled-run : (σ : ℕ → State) → BookRuledOut (puzzleOf start) (map askedOf calls) σ → RuledOut start calls σ
+    pub ruled-run : (σ : ℕ → State) → BookRuledOut (puzzleOf start) (map askedBy calls) σ → RuledOut start calls σ
     ruled-run σ q =
         let r = answered-run (q .given) in
         record { board = r .0; reason = q .reason; given = r .1; contains = q .contains }
 
     -- ---- stood
     pub stood-book : (σ : ℕ → State) (f : Verdict) → StoodAt start calls σ f
-        → BookStoodAt (puzzleOf start) (map askedOf calls) σ f
+        → BookStoodAt (puzzleOf start) (map askedBy calls) σ f
     stood-book σ f q =
         let g = answered-facts (q .check) in
         let e = facts-states (literalsOf (q .board)) (q .board) g in
@@ -156,7 +156,7 @@ module _ (start : Board) (S : Bare start) where
           sides = rw (← e, ← (g .puzzle)) (q .sides);
         }
 
-    pub stood-run : (σ : ℕ → State) (f : Verdict) → BookStoodAt (puzzleOf start) (map askedOf calls) σ f
+    pub stood-run : (σ : ℕ → State) (f : Verdict) → BookStoodAt (puzzleOf start) (map askedBy calls) σ f
         → StoodAt start calls σ f
     stood-run σ f q =
         let r = answered-run (q .check) in
@@ -194,7 +194,7 @@ ruled-longer start calls more σ q =
 -- ---- the claim
 module _ (start : Board) (S : Bare start) (D : (asked : List Asked) → BookDemand (puzzleOf start) asked) where
   stands : (calls : List Lent)
-      → Standing start (puzzleOf start) (sequence (puzzleOf start) (map askedOf calls)) (boardAfter start calls)
+      → Standing start (puzzleOf start) (sequence (puzzleOf start) (map askedBy calls)) (boardAfter start calls)
   stands calls =
       let f = after-facts start S calls in
       record {
@@ -208,14 +208,14 @@ module _ (start : Board) (S : Bare start) (D : (asked : List Asked) → BookDema
   holds : (calls : List Lent) (b : Board) (r : Reason) → Answered start calls b (conflict r) → Contains (statesOf b) r
   holds calls b r a =
       let e = facts-states start S (literalsOf b) b (answered-facts start S calls a) in
-      rw e (D (map askedOf calls) .held (literalsOf b) r (answered-book start S calls a))
+      rw e (D (map askedBy calls) .held (literalsOf b) r (answered-book start S calls a))
 
   none-ruled : (calls : List Lent) (σ : ℕ → State) → Solution (puzzleOf start) σ → RuledOut start calls σ → ⊥
-  none-ruled calls σ s q = D (map askedOf calls) .noSolution σ s (ruled-book start S calls σ q)
+  none-ruled calls σ s q = D (map askedBy calls) .noSolution σ s (ruled-book start S calls σ q)
 
   verdicts : (calls : List Lent) (σ : ℕ → State) (f : Verdict) → StoodAt start calls σ f
       → (Passes f ↔ Solution (puzzleOf start) σ)
-  verdicts calls σ f q = D (map askedOf calls) .verdict σ f (stood-book start S calls σ f q)
+  verdicts calls σ f q = D (map askedBy calls) .verdict σ f (stood-book start S calls σ f q)
 
   pub from-book : (calls : List Lent) → Demand3 start (puzzleOf start) calls
   from-book calls =
@@ -229,14 +229,14 @@ module _ (start : Board) (S : Bare start) (D : (asked : List Asked) → BookDema
         verdict = verdicts calls;
         otherwise =
             λ σ f q n.
-            ruled-run start S calls σ (D (map askedOf calls) .otherwise σ f (stood-book start S calls σ f q) n);
+            ruled-run start S calls σ (D (map askedBy calls) .otherwise σ f (stood-book start S calls σ f q) n);
         staysIn =
             λ more σ p. none-ruled (calls ++ more) σ (verdicts calls σ (pass (p .0)) (p .1) .0 (p .0, refl));
         staysOut =
             λ more σ q p. none-ruled calls σ (verdicts (calls ++ more) σ (pass (p .0)) (p .1) .0 (p .0, refl)) q;
         sameVerdict =
             λ σ f g s t.
-            D (map askedOf calls) .sameVerdict σ f g (stood-book start S calls σ f s) (stood-book start S calls σ g t);
+            D (map askedBy calls) .sameVerdict σ f g (stood-book start S calls σ f s) (stood-book start S calls σ g t);
       }
 
 -- ---- an accepted puzzle

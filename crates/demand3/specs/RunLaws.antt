@@ -39,7 +39,7 @@ use Rattle.board.specs.DecideLaws.{decide-keeps, decided-typed, undo-decide}
 use Rattle.board.specs.ViewLaws.{decided-puzzle, literals-length, names-decided}
 use Rattle.board.specs.LiteralLaws.{literals-decided}
 use Rattle.calls.specs.Answers.{memoryAs, callOf}
-use Rattle.demand3.specs.Runs.{Lent, askedOf, Given, givenBy, toldBy, nextBoard, boardAfter}
+use Rattle.demand3.specs.Runs.{Lent, askedBy, Given, givenBy, toldBy, nextBoard, boardAfter}
 use Rattle.demand3.specs.Runs.{runFrom, memories}
 use Rattle.calls.specs.CallLaws.{call-told, call-written}
 
@@ -129,14 +129,14 @@ module _ (start : Board) (S : Bare start) where
   built-step B Check m = B
 
   pub step-told : {ls : List Literal} {b : Board} → Built start ls b → (c : Lent)
-      → toldBy (givenBy b c) ≡ reply (puzzleOf start) ls (askedOf c)
+      → toldBy (givenBy b c) ≡ reply (puzzleOf start) ls (askedBy c)
   step-told {ls} {b} B c =
       let f = built-facts B in
       call-told b (f .known) (c .call) (c .memory)
       ∙ ap₂ (λ (Z : Puzzle) (k : List Literal). replyTo Z k (length (c .memory)) (c .call)) (f .puzzle) (f .stack)
 
   step-written : {ls : List Literal} {b : Board} → Built start ls b → (c : Lent)
-      → givenBy b c .memory ≡ memoryAs (c .memory) (reply (puzzleOf start) ls (askedOf c))
+      → givenBy b c .memory ≡ memoryAs (c .memory) (reply (puzzleOf start) ls (askedBy c))
   step-written {ls} {b} B c =
       let f = built-facts B in
       call-written b (f .known) (c .call) (c .memory)
@@ -145,13 +145,13 @@ module _ (start : Board) (S : Bare start) where
 
   -- ---- a list of calls
   pub built-after : {ls : List Literal} {b : Board} → Built start ls b → (calls : List Lent)
-      → Built start (sequenceFrom (puzzleOf start) ls (map askedOf calls)) (boardAfter b calls)
+      → Built start (sequenceFrom (puzzleOf start) ls (map askedBy calls)) (boardAfter b calls)
   unfolding sequenceFrom boardAfter
   built-after B [] = B
   built-after B (c ∷ calls) = built-after (built-step B (c .call) (c .memory)) calls
 
   pub run-told : {ls : List Literal} {b : Board} → Built start ls b → (calls : List Lent)
-      → map toldBy (runFrom b calls) ≡ repliesFrom (puzzleOf start) ls (map askedOf calls)
+      → map toldBy (runFrom b calls) ≡ repliesFrom (puzzleOf start) ls (map askedBy calls)
   unfolding repliesFrom runFrom
   run-told B [] = refl
   run-told B (c ∷ calls) =
@@ -160,7 +160,7 @@ module _ (start : Board) (S : Bare start) where
 
   pub run-written : {ls : List Literal} {b : Board} → Built start ls b → (calls : List Lent)
       → map (λ (g : Given). g .memory) (runFrom b calls)
-      ≡ memories calls (repliesFrom (puzzleOf start) ls (map askedOf calls))
+      ≡ memories calls (repliesFrom (puzzleOf start) ls (map askedBy calls))
   unfolding repliesFrom runFrom memories
   run-written B [] = refl
   run-written B (c ∷ calls) =

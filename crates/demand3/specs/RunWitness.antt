@@ -91,13 +91,13 @@ module _ (m : List ℕ) (p : length m ≡ 16384) where
       (sym (start-puzzle 1 2 cs ks accepted))
       (subst (λ n. BookStoodAt (puzzleIn 1 2 cs ks) (asked d n) (setting d) (found d)) (sym p) (book-stood d)))
 
-  pub record Witness : Type 0 where
+  pub record RunWitness : Type 0 where
     pub open-stood : StoodAt start (deciding Open m) (setting Open) (found Open)
     pub open-passed : Passes (found Open)
     pub wall-stood : StoodAt start (deciding Wall m) (setting Wall) (found Wall)
     pub wall-ruled : RuledOut start (deciding Wall m) (setting Wall)
 
-  pub witness : Witness
+  pub witness : RunWitness
   unfolding puzzleIn
   witness =
       let D = demand3 1 2 cs ks accepted in

@@ -2,7 +2,7 @@
 --
 --   Lent                 a call with the memory that is lent to it, as it stands then
 --   lend m c             the call c with the memory m lent
---   askedOf c            the call as the book takes it: of memory only the length
+--   askedBy c            the call as the book takes it: of memory only the length
 --   Given                what a call gives: its answer, and the memory as it stands when the call returns
 --   givenBy b c          what the call c gives on the board b
 --   toldBy g             that as the book's reply
@@ -28,8 +28,8 @@ abbrev pub lend : List ℕ → Call → Lent
 lend m c = record { call = c; memory = m }
 
 -- "the calls with their arguments, never a board, and of reason memory only the length"
-abbrev pub askedOf : Lent → Asked
-askedOf c = ask (length (c .memory)) (c .call)
+abbrev pub askedBy : Lent → Asked
+askedBy c = ask (length (c .memory)) (c .call)
 
 pub record Given : Type 0 where
   pub answer : Answer

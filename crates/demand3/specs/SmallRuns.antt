@@ -1,10 +1,10 @@
 -- 01's small boards marked P, through the calls: from making the board on, what each call answers.
 --
---   Answers h w cs ks calls rs   on the board of that puzzle, each with memory for 16,384 literals, the calls answer rs
---   small-clues, run-answers     how that follows from the book
---   Pair ks calls rs             so they do on 1×2 with the colours 01 and the clues ks
---   Four calls rs                so they do on 1×4 with the colours 0011, without clues
---   SmallRuns                    the boards, and the page of 01's example
+--   RunAnswers h w cs ks calls rs   the calls answer rs on that puzzle's board, each with memory for 16,384 literals
+--   small-clues, run-answers        how that follows from the book
+--   Pair ks calls rs                so they do on 1×2 with the colours 01 and the clues ks
+--   Four calls rs                   so they do on 1×4 with the colours 0011, without clues
+--   SmallRuns                       the boards, and the page of 01's example
 use mathlib.Core.Path.{_≡_, refl, ap, _∙_}
 use mathlib.Core.Bool.{true}
 use mathlib.Core.List.{List, [], _∷_, map}
@@ -38,14 +38,14 @@ use Rattle.board.specs.Alien.{sizeRight, coloursRight, cluesRight}
 use Rattle.board.specs.Board.{freshOf, Small}
 use Rattle.board.specs.Accepted.{madeBoard}
 use Rattle.board.specs.View.{puzzleIn}
-use Rattle.demand3.specs.Runs.{lend, askedOf, toldBy, runFrom}
+use Rattle.demand3.specs.Runs.{lend, askedBy, toldBy, runFrom}
 use Rattle.demand3.specs.Demand3Laws.{demand3}
 
-pub record Answers (h w : ℕ) (cs : List ℕ) (ks : List ℤ) (calls : List Call) (rs : List Reply) : Type 0 where
+pub record RunAnswers (h w : ℕ) (cs : List ℕ) (ks : List ℤ) (calls : List Call) (rs : List Reply) : Type 0 where
   pub answers : (m : List ℕ) → length m ≡ 16384
       → map toldBy (runFrom (madeBoard h w cs ks) (map (lend m) calls)) ≡ rs
 
-asked-lent : (m : List ℕ) (calls : List Call) → map askedOf (map (lend m) calls) ≡ map (ask (length m)) calls
+asked-lent : (m : List ℕ) (calls : List Call) → map askedBy (map (lend m) calls) ≡ map (ask (length m)) calls
 asked-lent m [] = refl
 asked-lent m (c ∷ calls) = ap (λ (asked : List Asked). ask (length m) c ∷ asked) (asked-lent m calls)
 
@@ -58,7 +58,7 @@ small-clues (k ∷ ks) e (suc i) =
 
 run-answers : {h w : ℕ} {cs : List ℕ} {ks : List ℤ} {calls : List Call} {rs : List Reply}
     → all (λ k. leZ k (pos 2147483647)) ks ≡ true → freshOf h w cs ks .outcome ≡ Done
-    → replies (puzzleIn h w cs ks) (map (ask 16384) calls) ≡ rs → Answers h w cs ks calls rs
+    → replies (puzzleIn h w cs ks) (map (ask 16384) calls) ≡ rs → RunAnswers h w cs ks calls rs
 run-answers {h} {w} {cs} {ks} {calls} s a e =
     record {
       answers =
@@ -73,17 +73,17 @@ noClue = negsuc 0
 
 -- 1×2 with the colours 01
 abbrev pub Pair : List ℤ → List Call → List Reply → Type 0
-Pair ks calls rs = Answers 1 2 (0 ∷ 1 ∷ []) ks calls rs
+Pair ks calls rs = RunAnswers 1 2 (0 ∷ 1 ∷ []) ks calls rs
 
 -- 1×4 with the colours 0011
 abbrev pub Four : List Call → List Reply → Type 0
-Four calls rs = Answers 1 4 (0 ∷ 0 ∷ 1 ∷ 1 ∷ []) (noClue ∷ noClue ∷ noClue ∷ noClue ∷ []) calls rs
+Four calls rs = RunAnswers 1 4 (0 ∷ 0 ∷ 1 ∷ 1 ∷ []) (noClue ∷ noClue ∷ noClue ∷ noClue ∷ []) calls rs
 
 pub record SmallRuns : Type 0 where
   -- "1×1 without clue: empty reason"
-  pub one-cell-empty : Answers 1 1 (0 ∷ []) (noClue ∷ []) (Check ∷ []) (answered (conflict []) ∷ [])
+  pub one-cell-empty : RunAnswers 1 1 (0 ∷ []) (noClue ∷ []) (Check ∷ []) (answered (conflict []) ∷ [])
   -- "1×2, colours 00, undecided: empty reason"
-  pub one-colour-empty : Answers 1 2 (0 ∷ 0 ∷ []) (noClue ∷ noClue ∷ []) (Check ∷ []) (answered (conflict []) ∷ [])
+  pub one-colour-empty : RunAnswers 1 2 (0 ∷ 0 ∷ []) (noClue ∷ noClue ∷ []) (Check ∷ []) (answered (conflict []) ∷ [])
   -- "1×2, 01: undecided passes with 1; open passes with 0; wall: 0w", by the calls of the page that 01 shows
   pub page : Pair (noClue ∷ noClue ∷ [])
       (Check ∷ Decide (wallAt 0) ∷ Check ∷ Undo ∷ Decide (openAt 0) ∷ Check ∷ [])
@@ -93,7 +93,7 @@ pub record SmallRuns : Type 0 where
   pub clue-zero-empty : Pair (pos 0 ∷ noClue ∷ []) (Check ∷ []) (answered (conflict []) ∷ [])
   pub clue-two-empty : Pair (pos 2 ∷ noClue ∷ []) (Check ∷ []) (answered (conflict []) ∷ [])
   -- "1×3, 010, both open: 0o 1o"
-  pub both-open : Answers 1 3 (0 ∷ 1 ∷ 0 ∷ []) (noClue ∷ noClue ∷ noClue ∷ [])
+  pub both-open : RunAnswers 1 3 (0 ∷ 1 ∷ 0 ∷ []) (noClue ∷ noClue ∷ noClue ∷ [])
       (Decide (openAt 0) ∷ Decide (openAt 1) ∷ Check ∷ [])
       (done ∷ done ∷ answered (conflict (openAt 0 ∷ openAt 1 ∷ [])) ∷ [])
   -- "1×4, 0011, all open: passes"
@@ -103,7 +103,7 @@ pub record SmallRuns : Type 0 where
   pub four-wall : Four (Decide (wallAt 0) ∷ Decide (openAt 1) ∷ Decide (openAt 2) ∷ Check ∷ [])
       (done ∷ done ∷ done ∷ answered (conflict (openAt 1 ∷ openAt 2 ∷ wallAt 0 ∷ [])) ∷ [])
   -- "2×2, rows 01 and 01; 0, 2, 3 open, 1 wall: 3o 0o 2o 1w"
-  pub wall-in-block : Answers 2 2 (0 ∷ 1 ∷ 0 ∷ 1 ∷ []) (noClue ∷ noClue ∷ noClue ∷ noClue ∷ [])
+  pub wall-in-block : RunAnswers 2 2 (0 ∷ 1 ∷ 0 ∷ 1 ∷ []) (noClue ∷ noClue ∷ noClue ∷ noClue ∷ [])
       (Decide (openAt 0) ∷ Decide (openAt 2) ∷ Decide (openAt 3) ∷ Decide (wallAt 1) ∷ Check ∷ [])
       (done ∷ done ∷ done ∷ done ∷ answered (conflict (openAt 3 ∷ openAt 0 ∷ openAt 2 ∷ wallAt 1 ∷ [])) ∷ [])
   -- refused calls: 6, 7 and 8 of the table

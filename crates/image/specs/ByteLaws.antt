@@ -12,7 +12,7 @@ use lib.Seq.{sets, take-add, drop-drop}
 use lib.Signed.{leZ}
 use Rattle.lists.specs.Table.{table}
 use Rattle.image.specs.ListExtras.{table-part}
-use Rattle.image.specs.Image.{pair, quad, signed, twoBytes, fourBytes, bitsOf, Bytes}
+use Rattle.image.specs.Image.{pair, quad, fromBits, twoBytes, fourBytes, bitsOf, Bytes}
 
 pub two-long : (v : ℕ) → length (twoBytes v) ≡ 2
 unfolding twoBytes
@@ -94,17 +94,17 @@ pub quad-small : (s : List ℕ) → Bytes s → (k : ℕ) → quad s k < 4294967
 quad-small s h k = omega (arith, h k, h (k + 1), h (k + 2), h (k + 2 + 1))
 
 -- ---- signed numbers
-pub bits-signed : (n : ℕ) → n < 4294967296 → bitsOf (signed n) ≡ n
-bits-signed n h = go (decLt n 2147483648)
+pub bits-from : (n : ℕ) → n < 4294967296 → bitsOf (fromBits n) ≡ n
+bits-from n h = go (decLt n 2147483648)
   where
-    go : Dec (n < 2147483648) → bitsOf (signed n) ≡ n
+    go : Dec (n < 2147483648) → bitsOf (fromBits n) ≡ n
     go (yes l) = rw (lt-ltb n 2147483648 l)
     go (no l) = rw (le-ltb n 2147483648 (omega arith)) (omega arith)
 
-pub signed-small : (n : ℕ) → leZ (signed n) (pos 2147483647) ≡ true
-signed-small n = go (decLt n 2147483648)
+pub from-small : (n : ℕ) → leZ (fromBits n) (pos 2147483647) ≡ true
+from-small n = go (decLt n 2147483648)
   where
-    go : Dec (n < 2147483648) → leZ (signed n) (pos 2147483647) ≡ true
+    go : Dec (n < 2147483648) → leZ (fromBits n) (pos 2147483647) ≡ true
     go (yes l) = rw (lt-ltb n 2147483648 l) (le-leb n 2147483647 (omega arith))
     go (no l) = rw (le-ltb n 2147483648 (omega arith))
 
@@ -117,10 +117,10 @@ module _ (z : ℤ) (p : leZ (negsuc 0) z ≡ true) (q : leZ z (pos 2147483647) �
       go (pos n) e = let l = leb-true n 2147483647 e in omega arith
       go (negsuc n) e = omega arith
 
-  pub signed-bits : signed (bitsOf z) ≡ z
-  signed-bits = go z p q
+  pub from-bits : fromBits (bitsOf z) ≡ z
+  from-bits = go z p q
     where
-      go : (y : ℤ) → leZ (negsuc 0) y ≡ true → leZ y (pos 2147483647) ≡ true → signed (bitsOf y) ≡ y
+      go : (y : ℤ) → leZ (negsuc 0) y ≡ true → leZ y (pos 2147483647) ≡ true → fromBits (bitsOf y) ≡ y
       go (pos n) d e = let l = leb-true n 2147483647 e in rw (lt-ltb n 2147483648 (omega arith))
       go (negsuc zero) d e = refl
       go (negsuc (suc n)) d e = absurd (let l = leb-true (suc n) 0 d in omega arith)

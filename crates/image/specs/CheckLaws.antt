@@ -25,7 +25,7 @@ use Rattle.calls.specs.declared.Answer.{Answer}
 use Rattle.calls.specs.declared.Answer.the-variants.{Done, Pass, Conflict, Refused}
 use Rattle.calls.specs.Answers.{answerNumber, asAnswer, written, checkAnswer}
 use Rattle.calls.specs.AnswerLaws.{length-written}
-use Rattle.calls.specs.Known.{Known, foundIn}
+use Rattle.calls.specs.Known.{KnownBoard, foundIn}
 use Rattle.calls.specs.CheckLaws.{same-found}
 use Rattle.calls.specs.NumberLaws.{InRange, found-range}
 use Rattle.image.specs.Image.{spelledBoard, rightLength, putCodes, isShort, places, bytesAfter, bytesBy}
@@ -120,7 +120,7 @@ pub record Checks (m codes : List ℕ) (f : Verdict) (a : Answer) : Type 0 where
   pub quiet : (x : Answer) → a ≡ x → Quiet x → m ≡ bytesAfter m f
   pub reason : (n : ℕ) → a ≡ Conflict n → putCodes m codes n ≡ bytesAfter m f
 
-module _ {h w : ℕ} {cs : List ℕ} {ks : List ℤ} {bs : List ℕ} {n : ℕ} (K : Known h w cs ks bs n) (m before : List ℕ)
+module _ {h w : ℕ} {cs : List ℕ} {ks : List ℤ} {bs : List ℕ} {n : ℕ} (K : KnownBoard h w cs ks bs n) (m before : List ℕ)
     (room : 14 * (h * w) < length before) where
   abbrev b : Board
   b = boardOf h w cs ks bs (K .stack) n

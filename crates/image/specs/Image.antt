@@ -2,7 +2,7 @@
 --
 --   pair s k           the number of two bytes of s, from place k on
 --   quad s k           the number of four bytes
---   signed n           the signed number of 32 bits
+--   fromBits n         the signed number of the 32 bits n
 --   spelledBoard s     the board that the image s spells
 --   twoBytes v         two bytes of a number
 --   fourBytes v        four bytes of a number
@@ -59,8 +59,8 @@ abbrev pub quad : List ℕ → ℕ → ℕ
 quad s k = pair s k + 65536 * pair s (k + 2)
 
 -- "two's complement"
-abbrev pub signed : ℕ → ℤ
-signed n = cond (ltb n 2147483648) (pos n) (negsuc (4294967295 - n))
+abbrev pub fromBits : ℕ → ℤ
+fromBits n = cond (ltb n 2147483648) (pos n) (negsuc (4294967295 - n))
 
 -- "height, width; 1,024 colours; 1,024 clues of 4 bytes, two's complement; 1,984 borders .. stack count, 2 bytes; 1,984
 -- stack entries of 2 bytes"
@@ -68,7 +68,7 @@ unfoldable pub spelledBoard : List ℕ → Board
 spelledBoard s =
     boardOf (getD s 0 0) (getD s 1 0)
     (table 1024 (λ i. getD s (2 + i) 0))
-    (table 1024 (λ i. signed (quad s (1026 + 4 * i))))
+    (table 1024 (λ i. fromBits (quad s (1026 + 4 * i))))
     (table 1984 (λ i. getD s (5122 + i) 0))
     (table 1984 (λ i. pair s (7108 + 2 * i)))
     (pair s 7106)

@@ -48,11 +48,11 @@ module _ (b d : Board) (p : Produced b) (a : ImageCall) where
 
 board-produced : (b : Board) → Produced b → ImageProduced (imageOf b)
 board-produced b (board.made h w cs ks _ s e) = begun h w cs ks b s e
-board-produced b (board.decided c l _ p e) =
+board-produced b (board.afterDecide c l _ p e) =
     let f = ap (decideOf c) (literal-of-code l) ∙ e in
     called-image c b p (decide (l .border) (sideCode (l .side)))
     (ap (λ (r : Returned). numberOf (r .outcome)) f) (ap (λ (r : Returned). r .board) f) (board-produced c p)
-board-produced b (board.undone c _ p e) =
+board-produced b (board.afterUndo c _ p e) =
     called-image c b p undo
     (ap (λ (r : Returned). numberOf (r .outcome)) e) (ap (λ (r : Returned). r .board) e) (board-produced c p)
 

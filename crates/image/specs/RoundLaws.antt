@@ -19,10 +19,10 @@ use Rattle.board.specs.Alien.{boardOf, isAlien}
 use Rattle.board.specs.Board.{Typed}
 use Rattle.board.specs.NativeLaws.{Native, native-has, borders-fit}
 use Rattle.image.specs.ListExtras.{drop-split, flat-part, table-part}
-use Rattle.image.specs.Image.{pair, quad, signed, spelledBoard, twoBytes, fourBytes, bitsOf, clueBytes, imageOf}
+use Rattle.image.specs.Image.{pair, quad, fromBits, spelledBoard, twoBytes, fourBytes, bitsOf, clueBytes, imageOf}
 use Rattle.image.specs.Image.{rightLength, imageAlien, Bytes, Proper}
-use Rattle.image.specs.ByteLaws.{pair-of, quad-of, two-of, four-of, quad-small, bits-signed, signed-small}
-use Rattle.image.specs.ByteLaws.{bits-small, signed-bits}
+use Rattle.image.specs.ByteLaws.{pair-of, quad-of, two-of, four-of, quad-small, bits-from, from-small}
+use Rattle.image.specs.ByteLaws.{bits-small, from-bits}
 use Rattle.image.specs.LayoutLaws.{image-long, colour-at, clue-at, border-at, count-at, entry-at}
 
 -- ---- an image that is read and written again
@@ -30,12 +30,12 @@ module _ (s : List ℕ) (h : Bytes s) (e : length s ≡ 11076) where
   front : s ≡ (getD s 0 0 ∷ getD s 1 0 ∷ []) ++ drop 2 s
   front = drop-cons s 0 0 (omega arith) ∙ ap (λ (l : List ℕ). getD s 0 0 ∷ l) (drop-cons s 1 0 (omega arith))
 
-  clue-part : flatMap clueBytes (table 1024 (λ i. signed (quad s (1026 + 4 * i))))
+  clue-part : flatMap clueBytes (table 1024 (λ i. fromBits (quad s (1026 + 4 * i))))
       ≡ take 4096 (drop 1026 s)
   clue-part =
-      flat-part clueBytes 4 1026 1024 (λ i. signed (quad s (1026 + 4 * i))) s
+      flat-part clueBytes 4 1026 1024 (λ i. fromBits (quad s (1026 + 4 * i))) s
       (λ i l.
-      ap fourBytes (bits-signed (quad s (1026 + 4 * i)) (quad-small s h (1026 + 4 * i)))
+      ap fourBytes (bits-from (quad s (1026 + 4 * i)) (quad-small s h (1026 + 4 * i)))
       ∙ four-of s h (1026 + 4 * i) (omega arith))
 
   stack-part : flatMap twoBytes (table 1984 (λ i. pair s (7108 + 2 * i))) ≡ drop 7108 s
@@ -71,13 +71,13 @@ board-typed s =
     }
   where
     small : (i : ℕ) → Dec (i < 1024)
-        → leZ (getD (table 1024 (λ j. signed (quad s (1026 + 4 * j)))) i (pos 0)) (pos 2147483647) ≡ true
+        → leZ (getD (table 1024 (λ j. fromBits (quad s (1026 + 4 * j)))) i (pos 0)) (pos 2147483647) ≡ true
     small i (yes l) =
-        rw (getD-table 1024 (λ j. signed (quad s (1026 + 4 * j))) i (pos 0) l)
-        (signed-small (quad s (1026 + 4 * i)))
+        rw (getD-table 1024 (λ j. fromBits (quad s (1026 + 4 * j))) i (pos 0) l)
+        (from-small (quad s (1026 + 4 * i)))
     small i (no l) =
-        let g = length-table 1024 (λ j. signed (quad s (1026 + 4 * j))) in
-        rw (List·getD-eq-default (table 1024 (λ j. signed (quad s (1026 + 4 * j)))) (pos 0) {n = i} (omega arith))
+        let g = length-table 1024 (λ j. fromBits (quad s (1026 + 4 * j))) in
+        rw (List·getD-eq-default (table 1024 (λ j. fromBits (quad s (1026 + 4 * j)))) (pos 0) {n = i} (omega arith))
 
 -- ---- a board that is written and read again
 module _ (b : Board) (T : Typed b) (N : Native b) where
@@ -96,14 +96,14 @@ module _ (b : Board) (T : Typed b) (N : Native b) where
       go (yes l) = N .clue i l
       go (no l) = rw (N .noClue i (omega arith))
 
-  clue-is : (i : ℕ) → i < 1024 → getD (b .clues) i (pos 0) ≡ signed (quad (imageOf b) (1026 + 4 * i))
+  clue-is : (i : ℕ) → i < 1024 → getD (b .clues) i (pos 0) ≡ fromBits (quad (imageOf b) (1026 + 4 * i))
   clue-is i l =
       let k = getD (b .clues) i (pos 0) in
       let p = clue-right i in
       let q = T .small i in
       sym
-      (ap signed (quad-of (imageOf b) (1026 + 4 * i) (bitsOf k) (λ j m. clue-at b T i j l m) (bits-small k p q))
-      ∙ signed-bits k p q)
+      (ap fromBits (quad-of (imageOf b) (1026 + 4 * i) (bitsOf k) (λ j m. clue-at b T i j l m) (bits-small k p q))
+      ∙ from-bits k p q)
 
   entry-is : (i : ℕ) → i < 1984 → getD (b .stack) i 0 ≡ pair (imageOf b) (7108 + 2 * i)
   entry-is i l =

@@ -5,7 +5,7 @@ ghost use mathlib.Core.Bool.{false};
 ghost use Prim.Native.Nat.{_*_, _<_};
 ghost use lib.ListN.{length};
 ghost use Rattle.calls.specs.Answers.{answerNumber, asAnswer};
-ghost use Rattle.calls.specs.Known.{Known, foundIn};
+ghost use Rattle.calls.specs.Known.{KnownBoard, foundIn};
 ghost use Rattle.image.specs.Image.{imageAlien, decideLiteral, decide, undo, imageNumber, imageAfter};
 ghost use Rattle.image.specs.Image.{isShort, bytesAfter, checkNumber, checkBytes};
 use board::Board;
@@ -126,7 +126,7 @@ fn answered<'a>(
     codes: &mut [u16],
     memory: &mut [u8],
 ) -> u32
-    requires { ⌜ Known h w (now colours) (now clues) (now borders) count × (14 * (h * w) < length (now codes))
+    requires { ⌜ KnownBoard h w (now colours) (now clues) (now borders) count × (14 * (h * w) < length (now codes))
         × (isShort (now memory) ≡ false) ⌝ }
     ensures number { λ r. ⌜ r ≡ answerNumber (asAnswer (foundIn h w (now (colours .entry)) (now (clues .entry))
         (now (borders .entry)))) ⌝ }

@@ -3,7 +3,7 @@ ghost use mathlib.Core.Path.{_≡_};
 ghost use Prim.Native.Nat.{_+_, _*_, _<_, _≤_};
 ghost use lib.ListN.{length, getD};
 ghost use Rattle.lists.specs.Table.{table};
-ghost use Rattle.image.specs.Image.{pair, quad, signed, spelledBoard};
+ghost use Rattle.image.specs.Image.{pair, quad, fromBits, spelledBoard};
 use crate::BORDERS;
 use crate::CLUES;
 use crate::COLOURS;
@@ -31,7 +31,7 @@ fn four(s: &[u8], k: usize) -> u32
 
 // What 32 bits spell, two's complement.
 fn clue(n: u32) -> i32
-    ensures { λ r. ⌜ r ≡ signed n ⌝ }
+    ensures { λ r. ⌜ r ≡ fromBits n ⌝ }
 {
     if n < 2147483648 {
         n as i32
@@ -55,7 +55,7 @@ fn copy(out: &mut [u8], s: &[u8], from: usize)
 // The clues of an image.
 fn clues(s: &[u8]) -> [i32; Board::CELL_LIMIT]
     requires { ⌜ length (now s) ≡ 11076 ⌝ }
-    ensures { λ r. ⌜ r ≡ table 1024 (λ i. signed (quad (now (s .entry)) (1026 + 4 * i))) ⌝ }
+    ensures { λ r. ⌜ r ≡ table 1024 (λ i. fromBits (quad (now (s .entry)) (1026 + 4 * i))) ⌝ }
 {
     let mut out = [0i32; Board::CELL_LIMIT];
     let mut i: usize = 0;

@@ -16,14 +16,14 @@ use Rattle.board.specs.Board.{numberOf}
 use Rattle.board.specs.declared.Outcome.the-variants.{Alien}
 use Rattle.image.specs.Image.{rightLength, spelledBoard}
 use Rattle.image.specs.RoundLaws.{long-is}
-use Rattle.transforms.specs.declared.Answer.{Answer}
-use Rattle.transforms.specs.Transforms.{nothing, answered, transformOf, memoryAfter}
+use Rattle.transforms.specs.declared.Transformed.{Transformed}
+use Rattle.transforms.specs.Transforms.{nothing, transformed, transformOf, memoryAfter}
 
-unfoldable pub countsOf : Answer → List ℕ
+unfoldable pub countsOf : Transformed → List ℕ
 countsOf a = numberOf (a .outcome) ∷ a .listed ∷ a .cells ∷ a .connections ∷ []
 
-unfoldable pub answerIn : List ℕ → ℕ → ℕ → ℕ → Answer
-answerIn s u k n = cond (rightLength s) (transformOf (spelledBoard s) u k n) (answered Alien 0 nothing)
+unfoldable pub answerIn : List ℕ → ℕ → ℕ → ℕ → Transformed
+answerIn s u k n = cond (rightLength s) (transformOf (spelledBoard s) u k n) (transformed Alien 0 nothing)
 
 unfoldable pub memoryIn : List ℕ → ℕ → ℕ → List ℤ → List ℤ
 memoryIn s u k m = cond (rightLength s) (memoryAfter (spelledBoard s) u k m) m
@@ -35,15 +35,15 @@ set-past (x ∷ l) zero v h = absurd (not-suc-le-zero h)
 set-past (x ∷ l) (suc i) v h = ap (λ t. x ∷ t) (set-past l i v (le-of-suc-le-suc h))
 
 -- four stores
-pub four-stores : (l : List ℕ) {l₁ l₂ l₃ l₄ : List ℕ} {n : ℕ} (a : Answer) → n ≡ numberOf (a .outcome) → l₁ ≡ set l 0 n
-    → l₂ ≡ set l₁ 1 (a .listed) → l₃ ≡ set l₂ 2 (a .cells) → l₄ ≡ set l₃ 3 (a .connections)
+pub four-stores : (l : List ℕ) {l₁ l₂ l₃ l₄ : List ℕ} {n : ℕ} (a : Transformed) → n ≡ numberOf (a .outcome)
+    → l₁ ≡ set l 0 n → l₂ ≡ set l₁ 1 (a .listed) → l₃ ≡ set l₂ 2 (a .cells) → l₄ ≡ set l₃ 3 (a .connections)
     → l₄ ≡ sets l 0 (countsOf a)
 unfolding countsOf
 four-stores l a z d e f g = g ∙ rw (f, e, d, z)
 
 -- the two cases
 module _ (s : List ℕ) (u k : ℕ) (m : List ℤ) where
-  pub other-answer : (length s ≡ 11076 → ⊥) → answered Alien 0 nothing ≡ answerIn s u k (length m)
+  pub other-answer : (length s ≡ 11076 → ⊥) → transformed Alien 0 nothing ≡ answerIn s u k (length m)
   unfolding answerIn rightLength
   other-answer e = rw (ne-eqb (length s) 11076 e)
 

@@ -4,7 +4,7 @@ ghost use lib.ListN.{length, set};
 ghost use lib.Seq.{sets};
 ghost use Rattle.probe.specs.ProbeTransform.{countsOf, answerIn, memoryIn};
 use board::Outcome;
-use transforms::Answer;
+use transforms::Transformed;
 
 // Stores a count, where there is a place for it.
 fn put_count(counts: &mut [usize], i: usize, n: usize)
@@ -17,7 +17,7 @@ fn put_count(counts: &mut [usize], i: usize, n: usize)
 
 // Stores an answer: the outcome's number, how many transforms the unit has, how many cells and how many connections the
 // one asked for has.
-fn put_counts(counts: &mut [usize], a: Answer)
+fn put_counts(counts: &mut [usize], a: Transformed)
     ensures { λ _. ⌜ now (counts .exit) ≡ sets (now (counts .entry)) 0 (countsOf a) ⌝ }
 {
     let outcome = a.outcome;
@@ -43,7 +43,7 @@ pub extern "C" fn probe_transform(
     if s.len() != image::LENGTH {
         put_counts(
             counts,
-            Answer {
+            Transformed {
                 outcome: Outcome::Alien,
                 listed: 0,
                 cells: 0,

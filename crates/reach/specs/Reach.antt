@@ -31,15 +31,15 @@ use Rattle.board.specs.DecideLaws.{poppedAt, popped-native, popped-typed, decid
 use Rattle.board.specs.DecideLaws.{decided-typed, undone-typed}
 use Rattle.board.specs.FreshLaws.{made-is, made-keeps, made-typed}
 use Rattle.board.specs.ViewLaws.{entry-held, code-small}
-use Rattle.reach.specs.Produced.{Produced, made, decided, undone, Move, decide, undo, moveOf, Run, stop, next}
-use Rattle.reach.specs.Produced.{Reached}
+use Rattle.reach.specs.Produced.{Produced, made, afterDecide, afterUndo, Move, decide, undo, moveOf, Leads, stop}
+use Rattle.reach.specs.Produced.{next, Reached}
 
 -- ---- what is produced is not alien
 pub produced-known : (b : Board) → Produced b → (isAlien b ≡ false) × Typed b
 produced-known b (made h w cs ks _ s e) = (made-keeps (made-is e), made-typed (made-is e) s)
-produced-known b (decided c l _ p e) =
+produced-known b (afterDecide c l _ p e) =
     let r = produced-known c p in (decide-keeps c l (r .1) e, decided-typed c l (r .1) e)
-produced-known b (undone c _ p e) =
+produced-known b (afterUndo c _ p e) =
     let r = produced-known c p in (undo-keeps c (r .1) e, undone-typed c (r .1) e)
 
 -- ---- a board with an empty stack is a fresh one
@@ -167,7 +167,7 @@ produced-at zero b e t T = bare b (native-has b t) T e
 produced-at (suc k) b e t T =
     let f : b .count ≡ k + 1 = omega arith in
     let N = native-has b t in
-    decided (poppedAt b k) (literal b N T k f) b
+    afterDecide (poppedAt b k) (literal b N T k f) b
     (produced-at k (poppedAt b k) refl (native-of (poppedAt b k) (popped-native b N T k f)) (popped-typed b N T k f))
     (redecided b N T k f)
 
@@ -188,8 +188,8 @@ pub known-exactly : (b : Board) → Typed b → (isAlien b ≡ false) ↔ Produc
 known-exactly b T = (known-produced b T, λ p. produced-known b p .0)
 
 -- ---- the same by an accepted puzzle and one list of moves
-run-last : {a b d : Board} {ms : List Move} (m : Move) → Run a ms b → moveOf b m ≡ returned Done d
-    → Run a (ms ++ (m ∷ [])) d
+run-last : {a b d : Board} {ms : List Move} (m : Move) → Leads a ms b → moveOf b m ≡ returned Done d
+    → Leads a (ms ++ (m ∷ [])) d
 run-last m stop e = next e stop
 run-last m (next f r) e = next f (run-last m r e)
 
@@ -206,7 +206,7 @@ produced-reached b (made h w cs ks _ s e) =
       moves = [];
       run = stop;
     }
-produced-reached b (decided c l _ p e) =
+produced-reached b (afterDecide c l _ p e) =
     let r = produced-reached c p in
     record {
       height = r .height;
@@ -219,7 +219,7 @@ produced-reached b (decided c l _ p e) =
       moves = r .moves ++ (decide l ∷ []);
       run = run-last (decide l) (r .run) e;
     }
-produced-reached b (undone c _ p e) =
+produced-reached b (afterUndo c _ p e) =
     let r = produced-reached c p in
     record {
       height = r .height;
@@ -233,10 +233,10 @@ produced-reached b (undone c _ p e) =
       run = run-last undo (r .run) e;
     }
 
-run-produced : {a b : Board} {ms : List Move} → Produced a → Run a ms b → Produced b
+run-produced : {a b : Board} {ms : List Move} → Produced a → Leads a ms b → Produced b
 run-produced p stop = p
-run-produced p (next {m = decide l} e r) = run-produced (decided _ l _ p e) r
-run-produced p (next {m = undo} e r) = run-produced (undone _ _ p e) r
+run-produced p (next {m = decide l} e r) = run-produced (afterDecide _ l _ p e) r
+run-produced p (next {m = undo} e r) = run-produced (afterUndo _ _ p e) r
 
 pub reached-produced : (b : Board) → Reached b → Produced b
 reached-produced b r = run-produced (made _ _ _ _ _ (r .small) (r .accepted)) (r .run)

@@ -25,7 +25,7 @@
 --   touches Q c h       the hop h leads from cell c to an other-coloured cell of potential unit Q, not over a wall
 --   adjacent P Q        the potential units P and Q are adjacent
 --   mates P             the potential units adjacent to P, by number
---   ended last          a placement with every connection read: blocked by the last wall, or it fits if there is none
+--   byLastWall last     a placement with every connection read: blocked by the last wall, or it fits if there is none
 --   judge last os       the placement whose connections still to be read have the borders os; `last` is the last wall
 --                       so far
 --   laid t o            the placement of the transform t with its origin at cell o
@@ -176,14 +176,14 @@ module _ (Z : Puzzle) (s : ℕ → State) where
   unfoldable pub mates : ℕ → List ℕ
   mates P = filter (adjacent P) (range (potentialCount Z s))
 
-  abbrev pub ended : Option ℕ → Placement
-  ended none = Fits
-  ended (some b) = Blocked b
+  abbrev pub byLastWall : Option ℕ → Placement
+  byLastWall none = Fits
+  byLastWall (some b) = Blocked b
 
   -- "Connections .. are read in order: one off the page .. or joining two colours ends the placement without blocker;
   -- otherwise the last wall is the blocker"
   unfoldable pub judge : Option ℕ → List (Option ℕ) → Placement
-  judge last [] = ended last
+  judge last [] = byLastWall last
   judge last (none ∷ os) = Cannot
   judge last (some b ∷ os) = cond (oneColour Z b) (judge (cond (isWall (s b)) (some b) last) os) Cannot
 

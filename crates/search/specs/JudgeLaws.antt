@@ -14,7 +14,7 @@ use Rattle.rules.specs.Page.{Puzzle, State, Point, Shape, _⊕_, isWall}
 use Rattle.rules.specs.Rules.{oneColour}
 use Rattle.rules.specs.Codes.{coloursIn}
 use Rattle.rules.specs.Flat.{flat, flatPlace, flatReads}
-use Rattle.rules.specs.Check.{judge, ended, laid, isFit}
+use Rattle.rules.specs.Check.{judge, byLastWall, laid, isFit}
 use Rattle.search.specs.declared.Reading.{Reading}
 use Rattle.search.specs.declared.Reading.the-variants.{Ends, Clear, Walled}
 use Rattle.search.specs.Placing.{puzzle, raised, pointAt, spelled, bare, readRaised, readingOf}
@@ -27,15 +27,15 @@ after p (Clear ∷ rs) = after p rs
 after p (Walled b ∷ rs) = after (Blocked b) rs
 
 pub judge-after : (Z : Puzzle) (s : ℕ → State) (last : Option ℕ) (os : List (Option ℕ))
-    → judge Z s last os ≡ after (ended Z s last) (map (readingOf Z s) os)
+    → judge Z s last os ≡ after (byLastWall Z s last) (map (readingOf Z s) os)
 unfolding judge after readingOf
 judge-after Z s last [] = refl
 judge-after Z s last (none ∷ os) = refl
 judge-after Z s last (some b ∷ os) = go (oneColour Z b) (isWall (s b)) (λ l. judge-after Z s l os)
   where
-    go : (t v : Bool) → ((l : Option ℕ) → judge Z s l os ≡ after (ended Z s l) (map (readingOf Z s) os))
+    go : (t v : Bool) → ((l : Option ℕ) → judge Z s l os ≡ after (byLastWall Z s l) (map (readingOf Z s) os))
         → cond t (judge Z s (cond v (some b) last) os) Cannot
-        ≡ after (ended Z s last) (cond t (cond v (Walled b) Clear) Ends ∷ map (readingOf Z s) os)
+        ≡ after (byLastWall Z s last) (cond t (cond v (Walled b) Clear) Ends ∷ map (readingOf Z s) os)
     go true true ih = ih (some b)
     go true false ih = ih last
     go false v ih = refl

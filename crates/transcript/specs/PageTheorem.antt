@@ -13,7 +13,7 @@ use Rattle.rules.specs.Book.{Asked, ask, Reply, refused, replies}
 use Rattle.board.specs.declared.Board.{Board}
 use Rattle.calls.specs.Answers.{told, callOf, callMemory}
 use Rattle.calls.specs.AnswerLaws.{length-call}
-use Rattle.demand3.specs.Runs.{Lent, lend, askedOf, toldBy, runFrom}
+use Rattle.demand3.specs.Runs.{Lent, lend, askedBy, toldBy, runFrom}
 use Rattle.demand3.specs.Demand3Laws.{demand3}
 use Rattle.page.specs.Grammar.{Sheet, endWord}
 use Rattle.page.specs.Judge.{Judgement, rejected, accepted, judgementOf, coloursOf, cluesOf}
@@ -31,7 +31,7 @@ lentFrom b m [] = []
 lentFrom b m (c ∷ cs) = lend m c ∷ lentFrom (callOf b c m .board) (callMemory b c m) cs
 
 asked-from : (b : Board) (m : List ℕ) (cs : List Call) → length m ≡ 16384
-    → map askedOf (lentFrom b m cs) ≡ map (ask 16384) cs
+    → map askedBy (lentFrom b m cs) ≡ map (ask 16384) cs
 unfolding lentFrom
 asked-from b m [] l = refl
 asked-from b m (c ∷ cs) l =

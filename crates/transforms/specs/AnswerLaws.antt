@@ -33,7 +33,7 @@ use Rattle.shapes.specs.UnitLaws.{transforms-flat}
 use Rattle.units.specs.Fitting.{UnitIn}
 use Rattle.units.specs.ReadyLaws.{own-part, own-count, own-few, own-transforms}
 use Rattle.transforms.specs.Transforms.{nothing, kth, numbersOf, words, room}
-use Rattle.transforms.specs.Transforms.{answered, kthAnswer, kthMemory, transformOf, memoryAfter}
+use Rattle.transforms.specs.Transforms.{transformed, kthAnswer, kthMemory, transformOf, memoryAfter}
 
 -- no transform
 module _ (ts : List Shape) (k : ℕ) (l : length ts ≤ k) where
@@ -41,9 +41,9 @@ module _ (ts : List Shape) (k : ℕ) (l : length ts ≤ k) where
   unfolding kth
   past = List·getD-eq-default ts nothing l
 
-  pub past-answer : {n : ℕ} → n ≡ length ts → answered Done n nothing ≡ kthAnswer ts k
+  pub past-answer : {n : ℕ} → n ≡ length ts → transformed Done n nothing ≡ kthAnswer ts k
   unfolding kthAnswer
-  past-answer e = ap₂ (answered Done) e (sym past)
+  past-answer e = ap₂ (transformed Done) e (sym past)
 
   pub past-memory : (m : List ℤ) → m ≡ kthMemory ts k m
   unfolding kthMemory words numbersOf flatMap
@@ -84,7 +84,7 @@ module _ (h w : ℕ) (ids : List ℕ) (g : ℕ) (index : 1 ≤ w) {t : Listed}
     unfolding kthAnswer
     listed-answer {n} {j} a c =
         (λ i. record { outcome = Done; listed = listed-count i; cells = sym a i; connections = sym c i })
-        ∙ ap (answered Done (length ts)) (sym kth-image)
+        ∙ ap (transformed Done (length ts)) (sym kth-image)
 
     pub listed-memory : (m : List ℤ) {m′ : List ℤ}
         → m′ ≡ sets m 0 (words (image (getD (t .rows) k 0) (shapeOf (flat h w) (entry ids) g)))
@@ -121,7 +121,7 @@ module _ (b : Board) (u k : ℕ) (m : List ℤ) where
   unfolding transformsOf puzzleOf puzzleIn statesOf joinsUnit oneColour
   board-transforms = refl
 
-  pub alien-answer : isAlien b ≡ true → answered Alien 0 nothing ≡ transformOf b u k (length m)
+  pub alien-answer : isAlien b ≡ true → transformed Alien 0 nothing ≡ transformOf b u k (length m)
   unfolding transformOf
   alien-answer e = rw e
 
@@ -129,7 +129,7 @@ module _ (b : Board) (u k : ℕ) (m : List ℤ) where
   unfolding memoryAfter
   alien-memory e = rw e
 
-  pub short-answer : isAlien b ≡ false → length m < room → answered Short 0 nothing ≡ transformOf b u k (length m)
+  pub short-answer : isAlien b ≡ false → length m < room → transformed Short 0 nothing ≡ transformOf b u k (length m)
   unfolding transformOf
   short-answer e l = rw (e, lt-ltb (length m) room l)
 

@@ -5,7 +5,7 @@
 --   numbersOf ps        places as numbers: down and across, one place after the other
 --   words t             a shape as numbers: its cells, then its connections
 --   room                the least memory that is lent: 1,024 cells and 2,048 connections, two numbers each
---   answered o n t      an outcome, how many transforms the unit has, and the counts of one of them
+--   transformed o n t   an outcome, how many transforms the unit has, and the counts of one of them
 --   kthAnswer ts k      what is returned of transform k of a list
 --   kthMemory ts k m    the lent memory m after it is written
 --   transformOf b u k n   what asking a board for transform k of unit u returns, where n numbers of memory are lent
@@ -28,7 +28,7 @@ use Rattle.board.specs.declared.Outcome.{Outcome}
 use Rattle.board.specs.declared.Outcome.the-variants.{Done, Alien, Short}
 use Rattle.board.specs.Alien.{isAlien}
 use Rattle.board.specs.View.{puzzleOf, statesOf}
-use Rattle.transforms.specs.declared.Answer.{Answer}
+use Rattle.transforms.specs.declared.Transformed.{Transformed}
 
 abbrev pub nothing : Shape
 nothing = record { cells = []; connections = [] }
@@ -45,21 +45,21 @@ words t = numbersOf (t .cells ++ t .connections)
 abbrev pub room : ℕ
 room = 6144
 
-abbrev pub answered : Outcome → ℕ → Shape → Answer
-answered o n t =
+abbrev pub transformed : Outcome → ℕ → Shape → Transformed
+transformed o n t =
     record { outcome = o; listed = n; cells = length (t .cells); connections = length (t .connections) }
 
-unfoldable pub kthAnswer : List Shape → ℕ → Answer
-kthAnswer ts k = answered Done (length ts) (kth ts k)
+unfoldable pub kthAnswer : List Shape → ℕ → Transformed
+kthAnswer ts k = transformed Done (length ts) (kth ts k)
 
 unfoldable pub kthMemory : List Shape → ℕ → List ℤ → List ℤ
 kthMemory ts k m = sets m 0 (words (kth ts k))
 
 -- "Groups or transforms asked of an alien board give 5 and none"; a refused call gives none either
-unfoldable pub transformOf : Board → ℕ → ℕ → ℕ → Answer
+unfoldable pub transformOf : Board → ℕ → ℕ → ℕ → Transformed
 transformOf b u k n =
-    cond (isAlien b) (answered Alien 0 nothing)
-    (cond (ltb n room) (answered Short 0 nothing) (kthAnswer (transformsOf (puzzleOf b) (statesOf b) u) k))
+    cond (isAlien b) (transformed Alien 0 nothing)
+    (cond (ltb n room) (transformed Short 0 nothing) (kthAnswer (transformsOf (puzzleOf b) (statesOf b) u) k))
 
 -- a refused call leaves the memory; nothing is written beyond the transform
 unfoldable pub memoryAfter : Board → ℕ → ℕ → List ℤ → List ℤ

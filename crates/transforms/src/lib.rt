@@ -18,7 +18,7 @@ ghost use Rattle.shapes.specs.Listing.{listing};
 ghost use Rattle.shapes.specs.Rows.{turnAt, image, rowsOf};
 ghost use Rattle.shapes.specs.Spots.{spots, UnitAt};
 ghost use Rattle.units.specs.Images.{Jointed};
-ghost use Rattle.transforms.specs.Transforms.{nothing, words, answered, kthAnswer, kthMemory, Wrote};
+ghost use Rattle.transforms.specs.Transforms.{nothing, words, transformed, kthAnswer, kthMemory, Wrote};
 ghost use Rattle.transforms.specs.Transforms.{transformOf, memoryAfter};
 ghost use Rattle.transforms.specs.Box.{boxAt, reversed, ofImage, cellAt, sweep, movedBack};
 use board::Board;
@@ -41,7 +41,7 @@ use shapes::turn;
 // What asking for a transform returns: how many transforms the unit has, and how many cells and connections the one
 // asked for has. Each place takes two numbers of the lent memory, down and across: first the cells, sorted, with the
 // first at (0,0), then the connections, in doubled coordinates.
-pub struct Answer {
+pub struct Transformed {
     pub outcome: Outcome,
     pub listed: usize,
     pub cells: usize,
@@ -227,10 +227,10 @@ fn put_image<'a>(
 }
 
 // No transform.
-fn none(outcome: Outcome, listed: usize) -> Answer
-    ensures { λ r. ⌜ r ≡ answered outcome listed nothing ⌝ }
+fn none(outcome: Outcome, listed: usize) -> Transformed
+    ensures { λ r. ⌜ r ≡ transformed outcome listed nothing ⌝ }
 {
-    Answer {
+    Transformed {
         outcome,
         listed,
         cells: 0,
@@ -250,7 +250,7 @@ fn put_listed<'a>(
     n: usize,
     listed: Listed,
     k: usize,
-) -> Answer
+) -> Transformed
     requires { ⌜ UnitAt h w (now ids) g (now rows) (now columns) n
         × (listed ≡ listing (rowsOf (shapeOf (flat h w) (entry (now ids)) g))) × (6144 ≤ length (now memory)) ⌝ }
     ensures { λ r. ⌜ (r ≡ kthAnswer (flatTransforms (shapeOf (flat h w) (entry (now (ids .entry))) g)) k)
@@ -278,7 +278,7 @@ fn put_listed<'a>(
         j,
         row as usize,
     );
-    Answer {
+    Transformed {
         outcome: Outcome::Done,
         listed: listed.count,
         cells: n,
@@ -295,7 +295,7 @@ fn put_transform<'a>(
     borders: &'a [u8; Board::BORDER_LIMIT],
     u: usize,
     k: usize,
-) -> Answer
+) -> Transformed
     requires { ⌜ Sized h w × (6144 ≤ length (now memory)) ⌝ }
     ensures { λ r. ⌜ (r ≡ kthAnswer (transformsOf (puzzle h w (now (colours .entry)))
         (statesIn (now (borders .entry))) u) k)
@@ -318,7 +318,7 @@ fn put_transform<'a>(
 
 // Transform `k` of unit `u` of a board, counted from 0, written from the start of the memory. Refused, and none, where
 // the board is alien or the memory has under 6,144 numbers. None where no unit has the number, or no transform.
-pub fn transform(b: Board, u: usize, k: usize, memory: &mut [i32]) -> Answer
+pub fn transform(b: Board, u: usize, k: usize, memory: &mut [i32]) -> Transformed
     ensures { λ r. ⌜ (r ≡ transformOf b u k (length (now (memory .entry))))
         × (now (memory .exit) ≡ memoryAfter b u k (now (memory .entry))) ⌝ }
 {

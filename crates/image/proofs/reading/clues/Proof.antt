@@ -9,7 +9,7 @@ use lib.ListN.{length, getD, length-set}
 use mir.Facts.{toZ-ofZ}
 use mir.Syntax.{w32}
 use Rattle.lists.specs.Table.{table-is, stored-more}
-use Rattle.image.specs.Image.{quad, signed}
+use Rattle.image.specs.Image.{quad, fromBits}
 use Rattle.image.proofs.reading.clues.Statement.{statement}
 use Rattle.image.proofs.reading.clues.Tie as tie
 
@@ -17,7 +17,7 @@ abbrev Inv-loop : tie.InvT-loop
 Inv-loop s out₀ i₀ out i =
     (i ≤ 1024)
     × (length out ≡ 1024)
-    × ((j : ℕ) → j < i → getD out j (pos 0) ≡ signed (quad s (1026 + 4 * j)))
+    × ((j : ℕ) → j < i → getD out j (pos 0) ≡ fromBits (quad s (1026 + 4 * j)))
 
 abbrev μ-loop : tie.MeasureT-loop
 μ-loop s out₀ i₀ out i = 1024 - i
@@ -56,8 +56,8 @@ loop-again c =
     let e = toZ-ofZ {w = w32} {z = c .clue .result} (sfits-of (c .clue .ok)) in (
       omega arith,
       simp length-set (r .inv .1),
-      stored-more (λ j. signed (quad s (1026 + 4 * j))) (pos 0) _ (r .out) (r .i) (omega (arith, r .inv .1))
-          (e ∙ c .clue .ensures ∙ ap signed (c .before .four .ensures)) (r .inv .2),
+      stored-more (λ j. fromBits (quad s (1026 + 4 * j))) (pos 0) _ (r .out) (r .i) (omega (arith, r .inv .1))
+          (e ∙ c .clue .ensures ∙ ap fromBits (c .before .four .ensures)) (r .inv .2),
     )
 
 returns : tie.Need-returns Inv-loop μ-loop
