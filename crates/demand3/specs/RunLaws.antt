@@ -24,7 +24,7 @@ use Rattle.rules.specs.declared.Call.the-variants.{Decide, Undo, Check}
 use Rattle.rules.specs.Page.{Puzzle}
 use Rattle.rules.specs.Flat.{flat, borderCount}
 use Rattle.rules.specs.Codes.{codeOf}
-use Rattle.rules.specs.Book.{Reply, names, withLast, withoutLast, decideAfter, replyTo, reply, afterCall}
+use Rattle.rules.specs.Book.{Reply, names, withLast, withoutLast, decideAfter, reply, afterCall, after}
 use Rattle.rules.specs.Book.{sequenceFrom, repliesFrom}
 use Rattle.board.specs.declared.Board.{Board}
 use Rattle.board.specs.declared.Outcome.the-variants.{Done, Border, Taken}
@@ -121,42 +121,44 @@ module _ (start : Board) (S : Bare start) where
   built-undo (more {ls} {b} l d B e) =
       rw (without-last ls l, undo-decide b l (built-facts B .typed) e) B
 
-  pub built-step : {ls : List Literal} {b : Board} → Built start ls b → (c : Call) (m : List ℕ)
+  built-call : {ls : List Literal} {b : Board} → Built start ls b → (c : Call) (m : List ℕ)
       → Built start (afterCall (puzzleOf start) ls c) (callOf b c m .board)
   unfolding callOf afterCall
-  built-step B (Decide l) m = built-decide B l
-  built-step B Undo m = built-undo B
-  built-step B Check m = B
+  built-call B (Decide l) m = built-decide B l
+  built-call B Undo m = built-undo B
+  built-call B Check m = B
+
+  pub built-step : {ls : List Literal} {b : Board} → Built start ls b → (c : Lent)
+      → Built start (after (puzzleOf start) ls (askedBy c)) (nextBoard b c)
+  built-step B c = built-call B (c .call) (c .memory)
 
   pub step-told : {ls : List Literal} {b : Board} → Built start ls b → (c : Lent)
       → toldBy (givenBy b c) ≡ reply (puzzleOf start) ls (askedBy c)
   step-told {ls} {b} B c =
       let f = built-facts B in
       call-told b (f .known) (c .call) (c .memory)
-      ∙ ap₂ (λ (Z : Puzzle) (k : List Literal). replyTo Z k (length (c .memory)) (c .call)) (f .puzzle) (f .stack)
+      ∙ ap₂ (λ (Z : Puzzle) (k : List Literal). reply Z k (askedBy c)) (f .puzzle) (f .stack)
 
   step-written : {ls : List Literal} {b : Board} → Built start ls b → (c : Lent)
       → givenBy b c .memory ≡ memoryAs (c .memory) (reply (puzzleOf start) ls (askedBy c))
   step-written {ls} {b} B c =
       let f = built-facts B in
       call-written b (f .known) (c .call) (c .memory)
-      ∙ ap₂ (λ (Z : Puzzle) (k : List Literal). memoryAs (c .memory) (replyTo Z k (length (c .memory)) (c .call)))
-      (f .puzzle) (f .stack)
+      ∙ ap₂ (λ (Z : Puzzle) (k : List Literal). memoryAs (c .memory) (reply Z k (askedBy c))) (f .puzzle) (f .stack)
 
   -- ---- a list of calls
   pub built-after : {ls : List Literal} {b : Board} → Built start ls b → (calls : List Lent)
       → Built start (sequenceFrom (puzzleOf start) ls (map askedBy calls)) (boardAfter b calls)
   unfolding sequenceFrom boardAfter
   built-after B [] = B
-  built-after B (c ∷ calls) = built-after (built-step B (c .call) (c .memory)) calls
+  built-after B (c ∷ calls) = built-after (built-step B c) calls
 
   pub run-told : {ls : List Literal} {b : Board} → Built start ls b → (calls : List Lent)
       → map toldBy (runFrom b calls) ≡ repliesFrom (puzzleOf start) ls (map askedBy calls)
   unfolding repliesFrom runFrom
   run-told B [] = refl
   run-told B (c ∷ calls) =
-      ap₂ (λ (r : Reply) (rs : List Reply). r ∷ rs) (step-told B c)
-      (run-told (built-step B (c .call) (c .memory)) calls)
+      ap₂ (λ (r : Reply) (rs : List Reply). r ∷ rs) (step-told B c) (run-told (built-step B c) calls)
 
   pub run-written : {ls : List Literal} {b : Board} → Built start ls b → (calls : List Lent)
       → map (λ (g : Given). g .memory) (runFrom b calls)
@@ -164,8 +166,7 @@ module _ (start : Board) (S : Bare start) where
   unfolding repliesFrom runFrom memories
   run-written B [] = refl
   run-written B (c ∷ calls) =
-      ap₂ (λ (m : List ℕ) (ms : List (List ℕ)). m ∷ ms) (step-written B c)
-      (run-written (built-step B (c .call) (c .memory)) calls)
+      ap₂ (λ (m : List ℕ) (ms : List (List ℕ)). m ∷ ms) (step-written B c) (run-written (built-step B c) calls)
 
 -- ---- a list of calls that is followed by another
 pub after-append : (b : Board) (calls later : List Lent)
