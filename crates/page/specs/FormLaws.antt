@@ -13,7 +13,7 @@ use Rattle.page.specs.Grammar.{pageWord, endWord, size, row, clue, call,
 use Rattle.page.specs.Grammar.{cluesFit, whole, pageOf}
 use Rattle.page.specs.declared.Line.{Line}
 use Rattle.page.specs.declared.Line.the-variants.{Row, Clue as ClueLine, Call}
-use Rattle.page.specs.Places.{allFrom, endFrom, left, afterLine, endOf}
+use Rattle.page.specs.Places.{allFrom, endFrom, afterRead, afterLine, endOf}
 use Rattle.page.specs.ParserLaws.{rest-past, rest-more}
 use Rattle.page.specs.Printed.{Takes}
 use Rattle.page.specs.Many.{many-none, many-more, many-past, passes}
@@ -46,20 +46,20 @@ module _ {A : Type 0} {r : Parser A} (T : Takes 1 r) (s : List ℕ) (p : ℕ) wh
   end-more a q e = ap (λ (m : List A × List ℕ). m .1) (many-more T (rest s p) a (rest s q) e)
 
   -- the same, from what is left alone
-  pub left-none : left (r (rest s p)) ≡ none → endFrom r s p ≡ rest s p
-  unfolding left
+  pub left-none : afterRead (r (rest s p)) ≡ none → endFrom r s p ≡ rest s p
+  unfolding afterRead
   left-none e = go (r (rest s p)) refl e
     where
-      go : (o : Option (A × List ℕ)) → r (rest s p) ≡ o → left o ≡ none → endFrom r s p ≡ rest s p
+      go : (o : Option (A × List ℕ)) → r (rest s p) ≡ o → afterRead o ≡ none → endFrom r s p ≡ rest s p
       go none q f = end-none q
       go (some x) q f = absurd (Option·none-ne-some _ (sym f))
 
-  pub left-more : (q : ℕ) → left (r (rest s p)) ≡ some (rest s q)
+  pub left-more : (q : ℕ) → afterRead (r (rest s p)) ≡ some (rest s q)
       → (endFrom r s p ≡ endFrom r s q) × (length s - q < length s - p)
-  unfolding left
+  unfolding afterRead
   left-more q e = go (r (rest s p)) refl e
     where
-      go : (o : Option (A × List ℕ)) → r (rest s p) ≡ o → left o ≡ some (rest s q)
+      go : (o : Option (A × List ℕ)) → r (rest s p) ≡ o → afterRead o ≡ some (rest s q)
           → (endFrom r s p ≡ endFrom r s q) × (length s - q < length s - p)
       go none h f = absurd (Option·none-ne-some _ f)
       go (some x) h f =

@@ -145,17 +145,18 @@ pub digits-in-none : (s : List ℕ) (a : ℕ) → digitsIn s a a ≡ []
 unfolding digitsIn table
 digits-in-none s a = let e : a - a ≡ 0 = omega arith in rw e
 
-unfoldable pub after : List ℕ → Option (List ℕ × List ℕ) → Option (List ℕ × List ℕ)
-after ds none = none
-after ds (some p) = some (ds ++ p .0, p .1)
+unfoldable pub afterDigits : List ℕ → Option (List ℕ × List ℕ) → Option (List ℕ × List ℕ)
+afterDigits ds none = none
+afterDigits ds (some p) = some (ds ++ p .0, p .1)
 
-after-nil : (o : Option (List ℕ × List ℕ)) → after [] o ≡ o
-unfolding after
+after-nil : (o : Option (List ℕ × List ℕ)) → afterDigits [] o ≡ o
+unfolding afterDigits
 after-nil none = refl
 after-nil (some p) = refl
 
-after-digit : (ds : List ℕ) (d : ℕ) (o : Option (List ℕ × List ℕ)) → after ds (withDigit d o) ≡ after (ds ++ (d ∷ [])) o
-unfolding after withDigit
+after-digit : (ds : List ℕ) (d : ℕ) (o : Option (List ℕ × List ℕ))
+    → afterDigits ds (withDigit d o) ≡ afterDigits (ds ++ (d ∷ [])) o
+unfolding afterDigits withDigit
 after-digit ds d none = refl
 after-digit ds d (some p) = rw append-assoc
 
@@ -169,7 +170,7 @@ module _ (s : List ℕ) (p stop : ℕ) where
   digits-not h e = rw (rest-more s p h, e)
 
   pub digits-first : p < length s → digit (getD s p 0) ≡ true
-      → digits stop (rest s p) ≡ after (digitsIn s p (p + 1)) (digitsOn stop (rest s (p + 1)))
+      → digits stop (rest s p) ≡ afterDigits (digitsIn s p (p + 1)) (digitsOn stop (rest s (p + 1)))
   unfolding digits digitAt
   digits-first h e =
       rw (
@@ -181,23 +182,23 @@ module _ (s : List ℕ) (p stop : ℕ) where
       )
       (sym (after-nil _))
 
-  pub digits-past : (ds : List ℕ) → length s ≤ p → after ds (digitsOn stop (rest s p)) ≡ none
-  unfolding digitsOn after
+  pub digits-past : (ds : List ℕ) → length s ≤ p → afterDigits ds (digitsOn stop (rest s p)) ≡ none
+  unfolding digitsOn afterDigits
   digits-past ds h = rw (rest-past s p h)
 
   pub digits-stop : (ds : List ℕ) → p < length s → getD s p 0 ≡ stop
-      → after ds (digitsOn stop (rest s p)) ≡ some (ds, rest s (p + 1))
-  unfolding digitsOn after
+      → afterDigits ds (digitsOn stop (rest s p)) ≡ some (ds, rest s (p + 1))
+  unfolding digitsOn afterDigits
   digits-stop ds h e = rw (rest-more s p h, eq-eqb (getD s p 0) stop e, append-nil)
 
   pub digits-bad : (ds : List ℕ) → p < length s → (getD s p 0 ≡ stop → ⊥) → digit (getD s p 0) ≡ false
-      → after ds (digitsOn stop (rest s p)) ≡ none
-  unfolding digitsOn after
+      → afterDigits ds (digitsOn stop (rest s p)) ≡ none
+  unfolding digitsOn afterDigits
   digits-bad ds h n e = rw (rest-more s p h, ne-eqb (getD s p 0) stop n, e)
 
   pub digits-more : (a : ℕ) → a ≤ p → p < length s → (getD s p 0 ≡ stop → ⊥) → digit (getD s p 0) ≡ true
-      → after (digitsIn s a p) (digitsOn stop (rest s p))
-      ≡ after (digitsIn s a (p + 1)) (digitsOn stop (rest s (p + 1)))
+      → afterDigits (digitsIn s a p) (digitsOn stop (rest s p))
+      ≡ afterDigits (digitsIn s a (p + 1)) (digitsOn stop (rest s (p + 1)))
   unfolding digitsOn digitAt
   digits-more a l h n e =
       rw (

@@ -6,7 +6,7 @@
 --   gotNumber, gotDigits, gotSize, gotRow, gotClue, gotCall   the value that was read, and what is left
 --   allFrom r s p       what r reads, one value after the other, from place p on
 --   endFrom r s p       what is left then
---   left o              what is left after what was read
+--   afterRead o         what is left after what was read
 --   afterLine l s       what is left after a line of the kind l
 --   endOf l s p         what is left after the lines of the kind l from place p on
 --   sheetAt s p         the page whose parts stand at the places p
@@ -84,14 +84,14 @@ module _ {A : Type 0} where
   unfoldable pub endFrom : Parser A → List ℕ → ℕ → List ℕ
   endFrom r s p = many r (rest s p) .1
 
-  unfoldable pub left : Option (A × List ℕ) → Option (List ℕ)
-  left none = none
-  left (some x) = some (x .1)
+  unfoldable pub afterRead : Option (A × List ℕ) → Option (List ℕ)
+  afterRead none = none
+  afterRead (some x) = some (x .1)
 
 unfoldable pub afterLine : Line → List ℕ → Option (List ℕ)
-afterLine lineKind.Row s = left (row s)
-afterLine lineKind.Clue s = left (clue s)
-afterLine lineKind.Call s = left (call s)
+afterLine lineKind.Row s = afterRead (row s)
+afterLine lineKind.Clue s = afterRead (clue s)
+afterLine lineKind.Call s = afterRead (call s)
 
 unfoldable pub endOf : Line → List ℕ → ℕ → List ℕ
 endOf lineKind.Row s p = endFrom row s p

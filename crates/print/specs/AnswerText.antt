@@ -1,6 +1,6 @@
 -- Printed answers read back: a parser of answers, and that it reads exactly what is printed.
 --
---   literal, reply      the parsers of a literal and of a line
+--   literal, replyLine  the parsers of a literal and of a line
 --   answers             the parser of the whole output
 --   ReplyFit r          the numbers are at most 2147483647, and the call has a line
 use mathlib.Core.Path.{_≡_, refl, sym, ap, _∙_}
@@ -30,7 +30,7 @@ use Rattle.page.specs.NumberText.{number-prints, read-decimal}
 use Rattle.page.specs.Many.{showAll, AllFit, rep-prints}
 use Rattle.print.specs.Answers.{answersWord, refusedWord, passWord, conflictWord, letter, showLiteral, showReply}
 use Rattle.print.specs.Answers.{showAnswers, codeText}
-use Rattle.print.specs.Chunks.{codesIn, codes-front}
+use Rattle.print.specs.Chunks.{codesFrom, codes-front}
 
 abbrev literalFrom : Side → ℕ → Literal
 literalFrom side b = record { border = b; side = side }
@@ -41,14 +41,14 @@ literal = lead (32 ∷ []) (either (mapR (literalFrom Wall) (number 119)) (mapR 
 abbrev conflictFrom : List Literal × Unit {0} → Reply
 conflictFrom p = answered (conflict (p .0))
 
-unfoldable pub reply : Parser Reply
-reply =
+unfoldable pub replyLine : Parser Reply
+replyLine =
     either (mapR refused (lead refusedWord (followed (number bracket) newline)))
     (either (mapR (λ n. answered (pass n)) (lead passWord (followed (number bracket) newline)))
     (mapR conflictFrom (lead conflictWord (rep literal (lead endWord (give (tt {0})))))))
 
 unfoldable pub answers : Parser (List Reply)
-answers = mapR (λ p. p .0) (lead answersWord (rep reply (lead endWord (give (tt {0})))))
+answers = mapR (λ p. p .0) (lead answersWord (rep replyLine (lead endWord (give (tt {0})))))
 
 abbrev LiteralFit : Literal → Type 0
 LiteralFit l = Count (l .border)
@@ -169,8 +169,8 @@ conflict-prints =
     from (answered (conflict ls)) f = ((ls, tt), ((f, refl), refl))
 
 -- a reply's line is read back as the reply
-pub reply-prints : Prints reply showReply ReplyFit
-unfolding reply showReply Refused Passed Clashed ReplyFit mapR also lead onto strip
+pub reply-prints : Prints replyLine showReply ReplyFit
+unfolding replyLine showReply Refused Passed Clashed ReplyFit mapR also lead onto strip
 reply-prints =
     refit ReplyFit
     (either-prints refused-prints (either-prints pass-prints conflict-prints not-pass)
@@ -225,13 +225,13 @@ reply-long done f = absurd f
 reply-long (answered (pass n)) f = omega arith
 reply-long (answered (conflict ls)) f = omega arith
 
-reply-takes : Takes 1 reply
+reply-takes : Takes 1 replyLine
 reply-takes s r t e =
     let h : (s ≡ showReply r ++ t) × ReplyFit r = reply-prints .sound s r t e in
     omega (arith, ap length (h .0), length-append (showReply r) t, reply-long r (h .1))
 
-reply-not : (t : List ℕ) → reply (endWord ++ t) ≡ none
-unfolding reply either orElse mapR also lead onto strip
+reply-not : (t : List ℕ) → replyLine (endWord ++ t) ≡ none
+unfolding replyLine either orElse mapR also lead onto strip
 reply-not t = refl
 
 -- the whole output is read back as the list of replies
@@ -266,9 +266,9 @@ codes-text (l ∷ ls) = rw (code-text l, codes-text ls)
 
 -- a conflict's line is the word, the texts of the numbers that reason memory begins with, and the end
 pub conflict-text : (ks : List ℕ) (ls : List Literal) (n : ℕ) → n ≤ length ks → take n ks ≡ map literalCode ls
-    → showReply (answered (conflict ls)) ≡ conflictWord ++ (showAll codeText (codesIn ks 0 n) ++ endWord)
+    → showReply (answered (conflict ls)) ≡ conflictWord ++ (showAll codeText (codesFrom ks 0 n) ++ endWord)
 unfolding showReply
 conflict-text ks ls n h e =
-    let q : showAll codeText (codesIn ks 0 n) ≡ showAll showLiteral ls =
+    let q : showAll codeText (codesFrom ks 0 n) ≡ showAll showLiteral ls =
     ap (showAll codeText) (codes-front ks n h ∙ e) ∙ codes-text ls in
     rw q

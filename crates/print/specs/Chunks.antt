@@ -1,6 +1,6 @@
 -- The text of a reason's literals, written chunk by chunk.
 --
---   codesIn ks a e      the numbers of reason memory from place a up to place e
+--   codesFrom ks a e    the numbers of reason memory from place a up to place e
 --   Putting ks a e m after next count   `after` is m with the texts of the literals from a up to next, count bytes
 --   Put ks a e m after r                so it is for the chunk r, and some literal is put where there is room
 --   show-append         the texts of two lists
@@ -21,15 +21,15 @@ use Rattle.print.specs.declared.Line.{Line}
 use Rattle.print.specs.Answers.{codeText, textOf}
 use Rattle.print.specs.Lines.{Written, Holds, written-none, written-more, written-length, holds-text, holds-short}
 
-unfoldable pub codesIn : List ℕ → ℕ → ℕ → List ℕ
-codesIn ks a e = table (e - a) (λ i. getD ks (a + i) 0)
+unfoldable pub codesFrom : List ℕ → ℕ → ℕ → List ℕ
+codesFrom ks a e = table (e - a) (λ i. getD ks (a + i) 0)
 
 pub record Putting (ks : List ℕ) (a e : ℕ) (m after : List ℕ) (next count : ℕ) : Type 0 where
   pub from : a ≤ next
   -- none past the last one asked for, none past the memory
   pub within : a < next → (next ≤ e) × (next ≤ length ks)
   pub fits : count ≤ length m
-  pub written : Written m 0 (showAll codeText (codesIn ks a next)) after count
+  pub written : Written m 0 (showAll codeText (codesFrom ks a next)) after count
 
 pub record Put (ks : List ℕ) (a e : ℕ) (m after : List ℕ) (r : Chunk) : Type 0 where
   pub putting : Putting ks a e m after (r .next) (r .count)
@@ -41,34 +41,35 @@ unfolding showAll
 show-append f [] ys = refl
 show-append f (x ∷ xs) ys = rw (show-append f xs ys) (sym (append-assoc (f x) (showAll f xs) (showAll f ys)))
 
-pub codes-none : (ks : List ℕ) (a : ℕ) → codesIn ks a a ≡ []
-unfolding codesIn table
+pub codes-none : (ks : List ℕ) (a : ℕ) → codesFrom ks a a ≡ []
+unfolding codesFrom table
 codes-none ks a = let e : a - a ≡ 0 = omega arith in rw e
 
-pub codes-more : (ks : List ℕ) (a p : ℕ) → a ≤ p → codesIn ks a (p + 1) ≡ codesIn ks a p ++ (getD ks p 0 ∷ [])
-unfolding codesIn table
+pub codes-more : (ks : List ℕ) (a p : ℕ) → a ≤ p → codesFrom ks a (p + 1) ≡ codesFrom ks a p ++ (getD ks p 0 ∷ [])
+unfolding codesFrom table
 codes-more ks a p h =
     let e : p + 1 - a ≡ suc (p - a) = omega arith in
     let f : a + (p - a) ≡ p = omega arith in
     rw (e, f)
 
 -- one chunk after the other
-pub codes-append : (ks : List ℕ) (a b n : ℕ) → a ≤ b → codesIn ks a b ++ codesIn ks b (b + n) ≡ codesIn ks a (b + n)
+pub codes-append : (ks : List ℕ) (a b n : ℕ) → a ≤ b
+    → codesFrom ks a b ++ codesFrom ks b (b + n) ≡ codesFrom ks a (b + n)
 codes-append ks a b zero h =
     let e : b + 0 ≡ b = omega arith in
-    rw (e, codes-none ks b) (append-nil (codesIn ks a b))
+    rw (e, codes-none ks b) (append-nil (codesFrom ks a b))
 codes-append ks a b (suc n) h =
     let e : b + suc n ≡ b + n + 1 = omega arith in
-    let p : codesIn ks b (b + n + 1) ≡ codesIn ks b (b + n) ++ (getD ks (b + n) 0 ∷ []) =
+    let p : codesFrom ks b (b + n + 1) ≡ codesFrom ks b (b + n) ++ (getD ks (b + n) 0 ∷ []) =
     codes-more ks b (b + n) (omega arith) in
-    let q : codesIn ks a (b + n + 1) ≡ codesIn ks a (b + n) ++ (getD ks (b + n) 0 ∷ []) =
+    let q : codesFrom ks a (b + n + 1) ≡ codesFrom ks a (b + n) ++ (getD ks (b + n) 0 ∷ []) =
     codes-more ks a (b + n) (omega arith) in
     rw (e, p, q, ← codes-append ks a b n h)
-    (sym (append-assoc (codesIn ks a b) (codesIn ks b (b + n)) (getD ks (b + n) 0 ∷ [])))
+    (sym (append-assoc (codesFrom ks a b) (codesFrom ks b (b + n)) (getD ks (b + n) 0 ∷ [])))
 
 -- from the first place on they are the front of the memory
-pub codes-front : (ks : List ℕ) (n : ℕ) → n ≤ length ks → codesIn ks 0 n ≡ take n ks
-unfolding codesIn
+pub codes-front : (ks : List ℕ) (n : ℕ) → n ≤ length ks → codesFrom ks 0 n ≡ take n ks
+unfolding codesFrom
 codes-front ks n h =
     let e : n - 0 ≡ n = omega arith in
     rw e
@@ -77,12 +78,12 @@ codes-front ks n h =
 
 -- a literal more
 show-one : (ks : List ℕ) (a p : ℕ) → a ≤ p
-    → showAll codeText (codesIn ks a (p + 1)) ≡ showAll codeText (codesIn ks a p) ++ codeText (getD ks p 0)
+    → showAll codeText (codesFrom ks a (p + 1)) ≡ showAll codeText (codesFrom ks a p) ++ codeText (getD ks p 0)
 unfolding showAll
 show-one ks a p h =
     rw (
       codes-more ks a p h,
-      show-append codeText (codesIn ks a p) (getD ks p 0 ∷ []),
+      show-append codeText (codesFrom ks a p) (getD ks p 0 ∷ []),
       append-nil (codeText (getD ks p 0)),
     )
 

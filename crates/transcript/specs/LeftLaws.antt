@@ -50,7 +50,7 @@ use Rattle.print.specs.declared.Line.{Line}
 use Rattle.print.specs.declared.Chunk.{Chunk}
 use Rattle.print.specs.Answers.{letter, showLiteral, showReply, codeText, textOf, conflictWord}
 use Rattle.print.specs.Lines.{Holds, Written, written-length, written-front, written-rest, holds-text, holds-short}
-use Rattle.print.specs.Chunks.{codesIn, Put, codes-none, codes-more, show-append, put-none}
+use Rattle.print.specs.Chunks.{codesFrom, Put, codes-none, codes-more, show-append, put-none}
 use Rattle.transcript.specs.declared.Stage.{Stage}
 use Rattle.transcript.specs.declared.Stage.the-variants.{Refused, Calls, Reason, Last, Over}
 use Rattle.transcript.specs.declared.Run.{Run}
@@ -73,30 +73,30 @@ put-goes s r {m = m} {before} h w l e k =
 
 -- ---- the literals of a reason
 literals-split : (m : List ℕ) (a e n : ℕ) → a + n ≤ e → a + n ≤ length m
-    → codesIn m a (a + n) ++ drop (a + n) (take e m) ≡ drop a (take e m)
+    → codesFrom m a (a + n) ++ drop (a + n) (take e m) ≡ drop a (take e m)
 literals-split m a e zero h l =
     let z : a + 0 ≡ a = omega arith in
     rw (z, codes-none m a)
 literals-split m a e (suc n) h l =
     let z : a + suc n ≡ a + n + 1 = omega arith in
     let y : a + suc n ≡ suc (a + n) = omega arith in
-    let c : codesIn m a (a + suc n) ≡ codesIn m a (a + n) ++ (getD m (a + n) 0 ∷ []) =
-    ap (codesIn m a) z ∙ codes-more m a (a + n) (omega arith) in
+    let c : codesFrom m a (a + suc n) ≡ codesFrom m a (a + n) ++ (getD m (a + n) 0 ∷ []) =
+    ap (codesFrom m a) z ∙ codes-more m a (a + n) (omega arith) in
     let d : drop (a + n) (take e m) ≡ getD m (a + n) 0 ∷ drop (a + suc n) (take e m) =
     drop-cons (take e m) (a + n) 0 (simp length-take (omega arith))
     ∙ rw (getD-take e m (a + n) 0 (omega arith), y) in
     rw c
-    (append-assoc (codesIn m a (a + n)) (getD m (a + n) 0 ∷ []) (drop (a + suc n) (take e m))
+    (append-assoc (codesFrom m a (a + n)) (getD m (a + n) 0 ∷ []) (drop (a + suc n) (take e m))
     ∙ rw (← d) (literals-split m a e n (omega arith) (omega arith)))
 
 pub literals-more : (m : List ℕ) (a p e : ℕ) → a ≤ p → p ≤ e → p ≤ length m
-    → showAll codeText (codesIn m a p) ++ literalsText m p e ≡ literalsText m a e
+    → showAll codeText (codesFrom m a p) ++ literalsText m p e ≡ literalsText m a e
 unfolding literalsText
 literals-more m a p e h k l =
     let z : a + (p - a) ≡ p = omega arith in
-    let q : codesIn m a p ++ drop p (take e m) ≡ drop a (take e m) =
+    let q : codesFrom m a p ++ drop p (take e m) ≡ drop a (take e m) =
     rw z at (literals-split m a e (p - a) (omega arith) (omega arith)) in
-    sym (show-append codeText (codesIn m a p) (drop p (take e m))) ∙ ap (showAll codeText) q
+    sym (show-append codeText (codesFrom m a p) (drop p (take e m))) ∙ ap (showAll codeText) q
 
 pub literals-none : (m : List ℕ) (a e : ℕ) → (a < e → a < length m → ⊥) → literalsText m a e ≡ []
 unfolding literalsText showAll rest

@@ -1,7 +1,7 @@
 -- `digits_at` meets its contract: the digits passed stand before those read on from p.
 use Prim.Native.Nat.{_≤_, _-_}
 use Rattle.page.specs.Places.{digitsIn, gotDigits}
-use Rattle.page.specs.ParserLaws.{after, digits-none, digits-not, digits-first}
+use Rattle.page.specs.ParserLaws.{afterDigits, digits-none, digits-not, digits-first}
 use Rattle.page.specs.ParserLaws.{digits-past, digits-stop, digits-bad, digits-more}
 use Rattle.page.specs.Parsers.{rest, digits, digitsOn}
 use borrow.Author.Needs.{needs}
@@ -11,7 +11,8 @@ use Rattle.page.proofs.bytes.digits_at.Statement.{statement}
 use Rattle.page.proofs.bytes.digits_at.Tie as tie
 
 abbrev Inv-loop : tie.InvT-loop
-Inv-loop s at stop p₀ p = (at ≤ p) × (digits stop (rest s at) ≡ after (digitsIn s at p) (digitsOn stop (rest s p)))
+Inv-loop s at stop p₀ p =
+    (at ≤ p) × (digits stop (rest s at) ≡ afterDigits (digitsIn s at p) (digitsOn stop (rest s p)))
 
 abbrev μ-loop : tie.MeasureT-loop
 μ-loop s at stop p₀ p = length s - p
