@@ -12,10 +12,12 @@ use native.Mathlib.Omega.{arith}
 use lib.Dec.{eqb, ltb, T, eqb→eq, T-not}
 use lib.ListN.{length, length-append, length-map}
 use Rattle.rules.specs.SmallLaws.{gather-le, trace-le}
-use Rattle.lists.specs.Appends.{length-filter}
 use Rattle.lists.specs.Lists.{_∈_, filter, any, flatMap, range, Distinct}
-use Rattle.lists.specs.ListLaws.{T-and-l, T-and-r, filter-test, any-find}
-use Rattle.lists.specs.Lengths.{distinct-range, distinct-filter}
+use Rattle.lists.specs.ListLaws.{filter-test, any-find}
+use Rattle.lists.specs.Filters.{length-filter, distinct-filter, filter-two}
+use Rattle.lists.specs.Booleans.{T-and-l, T-and-r, eq-beq}
+use Rattle.lists.specs.Ranges.{distinct-range, length-range}
+use Rattle.lists.specs.Flats.{flat-le, flat-two}
 use Rattle.rules.specs.declared.Side.{Side}
 use Rattle.rules.specs.declared.Literal.{Literal}
 use Rattle.rules.specs.declared.Placement.{Placement}
@@ -29,9 +31,7 @@ use Rattle.rules.specs.Shapes.{shapeOf}
 use Rattle.rules.specs.Check.{Reason, conflict, insideBlock, insideUnit, edgeOf, touches, adjacent, mates, laid}
 use Rattle.rules.specs.Check.{blockers, transformsOf, placements, farWallsAt, farWalls, unitReason, hit, check}
 use Rattle.argument.specs.PageLaws.{Bordered}
-use Rattle.argument.specs.ListExtras.{length-rangeFrom, flat-le, filter-two, flat-two}
 use Rattle.argument.specs.Numbers.{number-joined, members-in, members-number, potentialCells}
-use Rattle.argument.specs.States.{eq-beq}
 use Rattle.argument.specs.Hits.{Each, each-some}
 use Rattle.argument.specs.Crossings.{joined-colour}
 use Rattle.argument.specs.Forms.{Forms, each-form}
@@ -54,7 +54,7 @@ module _ (Z : Puzzle) (K : Bordered (Z .page)) (s : ℕ → State) (D A M : ℕ)
 
   members-le : (number : ℕ → ℕ) (g : ℕ) → length (members (Z .page) number g) ≤ n
   unfolding members
-  members-le number g = let a = length-filter (λ x. eqb (number x) g) (range n) in let b = length-rangeFrom 0 n in
+  members-le number g = let a = length-filter (λ x. eqb (number x) g) (range n) in let b = length-range 0 n in
       omega arith
 
   inside-le : (number : ℕ → ℕ) (g : ℕ) → length (inside (Z .page) s number g) ≤ D * n
@@ -120,7 +120,7 @@ module _ (Z : Puzzle) (K : Bordered (Z .page)) (s : ℕ → State) (D A M : ℕ)
   all-le : (P : ℕ) → length (potentialCells Z s P) + total (potentialOf Z s) (range n) (mates Z s P) ≤ n
   unfolding members total
   all-le P = let a = total-le (potentialOf Z s) (P ∷ mates Z s P) (range n) (not-own P, mates-distinct P) in
-      let b = length-rangeFrom 0 n in omega arith
+      let b = length-range 0 n in omega arith
 
   edges-le : (P : ℕ) → length (flatMap (edgeOf Z s) (mates Z s P)) ≤ A * total (potentialOf Z s) (range n) (mates Z s P)
   unfolding members edgeOf

@@ -12,11 +12,11 @@ use Prim.Native.Nat.{ℕ}
 use native.Mathlib.Omega.{arith}
 use lib.Dec.{eqb, T, eqb→eq}
 use Rattle.lists.specs.Lists.{_∈_, filter, any, head?}
-use Rattle.lists.specs.ListLaws.{T-and, T-dec, filter-mem, filter-test, any-mem, first-find}
+use Rattle.lists.specs.ListLaws.{filter-mem, filter-test, any-mem, first-find}
+use Rattle.lists.specs.Booleans.{T-and, T-dec, beq-eq, eq-beq}
 use Rattle.rules.specs.Page.{Puzzle, State}
 use Rattle.rules.specs.Groups.{potentialOf}
 use Rattle.rules.specs.Check.{hitIf, clash, blockClue, insideBlock, edgeOf, coloured, strayFrom, cellHit, cellHits}
-use Rattle.argument.specs.States.{beq-eq, eq-beq}
 use Rattle.argument.specs.Hits.{hit-misses, else-none}
 
 module _ (Z : Puzzle) (s : ℕ → State) where

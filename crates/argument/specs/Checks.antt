@@ -10,7 +10,8 @@ use mathlib.Core.Logic.{_⊎_, inl, inr, _↔_}
 use mathlib.Core.Option.{Option, some, none}
 use Prim.Native.Nat.{ℕ}
 use native.Mathlib.Omega.{arith}
-use Rattle.lists.specs.ListLaws.{first-none, mem-range, range-lt}
+use Rattle.lists.specs.ListLaws.{first-none}
+use Rattle.lists.specs.Ranges.{mem-range, range-lt}
 use Rattle.rules.specs.Page.{Puzzle, State, Contains}
 use Rattle.rules.specs.Rules.{Solution}
 use Rattle.rules.specs.Check.{Reason, Verdict, pass, conflict, hit, undecidedCount, verdictOf, check}

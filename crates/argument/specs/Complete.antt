@@ -12,7 +12,8 @@ use Prim.Native.Nat.{ℕ, _<_}
 use native.Mathlib.Omega.{arith}
 use lib.Dec.{eqb, T, eqb-refl}
 use Rattle.lists.specs.Lists.{_∈_}
-use Rattle.lists.specs.ListLaws.{T-and, T-dec, first-none}
+use Rattle.lists.specs.ListLaws.{first-none}
+use Rattle.lists.specs.Booleans.{T-and, T-dec, beq-eq}
 use Rattle.rules.specs.declared.Side.the-variants.{Wall}
 use Rattle.rules.specs.Page.{Hop, Puzzle, State, decided, isWall}
 use Rattle.rules.specs.Rules.{stay, step, joinsBlock, joinsUnit, SameBlock, Congruent, Solution}
@@ -23,7 +24,7 @@ use Rattle.argument.specs.PageLaws.{Bordered, Placed, Listed}
 use Rattle.argument.specs.Demand.{Full}
 use Rattle.argument.specs.Joins.{join-trans, join-in, join-sym}
 use Rattle.argument.specs.Numbers.{joined-number, mem-members}
-use Rattle.argument.specs.States.{beq-eq, not-both}
+use Rattle.argument.specs.States.{not-both}
 use Rattle.argument.specs.Hits.{hit-misses}
 use Rattle.argument.specs.Copies.{shape-based, copy}
 use Rattle.argument.specs.Crossings.{unit-colour, unit-block}

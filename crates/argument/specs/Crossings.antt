@@ -9,12 +9,12 @@ use mathlib.Core.Bool.{Bool, not, Bool·beq}
 use Prim.Native.Nat.{ℕ, _<_}
 use lib.Dec.{T}
 use Rattle.lists.specs.Lists.{_∈_}
-use Rattle.lists.specs.ListLaws.{T-and-l, T-and-r, T-and, T-dec}
+use Rattle.lists.specs.Booleans.{T-and-l, T-and-r, T-and, T-dec, beq-eq}
 use Rattle.rules.specs.Page.{Hop, Puzzle, State, isOpen}
 use Rattle.rules.specs.Rules.{Joined, stay, step, oneColour, joinsBlock, joinsUnit, SameBlock, SameUnit}
 use Rattle.argument.specs.PageLaws.{Bordered}
 use Rattle.argument.specs.Joins.{join-weaken}
-use Rattle.argument.specs.States.{beq-eq, not-both, not-self}
+use Rattle.argument.specs.States.{not-both, not-self}
 use Rattle.argument.specs.Keeps.{hop-colour, colour-hop}
 
 -- units of a setting

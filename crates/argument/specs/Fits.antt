@@ -12,7 +12,8 @@ use Prim.Native.Nat.{ℕ, _<_}
 use native.Mathlib.Omega.{arith}
 use lib.Dec.{eqb, T, eqb→eq}
 use Rattle.lists.specs.Lists.{_∈_, any, flatMap, range}
-use Rattle.lists.specs.ListLaws.{T-and-l, T-and-r, filter-test, any-find, map-find, flat-find}
+use Rattle.lists.specs.ListLaws.{filter-test, any-find, map-find, flat-find}
+use Rattle.lists.specs.Booleans.{T-and-l, T-and-r}
 use Rattle.rules.specs.declared.Placement.{Placement}
 use Rattle.rules.specs.declared.Placement.the-variants.{Fits, Blocked, Cannot}
 use Rattle.rules.specs.Page.{Hop, Shape, Puzzle, State, isWall, isOpen}

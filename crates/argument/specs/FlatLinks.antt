@@ -14,7 +14,7 @@ use borrow.Author.Tests.{lt-ltb, le-ltb, le-leb}
 use lib.Dec.{T, ltb, ltb→lt, lt→ltb, nltb→le}
 use lib.IntN.{pos, negsuc, _+ℤ_, -ℤ-one}
 use Rattle.lists.specs.Lists.{_∈_}
-use Rattle.lists.specs.ListLaws.{T-dec}
+use Rattle.lists.specs.Booleans.{T-dec}
 use Rattle.rules.specs.Page.{Hop, _⊕_}
 use Rattle.rules.specs.Flat.{flat, cellAt, rightOf, belowOf, borderCount, hopIf, hopAbove, hopBelow, hopLeft}
 use Rattle.rules.specs.Flat.{hopRight, aroundAt, aheadAt, flatFirst, flatSecond, flatPlace, flatReadsAt, flatReads}
@@ -42,8 +42,8 @@ less-more n = omega arith
 more-less : (n : ℕ) → 0 < n → n - 1 + 1 ≡ n
 more-less n l = omega arith
 
-pub none-more : (n : ℕ) → n ≡ n + 0
-none-more n = omega arith
+pub plus-none : (n : ℕ) → n ≡ n + 0
+plus-none n = omega arith
 
 pub step-back : (n : ℕ) → pos n ≡ pos (n + 1) +ℤ negsuc 0
 step-back n = sym (ap (λ z. pos z +ℤ negsuc 0) (add-one n) ∙ -ℤ-one (pos (suc n)))
@@ -55,7 +55,7 @@ near-down y x =
     record {
       by = at3 (pos 0) (pos 1) (pos 0);
       unit = List·Memᴰ·tail (List·Memᴰ·tail (List·Memᴰ·head refl));
-      reach = point-eq refl refl (ap pos (none-more x));
+      reach = point-eq refl refl (ap pos (plus-none x));
     }
 
 near-up : (y x : ℕ) → Near (at3 (pos 0) (pos (y + 1)) (pos x)) (at3 (pos 0) (pos y) (pos x))
@@ -64,7 +64,7 @@ near-up y x =
     record {
       by = at3 (pos 0) (negsuc 0) (pos 0);
       unit = List·Memᴰ·tail (List·Memᴰ·tail (List·Memᴰ·tail (List·Memᴰ·head refl)));
-      reach = point-eq refl (step-back y) (ap pos (none-more x));
+      reach = point-eq refl (step-back y) (ap pos (plus-none x));
     }
 
 near-right : (y x : ℕ) → Near (at3 (pos 0) (pos y) (pos x)) (at3 (pos 0) (pos y) (pos (x + 1)))
@@ -73,7 +73,7 @@ near-right y x =
     record {
       by = at3 (pos 0) (pos 0) (pos 1);
       unit = List·Memᴰ·head refl;
-      reach = point-eq refl (ap pos (none-more y)) refl;
+      reach = point-eq refl (ap pos (plus-none y)) refl;
     }
 
 near-left : (y x : ℕ) → Near (at3 (pos 0) (pos y) (pos (x + 1))) (at3 (pos 0) (pos y) (pos x))
@@ -82,7 +82,7 @@ near-left y x =
     record {
       by = at3 (pos 0) (pos 0) (negsuc 0);
       unit = List·Memᴰ·tail (List·Memᴰ·head refl);
-      reach = point-eq refl (ap pos (none-more y)) (step-back x);
+      reach = point-eq refl (ap pos (plus-none y)) (step-back x);
     }
 
 module _ (h w : ℕ) where

@@ -11,7 +11,8 @@ use mathlib.Core.List.{List, [], _∷_, _++_, map, List·Memᴰ·head, List·Mem
 use mathlib.Core.List.{Memᴰ·append-left, Memᴰ·append-right, List·Memᴰ·append-cases, Memᴰ·cast}
 use lib.Dec.{T}
 use Rattle.lists.specs.Lists.{_∈_, any, all}
-use Rattle.lists.specs.ListLaws.{any-find, all-mem, mem-map, map-find, T-and-l, T-and-r}
+use Rattle.lists.specs.ListLaws.{any-find, all-mem, mem-map, map-find}
+use Rattle.lists.specs.Booleans.{T-and-l, T-and-r}
 use Rattle.rules.specs.Page.{Point, _⊕_, opposite, Shape}
 use Rattle.rules.specs.Turns.{Turn, apply, compose, keep, half, quarter, halfQuarter, flip, flipHalf, flipQuarter}
 use Rattle.rules.specs.Turns.{flipHalfQuarter, flatTable}

@@ -6,15 +6,15 @@
 --   Listing t           what is listed of a shape
 use mathlib.Core.Path.{_≡_, refl, sym, ap, ap₂, _∙_, subst}
 use mathlib.Core.Bool.{Bool, true, false, _&&_, cond, xor}
-use mathlib.Core.List.{List, [], _∷_, _++_, map, List·Memᴰ·head, List·Memᴰ·tail, List·Memᴰ·not-nil}
+use mathlib.Core.List.{List, [], _∷_, _++_, map, List·Memᴰ·head, List·Memᴰ·tail, List·Memᴰ·not-nil, map-append}
 use mathlib.Core.List.{List·Memᴰ·append-cases}
 use mathlib.Core.Logic.{_⊎_, inl, inr}
 use Prim.Native.Nat.{ℕ}
 use native.Mathlib.Omega.{arith}
 use lib.Dec.{T}
-use Rattle.lists.specs.Appends.{map-append}
 use Rattle.lists.specs.Lists.{_∈_, Distinct, any, all}
-use Rattle.lists.specs.ListLaws.{any-find, any-mem, all-mem, mem-map, map-find, T-and-l, T-and-r}
+use Rattle.lists.specs.ListLaws.{any-find, any-mem, all-mem, mem-map, map-find}
+use Rattle.lists.specs.Booleans.{T-and-l, T-and-r}
 use Rattle.rules.specs.Page.{Point, _⊕_, opposite, Shape}
 use Rattle.rules.specs.Turns.{Turn, apply, compose, keep, half, quarter, halfQuarter, flip, flatTable}
 use Rattle.rules.specs.Shapes.{samePoints, sameShape, turned, withHalf, quarters, withQuarter, withFlip, flatTransforms}

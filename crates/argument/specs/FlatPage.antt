@@ -18,8 +18,8 @@ use lib.IntN.{pos, negsuc}
 use lib.ListN.{length, length-append}
 use Rattle.rules.specs.SmallLaws.{hop-le}
 use Rattle.lists.specs.Lists.{_∈_}
-use Rattle.lists.specs.Tests.{and-fails}
-use Rattle.lists.specs.ListLaws.{T-dec, mem-map, map-find}
+use Rattle.lists.specs.ListLaws.{mem-map, map-find}
+use Rattle.lists.specs.Booleans.{and-fails, T-dec}
 use Rattle.rules.specs.Page.{Hop, Point, _⊕_}
 use Rattle.rules.specs.Turns.{apply, flatTable}
 use Rattle.rules.specs.Flat.{hopAbove, hopBelow, hopLeft, hopRight, aheadAt}
@@ -31,7 +31,7 @@ use Rattle.argument.specs.Links.{linked-near, linked-reads}
 use Rattle.argument.specs.TurnLaws.{Swaps, table-swaps}
 use Rattle.argument.specs.FlatList.{flat-are, flat-cover, flat-turns}
 use Rattle.argument.specs.FlatLinks.{flat-linked, down-link, right-link, place-at, cell-is, row-in, column-in}
-use Rattle.argument.specs.FlatLinks.{none-more, step-back}
+use Rattle.argument.specs.FlatLinks.{plus-none, step-back}
 
 module _ (h w : ℕ) where
   record Next (Y X : ℕ) (e : Point) : Type 0 where
@@ -68,7 +68,7 @@ module _ (h w : ℕ) (hw : 0 < w) where
             cell = cellAt h w Y (X + 1);
             over = rightOf h w Y X;
             link = inl (right-link h w Y X l j);
-            spot = place-at h w Y (X + 1) j ∙ point-eq refl (ap pos (none-more Y)) refl;
+            spot = place-at h w Y (X + 1) j ∙ point-eq refl (ap pos (plus-none Y)) refl;
           })
       go (inr t) =
           let j = nltb→le (X + 1) w t in
@@ -92,7 +92,7 @@ module _ (h w : ℕ) (hw : 0 < w) where
             cell = cellAt h w (Y + 1) X;
             over = belowOf h w Y X;
             link = inl (down-link h w Y X j k);
-            spot = place-at h w (Y + 1) X k ∙ point-eq refl refl (ap pos (none-more X));
+            spot = place-at h w (Y + 1) X k ∙ point-eq refl refl (ap pos (plus-none X));
           })
       go (inr t) =
           let j = nltb→le (Y + 1) h t in
@@ -120,7 +120,7 @@ module _ (h w : ℕ) (hw : 0 < w) where
         cell = cellAt h w Y X;
         over = rightOf h w Y X;
         link = inr (right-link h w Y X l j);
-        spot = place-at h w Y X (omega arith) ∙ point-eq refl (ap pos (none-more Y)) (step-back X);
+        spot = place-at h w Y X (omega arith) ∙ point-eq refl (ap pos (plus-none Y)) (step-back X);
       }))
 
   up : (Y X : ℕ) → Y < h → X < w
@@ -139,7 +139,7 @@ module _ (h w : ℕ) (hw : 0 < w) where
         cell = cellAt h w Y X;
         over = belowOf h w Y X;
         link = inr (down-link h w Y X j k);
-        spot = place-at h w Y X k ∙ point-eq refl (step-back Y) (ap pos (none-more X));
+        spot = place-at h w Y X k ∙ point-eq refl (step-back Y) (ap pos (plus-none X));
       }))
 
   layer : (Y X : ℕ) → Off h w Y X (at3 (pos 1) (pos 0) (pos 0))

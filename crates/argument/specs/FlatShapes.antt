@@ -11,9 +11,10 @@ use native.Mathlib.Omega.{arith}
 use lib.Dec.{T, eqb, ltb, ltb→lt, lt→ltb, nltb→le}
 use lib.IntN.{pos}
 use lib.ListN.{length, length-append, length-map}
-use Rattle.lists.specs.Lengths.{rangeFrom-ge}
 use Rattle.lists.specs.Lists.{_∈_, Distinct, filter, keep, any, rangeFrom}
-use Rattle.lists.specs.ListLaws.{T-dec, map-find, filter-mem}
+use Rattle.lists.specs.ListLaws.{map-find, filter-mem}
+use Rattle.lists.specs.Ranges.{rangeFrom-ge}
+use Rattle.lists.specs.Booleans.{T-dec}
 use Rattle.rules.specs.Page.{Puzzle, Shape, State}
 use Rattle.rules.specs.Groups.{members, unitOf, unitCount}
 use Rattle.rules.specs.Check.{transformsOf}

@@ -8,7 +8,8 @@ use mathlib.Core.Option.{Option, some, none}
 use Prim.Native.Nat.{ℕ, _<_}
 use lib.Dec.{T}
 use Rattle.lists.specs.Lists.{_∈_, any}
-use Rattle.lists.specs.ListLaws.{T-and-l, range-lt}
+use Rattle.lists.specs.Booleans.{T-and-l}
+use Rattle.lists.specs.Ranges.{range-lt}
 use Rattle.rules.specs.Page.{Hop, Puzzle, State, isWall, wallAt}
 use Rattle.rules.specs.Groups.{members, unitOf, potentialOf}
 use Rattle.rules.specs.Reasons.{path}

@@ -12,8 +12,9 @@ use native.Mathlib.Omega.{arith}
 use lib.Dec.{T}
 use lib.ListN.{length}
 use Rattle.lists.specs.Lists.{_∈_}
-use Rattle.lists.specs.ListLaws.{T-and-l, T-and-r, T-and, mem-filter}
+use Rattle.lists.specs.ListLaws.{mem-filter}
 use Rattle.lists.specs.Lengths.{subset-le}
+use Rattle.lists.specs.Booleans.{T-and-l, T-and-r, T-and, eq-beq}
 use Rattle.rules.specs.declared.Side.the-variants.{Wall, Open}
 use Rattle.rules.specs.Page.{Puzzle, State, undecided, decided, isWall, isOpen}
 use Rattle.rules.specs.Rules.{Joined, joinsBlock, joinsUnit, SameBlock, SameUnit}
@@ -24,7 +25,6 @@ use Rattle.argument.specs.Demand.{Full}
 use Rattle.argument.specs.Joins.{join-weaken, join-map, join-in}
 use Rattle.argument.specs.Numbers.{number-joined, joined-number, mem-members, members-in, members-number}
 use Rattle.argument.specs.Numbers.{members-distinct, ownBlock, ownUnit, ownPotential}
-use Rattle.argument.specs.States.{eq-beq}
 use Rattle.argument.specs.Sizes.{unitSize}
 use Rattle.argument.specs.Crossings.{unit-colour, unit-block}
 

@@ -11,7 +11,8 @@ use Prim.Native.Nat.{ℕ, _<_}
 use native.Mathlib.Omega.{arith}
 use lib.Dec.{eqb, T}
 use Rattle.lists.specs.Lists.{_∈_, filter, flatMap}
-use Rattle.lists.specs.ListLaws.{T-and-l, T-and-r, filter-test, map-find, flat-find}
+use Rattle.lists.specs.ListLaws.{filter-test, map-find, flat-find}
+use Rattle.lists.specs.Booleans.{T-and-l, T-and-r}
 use Rattle.rules.specs.declared.Side.{Side}
 use Rattle.rules.specs.declared.Side.the-variants.{Wall, Open}
 use Rattle.rules.specs.declared.Placement.{Placement}

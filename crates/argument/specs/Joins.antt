@@ -15,12 +15,12 @@ use native.Mathlib.Omega.{arith}
 use lib.Dec.{eqb, leb, T, eqb→eq, eqb-refl, leb→le, nleb→lt}
 use lib.ListN.{length, length-map}
 use Rattle.lists.specs.Lists.{_∈_, rangeFrom, range}
-use Rattle.lists.specs.ListLaws.{T-dec, mem-range, range-lt}
+use Rattle.lists.specs.Booleans.{T-dec}
+use Rattle.lists.specs.Ranges.{mem-range, range-lt, length-range}
 use Rattle.rules.specs.Page.{Hop, Page}
 use Rattle.rules.specs.Rules.{Joined, stay, step}
 use Rattle.rules.specs.Groups.{entry, rename, merge, mergeIf, mergeAll, labels}
 use Rattle.argument.specs.PageLaws.{Bordered}
-use Rattle.argument.specs.ListExtras.{length-rangeFrom}
 
 pub entry-map : (f : ℕ → ℕ) (L : List ℕ) (x : ℕ) → x < length L → entry (map f L) x ≡ f (entry L x)
 unfolding entry
@@ -77,7 +77,7 @@ module _ (G : Page) (K : Bordered G) (link : ℕ → Bool) where
 
   good-start : Good (range (G .cells))
   good-start = record {
-    size = length-rangeFrom 0 (G .cells);
+    size = length-range 0 (G .cells);
     low = λ x h. let e = label-range 0 (G .cells) x h in omega arith;
     idem = λ x h. let e = label-range 0 (G .cells) x h in ap (entry (range (G .cells))) (e ∙ omega arith);
     sound = λ x y h k q. stay {x = x}

@@ -12,7 +12,9 @@ use mathlib.Core.List.{List}
 use Prim.Native.Nat.{ℕ, _<_}
 use lib.Dec.{eqb, T, eqb→eq, eqb-refl}
 use Rattle.lists.specs.Lists.{_∈_}
-use Rattle.lists.specs.ListLaws.{T-and-l, T-and-r, T-and, T-dec, neqb→ne, mem-filter, mem-map, mem-flat}
+use Rattle.lists.specs.ListLaws.{mem-filter, mem-map, mem-flat}
+use Rattle.lists.specs.Booleans.{T-and-l, T-and-r, T-and, T-dec, beq-eq, eq-beq}
+use Rattle.lists.specs.Arithmetic.{neqb→ne}
 use Rattle.rules.specs.declared.Side.{Side}
 use Rattle.rules.specs.declared.Side.the-variants.{Wall, Open}
 use Rattle.rules.specs.Page.{Hop, Puzzle, State, decided, Contains, isWall, isOpen, wallAt, openAt}
@@ -22,7 +24,7 @@ use Rattle.rules.specs.Reasons.{gather, insideAt, inside, edgeAt, edge}
 use Rattle.rules.specs.Check.{insideBlock, insideUnit, edgeOf}
 use Rattle.argument.specs.PageLaws.{Bordered}
 use Rattle.argument.specs.Numbers.{hop-number, mem-members}
-use Rattle.argument.specs.States.{has, beq-eq, eq-beq, open-not-wall}
+use Rattle.argument.specs.States.{has, open-not-wall}
 
 pub mem-gather : (side : Side) (p : Hop → Bool) (hs : List Hop) (h : Hop) → h ∈ hs → T (p h)
     → record { border = h .border; side = side } ∈ gather side p hs

@@ -10,7 +10,9 @@ use mathlib.Core.Option.{none}
 use Prim.Native.Nat.{ℕ, _≤_, _<_}
 use lib.Dec.{T}
 use Rattle.lists.specs.Lists.{_∈_}
-use Rattle.lists.specs.ListLaws.{T-and, mem-map}
+use Rattle.lists.specs.ListLaws.{mem-map}
+use Rattle.lists.specs.Booleans.{T-and}
+use Rattle.lists.specs.Lengths.{inject-onto}
 use Rattle.rules.specs.Page.{Hop, Point, _⊕_, opposite, Puzzle, State, isOpen}
 use Rattle.rules.specs.Rules.{stay, step, oneColour, joinsUnit, SameUnit, Congruent}
 use Rattle.rules.specs.Groups.{unitOf}
@@ -18,7 +20,6 @@ use Rattle.rules.specs.Check.{laid}
 use Rattle.argument.specs.Points.{add-assoc, add-comm, add-origin, add-opposite, cancel, swap4}
 use Rattle.argument.specs.PageLaws.{Bordered, Near, Placed}
 use Rattle.argument.specs.Demand.{Full}
-use Rattle.argument.specs.ListExtras.{inject-onto}
 use Rattle.argument.specs.Joins.{join-trans, join-in}
 use Rattle.argument.specs.Numbers.{number-joined, hop-number, mem-members, members-in, members-number}
 use Rattle.argument.specs.Numbers.{members-distinct, unitCells, ownUnit}

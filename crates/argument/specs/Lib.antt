@@ -6,7 +6,6 @@ pub mod Points
 pub mod PageLaws
 pub mod Demand
 -- groups and their numbers
-pub mod ListExtras
 pub mod Joins
 pub mod Numbers
 -- the three steps are sound

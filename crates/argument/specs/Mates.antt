@@ -19,7 +19,9 @@ use native.Mathlib.Omega.{arith}
 use lib.Dec.{T, eqb-refl, T-not}
 use borrow.Author.Tests.{lt-ltb}
 use Rattle.lists.specs.Lists.{_∈_, filter, any, flatMap, range}
-use Rattle.lists.specs.ListLaws.{T-and, T-dec, mem-filter, any-mem, mem-map, map-find, mem-flat, mem-range}
+use Rattle.lists.specs.ListLaws.{mem-filter, any-mem, mem-map, map-find, mem-flat}
+use Rattle.lists.specs.Booleans.{T-and, T-dec}
+use Rattle.lists.specs.Ranges.{mem-range}
 use Rattle.rules.specs.declared.Side.the-variants.{Wall}
 use Rattle.rules.specs.declared.Placement.{Placement}
 use Rattle.rules.specs.declared.Placement.the-variants.{Fits, Blocked, Cannot}

@@ -21,14 +21,15 @@ use native.Mathlib.Omega.{arith}
 use lib.Dec.{eqb, T, eqb→eq, eqb-refl}
 use lib.ListN.{length, length-map}
 use Rattle.lists.specs.Lists.{_∈_, range, Distinct}
-use Rattle.lists.specs.ListLaws.{mem-filter, filter-mem, filter-test, mem-range, range-lt}
-use Rattle.lists.specs.Lengths.{distinct-range, distinct-filter}
+use Rattle.lists.specs.ListLaws.{mem-filter, filter-mem, filter-test}
 use Rattle.lists.specs.Count.{countBelow}
+use Rattle.lists.specs.Ranges.{mem-range, range-lt, distinct-range}
+use Rattle.lists.specs.Filters.{distinct-filter}
+use Rattle.lists.specs.CountLaws.{count-grows, count-inj, count-find}
 use Rattle.rules.specs.Page.{Hop, Page, Puzzle, State}
 use Rattle.rules.specs.Rules.{Joined, stay, step}
 use Rattle.rules.specs.Groups.{entry, labels, isFirst, numbers, groupCount, members, blockOf, unitOf, potentialOf}
 use Rattle.argument.specs.PageLaws.{Bordered}
-use Rattle.argument.specs.ListExtras.{count-grows, count-inj, count-find}
 use Rattle.argument.specs.Joins.{entry-map, join-in, label-le, label-idem, label-joined, joined-label}
 use Rattle.argument.specs.Joins.{labels-length}
 

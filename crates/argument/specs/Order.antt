@@ -9,7 +9,7 @@ use native.Mathlib.Omega.{arith}
 use borrow.Author.Tests.{lt-ltb, le-ltb}
 use lib.Dec.{T, ltb, ltb→lt, lt→ltb, nltb→le}
 use lib.IntN.{ℤ, pos, negsuc, sucℤ, predℤ, suc-pred, _+ℤ_, negℤ, +ℤ-idr, +ℤ-one, -ℤ-one, +ℤ-sucℤ, +ℤ-predℤ, ℤ-ind}
-use Rattle.lists.specs.ListLaws.{T-and, T-and-l, T-and-r, T-or, T-or-l, T-or-r, T-dec}
+use Rattle.lists.specs.Booleans.{T-and, T-and-l, T-and-r, T-or, T-or-l, T-or-r, T-dec}
 use Rattle.rules.specs.Page.{Point, _⊕_}
 use Rattle.rules.specs.Shapes.{lessℤ, sameℤ, before}
 use Rattle.argument.specs.Points.{point-eq}

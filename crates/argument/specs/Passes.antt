@@ -13,7 +13,8 @@ use native.Mathlib.Omega.{arith}
 use lib.Dec.{ltb, nltb→le, not-T}
 use lib.ListN.{length}
 use Rattle.lists.specs.Lists.{_∈_, filter, head?, firstHit}
-use Rattle.lists.specs.ListLaws.{T-or-l, T-or-r, mem-filter, first-none}
+use Rattle.lists.specs.ListLaws.{mem-filter, first-none}
+use Rattle.lists.specs.Booleans.{T-or-l, T-or-r, eq-beq}
 use Rattle.rules.specs.Page.{Puzzle, State}
 use Rattle.rules.specs.Rules.{stay, joinsBlock, SameBlock, SameUnit, UnitHas}
 use Rattle.rules.specs.Groups.{blockOf, blockCount, potentialOf}
@@ -23,7 +24,7 @@ use Rattle.argument.specs.PageLaws.{Bordered}
 use Rattle.argument.specs.Demand.{Full}
 use Rattle.argument.specs.Joins.{join-in}
 use Rattle.argument.specs.Numbers.{number-lt, ownBlock}
-use Rattle.argument.specs.States.{eq-beq, colour-listed}
+use Rattle.argument.specs.States.{colour-listed}
 use Rattle.argument.specs.Hits.{hit-misses, else-none}
 use Rattle.argument.specs.Sizes.{unit-size-has}
 use Rattle.argument.specs.CellScan.{Agree, pass-cells, head-mem, clue-mem}

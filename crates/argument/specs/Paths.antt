@@ -8,7 +8,7 @@
 --   path-joins          a setting that contains Path(a, b) has a and b in one block
 use mathlib.Core.Path.{_≡_, _∙_, refl, ap, sym, subst}
 use mathlib.Core.Logic.{_⊎_, inl, inr}
-use mathlib.Core.Bool.{Bool, true, false, not, _&&_, cond, _||_}
+use mathlib.Core.Bool.{Bool, true, false, not, _&&_, cond, _||_, or-true, or-false}
 use mathlib.Core.List.{List, [], _∷_, _++_, List·Memᴰ·head, List·Memᴰ·tail, List·Memᴰ·not-nil, List·Memᴰ·cases-cons}
 use mathlib.Core.List.{Memᴰ·append-left, Memᴰ·append-right, List·Memᴰ·append-cases, List·Memᴰ·eq-of-singleton}
 use Prim.Native.Nat.{ℕ, zero, suc, _+_, _≤_, _<_}
@@ -17,13 +17,13 @@ use lib.Dec.{eqb, T, eqb→eq, eqb-refl}
 use lib.ListN.{length, length-append}
 use borrow.Author.Tests.{ne-eqb, lt-ltb}
 use Rattle.lists.specs.Lists.{_∈_, any}
-use Rattle.lists.specs.ListLaws.{T-and-l, T-and-r, T-and, T-or, T-or-l, T-or-r, T-dec}
-use Rattle.lists.specs.Count.{countBelow, count-cong, count-lt, count-more}
+use Rattle.lists.specs.Count.{countBelow}
+use Rattle.lists.specs.Booleans.{T-and-l, T-and-r, T-and, T-or, T-or-l, T-or-r, T-dec, T-true}
+use Rattle.lists.specs.CountLaws.{count-cong, count-lt, count-more}
 use Rattle.rules.specs.Page.{Hop, Puzzle, State, Contains, isOpen, openAt}
 use Rattle.rules.specs.Rules.{Joined, stay, step, joinsBlock, SameBlock}
 use Rattle.rules.specs.Reasons.{Found, Search, isFound, visitIf, trace, look, hunt, path}
 use Rattle.argument.specs.PageLaws.{Bordered}
-use Rattle.argument.specs.ListExtras.{true-is, or-true, or-false}
 use Rattle.argument.specs.Joins.{join-in}
 
 module _ (Z : Puzzle) (K : Bordered (Z .page)) (s : ℕ → State) (a : ℕ) (ha : a < Z .page .cells) where
@@ -107,7 +107,7 @@ module _ (Z : Puzzle) (K : Bordered (Z .page)) (s : ℕ → State) (a : ℕ) (ha
       go : (b : Bool) → eqb (e .cell) x ≡ b → not (isFound a f x) ≡ not (isFound a (e ∷ f) x) || b
       go true q =
           let p : e .cell ≡ x = eqb→eq (e .cell) x (rw q tt) in
-          true-is (not (isFound a f x)) (rw p at t) ∙ sym (or-true (not (isFound a (e ∷ f) x)))
+          T-true (not (isFound a f x)) (rw p at t) ∙ sym (or-true (not (isFound a (e ∷ f) x)))
       go false q =
           let r : eqb x (e .cell) ≡ false =
           ne-eqb x (e .cell) (λ p. let u : T (eqb (e .cell) x) = rw p (eqb-refl (e .cell)) in rw q at u) in
@@ -120,7 +120,7 @@ module _ (Z : Puzzle) (K : Bordered (Z .page)) (s : ℕ → State) (a : ℕ) (ha
       let c = count-cong (Z .page .cells) (λ x. not (isFound a f x))
       (λ x. not (isFound a (e ∷ f) x) || eqb (e .cell) x) (λ x k. one-found f e x t) in
       let m = count-more (Z .page .cells) (λ x. not (isFound a (e ∷ f) x)) (e .cell) h
-      (ap not (true-is (isFound a (e ∷ f) (e .cell)) (reached-new f e))) in
+      (ap not (T-true (isFound a (e ∷ f) (e .cell)) (reached-new f e))) in
       omega arith
 
   visit : (x n : ℕ) (h : Hop) (t : Search) → x < Z .page .cells → Reached (t .found) x → h ∈ Z .page .around x
@@ -257,7 +257,7 @@ module _ (Z : Puzzle) (K : Bordered (Z .page)) (s : ℕ → State) (a : ℕ) (ha
     where
       few : unfound [] < Z .page .cells
       few = count-lt (Z .page .cells) (λ x. not (isFound a [] x)) a ha
-          (ap not (true-is (isFound a [] a) (reached-start [])))
+          (ap not (T-true (isFound a [] a) (reached-start [])))
 
   -- every joined cell is found
   joined-found : {x y : ℕ} → Reached (hunt (Z .page) s (Z .page .cells) a (a ∷ []) []) x

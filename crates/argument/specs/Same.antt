@@ -4,7 +4,7 @@ use mathlib.Core.Bool.{_&&_}
 use mathlib.Core.List.{List, [], _∷_}
 use lib.Dec.{T, eqb→eq, eqb-refl}
 use lib.IntN.{ℤ, pos, negsuc}
-use Rattle.lists.specs.ListLaws.{T-and, T-and-l, T-and-r}
+use Rattle.lists.specs.Booleans.{T-and, T-and-l, T-and-r}
 use Rattle.rules.specs.Page.{Point}
 use Rattle.argument.specs.Points.{point-eq}
 use Rattle.rules.specs.Shapes.{sameℤ, samePoint, samePoints}

@@ -9,7 +9,7 @@
 --   undecided-left      so the undecided borders are those that the sequence leaves
 use mathlib.Core.Path.{_≡_, _∙_, refl, ap, sym, subst}
 use mathlib.Core.Logic.{_⊎_, inl, inr, _↔_}
-use mathlib.Core.Bool.{Bool, true, false, _||_}
+use mathlib.Core.Bool.{Bool, true, false, _||_, or-false}
 use mathlib.Core.List.{List, [], _∷_, map, _++_, List·Memᴰ·head, List·Memᴰ·tail, List·Memᴰ·not-nil}
 use mathlib.Core.List.{List·Memᴰ·append-cases, List·Memᴰ·eq-of-singleton, map-append}
 use Prim.Native.Nat.{ℕ, zero, suc, _+_, _<_}
@@ -20,12 +20,12 @@ use borrow.Author.Tests.{eq-eqb, ne-eqb}
 use Rattle.rules.specs.SmallLaws.{states-none}
 use Rattle.lists.specs.Lists.{_∈_, any, Distinct}
 use Rattle.lists.specs.ListLaws.{any-mem, any-find, mem-map, map-find}
-use Rattle.lists.specs.Count.{countBelow, count-cong, count-more}
+use Rattle.lists.specs.Count.{countBelow}
+use Rattle.lists.specs.CountLaws.{count-cong, count-more}
 use Rattle.rules.specs.declared.Literal.{Literal}
 use Rattle.rules.specs.Page.{Puzzle, decided, Has, isUndecided}
 use Rattle.rules.specs.Check.{undecidedCount}
 use Rattle.rules.specs.Book.{stateIf, states, names, withLast, withoutLast}
-use Rattle.argument.specs.ListExtras.{or-false}
 
 abbrev pub bordersOf : List Literal → List ℕ
 bordersOf ls = map (λ l. l .border) ls

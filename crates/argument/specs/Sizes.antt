@@ -15,8 +15,8 @@ use native.Mathlib.Omega.{arith}
 use lib.Dec.{T}
 use lib.ListN.{length}
 use Rattle.lists.specs.Lists.{_∈_}
-use Rattle.lists.specs.ListLaws.{T-dec}
 use Rattle.lists.specs.Lengths.{inject-le, subset-le}
+use Rattle.lists.specs.Booleans.{T-dec, beq-eq}
 use Rattle.rules.specs.Page.{_⊕_, Puzzle, State}
 use Rattle.rules.specs.Rules.{joinsUnit, SameBlock, SameUnit, UnitHas, Congruent, Solution}
 use Rattle.rules.specs.Groups.{members, unitOf}
@@ -25,7 +25,7 @@ use Rattle.argument.specs.PageLaws.{Bordered, Placed}
 use Rattle.argument.specs.Joins.{join-in}
 use Rattle.argument.specs.Numbers.{number-joined, joined-number, mem-members, members-in, members-number}
 use Rattle.argument.specs.Numbers.{members-distinct, unitCells, ownUnit}
-use Rattle.argument.specs.States.{beq-eq, not-both}
+use Rattle.argument.specs.States.{not-both}
 
 unfoldable pub unitSize : Puzzle → (ℕ → State) → ℕ → ℕ
 unitSize Z s x = length (ownUnit Z s x)

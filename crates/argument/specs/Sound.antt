@@ -18,8 +18,11 @@ use native.Mathlib.Omega.{arith}
 use lib.Dec.{ltb, T, ltb→lt}
 use lib.ListN.{length}
 use Rattle.lists.specs.Lists.{_∈_, any, head?}
-use Rattle.lists.specs.ListLaws.{T-and-l, T-and-r, T-or, neqb→ne, filter-mem, filter-test, any-find}
-use Rattle.lists.specs.Lengths.{distinct-filter, subset-le}
+use Rattle.lists.specs.ListLaws.{filter-mem, filter-test, any-find}
+use Rattle.lists.specs.Lengths.{subset-le}
+use Rattle.lists.specs.Booleans.{T-and-l, T-and-r, T-or, beq-eq}
+use Rattle.lists.specs.Arithmetic.{neqb→ne}
+use Rattle.lists.specs.Filters.{distinct-filter}
 use Rattle.rules.specs.Page.{Puzzle, State, Contains}
 use Rattle.rules.specs.Rules.{joinsBlock, SameBlock, Solution}
 use Rattle.rules.specs.Groups.{blockOf, potentialOf}
@@ -29,7 +32,7 @@ use Rattle.argument.specs.PageLaws.{Bordered, Placed}
 use Rattle.argument.specs.Joins.{join-trans, join-in, join-sym}
 use Rattle.argument.specs.Numbers.{number-joined, mem-members, members-in, members-number, members-distinct}
 use Rattle.argument.specs.Numbers.{blockCells}
-use Rattle.argument.specs.States.{contains-l, contains-r, beq-eq}
+use Rattle.argument.specs.States.{contains-l, contains-r}
 use Rattle.argument.specs.Keeps.{block-keeps, edge-stays}
 use Rattle.argument.specs.Hits.{Each, each-hit, each-else, each-first}
 use Rattle.argument.specs.Sizes.{unitSize, unit-mem, mem-unit, unit-size-is, block-size}

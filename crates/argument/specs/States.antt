@@ -2,7 +2,7 @@
 --
 --   contains-l, contains-r, has   what contains a reason contains its parts and its literals
 --   open-is, wall-is, open-not-wall   tests of a state
---   beq-eq, eq-beq, not-both, not-self, unlike-T   tests of two colours
+--   not-both, not-self, unlike-T   tests of two colours
 --   colour-listed       both colours are tried
 use mathlib.Core.Path.{_≡_, _∙_, refl}
 use mathlib.Core.Bool.{Bool, true, false, not, Bool·beq, true≢false, false≢true}
@@ -35,16 +35,6 @@ pub wall-is : (m : State) → T (isWall m) → m ≡ decided Wall
 wall-is undecided t = absurd t
 wall-is (decided Open) t = absurd t
 wall-is (decided Wall) t = refl
-
-pub beq-eq : (a b : Bool) → T (Bool·beq a b) → a ≡ b
-beq-eq true true t = refl
-beq-eq true false t = absurd t
-beq-eq false true t = absurd t
-beq-eq false false t = refl
-
-pub eq-beq : (a b : Bool) → a ≡ b → T (Bool·beq a b)
-eq-beq true b e = rw (← e) tt
-eq-beq false b e = rw (← e) tt
 
 pub open-not-wall : (m : State) → T (isOpen m) → m ≡ decided Wall → ⊥
 open-not-wall m t e = rw e at t

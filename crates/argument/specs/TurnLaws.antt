@@ -19,7 +19,8 @@ use mathlib.Core.List.{List, [], _∷_, map, List·Memᴰ·head, List·Memᴰ·t
 use lib.Dec.{T, T-not}
 use lib.IntN.{ℤ, pos, _+ℤ_, negℤ-negℤ, negℤ-+ℤ}
 use Rattle.lists.specs.Lists.{_∈_, Distinct, any, all}
-use Rattle.lists.specs.ListLaws.{T-and, T-and-l, T-and-r, T-or, any-find, all-mem, mem-map, map-find}
+use Rattle.lists.specs.ListLaws.{any-find, all-mem, mem-map, map-find}
+use Rattle.lists.specs.Booleans.{T-and, T-and-l, T-and-r, T-or, beq-eq}
 use Rattle.rules.specs.Page.{Point, _⊕_}
 use Rattle.rules.specs.Turns.{Axis, layerward, rowward, columnward, Row, Turn, coordinate, signed, read, apply}
 use Rattle.rules.specs.Turns.{rowOf, composeRow, compose, plus, minus, flatTurn, keep, quarter, flip, flatTable}
@@ -61,16 +62,10 @@ sameAxis→eq columnward layerward t = absurd t
 sameAxis→eq columnward rowward t = absurd t
 sameAxis→eq columnward columnward t = refl
 
-beq→eq : (a b : Bool) → T (Bool·beq a b) → a ≡ b
-beq→eq true true t = refl
-beq→eq true false t = absurd t
-beq→eq false true t = absurd t
-beq→eq false false t = refl
-
 sameRow→eq : (r q : Row) → T (sameRow r q) → r ≡ q
 sameRow→eq r q t =
     let a = sameAxis→eq (r .axis) (q .axis) (T-and-l (sameAxis (r .axis) (q .axis)) _ t) in
-    let b = beq→eq (r .minus) (q .minus) (T-and-r (sameAxis (r .axis) (q .axis)) _ t) in
+    let b = beq-eq (r .minus) (q .minus) (T-and-r (sameAxis (r .axis) (q .axis)) _ t) in
     λ i. record { axis = a i; minus = b i }
 
 pub sameTurn→eq : (a b : Turn) → T (sameTurn a b) → a ≡ b

@@ -4,7 +4,7 @@ use mathlib.Core.List.{List·Memᴰ·head}
 use Prim.Native.Nat.{ℕ, _<_}
 use lib.Dec.{eqb→eq}
 use Rattle.lists.specs.Lists.{_∈_}
-use Rattle.lists.specs.ListLaws.{T-and-r}
+use Rattle.lists.specs.Booleans.{T-and-r}
 use Rattle.rules.specs.Page.{Hop, Puzzle, State, isWall, wallAt}
 use Rattle.rules.specs.Rules.{joinsBlock}
 use Rattle.rules.specs.Groups.{blockOf}

@@ -30,10 +30,9 @@ use lib.Dec.{leb, ltb, eqb}
 use lib.IntN.{ℤ, pos, negsuc}
 use lib.ListN.{length, getD}
 use lib.Signed.{leZ}
-use Rattle.lists.specs.Tests.{allBelow, anyBelow}
+use Rattle.lists.specs.Tests.{allBelow, anyBelow, allBetween}
 use Rattle.rules.specs.Flat.{borderCount}
 use Rattle.board.specs.declared.Board.{Board}
-use Rattle.board.specs.ListExtras.{allFrom}
 
 -- "Height h and width w are 1 to 32"
 unfoldable pub sizeRight : ℕ → ℕ → Bool
@@ -83,13 +82,13 @@ pub record Flags (s : List ℕ) (n : ℕ) (once : Bool) (seen : List Bool) : Typ
   pub flagged : (x : ℕ) → x < 1984 → getD seen x false ≡ stacked s n x
 
 unfoldable pub zerosFrom : List ℕ → ℕ → Bool
-zerosFrom l from = allFrom from (length l) (λ i. eqb (getD l i 0) 0)
+zerosFrom l from = allBetween from (length l) (λ i. eqb (getD l i 0) 0)
 
 abbrev pub clueZero : ℤ → Bool
 clueZero k = leZ (pos 0) k && leZ k (pos 0)
 
 unfoldable pub zeroCluesFrom : List ℤ → ℕ → Bool
-zeroCluesFrom ks from = allFrom from (length ks) (λ i. clueZero (getD ks i (pos 0)))
+zeroCluesFrom ks from = allBetween from (length ks) (λ i. clueZero (getD ks i (pos 0)))
 
 -- "a bad height, width, colour or clue in one is 5"
 unfoldable pub cellsIn : ℕ → ℕ → List ℕ → List ℤ → Bool

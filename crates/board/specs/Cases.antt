@@ -7,7 +7,7 @@ use native.Mathlib.Omega.{arith}
 use borrow.Author.Tests.{lt-ltb, le-ltb, le-leb, lt-leb, eq-eqb, ne-eqb}
 use lib.IntN.{ℤ}
 use lib.ListN.{length, getD}
-use Rattle.lists.specs.Tests.{all-cong}
+use Rattle.lists.specs.TestLaws.{all-cong}
 use Rattle.rules.specs.declared.Literal.{Literal}
 use Rattle.rules.specs.Flat.{borderCount}
 use Rattle.rules.specs.Codes.{codeOf}

@@ -9,7 +9,8 @@ use borrow.Author.Tests.{leb-true, le-leb, lt-leb, ltb-true, eq-eqb, ne-eqb}
 use lib.Dec.{leb, ltb, eqb}
 use lib.ListN.{length, getD, set}
 use lib.Seq.{getD-set-same, getD-set-other}
-use Rattle.lists.specs.Tests.{and-left, and-right, any-none, any-more, all-at}
+use Rattle.lists.specs.Booleans.{and-left, and-right}
+use Rattle.lists.specs.TestLaws.{any-none, any-more, all-at}
 use Rattle.rules.specs.Flat.{Sized, borderCount}
 use Rattle.rules.specs.FlatLaws.{borders-le}
 use Rattle.board.specs.Alien.{sizeRight, cellsOf, bordersOf, stacked, entriesRight, borderRight}

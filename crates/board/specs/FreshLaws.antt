@@ -9,14 +9,13 @@ use borrow.Author.Tests.{leb-true}
 use lib.Dec.{leb}
 use lib.IntN.{ℤ, pos}
 use lib.ListN.{length, getD, replicate, length-replicate, List·getD-eq-default}
-use Rattle.lists.specs.Padded.{zeros}
-use Rattle.lists.specs.Tests.{all-at}
+use Rattle.lists.specs.PaddedLaws.{zeros, getD-padded, length-padded}
+use Rattle.lists.specs.TestLaws.{all-at}
 use Rattle.rules.specs.Flat.{Sized}
 use Rattle.rules.specs.FlatLaws.{counts}
 use Rattle.board.specs.declared.Board.{Board}
 use Rattle.board.specs.declared.Outcome.the-variants.{Done}
 use Rattle.board.specs.declared.Returned.{Returned}
-use Rattle.board.specs.ListExtras.{getD-padded, length-padded}
 use Rattle.board.specs.Alien.{sizeRight, coloursRight, clueRight, cluesRight, isAlien}
 use Rattle.board.specs.Board.{zeroBoard, freshBoard, returned, freshOf, Small, Typed}
 use Rattle.board.specs.ConditionLaws.{sized, stacked-none}

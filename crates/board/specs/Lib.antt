@@ -1,4 +1,3 @@
-pub mod ListExtras
 pub mod Alien
 pub mod Board
 pub mod Accepted

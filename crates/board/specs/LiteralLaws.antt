@@ -8,7 +8,8 @@ use native.Mathlib.Omega.{arith}
 use lib.ListN.{length, getD, set}
 use lib.Seq.{getD-set-same, getD-set-other, ext-getD}
 use Rattle.rules.specs.SmallLaws.{without-last}
-use Rattle.lists.specs.Table.{table, getD-table, table-cong}
+use Rattle.lists.specs.Table.{table}
+use Rattle.lists.specs.TableLaws.{getD-table, table-cong, table-more}
 use Rattle.rules.specs.declared.Literal.{Literal}
 use Rattle.rules.specs.Page.{State, wallAt}
 use Rattle.rules.specs.Flat.{borderCount}
@@ -16,7 +17,6 @@ use Rattle.rules.specs.Codes.{codeOf, statesIn}
 use Rattle.rules.specs.Book.{states, withLast, withoutLast}
 use Rattle.board.specs.declared.Board.{Board}
 use Rattle.board.specs.declared.Outcome.the-variants.{Done}
-use Rattle.board.specs.ListExtras.{table-more}
 use Rattle.board.specs.Alien.{stacked, boardOf, isAlien}
 use Rattle.board.specs.Board.{returned, pushed, decideOf, undoOf, Typed}
 use Rattle.board.specs.View.{statesOf, sideIn, literalIn, literalsOf}

@@ -10,12 +10,13 @@ use borrow.Author.Tests.{leb-true, le-leb, ltb-true, lt-ltb, eq-eqb, eqb-true, n
 use lib.Dec.{leb, ltb, eqb}
 use lib.IntN.{ℤ, pos, negsuc}
 use lib.ListN.{length, getD, List·getD-eq-default}
-use Rattle.lists.specs.Tests.{and-left, and-right, all-at, all-every}
-use Rattle.lists.specs.Count.{countBelow, count-cong, count-none, count-lt, count-more, count-not}
+use Rattle.lists.specs.Count.{countBelow}
+use Rattle.lists.specs.Booleans.{and-left, and-right, beq-eq, eq-beq, T-true}
+use Rattle.lists.specs.TestLaws.{all-at, all-every, between-at, between-every}
+use Rattle.lists.specs.CountLaws.{count-cong, count-none, count-lt, count-more, count-not}
 use Rattle.rules.specs.Flat.{Sized, borderCount}
 use Rattle.rules.specs.FlatLaws.{borders-le}
 use Rattle.board.specs.declared.Board.{Board}
-use Rattle.board.specs.ListExtras.{from-at, from-every}
 use Rattle.board.specs.Alien.{sizeRight, coloursRight, clueRight, cluesRight, stacked, entriesRight, onceEach}
 use Rattle.board.specs.Alien.{borderRight, bordersRight, zerosFrom, clueZero, zeroCluesFrom, cellsIn}
 use Rattle.board.specs.Alien.{cellsRight, decisionsIn, decisionsRight, unusedIn, unusedZero, isAlien}
@@ -45,12 +46,12 @@ unfolding zerosFrom
 zeros-at l from i e h = go (decLt i (length l))
   where
     go : Dec (i < length l) → getD l i 0 ≡ 0
-    go (yes k) = eqb-true (getD l i 0) 0 (from-at from (length l) (λ j. eqb (getD l j 0) 0) i e h k)
+    go (yes k) = eqb-true (getD l i 0) 0 (between-at from (length l) (λ j. eqb (getD l j 0) 0) i e h k)
     go (no k) = List·getD-eq-default l 0 (omega arith)
 
 pub zeros-of : (l : List ℕ) (from : ℕ) → ((i : ℕ) → from ≤ i → getD l i 0 ≡ 0) → zerosFrom l from ≡ true
 unfolding zerosFrom
-zeros-of l from f = from-every from (length l) _ (λ i h k. eq-eqb (getD l i 0) 0 (f i h))
+zeros-of l from f = between-every from (length l) _ (λ i h k. eq-eqb (getD l i 0) 0 (f i h))
 
 clue-zero : (k : ℤ) → clueZero k ≡ true → k ≡ pos 0
 clue-zero (pos n) e = ap pos (let h : n ≤ 0 = leb-true n 0 (and-right (leb 0 n) (leb n 0) e) in omega arith)
@@ -61,25 +62,15 @@ unfolding zeroCluesFrom
 zero-clues-at l from i e h = go (decLt i (length l))
   where
     go : Dec (i < length l) → getD l i (pos 0) ≡ pos 0
-    go (yes k) = clue-zero (getD l i (pos 0)) (from-at from (length l) (λ j. clueZero (getD l j (pos 0))) i e h k)
+    go (yes k) = clue-zero (getD l i (pos 0)) (between-at from (length l) (λ j. clueZero (getD l j (pos 0))) i e h k)
     go (no k) = List·getD-eq-default l (pos 0) (omega arith)
 
 pub zero-clues-of : (l : List ℤ) (from : ℕ) → ((i : ℕ) → from ≤ i → getD l i (pos 0) ≡ pos 0)
     → zeroCluesFrom l from ≡ true
 unfolding zeroCluesFrom
-zero-clues-of l from f = from-every from (length l) _ (λ i h k. rw (f i h))
+zero-clues-of l from f = between-every from (length l) _ (λ i h k. rw (f i h))
 
 -- ---- the test's two directions
-beq-true : (c d : Bool) → Bool·beq c d ≡ true → c ≡ d
-beq-true true true e = refl
-beq-true true false e = sym e
-beq-true false true e = e
-beq-true false false e = refl
-
-beq-refl : (c : Bool) → Bool·beq c c ≡ true
-beq-refl true = refl
-beq-refl false = refl
-
 module _ (b : Board) where
   cells : ℕ
   cells = b .height * b .width
@@ -126,8 +117,8 @@ module _ (b : Board) where
             (and-right (few && entries) once d₃) h);
         code = λ x h. leb-true (getD (b .borders) x 0) 2 (and-left _ _ (border x h));
         held =
-            λ x h. beq-true (eqb (getD (b .borders) x 0) 0) (not (stacked (b .stack) (b .count) x))
-            (and-right (leb (getD (b .borders) x 0) 2) _ (border x h));
+            λ x h. beq-eq (eqb (getD (b .borders) x 0) 0) (not (stacked (b .stack) (b .count) x))
+            (rw (and-right (leb (getD (b .borders) x 0) 2) _ (border x h)) tt);
         noColour = λ i h. zeros-at (b .colours) cells i (and-left zc zk u₂) h;
         noClue = λ i h. zero-clues-at (b .clues) cells i (and-right zc zk u₂) h;
         noBorder = λ x h. zeros-at (b .borders) m x (and-right (zc && zk) zb u₃) h;
@@ -167,7 +158,7 @@ module _ (b : Board) where
           all-every m (λ x. borderRight (getD (b .borders) x 0) (stacked (b .stack) (b .count) x))
               (λ x h.
               rw (le-leb (getD (b .borders) x 0) 2 (N .code x h), N .held x h)
-              (beq-refl (not (stacked (b .stack) (b .count) x)))),
+              (T-true _ (eq-beq (not (stacked (b .stack) (b .count) x)) _ refl))),
         )
 
     unused-hold : unusedZero b ≡ true

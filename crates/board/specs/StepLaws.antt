@@ -10,13 +10,13 @@ use borrow.Author.Tests.{ltb-true, eqb-true}
 use lib.Dec.{ltb, eqb}
 use lib.ListN.{getD}
 use Rattle.lists.specs.Table.{table}
+use Rattle.lists.specs.TableLaws.{table-more}
 use Rattle.rules.specs.declared.Literal.{Literal}
 use Rattle.rules.specs.Flat.{flat, borderCount}
 use Rattle.rules.specs.Codes.{codeOf}
 use Rattle.rules.specs.Book.{Reply, refused, done, bareOr, withLast, withoutLast, decideReply, decideAfter}
 use Rattle.board.specs.declared.Board.{Board}
 use Rattle.board.specs.declared.Outcome.the-variants.{Done, Border, Taken}
-use Rattle.board.specs.ListExtras.{table-more}
 use Rattle.board.specs.Alien.{isAlien}
 use Rattle.board.specs.Board.{returned, pushed, decideOf, undoOf, Typed}
 use Rattle.board.specs.View.{puzzleIn, puzzleOf, literalIn, literalsOf, replyOf}

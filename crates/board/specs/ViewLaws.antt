@@ -10,10 +10,12 @@ use lib.Dec.{eqb}
 use lib.IntN.{ℤ, pos}
 use lib.ListN.{length, getD}
 use Rattle.rules.specs.SmallLaws.{states-none}
-use Rattle.lists.specs.Tests.{any-some}
 use Rattle.lists.specs.Lists.{_∈_}
-use Rattle.lists.specs.Count.{count-cong}
-use Rattle.lists.specs.Table.{table, length-table, table-find}
+use Rattle.lists.specs.Table.{table}
+use Rattle.lists.specs.TestLaws.{any-some, any-fails}
+use Rattle.lists.specs.CountLaws.{count-cong}
+use Rattle.lists.specs.TableLaws.{length-table, table-find}
+use Rattle.lists.specs.PaddedLaws.{getD-padded}
 use Rattle.rules.specs.declared.Side.{Side}
 use Rattle.rules.specs.declared.Side.the-variants.{Wall, Open}
 use Rattle.rules.specs.declared.Literal.{Literal}
@@ -24,7 +26,6 @@ use Rattle.rules.specs.Check.{undecidedCount}
 use Rattle.rules.specs.Book.{states, names}
 use Rattle.board.specs.declared.Board.{Board}
 use Rattle.board.specs.declared.Outcome.the-variants.{Done}
-use Rattle.board.specs.ListExtras.{any-fails, getD-padded}
 use Rattle.board.specs.Alien.{stacked}
 use Rattle.board.specs.Board.{freshBoard, returned, decideOf, undoOf}
 use Rattle.board.specs.View.{puzzleIn, puzzleOf, statesOf, sideIn, literalIn, literalsOf}

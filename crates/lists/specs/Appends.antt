@@ -1,12 +1,9 @@
 -- The functions of Lists on one list after the other.
-use mathlib.Core.Path.{_≡_, refl, ap, _∙_}
-use mathlib.Core.Bool.{Bool, true, false, _||_}
-use mathlib.Core.List.{List, [], _∷_, _++_, append-assoc, map}
+use mathlib.Core.Path.{_≡_, refl, ap, sym}
+use mathlib.Core.Bool.{Bool, true, false, _&&_, _||_, and-assoc, or-assoc}
+use mathlib.Core.List.{List, [], _∷_, _++_, append-assoc}
 use mathlib.Core.Option.{Option, some, none}
-use Prim.Native.Nat.{suc, _≤_}
-use native.Mathlib.Omega.{arith}
-use lib.ListN.{length}
-use Rattle.lists.specs.Lists.{keep, filter, any, orElse, flatMap, firstHit}
+use Rattle.lists.specs.Lists.{keep, filter, any, all, orElse, flatMap, firstHit}
 
 module _ {A : Type 0} where
   pub filter-append : (p : A → Bool) (xs ys : List A) → filter p (xs ++ ys) ≡ filter p xs ++ filter p ys
@@ -19,24 +16,15 @@ module _ {A : Type 0} where
       go true e = ap (λ (l : List A). x ∷ l) e
       go false e = e
 
-  pub any-append : (p : A → Bool) (xs ys : List A) → any p (xs ++ ys) ≡ (any p xs || any p ys)
+  pub any-append : (p : A → Bool) (xs ys : List A) → any p (xs ++ ys) ≡ any p xs || any p ys
   unfolding any
   any-append p [] ys = refl
-  any-append p (x ∷ xs) ys = go (p x) (any-append p xs ys)
-    where
-      go : (b : Bool) → any p (xs ++ ys) ≡ (any p xs || any p ys)
-          → (b || any p (xs ++ ys)) ≡ ((b || any p xs) || any p ys)
-      go true e = refl
-      go false e = e
+  any-append p (x ∷ xs) ys = rw (any-append p xs ys) (sym (or-assoc (p x) (any p xs) (any p ys)))
 
-  pub length-filter : (p : A → Bool) (xs : List A) → length (filter p xs) ≤ length xs
-  unfolding filter
-  length-filter p [] = omega arith
-  length-filter p (x ∷ xs) = go (p x) (length-filter p xs)
-    where
-      go : (b : Bool) → length (filter p xs) ≤ length xs → length (keep b x (filter p xs)) ≤ suc (length xs)
-      go true h = omega arith
-      go false h = omega arith
+  pub all-append : (p : A → Bool) (xs ys : List A) → all p (xs ++ ys) ≡ all p xs && all p ys
+  unfolding all
+  all-append p [] ys = refl
+  all-append p (x ∷ xs) ys = rw (all-append p xs ys) (sym (and-assoc (p x) (all p xs) (all p ys)))
 
 module _ {A B : Type 0} where
   pub flat-append : (f : A → List B) (xs ys : List A) → flatMap f (xs ++ ys) ≡ flatMap f xs ++ flatMap f ys
@@ -54,20 +42,3 @@ module _ {A B : Type 0} where
           → orElse o (firstHit f (xs ++ ys)) ≡ orElse (orElse o (firstHit f xs)) (firstHit f ys)
       go none e = e
       go (some b) e = refl
-
-module _ {A B : Type 0} where
-  pub map-append : (f : A → B) (xs ys : List A) → map f (xs ++ ys) ≡ map f xs ++ map f ys
-  map-append f [] ys = refl
-  map-append f (x ∷ xs) ys = ap (λ (l : List B). f x ∷ l) (map-append f xs ys)
-
-module _ {A B C : Type 0} where
-  pub flat-map : (f : B → List C) (g : A → B) (xs : List A) → flatMap f (map g xs) ≡ flatMap (λ x. f (g x)) xs
-  unfolding flatMap
-  flat-map f g [] = refl
-  flat-map f g (x ∷ xs) = rw (flat-map f g xs)
-
-  pub flat-flat : (f : B → List C) (g : A → List B) (xs : List A)
-      → flatMap f (flatMap g xs) ≡ flatMap (λ x. flatMap f (g x)) xs
-  unfolding flatMap
-  flat-flat f g [] = refl
-  flat-flat f g (x ∷ xs) = flat-append f (g x) (flatMap g xs) ∙ rw (flat-flat f g xs)

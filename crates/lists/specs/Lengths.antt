@@ -1,31 +1,15 @@
--- Lengths: filters compared, and an injection from a list without repeats.
+-- Lengths: a list with an element, and an injection from a list without repeats.
 use mathlib.Core.Path.{_≡_, refl, sym, ap, _∙_, subst}
 use mathlib.Core.Logic.{_⊎_, inl, inr}
-use mathlib.Core.Bool.{Bool, true, false}
-use mathlib.Core.List.{List, [], _∷_, List·Memᴰ·head, List·Memᴰ·tail, List·Memᴰ·not-nil, List·Memᴰ·cases-cons, _++_}
-use Prim.Native.Nat.{ℕ, zero, suc, _≤_, _+_}
+use mathlib.Core.List.{List, [], _∷_, List·Memᴰ·head, List·Memᴰ·tail, List·Memᴰ·not-nil, List·Memᴰ·cases-cons}
+use Prim.Native.Nat.{ℕ, suc, _≤_}
 use native.Mathlib.Omega.{arith}
 use lib.ListN.{length}
-use Rattle.lists.specs.Lists.{_∈_, Distinct, filter, keep, rangeFrom}
-use Rattle.lists.specs.ListLaws.{filter-mem}
+use Rattle.lists.specs.Lists.{_∈_, Distinct}
 
-pub rangeFrom-ge : (i n : ℕ) {x : ℕ} → x ∈ rangeFrom i n → i ≤ x
-rangeFrom-ge i zero m = absurd (List·Memᴰ·not-nil m)
-rangeFrom-ge i (suc n) (List·Memᴰ·head q) = omega arith
-rangeFrom-ge i (suc n) (List·Memᴰ·tail m) = let r = rangeFrom-ge (suc i) n m in omega arith
-
-pub distinct-range : (i n : ℕ) → Distinct (rangeFrom i n)
-distinct-range i zero = tt
-distinct-range i (suc n) = (λ m. let r = rangeFrom-ge (suc i) n m in omega arith, distinct-range (suc i) n)
-
-pub distinct-filter : (p : ℕ → Bool) (xs : List ℕ) → Distinct xs → Distinct (filter p xs)
-unfolding filter
-distinct-filter p [] d = tt
-distinct-filter p (x ∷ xs) d = go (p x) (distinct-filter p xs (d .1))
-  where
-    go : (b : Bool) → Distinct (filter p xs) → Distinct (keep b x (filter p xs))
-    go true e = (λ m. d .0 (filter-mem p xs m), e)
-    go false e = e
+pub some-length : {A : Type 0} {x : A} (xs : List A) → x ∈ xs → 1 ≤ length xs
+some-length [] m = absurd (List·Memᴰ·not-nil m)
+some-length (y ∷ xs) m = omega arith
 
 -- one element taken out
 pub take-out : (ys : List ℕ) {y : ℕ} → y ∈ ys
@@ -98,10 +82,63 @@ subset-full (x ∷ xs) ys d f h y m =
         at (inl e) ih = (x, List·Memᴰ·head refl, sym e)
         at (inr n) ih = let r = ih n in (r .0, List·Memᴰ·tail (r .1), r .2)
 
--- a range grows at its end
-pub rangeFrom-more : (i n : ℕ) → rangeFrom i (suc n) ≡ rangeFrom i n ++ ((i + n) ∷ [])
-rangeFrom-more i zero = let e : i ≡ i + 0 = omega arith in ap (λ (k : ℕ). k ∷ []) e
-rangeFrom-more i (suc n) =
-    let e : suc i + n ≡ i + suc n = omega arith in
-    ap (λ (l : List ℕ). i ∷ l)
-    (rangeFrom-more (suc i) n ∙ ap (λ (k : ℕ). rangeFrom (suc i) n ++ (k ∷ [])) e)
+-- an injection into a list that is no longer meets every element
+module _ (R : ℕ → ℕ → Type 0) (ys : List ℕ) where
+  -- the elements that an injection meets: as many as it starts from
+  record Onto (xs zs : List ℕ) : Type 0 where
+    many : length zs ≡ length xs
+    once : Distinct zs
+    inside : (z : ℕ) → z ∈ zs → z ∈ ys
+    from : (z : ℕ) → z ∈ zs → (x : ℕ) × x ∈ xs × R x z
+
+  onto : (xs : List ℕ) → Distinct xs → ((x : ℕ) → x ∈ xs → (y : ℕ) × y ∈ ys × R x y)
+      → ((x z y : ℕ) → x ∈ xs → z ∈ xs → R x y → R z y → x ≡ z) → (zs : List ℕ) × Onto xs zs
+  onto [] d f i = (
+    [],
+    record {
+      many = refl;
+      once = tt;
+      inside = λ z m. absurd (List·Memᴰ·not-nil m);
+      from = λ z m. absurd (List·Memᴰ·not-nil m);
+    },
+  )
+  onto (x ∷ xs) d f i =
+      go (onto xs (d .1) (λ z m. f z (List·Memᴰ·tail m))
+      (λ a b c m n. i a b c (List·Memᴰ·tail m) (List·Memᴰ·tail n)))
+      (f x (List·Memᴰ·head refl))
+    where
+      go : (zs : List ℕ) × Onto xs zs → (y : ℕ) × y ∈ ys × R x y → (zs : List ℕ) × Onto (x ∷ xs) zs
+      go r y = (
+        y .0 ∷ r .0,
+        record {
+          many = ap suc (r .1 .many);
+          once = (λ m. new (r .1 .from (y .0) m), r .1 .once);
+          inside = λ z m. within z (List·Memᴰ·cases-cons m);
+          from = λ z m. origin z (List·Memᴰ·cases-cons m);
+        },
+      )
+        where
+          new : (z : ℕ) × z ∈ xs × R z (y .0) → ⊥
+          new q =
+              d .0 (subst (λ (k : ℕ). k ∈ xs)
+              (i (q .0) x (y .0) (List·Memᴰ·tail (q .1)) (List·Memᴰ·head refl) (q .2) (y .2)) (q .1))
+
+          within : (z : ℕ) → (z ≡ y .0) ⊎ z ∈ r .0 → z ∈ ys
+          within z (inl e) = rw e (y .1)
+          within z (inr m) = r .1 .inside z m
+
+          origin : (z : ℕ) → (z ≡ y .0) ⊎ z ∈ r .0 → (w : ℕ) × w ∈ (x ∷ xs) × R w z
+          origin z (inl e) = (x, List·Memᴰ·head refl, subst (R x) (sym e) (y .2))
+          origin z (inr m) = let q = r .1 .from z m in (q .0, List·Memᴰ·tail (q .1), q .2)
+
+  pub inject-onto : (xs : List ℕ) → Distinct xs → ((x : ℕ) → x ∈ xs → (y : ℕ) × y ∈ ys × R x y)
+      → ((x z y : ℕ) → x ∈ xs → z ∈ xs → R x y → R z y → x ≡ z) → length ys ≤ length xs
+      → (y : ℕ) → y ∈ ys → (x : ℕ) × x ∈ xs × R x y
+  inject-onto xs d f i l y m = go (onto xs d f i)
+    where
+      go : (zs : List ℕ) × Onto xs zs → (x : ℕ) × x ∈ xs × R x y
+      go r =
+          let n = r .1 .many in
+          let q = subset-full (r .0) ys (r .1 .once) (r .1 .inside) (omega arith) y m in
+          let w = r .1 .from (q .0) (q .1) in
+          (w .0, w .1, subst (R (w .0)) (q .2) (w .2))

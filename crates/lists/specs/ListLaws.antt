@@ -1,46 +1,17 @@
--- Laws of the functions in Lists: what is an element of a filter, a map, a flatMap, a range; tests as facts.
+-- What is an element of a filter, a map, a flatMap, and what any, all and firstHit say of the elements.
 use mathlib.Core.Path.{_≡_, refl, ap, _∙_, subst}
 use mathlib.Core.Logic.{_⊎_, inl, inr}
-use mathlib.Core.Bool.{Bool, true, false, not, _&&_, _||_}
+use mathlib.Core.Bool.{Bool, true, false}
 use mathlib.Core.List.{List, [], _∷_, map, List·Memᴰ·head, List·Memᴰ·tail, List·Memᴰ·cases-cons}
 use mathlib.Core.List.{List·Memᴰ·not-nil, Memᴰ·append-left, Memᴰ·append-right, List·Memᴰ·append-cases}
 use mathlib.Core.Option.{Option, some, none}
-use Prim.Native.Nat.{ℕ, zero, suc, _+_, _≤_, _<_}
+use Prim.Native.Nat.{ℕ, zero, suc, _<_}
+use native.Mathlib.Nat.{not-suc-le-zero, le-of-suc-le-suc}
 use native.Mathlib.Omega.{arith}
-use lib.Dec.{T, eqb, eqb→eq, eqb-refl, T-not}
-use Rattle.lists.specs.Lists.{_∈_, keep, filter, any, all, orElse, flatMap, firstHit, rangeFrom, range}
+use lib.Dec.{T}
 use lib.ListN.{length, getD}
-
-pub T-and-l : (a b : Bool) → T (a && b) → T a
-T-and-l true b t = tt
-T-and-l false b t = t
-
-pub T-and-r : (a b : Bool) → T (a && b) → T b
-T-and-r true b t = t
-T-and-r false b t = absurd t
-
-pub T-and : (a b : Bool) → T a → T b → T (a && b)
-T-and true b s t = t
-T-and false b s t = s
-
-pub T-or : (a b : Bool) → T (a || b) → T a ⊎ T b
-T-or true b t = inl tt
-T-or false b t = inr t
-
-pub T-or-l : (a b : Bool) → T a → T (a || b)
-T-or-l true b t = tt
-T-or-l false b t = absurd t
-
-pub T-or-r : (a b : Bool) → T b → T (a || b)
-T-or-r true b t = tt
-T-or-r false b t = t
-
-pub T-dec : (b : Bool) → T b ⊎ T (not b)
-T-dec true = inl tt
-T-dec false = inr tt
-
-pub neqb→ne : (m n : ℕ) → T (not (eqb m n)) → m ≡ n → ⊥
-neqb→ne m n t e = T-not (eqb m n) t (rw e (eqb-refl n))
+use Rattle.lists.specs.Lists.{_∈_, keep, filter, any, all, orElse, flatMap, firstHit}
+use Rattle.lists.specs.Booleans.{T-and-l, T-and-r, T-and, T-or, T-or-l, T-or-r}
 
 module _ {A : Type 0} where
   pub mem-filter : (p : A → Bool) (xs : List A) {x : A} → x ∈ xs → T (p x) → x ∈ filter p xs
@@ -87,6 +58,23 @@ module _ {A : Type 0} where
       go : T (p y) ⊎ T (any p ys) → (T (any p ys) → (x : A) × x ∈ ys × T (p x)) → (x : A) × x ∈ (y ∷ ys) × T (p x)
       go (inl u) ih = (y, List·Memᴰ·head refl, u)
       go (inr u) ih = let r = ih u in (r .0, List·Memᴰ·tail (r .1), r .2)
+
+  pub all-mem : (p : A → Bool) (xs : List A) → T (all p xs) → {x : A} → x ∈ xs → T (p x)
+  unfolding all
+  all-mem p [] t m = absurd (List·Memᴰ·not-nil m)
+  all-mem p (y ∷ ys) t (List·Memᴰ·head q) = rw q (T-and-l (p y) _ t)
+  all-mem p (y ∷ ys) t (List·Memᴰ·tail m) = all-mem p ys (T-and-r (p y) _ t) m
+
+  pub mem-all : (p : A → Bool) (xs : List A) → ((x : A) → x ∈ xs → T (p x)) → T (all p xs)
+  unfolding all
+  mem-all p [] f = tt
+  mem-all p (x ∷ xs) f =
+      T-and (p x) (all p xs) (f x (List·Memᴰ·head refl)) (mem-all p xs (λ y m. f y (List·Memᴰ·tail m)))
+
+  pub getD-mem : (xs : List A) (i : ℕ) (d : A) → i < length xs → getD xs i d ∈ xs
+  getD-mem [] i d h = absurd (not-suc-le-zero h)
+  getD-mem (x ∷ xs) zero d h = List·Memᴰ·head refl
+  getD-mem (x ∷ xs) (suc i) d h = List·Memᴰ·tail (getD-mem xs i d (le-of-suc-le-suc h))
 
 module _ {A B : Type 0} where
   pub mem-map : (f : A → B) {xs : List A} {x : A} → x ∈ xs → f x ∈ map f xs
@@ -137,34 +125,3 @@ module _ {A B : Type 0} where
       go none p q (inl r) ih = rw r p
       go none p q (inr m′) ih = ih q m′
   first-none f [] e m = absurd (List·Memᴰ·not-nil m)
-
-mem-rangeFrom : (i n : ℕ) {x : ℕ} → i ≤ x → x < i + n → x ∈ rangeFrom i n
-mem-rangeFrom i zero h k = absurd (omega arith)
-mem-rangeFrom i (suc n) {x} h k = go (T-dec (eqb x i)) (λ h′. mem-rangeFrom (suc i) n h′ (omega arith))
-  where
-    go : T (eqb x i) ⊎ T (not (eqb x i)) → (suc i ≤ x → x ∈ rangeFrom (suc i) n) → x ∈ rangeFrom i (suc n)
-    go (inl t) ih = List·Memᴰ·head (eqb→eq x i t)
-    go (inr t) ih = List·Memᴰ·tail (ih (omega (arith, neqb→ne x i t)))
-
-pub mem-range : (n : ℕ) {x : ℕ} → x < n → x ∈ range n
-mem-range n {x} h = mem-rangeFrom 0 n (omega arith) (omega arith)
-
-rangeFrom-lt : (i n : ℕ) {x : ℕ} → x ∈ rangeFrom i n → x < i + n
-rangeFrom-lt i zero m = absurd (List·Memᴰ·not-nil m)
-rangeFrom-lt i (suc n) (List·Memᴰ·head q) = omega arith
-rangeFrom-lt i (suc n) (List·Memᴰ·tail m) = let r = rangeFrom-lt (suc i) n m in omega arith
-
-pub range-lt : (n : ℕ) {x : ℕ} → x ∈ range n → x < n
-range-lt n m = let r = rangeFrom-lt 0 n m in omega arith
-
-module _ {A : Type 0} where
-  pub all-mem : (p : A → Bool) (xs : List A) → T (all p xs) → {x : A} → x ∈ xs → T (p x)
-  unfolding all
-  all-mem p [] t m = absurd (List·Memᴰ·not-nil m)
-  all-mem p (y ∷ ys) t (List·Memᴰ·head q) = rw q (T-and-l (p y) _ t)
-  all-mem p (y ∷ ys) t (List·Memᴰ·tail m) = all-mem p ys (T-and-r (p y) _ t) m
-
-pub getD-mem : (l : List ℕ) (i : ℕ) → i < length l → getD l i 0 ∈ l
-getD-mem [] i h = absurd (omega arith)
-getD-mem (x ∷ l) zero h = List·Memᴰ·head refl
-getD-mem (x ∷ l) (suc i) h = List·Memᴰ·tail (getD-mem l i (omega arith))

@@ -10,17 +10,16 @@ use borrow.Author.Tests.{le-leb, eqb-true}
 use lib.Dec.{leb}
 use lib.IntN.{ℤ, pos}
 use lib.Signed.{leZ}
-use lib.ListN.{length, getD, set, take, replicate, length-replicate, getD-replicate, List·getD-eq-default}
-use lib.Seq.{getD-set-same, set-set, set-getD, ext-getD, length-take-le, getD-take}
-use Rattle.lists.specs.Tests.{all-every}
-use Rattle.lists.specs.Padded.{padded}
+use lib.ListN.{length, getD, set, take, List·getD-eq-default}
+use lib.Seq.{getD-set-same, set-set, set-getD, length-take-le, getD-take}
+use Rattle.lists.specs.TestLaws.{all-every}
+use Rattle.lists.specs.PaddedLaws.{padded-take, replicate-is}
 use Rattle.rules.specs.declared.Literal.{Literal}
 use Rattle.rules.specs.Flat.{borderCount}
 use Rattle.rules.specs.FlatLaws.{counts}
 use Rattle.rules.specs.Codes.{codeOf}
 use Rattle.board.specs.declared.Board.{Board}
 use Rattle.board.specs.declared.Outcome.the-variants.{Done}
-use Rattle.board.specs.ListExtras.{getD-padded, length-padded}
 use Rattle.board.specs.Alien.{coloursRight, clueRight, cluesRight, stacked, boardOf, boardWith, isAlien}
 use Rattle.board.specs.Board.{freshBoard, returned, pushed, freshOf, decideOf, Small, Typed}
 use Rattle.board.specs.View.{sideIn}
@@ -43,23 +42,6 @@ produced-known b (afterUndo c _ p e) =
     let r = produced-known c p in (undo-keeps c (r .1) e, undone-typed c (r .1) e)
 
 -- ---- a board with an empty stack is a fresh one
-padded-take : {A : Type 0} (z : A) (n m : ℕ) (l : List A) → length l ≡ n → m ≤ n
-    → ((i : ℕ) → m ≤ i → getD l i z ≡ z) → padded n z (take m l) ≡ l
-padded-take z n m l e h f =
-    let t = length-take-le m l (omega arith) in
-    let w = length-padded n z (take m l) (omega arith) in
-    ext-getD z (padded n z (take m l)) l (w ∙ sym e)
-    (λ i k. getD-padded n z (take m l) i ∙ go i t (decLt i m))
-  where
-    go : (i : ℕ) → length (take m l) ≡ m → Dec (i < m) → getD (take m l) i z ≡ getD l i z
-    go i t (yes q) = getD-take m l i z q
-    go i t (no q) = List·getD-eq-default (take m l) z (omega arith) ∙ sym (f i (omega arith))
-
-zeros : (n : ℕ) (l : List ℕ) → length l ≡ n → ((i : ℕ) → getD l i 0 ≡ 0) → replicate n 0 ≡ l
-zeros n l e f =
-    let w = length-replicate {A = ℕ} n 0 in
-    ext-getD 0 (replicate n 0) l (w ∙ sym e) (λ i k. getD-replicate {A = ℕ} n i 0 0 (omega arith) ∙ sym (f i))
-
 module _ (b : Board) (N : Native b) (T : Typed b) (e : b .count ≡ 0) where
   cells : ℕ
   cells = b .height * b .width
@@ -107,8 +89,8 @@ module _ (b : Board) (N : Native b) (T : Typed b) (e : b .count ≡ 0) where
       λ i.
       boardOf (b .height) (b .width) (padded-take 0 1024 cells (b .colours) (T .colours) f (N .noColour) i)
       (padded-take (pos 0) 1024 cells (b .clues) (T .clues) f (N .noClue) i)
-      (zeros 1984 (b .borders) (T .borders) border-zero i)
-      (zeros 1984 (b .stack) (T .stack) (λ j. N .noEntry j (omega arith)) i) (sym e i)
+      (sym (replicate-is 0 1984 (b .borders) (T .borders) (λ x h. border-zero x)) i)
+      (sym (replicate-is 0 1984 (b .stack) (T .stack) (λ j h. N .noEntry j (omega arith))) i) (sym e i)
 
   accepted : freshOf (b .height) (b .width) cs ks ≡ returned Done b
   unfolding cs ks cells coloursRight cluesRight

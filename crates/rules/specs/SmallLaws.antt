@@ -8,7 +8,7 @@ use native.Mathlib.Omega.{arith}
 use lib.Dec.{eqb}
 use lib.ListN.{length, length-map}
 use Rattle.lists.specs.Lists.{filter, any}
-use Rattle.lists.specs.Appends.{length-filter}
+use Rattle.lists.specs.Filters.{length-filter}
 use Rattle.rules.specs.declared.Side.{Side}
 use Rattle.rules.specs.declared.Literal.{Literal}
 use Rattle.rules.specs.Page.{Hop, undecided, decided, openAt}

@@ -6,9 +6,9 @@ use native.Mathlib.Omega.{arith}
 use borrow.Author.Needs.{needs}
 use lib.Dec.{eqb}
 use lib.ListN.{getD}
-use Rattle.lists.specs.Tests.{all-none, allBelow}
+use Rattle.lists.specs.Tests.{allBelow}
+use Rattle.lists.specs.TestLaws.{all-none, all-or, all-stop}
 use Rattle.board.specs.Alien.{borderRight, bordersBy}
-use Rattle.board.specs.ListExtras.{all-or, all-stop}
 use Rattle.board.proofs.conditions.borders_right.Statement.{statement}
 use Rattle.board.proofs.conditions.borders_right.Tie as tie
 

@@ -7,9 +7,9 @@ use lib.IntN.{pos}
 use lib.ListN.{getD}
 use mir.Facts.{toZ-ofZ}
 use mir.Syntax.{w32}
-use Rattle.lists.specs.Tests.{all-none, allBelow}
+use Rattle.lists.specs.Tests.{allBelow}
+use Rattle.lists.specs.TestLaws.{all-none, all-and, all-stop}
 use Rattle.board.specs.Alien.{clueRight, cluesRight}
-use Rattle.board.specs.ListExtras.{all-and, all-stop}
 use Rattle.board.proofs.conditions.clues_right.Statement.{statement}
 use Rattle.board.proofs.conditions.clues_right.Tie as tie
 

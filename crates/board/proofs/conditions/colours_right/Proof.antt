@@ -5,9 +5,9 @@ use native.Mathlib.Omega.{arith}
 use borrow.Author.Needs.{needs}
 use lib.Dec.{leb}
 use lib.ListN.{getD}
-use Rattle.lists.specs.Tests.{all-none, allBelow}
+use Rattle.lists.specs.Tests.{allBelow}
+use Rattle.lists.specs.TestLaws.{all-none, all-and, all-stop}
 use Rattle.board.specs.Alien.{coloursRight}
-use Rattle.board.specs.ListExtras.{all-and, all-stop}
 use Rattle.board.proofs.conditions.colours_right.Statement.{statement}
 use Rattle.board.proofs.conditions.colours_right.Tie as tie
 

@@ -6,9 +6,8 @@ use Prim.Native.Nat.{_-_, _<_, _≤_, ℕ}
 use native.Mathlib.Omega.{arith}
 use borrow.Author.Needs.{needs}
 use lib.ListN.{getD, getD-replicate, length, length-replicate, length-set}
-use Rattle.lists.specs.Tests.{all-none}
+use Rattle.lists.specs.TestLaws.{all-none, all-and}
 use Rattle.board.specs.Alien.{stacked, onceEach}
-use Rattle.board.specs.ListExtras.{all-and}
 use Rattle.board.specs.ConditionLaws.{flags-more, stacked-none}
 use Rattle.board.proofs.conditions.flag_stack.Statement.{statement}
 use Rattle.board.proofs.conditions.flag_stack.Tie as tie

@@ -7,20 +7,21 @@ use lib.IntN.{pos}
 use lib.ListN.{getD, length}
 use mir.Facts.{toZ-ofZ}
 use mir.Syntax.{w32}
+use Rattle.lists.specs.Tests.{allBetween}
+use Rattle.lists.specs.TestLaws.{between-none, between-and, between-stop}
 use Rattle.board.specs.Alien.{clueZero, zeroCluesFrom}
-use Rattle.board.specs.ListExtras.{allFrom, from-none, from-and, from-stop}
 use Rattle.board.proofs.conditions.zero_clues_from.Statement.{statement}
 use Rattle.board.proofs.conditions.zero_clues_from.Tie as tie
 
 abbrev Inv-loop : tie.InvT-loop
 Inv-loop places from zero₀ i₀ zero i =
-    (from ≤ i) × (i - from ≤ length places - from) × (zero ≡ allFrom from i (λ x. clueZero (getD places x (pos 0))))
+    (from ≤ i) × (i - from ≤ length places - from) × (zero ≡ allBetween from i (λ x. clueZero (getD places x (pos 0))))
 
 abbrev μ-loop : tie.MeasureT-loop
 μ-loop places from zero₀ i₀ zero i = length places - i
 
 loop-holds : tie.Need-loop-holds Inv-loop μ-loop
-loop-holds c = (search needs, omega arith, sym (from-none _ _ _ (omega arith)))
+loop-holds c = (search needs, omega arith, sym (between-none _ _ _ (omega arith)))
 
 mul-clue-zero : tie.Need-mul-clue-zero Inv-loop μ-loop
 mul-clue-zero c = omega arith
@@ -44,12 +45,12 @@ loop-again c =
     let e = toZ-ofZ {w = w32} {z = z} (sfits-of (c .before .clue-zero-arg .given)) in (
       omega arith,
       omega arith,
-      from-and _ (r .i) _ (r .zero) _ (r .inv .2) (simp e at (c .clue-zero .ensures)) (r .inv .0),
+      between-and _ (r .i) _ (r .zero) _ (r .inv .2) (simp e at (c .clue-zero .ensures)) (r .inv .0),
     )
 
 returns : tie.Need-returns Inv-loop μ-loop
 unfolding zeroCluesFrom
-returns c = let r = c .before .loop in r .inv .2 ∙ from-stop _ (r .i) _ _ (omega arith) (omega arith) (omega arith)
+returns c = let r = c .before .loop in r .inv .2 ∙ between-stop _ (r .i) _ _ (omega arith) (omega arith) (omega arith)
 
 pub zero-clues-from-spec : {M : Type 1} → statement M
 zero-clues-from-spec =

@@ -5,20 +5,21 @@ use native.Mathlib.Omega.{arith}
 use borrow.Author.Needs.{needs}
 use lib.Dec.{eqb}
 use lib.ListN.{getD, length}
+use Rattle.lists.specs.Tests.{allBetween}
+use Rattle.lists.specs.TestLaws.{between-none, between-or, between-stop}
 use Rattle.board.specs.Alien.{zerosFrom}
-use Rattle.board.specs.ListExtras.{allFrom, from-none, from-or, from-stop}
 use Rattle.board.proofs.conditions.zero_entries_from.Statement.{statement}
 use Rattle.board.proofs.conditions.zero_entries_from.Tie as tie
 
 abbrev Inv-loop : tie.InvT-loop
 Inv-loop places from any₀ i₀ any i =
-    (from ≤ i) × (i - from ≤ length places - from) × (eqb any 0 ≡ allFrom from i (λ x. eqb (getD places x 0) 0))
+    (from ≤ i) × (i - from ≤ length places - from) × (eqb any 0 ≡ allBetween from i (λ x. eqb (getD places x 0) 0))
 
 abbrev μ-loop : tie.MeasureT-loop
 μ-loop places from any₀ i₀ any i = length places - i
 
 loop-holds : tie.Need-loop-holds Inv-loop μ-loop
-loop-holds c = (search needs, omega arith, sym (from-none _ _ _ (omega arith)))
+loop-holds c = (search needs, omega arith, sym (between-none _ _ _ (omega arith)))
 
 mul-any : tie.Need-mul-any Inv-loop μ-loop
 mul-any c = omega arith
@@ -35,11 +36,11 @@ loop-less c = omega arith
 loop-again : tie.Need-loop-again Inv-loop μ-loop
 loop-again c =
     let r = c .before .before .loop in
-    (omega arith, omega arith, from-or _ (r .i) _ (r .any) _ (r .inv .2) refl (r .inv .0))
+    (omega arith, omega arith, between-or _ (r .i) _ (r .any) _ (r .inv .2) refl (r .inv .0))
 
 returns : tie.Need-returns Inv-loop μ-loop
 unfolding zerosFrom
-returns c = let r = c .before .loop in r .inv .2 ∙ from-stop _ (r .i) _ _ (omega arith) (omega arith) (omega arith)
+returns c = let r = c .before .loop in r .inv .2 ∙ between-stop _ (r .i) _ _ (omega arith) (omega arith) (omega arith)
 
 pub zero-entries-from-spec : {M : Type 1} → statement M
 zero-entries-from-spec =

@@ -7,7 +7,8 @@ use lib.IntN.{pos}
 use lib.ListN.{getD, length}
 use mir.Facts.{toZ-ofZ}
 use mir.Syntax.{w32}
-use Rattle.lists.specs.Padded.{filled, filled-all, filled-more}
+use Rattle.lists.specs.Padded.{filled}
+use Rattle.lists.specs.PaddedLaws.{filled-all, filled-more}
 use Rattle.board.proofs.padding.padded_clues.Statement.{statement}
 use Rattle.board.proofs.padding.padded_clues.Tie as tie
 

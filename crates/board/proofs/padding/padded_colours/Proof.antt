@@ -4,7 +4,8 @@ use Prim.Native.Nat.{_-_, _≤_}
 use native.Mathlib.Omega.{arith}
 use borrow.Author.Needs.{needs}
 use lib.ListN.{length}
-use Rattle.lists.specs.Padded.{filled, filled-all, filled-more}
+use Rattle.lists.specs.Padded.{filled}
+use Rattle.lists.specs.PaddedLaws.{filled-all, filled-more}
 use Rattle.board.proofs.padding.padded_colours.Statement.{statement}
 use Rattle.board.proofs.padding.padded_colours.Tie as tie
 

@@ -1,0 +1,98 @@
+-- Laws of filters: how long one is, when two are equal, and a filter of the numbers below a bound.
+use mathlib.Core.Path.{_≡_, refl, ap, _∙_}
+use mathlib.Core.Logic.{_⊎_, inl, inr}
+use mathlib.Core.Bool.{Bool, true, false}
+use mathlib.Core.List.{List, [], _∷_, _++_, List·Memᴰ·head, List·Memᴰ·tail, List·Memᴰ·not-nil, List·Memᴰ·cases-cons}
+use Prim.Native.Nat.{ℕ, zero, suc, _+_, _≤_, _<_}
+use native.Mathlib.Omega.{arith}
+use lib.Dec.{T, eqb, eqb→eq, eqb-refl}
+use lib.ListN.{length, length-append}
+use Rattle.lists.specs.Lists.{_∈_, Distinct, keep, filter, any, range}
+use Rattle.lists.specs.Count.{bit, countBelow}
+use Rattle.lists.specs.Booleans.{same-test, false-true}
+use Rattle.lists.specs.ListLaws.{mem-filter, filter-mem, filter-test, any-mem, any-find}
+use Rattle.lists.specs.Appends.{filter-append}
+use Rattle.lists.specs.Ranges.{mem-range, range-more}
+
+module _ {A : Type 0} where
+  pub length-filter : (p : A → Bool) (xs : List A) → length (filter p xs) ≤ length xs
+  unfolding filter
+  length-filter p [] = omega arith
+  length-filter p (x ∷ xs) = go (p x) (length-filter p xs)
+    where
+      go : (b : Bool) → length (filter p xs) ≤ length xs → length (keep b x (filter p xs)) ≤ suc (length xs)
+      go true h = omega arith
+      go false h = omega arith
+
+  -- one fails
+  pub filter-less : (p : A → Bool) (xs : List A) {x : A} → x ∈ xs → p x ≡ false → length (filter p xs) < length xs
+  unfolding filter
+  filter-less p [] m e = absurd (List·Memᴰ·not-nil m)
+  filter-less p (y ∷ xs) {x} m e = go (p y) refl (List·Memᴰ·cases-cons m) (λ n. filter-less p xs n e)
+    where
+      go : (b : Bool) → p y ≡ b → (x ≡ y) ⊎ x ∈ xs → (x ∈ xs → length (filter p xs) < length xs)
+          → length (keep b y (filter p xs)) < suc (length xs)
+      go true f (inl q) ih = false-true (rw q at e) f
+      go true f (inr n) ih = omega (arith, ih n)
+      go false f c ih = omega (arith, length-filter p xs)
+
+  -- two tests that exclude each other
+  pub filter-two : (p q : A → Bool) (xs : List A) → ((x : A) → T (p x) → T (q x) → ⊥)
+      → length (filter p xs) + length (filter q xs) ≤ length xs
+  unfolding filter
+  filter-two p q [] h = omega arith
+  filter-two p q (x ∷ xs) h = go (p x) refl (q x) refl (filter-two p q xs h)
+    where
+      go : (a : Bool) → p x ≡ a → (b : Bool) → q x ≡ b → length (filter p xs) + length (filter q xs) ≤ length xs
+          → length (keep a x (filter p xs)) + length (keep b x (filter q xs)) ≤ suc (length xs)
+      go true e true f k = absurd (h x (rw e tt) (rw f tt))
+      go true e false f k = omega arith
+      go false e true f k = omega arith
+      go false e false f k = omega arith
+
+  pub filter-same : (p q : A → Bool) (xs : List A) → ((x : A) → x ∈ xs → p x ≡ q x) → filter p xs ≡ filter q xs
+  unfolding filter
+  filter-same p q [] e = refl
+  filter-same p q (x ∷ xs) e = rw (e x (List·Memᴰ·head refl), filter-same p q xs (λ y m. e y (List·Memᴰ·tail m)))
+
+  -- none passes
+  pub filter-none : (p : A → Bool) (xs : List A) → ((x : A) → x ∈ xs → p x ≡ false) → filter p xs ≡ []
+  unfolding filter
+  filter-none p [] e = refl
+  filter-none p (x ∷ xs) e = rw (e x (List·Memᴰ·head refl), filter-none p xs (λ y m. e y (List·Memᴰ·tail m)))
+
+  pub distinct-filter : (p : A → Bool) (xs : List A) → Distinct xs → Distinct (filter p xs)
+  unfolding filter
+  distinct-filter p [] d = tt
+  distinct-filter p (x ∷ xs) d = go (p x) (distinct-filter p xs (d .1))
+    where
+      go : (b : Bool) → Distinct (filter p xs) → Distinct (keep b x (filter p xs))
+      go true e = (λ m. d .0 (filter-mem p xs m), e)
+      go false e = e
+
+-- ---- the numbers below n
+-- one more number is tested
+pub filter-more : (p : ℕ → Bool) (n : ℕ) → filter p (range (suc n)) ≡ filter p (range n) ++ keep (p n) n []
+unfolding filter
+filter-more p n = ap (filter p) (range-more n) ∙ filter-append p (range n) (n ∷ [])
+
+pub filter-length : (p : ℕ → Bool) (n : ℕ) → length (filter p (range n)) ≡ countBelow n p
+unfolding filter countBelow
+filter-length p zero = refl
+filter-length p (suc n) =
+    ap length (filter-more p n) ∙ length-append (filter p (range n)) (keep (p n) n [])
+    ∙ omega (arith, filter-length p n, one (p n))
+  where
+    one : (b : Bool) → length (keep b n []) ≡ bit b
+    one true = refl
+    one false = refl
+
+-- a number is among those that pass a test exactly if it passes
+pub any-filter : (p : ℕ → Bool) (n x : ℕ) → x < n → any (eqb x) (filter p (range n)) ≡ p x
+any-filter p n x h =
+    same-test (any (eqb x) (filter p (range n))) (p x)
+    (λ t.
+    let r = any-find (eqb x) (filter p (range n)) t in
+    let e : x ≡ r .0 = eqb→eq x (r .0) (r .2) in
+    rw e (filter-test p (range n) (r .1)))
+    (λ t. any-mem (eqb x) (filter p (range n)) (mem-filter p (range n) (mem-range n h) t) (eqb-refl x))
