@@ -14,7 +14,9 @@ use lib.IntN.{ℤ, pos}
 use lib.ListN.{length, set, getD}
 use lib.Seq.{sets, set-out}
 use Rattle.lists.specs.Lists.{flatMap}
-use Rattle.lists.specs.Table.{table, length-table, getD-table, table-is}
+use Rattle.lists.specs.Table.{table}
+use Rattle.lists.specs.TableLaws.{length-table, getD-table, table-is}
+use Rattle.lists.specs.Stores.{sets-out}
 use Rattle.page.specs.declared.filling.Laid.{Laid}
 use Rattle.page.specs.declared.Clue.{Clue}
 use Rattle.page.specs.Grammar.{clue}
@@ -24,11 +26,6 @@ use Rattle.page.specs.Judge.{placed}
 
 pub record Lays (a : Laid) (ds : List ℕ) (b : Laid) : Type 0 where
   pub on : (more : List ℕ) → sets (b .cells) (b .count) more ≡ sets (a .cells) (a .count) (ds ++ more)
-
--- past the end nothing is stored
-sets-out : {A : Type 0} (l : List A) (i : ℕ) (vs : List A) → length l ≤ i → sets l i vs ≡ l
-sets-out l i [] h = refl
-sets-out l i (v ∷ vs) h = rw (set-out l i v h) (sets-out l (suc i) vs (omega arith))
 
 pub digits-cons : (s : List ℕ) (a e : ℕ) → a < e → digitsIn s a e ≡ digitAt s a ∷ digitsIn s (a + 1) e
 unfolding digitsIn

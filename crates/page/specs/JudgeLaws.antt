@@ -10,12 +10,14 @@ use lib.Dec.{leb, eqb}
 use lib.ListN.{length}
 use borrow.Author.Tests.{eq-eqb, ne-eqb, le-leb, lt-leb, leb-true}
 use Rattle.lists.specs.Lists.{all}
-use Rattle.lists.specs.Table.{length-table}
-use Rattle.lists.specs.Tests.{and-left, and-right, and-fails, allBelow, all-fails, all-every, all-at}
+use Rattle.lists.specs.Tests.{allBelow}
+use Rattle.lists.specs.TableLaws.{length-table}
+use Rattle.lists.specs.Booleans.{and-left, and-right, and-fails}
+use Rattle.lists.specs.TestLaws.{all-fails, all-every, all-at}
+use Rattle.lists.specs.AnyAll.{all-table}
 use Rattle.rules.specs.Flat.{Sized}
 use Rattle.page.specs.Grammar.{Sheet, pageOf}
 use Rattle.page.specs.Places.{digitAt, digitsIn}
-use Rattle.page.specs.ListExtras.{all-table}
 use Rattle.page.specs.Judge.{rejected, accepted, sizeFits, rowsFit, low, twoColours, cluesLow}
 use Rattle.page.specs.Judge.{judgeSheet, judgeRead, judgementOf}
 

@@ -7,7 +7,6 @@ pub mod Printed
 pub mod NumberText
 pub mod Many
 pub mod PageText
-pub mod ListExtras
 pub mod FormLaws
 pub mod Judge
 pub mod JudgeLaws

@@ -12,7 +12,7 @@ use Prim.Native.Nat.{ℕ, zero, suc, _+_, _-_, _*_, _/_, _%_, _<_, _≤_}
 use native.Mathlib.Omega.{arith}
 use lib.Dec.{ltb, leb, eqb}
 use borrow.Author.Tests.{lt-ltb, le-ltb, le-leb, eq-eqb, ne-eqb, eqb-true, leb-true, ltb-true, ltb-false}
-use Rattle.lists.specs.Tests.{and-left, and-right}
+use Rattle.lists.specs.Booleans.{and-left, and-right}
 use Rattle.page.specs.Parsers.{number, numberOn, mayFollow, digit, digits, digitsOn, withDigit}
 use Rattle.page.specs.Decimal.{decimalIn, decimal}
 use Rattle.page.specs.ParserLaws.{may, digit-low, digit-high}

@@ -11,7 +11,7 @@ use lib.Dec.{ltb, leb}
 use lib.Seq.{drop-cons}
 use borrow.Author.Tests.{lt-ltb, le-ltb, le-leb, lt-leb, eq-eqb, ne-eqb, leb-true}
 use Rattle.lists.specs.Table.{table}
-use Rattle.lists.specs.Tests.{and-left, and-right}
+use Rattle.lists.specs.Booleans.{and-left, and-right}
 use Rattle.page.specs.Parsers.{rest, strip, number, numberOn, mayFollow, withDigit, digitsOn, digits, digit}
 use Rattle.page.specs.Places.{digitAt, digitsIn}
 

@@ -6,18 +6,21 @@ use mathlib.Core.Path.{_≡_, refl, sym, ap, ap₂, _∙_}
 use mathlib.Core.Bool.{Bool, true, false, not, _&&_, _||_, cond}
 use mathlib.Core.List.{List, [], _∷_, _++_}
 use Prim.Native.Nat.{ℕ, _+_, _*_, _/_, _%_, _<_, _≤_}
-use native.Mathlib.Nat.{div-add-mod', add-mul}
+use native.Mathlib.Nat.{div-add-mod', mul-comm}
 use native.Mathlib.Decide.{ℕ-discrete}
 use native.Mathlib.Omega.{arith}
 use borrow.Author.Tests.{eq-eqb, ne-eqb, eqb-true, ltb-true, le-leb}
 use lib.Arith.{digits-div, digits-mod}
-use lib.Dec.{ltb, eqb}
+use lib.Dec.{ltb, eqb, eqb→eq}
 use lib.IntN.{ℤ, pos, negsuc}
-use lib.ListN.{length, getD, set, take, drop, replicate, length-append, length-replicate, getD-replicate, length-set}
+use lib.ListN.{length, getD, set, take, drop, replicate, length-replicate, getD-replicate, length-set}
 use lib.Seq.{sets, sets-eq, take-at, getD-set-same, getD-set-other, getD-take, length-take-le}
 use Rattle.lists.specs.Lists.{all, any, flatMap}
-use Rattle.lists.specs.Table.{length-table, table-is}
-use Rattle.lists.specs.Tests.{and-left, and-right}
+use Rattle.lists.specs.TableLaws.{length-table, table-is}
+use Rattle.lists.specs.Booleans.{and-left, and-right}
+use Rattle.lists.specs.Flats.{length-flat}
+use Rattle.lists.specs.ListLaws.{all-mem}
+use Rattle.lists.specs.Appends.{all-append}
 use Rattle.rules.specs.Flat.{Sized}
 use Rattle.page.specs.declared.Clue.{Clue}
 use Rattle.page.specs.Grammar.{Sheet, onPage, sameCell, cluesFit}
@@ -32,17 +35,6 @@ pub record Makes (p : Sheet) : Type 0 where
   pub clues : cluesLow (p .height * p .width / 2) (p .clues) ≡ true
 
 -- colours
-length-flat : (w : ℕ) (rows : List (List ℕ)) → all (λ ds. eqb (length ds) w) rows ≡ true
-    → length (flatMap (λ ds. ds) rows) ≡ length rows * w
-unfolding all flatMap
-length-flat w [] e = omega arith
-length-flat w (ds ∷ rows) e =
-    let a : length ds ≡ w = eqb-true (length ds) w (and-left (eqb (length ds) w) _ e) in
-    let b : length (flatMap (λ ds. ds) rows) ≡ length rows * w =
-    length-flat w rows (and-right (eqb (length ds) w) _ e) in
-    let k : (1 + length rows) * w ≡ 1 * w + length rows * w = add-mul 1 (length rows) w in
-    omega (arith, length-append ds (flatMap (λ ds. ds) rows))
-
 pub colours-length : (p : Sheet) → rowsFit (p .height) (p .width) (p .rows) ≡ true
     → length (coloursOf p) ≡ p .height * p .width
 unfolding rowsFit coloursOf
@@ -50,8 +42,11 @@ colours-length p e =
     let f : List ℕ → Bool = λ ds. eqb (length ds) (p .width) in
     let a : p .height ≡ length (p .rows) =
     eqb-true (p .height) (length (p .rows)) (and-right (all f (p .rows)) _ e) in
-    length-flat (p .width) (p .rows) (and-left (all f (p .rows)) (eqb (p .height) (length (p .rows))) e) ∙
-    ap (λ (n : ℕ). n * p .width) (sym a)
+    let t : all f (p .rows) ≡ true = and-left (all f (p .rows)) (eqb (p .height) (length (p .rows))) e in
+    length-flat (λ ds. ds) (p .width) (p .rows)
+    (λ ds m. eqb→eq (length ds) (p .width) (all-mem f (p .rows) (rw t tt) m))
+    ∙ mul-comm (p .width) (length (p .rows))
+    ∙ ap (λ (n : ℕ). n * p .width) (sym a)
 
 abbrev blank : List ℕ
 blank = replicate 1024 0
@@ -65,19 +60,13 @@ colours-front p n e h =
     let q : sets blank 0 ds ≡ ds ++ drop (0 + length ds) blank = sets-eq ds blank 0 (omega arith) in
     rw q (take-at ds (drop (0 + length ds) blank) n e)
 
-all-append : (f : ℕ → Bool) (xs ys : List ℕ) → all f xs ≡ true → all f ys ≡ true → all f (xs ++ ys) ≡ true
-unfolding all
-all-append f [] ys a b = b
-all-append f (x ∷ xs) ys a b =
-    rw (and-left (f x) (all f xs) a, all-append f xs ys (and-right (f x) (all f xs) a) b)
-
 -- every colour is 0 or 1
 pub colours-low : (rows : List (List ℕ)) → twoColours rows ≡ true → all low (flatMap (λ ds. ds) rows) ≡ true
 unfolding twoColours all flatMap
 colours-low [] e = refl
 colours-low (ds ∷ rows) e =
-    all-append low ds (flatMap (λ ds. ds) rows) (and-left (all low ds) _ e)
-    (colours-low rows (and-right (all low ds) _ e))
+    all-append low ds (flatMap (λ ds. ds) rows)
+    ∙ rw (and-left (all low ds) _ e, colours-low rows (and-right (all low ds) _ e))
 
 -- clues: a cell that no clue names keeps what it has
 absent : (z : ℤ) (c : Clue) (cs : List Clue) → any (sameCell c) cs ≡ false → clueOn z cs (c .y) (c .x) ≡ z

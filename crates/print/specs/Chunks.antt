@@ -14,7 +14,8 @@ use native.Mathlib.Decide.{ℕ-discrete}
 use native.Mathlib.Omega.{arith}
 use lib.ListN.{length, take, getD}
 use lib.Seq.{length-take-le, getD-take}
-use Rattle.lists.specs.Table.{table, table-is}
+use Rattle.lists.specs.Table.{table}
+use Rattle.lists.specs.TableLaws.{table-is}
 use Rattle.page.specs.Many.{showAll}
 use Rattle.print.specs.declared.Chunk.{Chunk}
 use Rattle.print.specs.declared.Line.{Line}

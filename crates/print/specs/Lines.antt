@@ -23,6 +23,7 @@ use borrow.Author.Tests.{ltb-true, ltb-false}
 use lib.Dec.{ltb}
 use lib.ListN.{length, take, drop, set, getD, replicate, length-append}
 use lib.Seq.{sets, sets-eq, length-sets, take-suc, take-length, take-at, drop-at}
+use Rattle.lists.specs.Stores.{sets-append}
 use Rattle.page.specs.Decimal.{decimal}
 use Rattle.page.specs.NumberText.{decimal-one, decimal-more}
 use Rattle.print.specs.declared.Line.{Line}
@@ -49,14 +50,6 @@ written-none m at = record { memory = refl; next = omega arith }
 pub written-byte : (m : List ℕ) (at b : ℕ) → Written m at (b ∷ []) (set m at b) (at + 1)
 written-byte m at b = record { memory = refl; next = refl }
 
-sets-append : (ds es m : List ℕ) (at : ℕ) → sets (sets m at ds) (at + length ds) es ≡ sets m at (ds ++ es)
-sets-append [] es m at =
-    let k : at + 0 ≡ at = omega arith in
-    ap (λ (n : ℕ). sets m n es) k
-sets-append (d ∷ ds) es m at =
-    let k : at + suc (length ds) ≡ suc at + length ds = omega arith in
-    ap (λ (n : ℕ). sets (sets (set m at d) (suc at) ds) n es) k ∙ sets-append ds es (set m at d) (suc at)
-
 pub written-length : {m ds e : List ℕ} {at r : ℕ} → Written m at ds e r → length e ≡ length m
 written-length {m} {ds} {at = at} w = ap length (w .memory) ∙ length-sets m at ds
 
@@ -65,7 +58,7 @@ pub written-more : {m ds e es f : List ℕ} {at r q : ℕ} → Written m at ds e
 written-more {m} {ds} {es = es} {at = at} p w =
     record {
       memory =
-          w .memory ∙ ap₂ (λ (l : List ℕ) (n : ℕ). sets l n es) (p .memory) (p .next) ∙ sets-append ds es m at;
+          w .memory ∙ ap₂ (λ (l : List ℕ) (n : ℕ). sets l n es) (p .memory) (p .next) ∙ sym (sets-append m at ds es);
       next = omega (arith, p .next, w .next, length-append ds es);
     }
 

@@ -7,17 +7,19 @@
 use mathlib.Core.Path.{_≡_, refl, sym, ap}
 use mathlib.Core.Bool.{Bool, true, false, _&&_, cond}
 use mathlib.Core.List.{List, [], _∷_}
-use Prim.Native.Nat.{ℕ, zero, suc, _*_, _/_, _%_, _<_, _≤_}
+use Prim.Native.Nat.{ℕ, _*_, _/_, _%_, _<_, _≤_}
 use native.Mathlib.Decide.{decLt}
 use native.Mathlib.Omega.{arith}
 use borrow.Author.Tests.{le-leb, leb-true}
 use lib.Dec.{eqb, leb}
 use lib.IntN.{ℤ, pos, negsuc}
-use lib.ListN.{length, getD, List·getD-eq-default}
+use lib.ListN.{getD, List·getD-eq-default}
 use lib.Signed.{leZ}
 use Rattle.lists.specs.Lists.{all}
-use Rattle.lists.specs.Table.{getD-table}
-use Rattle.lists.specs.Tests.{and-left, and-right, all-every}
+use Rattle.lists.specs.TableLaws.{getD-table}
+use Rattle.lists.specs.Booleans.{and-left, and-right}
+use Rattle.lists.specs.TestLaws.{all-every}
+use Rattle.lists.specs.AnyAll.{all-get}
 use Rattle.rules.specs.FlatLaws.{counts}
 use Rattle.board.specs.declared.Returned.{Returned}
 use Rattle.board.specs.Alien.{sizeRight, cellsOf, coloursRight, cluesRight}
@@ -38,12 +40,6 @@ cells-few h w = go (sizeRight h w) refl
     go : (x : Bool) → sizeRight h w ≡ x → cond x (h * w) 0 ≤ 1024
     go true e = counts (sized e) .cells
     go false e = omega arith
-
-all-get : (f : ℕ → Bool) (xs : List ℕ) (i : ℕ) → all f xs ≡ true → i < length xs → f (getD xs i 0) ≡ true
-unfolding all
-all-get f [] i e h = absurd (omega arith)
-all-get f (x ∷ xs) zero e h = and-left (f x) (all f xs) e
-all-get f (x ∷ xs) (suc i) e h = all-get f xs i (and-right (f x) (all f xs) e) (omega arith)
 
 -- the bounds of a page's clue, where no clue is above most
 pub record Clued (most : ℕ) (k : ℤ) : Type 0 where
@@ -84,7 +80,7 @@ module _ (s : List ℕ) (p : Sheet) (e : judgementOf s ≡ accepted p) where
   colours-right =
       let l = page .coloursLength in
       all-every (p .height * p .width) _
-      (λ i h. all-get low (coloursOf p) i (colours-low (p .rows) (page .makes .colours)) (omega arith))
+      (λ i h. all-get low (coloursOf p) i 0 (colours-low (p .rows) (page .makes .colours)) (omega arith))
 
   clues-right : cluesRight (cluesOf p) (p .height * p .width) ≡ true
   unfolding cluesRight

@@ -1,9 +1,9 @@
 -- `clues_low` meets its contract: the clues from p on are low if those from `at` on are.
 use Prim.Native.Nat.{_-_}
+use Rattle.lists.specs.AnyAll.{all-nil, all-miss, all-skip}
 use Rattle.page.specs.FormLaws.{from-past, from-none, from-more}
 use Rattle.page.specs.Grammar.{clue}
 use Rattle.page.specs.Judge.{cluesLow}
-use Rattle.page.specs.ListExtras.{all-nil, all-fails, all-more}
 use Rattle.page.specs.Many.{passes}
 use Rattle.page.specs.PageText.{clue-takes}
 use Rattle.page.specs.Places.{allFrom, gotClue}
@@ -46,7 +46,7 @@ unfolding gotClue cluesLow
 returns-2 c =
     sym
     (c .before .before .before .before .before .before .before .loop .inv ∙
-    all-fails _ (from-more clue-takes _ _ _ _
+    all-miss _ (from-more clue-takes _ _ _ _
     (told (gotClue _) (c .before .before .before .before .before .clue-at .ensures)
     (c .before .before .before .c .given .1)))
     (lt-leb _ _ (c .if1 .taken)))
@@ -61,7 +61,7 @@ loop-again : tie.Need-loop-again Inv-loop μ-loop
 unfolding gotClue cluesLow
 loop-again c =
     c .before .before .before .before .before .before .before .loop .inv ∙
-    all-more _ (from-more clue-takes _ _ _ _
+    all-skip _ (from-more clue-takes _ _ _ _
     (told (gotClue _) (c .before .before .before .before .before .clue-at .ensures)
     (c .before .before .before .c .given .1)))
     (le-leb _ _ (c .if1 .left))

@@ -1,9 +1,9 @@
 -- `two_colours` meets its contract: the rows from p on have two colours if those from `at` on do.
 use Prim.Native.Nat.{_-_}
+use Rattle.lists.specs.AnyAll.{all-nil, all-miss, all-skip}
 use Rattle.page.specs.FormLaws.{from-past, from-none, from-more}
 use Rattle.page.specs.Grammar.{row}
 use Rattle.page.specs.Judge.{twoColours}
-use Rattle.page.specs.ListExtras.{all-nil, all-fails, all-more}
 use Rattle.page.specs.Many.{passes}
 use Rattle.page.specs.PageText.{row-takes}
 use Rattle.page.specs.Places.{allFrom, gotRow}
@@ -52,7 +52,7 @@ loop-again : tie.Need-loop-again Inv-loop μ-loop
 unfolding gotRow twoColours
 loop-again c =
     c .before .before .before .before .before .before .before .loop .inv ∙
-    all-more _ (from-more row-takes _ _ _ _
+    all-skip _ (from-more row-takes _ _ _ _
     (told (gotRow _) (c .before .before .before .before .before .row-at .ensures)
     (c .before .before .before .from .given .1)))
     (sym (c .before .digits-low .ensures) ∙ c .if1 .taken)
@@ -62,7 +62,7 @@ unfolding gotRow twoColours
 returns-2 c =
     sym
     (c .before .before .before .before .before .before .before .loop .inv ∙
-    all-fails _ (from-more row-takes _ _ _ _
+    all-miss _ (from-more row-takes _ _ _ _
     (told (gotRow _) (c .before .before .before .before .before .row-at .ensures)
     (c .before .before .before .from .given .1)))
     (sym (c .before .digits-low .ensures) ∙ c .if1 .left))

@@ -1,9 +1,9 @@
 -- `clue_again` meets its contract: the clues from p on name the cell if those from `at` on do.
 use Prim.Native.Nat.{_-_}
 use Rattle.lists.specs.Lists.{any}
+use Rattle.lists.specs.AnyAll.{any-nil, any-hit, any-skip}
 use Rattle.page.specs.FormLaws.{from-past, from-none, from-more}
 use Rattle.page.specs.Grammar.{clue, sameCell}
-use Rattle.page.specs.ListExtras.{any-none, any-hit, any-more}
 use Rattle.page.specs.Many.{passes}
 use Rattle.page.specs.PageText.{clue-takes}
 use Rattle.page.specs.Places.{allFrom, gotClue}
@@ -37,7 +37,7 @@ unfolding gotClue
 returns c =
     sym
     (c .before .before .before .before .loop .inv ∙
-    any-none _ (from-none clue-takes _ _
+    any-nil _ (from-none clue-takes _ _
     (told (gotClue _) (c .before .before .clue-at .ensures) (c .enum-told .given .1))))
 
 same-cell-requires : tie.Need-same-cell-requires Inv-loop μ-loop
@@ -63,13 +63,13 @@ loop-again : tie.Need-loop-again Inv-loop μ-loop
 unfolding gotClue
 loop-again c =
     c .before .before .before .before .before .before .before .loop .inv ∙
-    any-more _ (from-more clue-takes _ _ _ _
+    any-skip _ (from-more clue-takes _ _ _ _
     (told (gotClue _) (c .before .before .before .before .before .clue-at .ensures)
     (c .before .before .before .d .given .1)))
     (sym (c .before .same-cell .ensures) ∙ c .if1 .left)
 
 returns-3 : tie.Need-returns-3 Inv-loop μ-loop
-returns-3 c = sym (c .before .loop .inv ∙ any-none _ (from-past clue-takes _ _ (search needs)))
+returns-3 c = sym (c .before .loop .inv ∙ any-nil _ (from-past clue-takes _ _ (search needs)))
 
 pub clue-again-spec : {M : Type 1} → statement M
 clue-again-spec =
