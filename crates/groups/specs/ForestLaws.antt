@@ -8,7 +8,7 @@ use native.Mathlib.Decide.{ℕ-discrete}
 use borrow.Author.Tests.{le-leb, lt-leb}
 use lib.ListN.{getD, set, replicate, length-set, length-replicate}
 use lib.Seq.{getD-set-same, getD-set-other}
-use Rattle.lists.specs.Padded.{zeros}
+use Rattle.lists.specs.PaddedLaws.{zeros}
 use Rattle.rules.specs.Groups.{entry, rename, mergeIf}
 use Rattle.groups.specs.Forests.{Forest, Rep}
 use Rattle.groups.specs.LabelLaws.{rename-hit, rename-miss, rename-same, renamed, labelled-renamed}

@@ -10,12 +10,13 @@ use borrow.Author.Tests.{eqb-true, eq-eqb, ne-eqb, leb-true, leb-false}
 use lib.Dec.{leb}
 use lib.ListN.{length, getD, length-map, List·getD-eq-default}
 use Rattle.lists.specs.Lists.{range}
-use Rattle.lists.specs.Count.{countBelow, count-le}
+use Rattle.lists.specs.Count.{countBelow}
+use Rattle.lists.specs.CountLaws.{count-le, count-grows, count-all, count-full}
+use Rattle.lists.specs.Ranges.{length-range, range-at, range-more}
+use Rattle.lists.specs.Maps.{getD-map}
 use Rattle.rules.specs.Page.{Page}
 use Rattle.rules.specs.Groups.{entry, rename, merge, mergeIf, mergeAll, labels, isFirst, numbers, groupCount}
 use Rattle.groups.specs.Forests.{after, Labelled}
-use Rattle.groups.specs.ListExtras.{range-length, range-at, range-more, getD-map, count-under}
-use Rattle.groups.specs.ListExtras.{count-all, count-full}
 
 pub rename-hit : (lo hi l : ℕ) → l ≡ hi → rename lo hi l ≡ lo
 rename-hit lo hi l e = rw (eq-eqb l hi e)
@@ -26,7 +27,7 @@ rename-miss lo hi l e = rw (ne-eqb l hi e)
 module _ (n lo hi : ℕ) (L : List ℕ) (x : Labelled n L) (le : lo ≤ hi) (own : getD L lo 0 ≡ lo) where
   -- the label of cell i after a merge
   pub renamed : (i : ℕ) → i < n → getD (map (rename lo hi) L) i 0 ≡ rename lo hi (getD L i 0)
-  renamed i h = getD-map (rename lo hi) L i (omega (arith, x .size))
+  renamed i h = getD-map (rename lo hi) L i 0 0 (omega (arith, x .size))
 
   stays : lo < n → getD (map (rename lo hi) L) lo 0 ≡ lo
   stays h = renamed lo h ∙ ap (rename lo hi) own ∙ go (ℕ-discrete lo hi)
@@ -94,7 +95,7 @@ module _ (n : ℕ) (some : 1 ≤ n) (L : List ℕ) (x : Labelled n L) where
 pub labelled-range : (n : ℕ) → Labelled n (range n)
 labelled-range n =
     record {
-      size = range-length n;
+      size = length-range 0 n;
       least = λ i h. omega (arith, range-at n i h);
       twice = λ i h. ap (λ (j : ℕ). getD (range n) j 0) (range-at n i h);
     }
@@ -138,23 +139,23 @@ module _ (G : Page) (link : ℕ → Bool) where
     pub number-at : (i : ℕ) → i < G .cells
         → entry (numbers G link) i ≡ countBelow (getD (labels G link) i 0) (isFirst (labels G link))
     unfolding numbers entry
-    number-at i h = getD-map _ (labels G link) i (omega (arith, labelled .size))
+    number-at i h = getD-map _ (labels G link) i 0 0 (omega (arith, labelled .size))
 
     -- every cell's number is below the count
     pub number-lt : (i : ℕ) → i < G .cells → entry (numbers G link) i < groupCount G link
     unfolding groupCount isFirst entry
     number-lt i h =
         rw (number-at i h)
-        (count-under (isFirst (labels G link)) (getD (labels G link) i 0) (G .cells)
-        (omega (arith, labelled .least i h)) (eq-eqb _ _ (labelled .twice i h)))
+        (count-grows (getD (labels G link) i 0) (G .cells) (isFirst (labels G link))
+        (omega (arith, labelled .least i h)) (rw (eq-eqb _ _ (labelled .twice i h)) tt))
 
     -- where there are as many groups as cells, a cell's number is its place
     pub number-alone : groupCount G link ≡ G .cells → (i : ℕ) → i < G .cells → entry (numbers G link) i ≡ i
     unfolding groupCount isFirst entry
     number-alone e i h =
-        let first = count-full (isFirst (labels G link)) (G .cells) e in
+        let first = count-full (G .cells) (isFirst (labels G link)) e in
         rw (number-at i h, eqb-true (getD (labels G link) i 0) i (first i h))
-        (count-all (isFirst (labels G link)) i (λ x l. first x (omega arith)))
+        (count-all i (isFirst (labels G link)) (λ x l. first x (omega arith)))
 
   pub groupCount-le : groupCount G link ≤ G .cells
   unfolding groupCount

@@ -2,7 +2,6 @@ pub mod Kinds
 pub mod Parts
 pub mod Forests
 pub mod Arrays
-pub mod ListExtras
 pub mod KindLaws
 pub mod LabelLaws
 pub mod ForestLaws

@@ -9,6 +9,7 @@ use native.Mathlib.Omega.{arith}
 use native.Mathlib.Decide.{ℕ-discrete, decLt}
 use lib.ListN.{getD}
 use lib.Seq.{ext-getD}
+use Rattle.lists.specs.Ranges.{range-at}
 use Rattle.rules.specs.Page.{Page}
 use Rattle.rules.specs.Groups.{entry, rename, mergeIf}
 use Rattle.groups.specs.Forests.{after, Labelled}
@@ -16,7 +17,6 @@ use Rattle.groups.specs.Ties.{joined}
 use Rattle.groups.specs.LabelLaws.{rename-hit, rename-miss, renamed, labelled-merge, labelled-after}
 use Rattle.groups.specs.LabelLaws.{after-none, after-more}
 use Rattle.groups.specs.ForestLaws.{merge-earlier, merge-later}
-use Rattle.groups.specs.ListExtras.{range-at}
 
 -- the labels N are M with hi renamed to lo, which are the labels of the cells u and v
 record Renames (n : ℕ) (M N : List ℕ) (u v : ℕ) : Type 0 where

@@ -10,14 +10,15 @@ use lib.Dec.{eqb, eqb→eq, eqb-refl}
 use lib.ListN.{length, getD, take, drop, length-drop}
 use lib.Seq.{drop-append-le, take-append-le, getD-take, getD-drop}
 use Rattle.lists.specs.Lists.{_∈_, flatMap, range}
-use Rattle.lists.specs.ListLaws.{filter-mem, filter-test, mem-filter, mem-range, range-lt, flat-find, getD-mem}
-use Rattle.lists.specs.Table.{length-table}
+use Rattle.lists.specs.ListLaws.{filter-mem, filter-test, mem-filter, flat-find, getD-mem}
 use Rattle.lists.specs.Padded.{padded}
+use Rattle.lists.specs.Ranges.{mem-range, range-lt}
+use Rattle.lists.specs.TableLaws.{length-table}
+use Rattle.lists.specs.PaddedLaws.{getD-padded, length-padded}
 use Rattle.rules.specs.Page.{Page}
 use Rattle.rules.specs.Groups.{entry, numbers, groupCount, members}
 use Rattle.groups.specs.Parts.{startOf, startsOf, cellsOf, listed, partOf, groupsOf}
 use Rattle.groups.specs.Arrays.{Blank}
-use Rattle.groups.specs.ListExtras.{padded-at, padded-length}
 use Rattle.groups.specs.LabelLaws.{numbers-length, number-lt, groupCount-le}
 use Rattle.groups.specs.NumberLaws.{starts-at, starts-past, starts-length, starts-end, blank-padded}
 use Rattle.groups.specs.SortLaws.{cells-length, cells-none, start-suc, start-up, start-le, listed-length}
@@ -26,7 +27,7 @@ use Rattle.groups.specs.SortLaws.{listed-part}
 -- an array filled up with 0 numbers the cells as its list does
 pub entry-padded : (n : ℕ) (l : List ℕ) → entry (padded n 0 l) ≡ entry l
 unfolding entry
-entry-padded n l = fun-ext (λ x. padded-at n l x)
+entry-padded n l = fun-ext (λ x. getD-padded n 0 l x)
 
 module _ (G : Page) (number : ℕ → ℕ) where
   pub members-cells : (g : ℕ) → members G number g ≡ cellsOf (G .cells) number g
@@ -68,11 +69,11 @@ module _ (G : Page) (link : ℕ → Bool) (some : 1 ≤ G .cells) (few : G .cell
 
   pub ids-length : length (groupsOf G link .ids) ≡ 1024
   unfolding groupsOf
-  ids-length = padded-length 1024 (numbers G link) (omega (arith, numbers-length G link some))
+  ids-length = length-padded 1024 0 (numbers G link) (omega (arith, numbers-length G link some))
 
   pub ids-lt : (x : ℕ) → x < G .cells → getD (groupsOf G link .ids) x 0 < groupsOf G link .count
   unfolding groupsOf entry
-  ids-lt x h = rw (padded-at 1024 (numbers G link) x) (number-lt G link some x h)
+  ids-lt x h = rw (getD-padded 1024 0 (numbers G link) x) (number-lt G link some x h)
 
   pub count-le : groupsOf G link .count ≤ G .cells
   unfolding groupsOf
@@ -120,13 +121,13 @@ module _ (G : Page) (link : ℕ → Bool) (some : 1 ≤ G .cells) (few : G .cell
 
   pub cells-long : length (groupsOf G link .cells) ≡ 1024
   cells-long =
-      ap length cells-are ∙ padded-length 1024 (listed (G .cells) number count) (omega (arith, listed-all))
+      ap length cells-are ∙ length-padded 1024 0 (listed (G .cells) number count) (omega (arith, listed-all))
 
   -- every listed cell is a cell of the page
   pub cells-lt : (i : ℕ) → i < G .cells → getD (groupsOf G link .cells) i 0 < G .cells
   cells-lt i h =
-      rw (cells-are, padded-at 1024 (listed (G .cells) number count) i)
-      (inside (getD-mem (listed (G .cells) number count) i (omega (arith, listed-all))))
+      rw (cells-are, getD-padded 1024 0 (listed (G .cells) number count) i)
+      (inside (getD-mem (listed (G .cells) number count) i 0 (omega (arith, listed-all))))
     where
       inside : {x : ℕ} → x ∈ listed (G .cells) number count → x < G .cells
       inside {x} m =

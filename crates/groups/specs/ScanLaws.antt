@@ -11,12 +11,9 @@ use lib.Dec.{eqb}
 use lib.ListN.{length, getD, set}
 use lib.Seq.{getD-set-same, getD-set-other}
 use Rattle.lists.specs.Count.{bit}
+use Rattle.lists.specs.Booleans.{false-true}
 use Rattle.groups.specs.Forests.{Forest}
 use Rattle.groups.specs.Ties.{Tied, Scanned}
-
--- no test is both
-pub false-true : {A : Type 0} {t : Bool} → t ≡ false → t ≡ true → A
-false-true e f = let z : _≡_ {A = ℕ} 0 1 = cc in absurd (omega arith)
 
 module _ (w : ℕ) (left above : ℕ → Bool) where
   tied-less : (c : ℕ) (L : List ℕ) → Tied (c + 1) w left above L → Tied c w left above L
@@ -234,7 +231,3 @@ pub pick-low : (l u : Bool) (c a b : ℕ) → a ≤ c → b ≤ c → cond u a (
 pick-low l true c a b ha hb = ha
 pick-low true false c a b ha hb = hb
 pick-low false false c a b ha hb = omega arith
-
-pub bit-few : (b : Bool) → bit b ≤ 1
-bit-few true = omega arith
-bit-few false = omega arith

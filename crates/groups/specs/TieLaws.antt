@@ -1,9 +1,9 @@
 -- Laws of the flags on a flat page: they say which borders join, and the pass over them leads to the labels.
-use mathlib.Core.Path.{_≡_, refl, sym, ap, _∙_}
+use mathlib.Core.Path.{_≡_, sym, ap, _∙_}
 use mathlib.Core.Bool.{Bool, true, false}
 use mathlib.Core.List.{List}
 use mathlib.Core.Logic.{_⊎_, inl, inr}
-use Prim.Native.Nat.{ℕ, zero, suc, _+_, _-_, _*_, _/_, _%_, _<_, _≤_}
+use Prim.Native.Nat.{ℕ, _+_, _-_, _*_, _/_, _%_, _<_, _≤_}
 use native.Mathlib.Nat.{add-zero, add-mul, mul-zero, div-add-mod', mod-lt, div-lt-iff-lt-mul}
 use native.Mathlib.Omega.{arith}
 use native.Mathlib.Decide.{ℕ-discrete, decLt}
@@ -11,7 +11,9 @@ use borrow.Author.Tests.{eq-eqb, ne-eqb, lt-ltb, le-ltb}
 use lib.Arith.{digits-lt, digits-div, digits-mod}
 use lib.ListN.{length, getD, set, take, replicate, length-set, length-replicate}
 use lib.Seq.{getD-set-other, getD-take, length-take-le}
-use Rattle.lists.specs.Table.{stored-more}
+use Rattle.lists.specs.TableLaws.{stored-more}
+use Rattle.lists.specs.PaddedLaws.{replicate-at}
+use Rattle.lists.specs.Booleans.{false-true}
 use Rattle.rules.specs.Flat.{Sized, flat, flatFirst, flatSecond, borderCount}
 use Rattle.rules.specs.FlatLaws.{counts}
 use Rattle.rules.specs.Groups.{entry}
@@ -19,7 +21,6 @@ use Rattle.groups.specs.Forests.{after, Labelled, Forest, Rep}
 use Rattle.groups.specs.Ties.{leftAt, aboveAt, Flagged, Tied, Scanned, joined}
 use Rattle.groups.specs.LabelLaws.{labelled-after}
 use Rattle.groups.specs.GridLaws.{right-first, right-second, right-lt, below-first, below-second, below-lt}
-use Rattle.groups.specs.ScanLaws.{false-true}
 use Rattle.groups.specs.MergeLaws.{labels-one, after-meets, after-sound}
 use Rattle.groups.specs.MergeLaws.{joined-labels, joined-keeps, joined-meets, joined-sound}
 
@@ -44,11 +45,6 @@ flagged-past n i f flags v h s =
 
 pub flagged-none : (f : ℕ → Bool) (flags : List Bool) → length flags ≡ 1024 → Flagged 0 f flags
 flagged-none f flags e = record { long = e; at = λ x h. absurd (omega arith) }
-
-unflagged : (n k : ℕ) → getD (replicate n false) k false ≡ false
-unflagged zero k = refl
-unflagged (suc n) zero = refl
-unflagged (suc n) (suc k) = unflagged n k
 
 -- the flags at a place
 module _ (h w : ℕ) (link : ℕ → Bool) where
@@ -79,7 +75,7 @@ module _ (h w : ℕ) (link : ℕ → Bool) where
   above-none flags e =
       rw e (record {
         long = length-replicate 1024 false;
-        at = λ x l. unflagged 1024 x ∙ sym (above-first x l);
+        at = λ x l. replicate-at false 1024 x ∙ sym (above-first x l);
       })
 
 -- a border is right of a cell or below one

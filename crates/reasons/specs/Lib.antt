@@ -1,6 +1,5 @@
 pub mod Arrays
 pub mod Memory
-pub mod ListExtras
 pub mod MemoryLaws
 pub mod StepLaws
 pub mod ScanLaws

@@ -10,8 +10,10 @@ use lib.Dec.{ltb}
 use lib.ListN.{length, getD, set, length-append, length-set, replicate, getD-replicate, length-replicate}
 use lib.Seq.{slice, slice-cons, slice-empty, getD-set-same, getD-set-other}
 use Rattle.lists.specs.Lists.{any}
-use Rattle.lists.specs.Tests.{and-fails}
-use Rattle.lists.specs.Count.{count-none, count-le}
+use Rattle.lists.specs.Booleans.{and-fails, false-true}
+use Rattle.lists.specs.CountLaws.{count-none, count-le}
+use Rattle.lists.specs.Arithmetic.{if-same}
+use Rattle.lists.specs.Stores.{slice-push}
 use Rattle.rules.specs.declared.Literal.{Literal}
 use Rattle.rules.specs.Page.{Page, State, Hop, isOpen, openAt}
 use Rattle.rules.specs.Flat.{flat}
@@ -20,29 +22,25 @@ use Rattle.rules.specs.Reasons.{Found, Search, isFound, visitIf, look, hunt, tr
 use Rattle.reasons.specs.Memory.{Wrote}
 use Rattle.reasons.specs.MemoryLaws.{wrote-none, wrote-more, wrote-length}
 use Rattle.reasons.specs.Arrays.{isFlagged}
-use Rattle.reasons.specs.ListExtras.{if-same}
 use Rattle.reasons.specs.Search.{pathIn, Lined, Holds, Looked, Ended}
-use Rattle.reasons.specs.SearchLaws.{trace-other, found-other, count-set, slice-push, unflagged}
+use Rattle.reasons.specs.SearchLaws.{trace-other, found-other, count-set, unflagged}
 
 -- what is found stays found, and so does its way back: so the search may stop early
 module _ (a : ℕ) where
   abbrev Kept : Search → Search → ℕ → Type 0
   Kept t u c = (isFound a (u .found) c ≡ true) × (trace (u .found) c ≡ trace (t .found) c)
 
-  clash : (v : Bool) → v ≡ true → v ≡ false → ⊥
-  clash v p q = let z : _≡_ {A = ℕ} 0 1 = cc in omega arith
-
   keep-visit : (v : Bool) (x : ℕ) (k : Hop) (t : Search) (c : ℕ) → (v ≡ true → isFound a (t .found) (k .to) ≡ false)
       → isFound a (t .found) c ≡ true → Kept t (visitIf v x k t) c
   keep-visit true x k t c n e =
-      let other : c ≡ k .to → ⊥ = λ q. clash (isFound a (t .found) (k .to)) (rw q at e) (n refl) in
+      let other : c ≡ k .to → ⊥ = λ q. false-true (n refl) (rw q at e) in
       (found-other (t .found) (k .to) (k .border) x a c other ∙ e, trace-other (t .found) (k .to) (k .border) x c other)
   keep-visit false x k t c n e = (e, refl)
 
   fresh : (p q : Bool) → (p && not q) ≡ true → q ≡ false
   fresh p false e = refl
   fresh true true e = sym e
-  fresh false true e = absurd (clash false e refl)
+  fresh false true e = false-true refl e
 
   module _ (G : Page) (s : ℕ → State) where
     look-keeps : (x : ℕ) (hs : List Hop) (t : Search) (c : ℕ) → isFound a (t .found) c ≡ true

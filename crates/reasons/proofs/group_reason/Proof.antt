@@ -2,7 +2,8 @@
 use mathlib.Core.Path.{_≡_, refl}
 use mathlib.Core.Bool.{true}
 use lib.ListN.{replicate, set}
-use Rattle.reasons.specs.Arrays.{part, groupReason, scanOf}
+use Rattle.lists.specs.Parts.{part}
+use Rattle.reasons.specs.Arrays.{groupReason, scanOf}
 use Rattle.reasons.specs.ScanLaws.{Only, only, part-cells, group-scan}
 use borrow.Author.Needs.{needs}
 use Rattle.reasons.proofs.group_reason.Statement.{statement}

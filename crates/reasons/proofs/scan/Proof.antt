@@ -3,10 +3,11 @@ use mathlib.Core.Path.{_≡_}
 use mathlib.Core.List.{List}
 use Prim.Native.Nat.{ℕ, _+_, _-_, _≤_}
 use lib.ListN.{getD}
+use Rattle.lists.specs.Parts.{part}
+use Rattle.lists.specs.UpTo.{upTo}
 use Rattle.rules.specs.declared.Literal.{Literal}
 use Rattle.reasons.specs.Memory.{Wrote}
-use Rattle.reasons.specs.Arrays.{Cells, part, scanAt, scanOf}
-use Rattle.reasons.specs.ListExtras.{upTo}
+use Rattle.reasons.specs.Arrays.{Cells, scanAt, scanOf}
 use Rattle.reasons.specs.MemoryLaws.{loop-none, loop-more, loop-fits, loop-end, wrote-length}
 use Rattle.reasons.specs.ScanLaws.{scan-part}
 use native.Mathlib.Omega.{arith}

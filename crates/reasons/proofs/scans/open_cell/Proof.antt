@@ -4,11 +4,11 @@ use mathlib.Core.Bool.{true}
 use mathlib.Core.List.{List, []}
 use Prim.Native.Nat.{ℕ, _+_, _*_, _≤_}
 use lib.ListN.{length}
+use Rattle.lists.specs.UpTo.{upTo}
 use Rattle.rules.specs.declared.Side.the-variants.{Open}
 use Rattle.rules.specs.declared.Literal.{Literal}
 use Rattle.reasons.specs.Memory.{Wrote}
 use Rattle.reasons.specs.Arrays.{scanTo, scanAt}
-use Rattle.reasons.specs.ListExtras.{upTo}
 use Rattle.reasons.specs.MemoryLaws.{loop-none, loop-more, loop-fits}
 use Rattle.reasons.specs.StepLaws.{Row, row-of}
 use Rattle.reasons.specs.ScanLaws.{scan-open}

@@ -3,12 +3,12 @@ use mathlib.Core.Path.{_≡_}
 use mathlib.Core.List.{List}
 use Prim.Native.Nat.{ℕ, _+_, _<_, _≤_}
 use lib.ListN.{length}
+use Rattle.lists.specs.UpTo.{upTo}
 use Rattle.rules.specs.declared.Side.the-variants.{Wall}
 use Rattle.rules.specs.declared.Literal.{Literal}
 use Rattle.rules.specs.FlatLaws.{counts}
 use Rattle.reasons.specs.Memory.{Wrote}
 use Rattle.reasons.specs.Arrays.{scanTo, scanAt}
-use Rattle.reasons.specs.ListExtras.{upTo}
 use Rattle.reasons.specs.MemoryLaws.{loop-none, loop-more, loop-fits}
 use Rattle.reasons.specs.StepLaws.{Row, row-of}
 use Rattle.reasons.specs.ScanLaws.{scan-walls}
