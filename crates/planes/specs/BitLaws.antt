@@ -13,8 +13,8 @@ use lib.Dec.{eqb, eqb·zero-suc, eqb·suc-zero, eqb·suc-suc}
 use lib.Arith.{digits-div, digits-mod, lt-one}
 use lib.Pow.{pow-mono, shr-shr, pow-lt, shl-shr, shr-lt}
 use lib.Bits.{bitAnd, bitOr, and-step, and-shr, or-step, or-shr, shifted-even, shifted-half}
-use Rattle.lists.specs.Tests.{anyBelow, any-cong}
-use Rattle.planes.specs.Extras.{any-first}
+use Rattle.lists.specs.Tests.{anyBelow}
+use Rattle.lists.specs.TestLaws.{any-cong, any-first}
 use Rattle.planes.specs.Bits.{bit, flag}
 
 pub flag-lt : (b : Bool) → flag b < 2

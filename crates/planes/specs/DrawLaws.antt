@@ -13,11 +13,11 @@ use borrow.Author.Tests.{lt-ltb, le-ltb, le-leb, lt-leb}
 use lib.Dec.{eqb}
 use lib.ListN.{length, getD, set, replicate, length-set, length-replicate}
 use lib.Seq.{getD-set-same, getD-set-other}
-use Rattle.lists.specs.Padded.{zeros}
-use Rattle.lists.specs.Table.{table-is, length-table}
+use Rattle.lists.specs.PaddedLaws.{zeros}
+use Rattle.lists.specs.TableLaws.{table-is, length-table}
+use Rattle.lists.specs.Arithmetic.{le-or-lt, eq-or-not}
 use Rattle.rules.specs.Flat.{Sized}
 use Rattle.rules.specs.FlatLaws.{counts, spot}
-use Rattle.planes.specs.Extras.{le-or-lt, eq-or-not}
 use Rattle.planes.specs.RowLaws.{row-fits}
 use Rattle.planes.specs.Planes.{clearAt, clearRow, lineWord, planeRow, planeWord, planesOf}
 

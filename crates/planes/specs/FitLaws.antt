@@ -11,21 +11,23 @@ use lib.ListN.{length, getD, drop, length-take}
 use lib.Seq.{getD-take, getD-drop}
 use Rattle.lists.specs.Lists.{_∈_, any, all}
 use Rattle.lists.specs.ListLaws.{flat-find}
-use Rattle.lists.specs.Table.{getD-table}
-use Rattle.lists.specs.Tests.{allBelow, all-cong, and-left, and-right}
-use Rattle.lists.specs.Tests.{any-some as any-found}
+use Rattle.lists.specs.Tests.{allBelow}
+use Rattle.lists.specs.TableLaws.{getD-table}
+use Rattle.lists.specs.TestLaws.{all-cong, any-some, any-witness}
+use Rattle.lists.specs.Booleans.{and-left, and-right, same-true}
+use Rattle.lists.specs.Parts.{part}
+use Rattle.lists.specs.AnyAll.{any-holds, holds-any, all-range, any-flat}
 use Rattle.rules.specs.declared.Placement.the-variants.{Fits}
 use Rattle.rules.specs.Page.{Puzzle, State}
 use Rattle.rules.specs.Codes.{statesIn}
 use Rattle.rules.specs.Check.{isFit}
-use Rattle.reasons.specs.Arrays.{Cells, part}
+use Rattle.reasons.specs.Arrays.{Cells}
 use Rattle.search.specs.declared.Reading.{Reading}
 use Rattle.search.specs.declared.Reading.the-variants.{Ends, Clear, Walled}
 use Rattle.search.specs.JudgeLaws.{after, blocked-never, readAt, readFrom, laid-after}
 use Rattle.search.specs.Placing.{Drawn, Raised, puzzle, bare, spelled, readRaised, readingOf, isClear, fitsOf}
-use Rattle.search.specs.SearchLaws.{any-flat, cells-at}
+use Rattle.search.specs.SearchLaws.{cells-at}
 use Rattle.search.specs.Searching.{Beside, groupIn, fitsAmong, fitsBeside}
-use Rattle.planes.specs.Extras.{same-test, any-some, any-holds, holds-any, all-range}
 use Rattle.planes.specs.Bits.{bit}
 use Rattle.planes.specs.Planes.{planeWord, planesOf}
 use Rattle.planes.specs.PlaneLaws.{plane-clear}
@@ -109,10 +111,10 @@ module _ {h w : ℕ} {cs : List ℕ} (d : Drawn h w cs) (bs ys xs : List ℕ) (n
     sound : maskFits p m h ys xs n ≡ true → any fit os ≡ true
     unfolding maskFits lineFits
     sound e =
-        let a = any-some h (λ y. lineFits p y ys xs n (getD m y 0)) e in
+        let a = any-witness h (λ y. lineFits p y ys xs n (getD m y 0)) e in
         let y = a .0 in
         let tall : y < 32 = omega (arith, a .1, d .sized .tall) in
-        let b = any-some 64 (λ x. bit (getD m y 0) x && allBelow n (clear y x)) (a .2) in
+        let b = any-witness 64 (λ x. bit (getD m y 0) x && allBelow n (clear y x)) (a .2) in
         let x = b .0 in
         let q = any-holds (cellIs w y x) os
         (sym (k .each y x tall) ∙ and-left (bit (getD m y 0) x) (allBelow n (clear y x)) (b .2)) in
@@ -131,12 +133,12 @@ module _ {h w : ℕ} {cs : List ℕ} (d : Drawn h w cs) (bs ys xs : List ℕ) (n
         let narrow : x < 64 = omega (arith, mod-lt c some, d .sized .broad) in
         let here : bit (getD m y 0) x ≡ true = masked-here w c tall (q .1) k in
         let f : allBelow n (clear y x) ≡ true = cell-fits c tall ∙ q .2 in
-        any-found h (λ y. lineFits p y ys xs n (getD m y 0)) y l
-        (any-found 64 (λ x. bit (getD m y 0) x && allBelow n (clear y x)) x narrow (rw (here, f)))
+        any-some h (λ y. lineFits p y ys xs n (getD m y 0)) y l
+        (any-some 64 (λ x. bit (getD m y 0) x && allBelow n (clear y x)) x narrow (rw (here, f)))
 
     pub mask-fits : maskFits (planesOf h w cs bs) m h ys xs n
         ≡ any (fitsOf (puzzle h w cs) (statesIn bs) (bare (spelled ys xs n))) os
-    mask-fits = same-test (maskFits p m h ys xs n) (any fit os) sound complete
+    mask-fits = same-true (maskFits p m h ys xs n) (any fit os) sound complete
 
 mem-index : (xs : List ℕ) {x : ℕ} → x ∈ xs → (i : ℕ) × (i < length xs) × (getD xs i 0 ≡ x)
 mem-index [] m = absurd (List·Memᴰ·not-nil m)

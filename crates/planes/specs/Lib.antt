@@ -1,4 +1,3 @@
-pub mod Extras
 pub mod Bits
 pub mod BitLaws
 pub mod RowLaws

@@ -1,6 +1,6 @@
 -- Laws of masks: one cell more, and the loops that flag the cells of a group and of some groups.
 use mathlib.Core.Path.{_≡_, refl, ap, ap₂, sym, _∙_, subst}
-use mathlib.Core.Bool.{Bool, true, false, _||_}
+use mathlib.Core.Bool.{Bool, true, false, _||_, or-false}
 use mathlib.Core.List.{List, [], _∷_, _++_, append-assoc, append-nil}
 use mathlib.Core.Logic.{_≢_, ⊎-elim}
 use Prim.Native.Nat.{ℕ, zero, _+_, _*_, _/_, _%_, _^_, _<_, _≤_}
@@ -11,13 +11,15 @@ use lib.Bits.{bitOr}
 use lib.Dec.{eqb}
 use lib.ListN.{length, getD, set, replicate, length-set, length-replicate}
 use lib.Seq.{getD-set-same, getD-set-other}
-use Rattle.lists.specs.Padded.{zeros}
 use Rattle.lists.specs.Lists.{_∈_, any, flatMap}
+use Rattle.lists.specs.PaddedLaws.{zeros}
+use Rattle.lists.specs.Parts.{part}
+use Rattle.lists.specs.Appends.{any-append, flat-append}
+use Rattle.lists.specs.PartLaws.{part-none, part-one, part-split}
+use Rattle.lists.specs.Arithmetic.{eq-or-not, eqb-swap}
+use Rattle.lists.specs.AnyAll.{holds-any}
 use Rattle.rules.specs.Flat.{Sized}
-use Rattle.reasons.specs.Arrays.{part}
-use Rattle.search.specs.ListExtras.{any-append, or-false, part-none, part-one, part-split, flat-append}
 use Rattle.search.specs.Searching.{groupIn}
-use Rattle.planes.specs.Extras.{eq-or-not, holds-any}
 use Rattle.planes.specs.Bits.{bit}
 use Rattle.planes.specs.BitLaws.{bit-zero, bit-with}
 use Rattle.planes.specs.Masks.{cellIs, Masked, originsIn}
@@ -47,16 +49,9 @@ module _ (w : ℕ) where
             ap (λ (k : ℕ). bit k x) (getD-set-other m 32 y v 0 (λ (e : y ≡ 32). omega arith)) ∙ d .each y x l;
       }
 
-  swap : (a b : ℕ) → eqb a b ≡ eqb b a
-  swap a b =
-      ⊎-elim
-      (λ (e : a ≡ b). rw e)
-      (λ (e : a ≢ b). ne-eqb a b e ∙ sym (ne-eqb b a (λ (d : b ≡ a). e (sym d))))
-      (eq-or-not a b)
-
   cell-row : (y x c : ℕ) → y ≡ c / w → eqb x (c % w) ≡ cellIs w y x c
   unfolding cellIs
-  cell-row y x c e = rw (eq-eqb (c / w) y (sym e)) (swap x (c % w))
+  cell-row y x c e = rw (eq-eqb (c / w) y (sym e)) (eqb-swap x (c % w))
 
   cell-other : (y x c : ℕ) → y ≢ c / w → false ≡ cellIs w y x c
   unfolding cellIs

@@ -13,6 +13,7 @@ use native.Mathlib.Omega.{arith}
 use borrow.Author.Tests.{eq-eqb, ne-eqb}
 use lib.Arith.{digits-div, digits-mod}
 use lib.ListN.{getD}
+use Rattle.lists.specs.Arithmetic.{eq-or-not}
 use Rattle.rules.specs.declared.Placement.{Placement}
 use Rattle.rules.specs.declared.Placement.the-variants.{Fits, Blocked, Cannot}
 use Rattle.rules.specs.Flat.{Sized, belowOf, rightOf}
@@ -20,7 +21,6 @@ use Rattle.rules.specs.FlatLaws.{counts, spot}
 use Rattle.rules.specs.Page.{wallAt}
 use Rattle.search.specs.Placing.{readRaised}
 use Rattle.search.specs.PlacingLaws.{reads-below, reads-right}
-use Rattle.planes.specs.Extras.{eq-or-not}
 use Rattle.planes.specs.Bits.{bit}
 use Rattle.planes.specs.DrawLaws.{line-in}
 use Rattle.planes.specs.MaskLaws.{place-in}

@@ -9,12 +9,12 @@ use native.Mathlib.Omega.{arith}
 use borrow.Author.Tests.{lt-ltb, le-ltb, le-leb, lt-leb, ne-eqb}
 use lib.Dec.{eqb, ltb, leb}
 use lib.ListN.{getD}
+use Rattle.lists.specs.Arithmetic.{le-or-lt, eq-or-not}
 use Rattle.rules.specs.Codes.{coloursIn, statesIn}
 use Rattle.search.specs.declared.Reading.the-variants.{Ends, Clear, Walled}
 use Rattle.search.specs.Placing.{Drawn, puzzle, readRaised, readingOf, between, isClear}
 use Rattle.search.specs.PlacingLaws.{state-wall, bit-same, right-reading, below-reading, off-ends, off-above, off-left}
 use Rattle.search.specs.PlacingLaws.{off-below, off-right, reads-below, reads-right}
-use Rattle.planes.specs.Extras.{le-or-lt, eq-or-not}
 use Rattle.planes.specs.Bits.{bit}
 use Rattle.planes.specs.BitLaws.{bit-zero, bit-shl, bit-low}
 use Rattle.planes.specs.RowLaws.{row-bit}

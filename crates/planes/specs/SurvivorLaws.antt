@@ -12,25 +12,27 @@ use native.Mathlib.Nat.{eq-or-lt-of-le, div-lt-iff-lt-mul}
 use native.Mathlib.Omega.{arith}
 use lib.Dec.{eqb}
 use lib.ListN.{getD}
-use Rattle.lists.specs.Padded.{zeros}
 use Rattle.lists.specs.Lists.{flatMap, rangeFrom}
 use Rattle.lists.specs.ListLaws.{mem-flat}
-use Rattle.lists.specs.Tests.{allBelow, all-cong, all-at, and-right}
+use Rattle.lists.specs.Tests.{allBelow}
+use Rattle.lists.specs.PaddedLaws.{zeros}
+use Rattle.lists.specs.TestLaws.{all-cong, all-at, all-witness}
+use Rattle.lists.specs.Booleans.{and-right}
+use Rattle.lists.specs.Parts.{part}
+use Rattle.lists.specs.Flats.{flat-same}
+use Rattle.lists.specs.Arithmetic.{le-or-lt}
 use Rattle.rules.specs.declared.Placement.{Placement}
 use Rattle.rules.specs.declared.Placement.the-variants.{Fits, Blocked, Cannot}
 use Rattle.rules.specs.Codes.{statesIn}
 use Rattle.rules.specs.Page.{Puzzle, State, isWall}
 use Rattle.rules.specs.Rules.{oneColour}
 use Rattle.rules.specs.Check.{laid, blockers}
-use Rattle.reasons.specs.Arrays.{part}
-use Rattle.reasons.specs.ListExtras.{flat-same}
 use Rattle.search.specs.declared.Reading.{Reading}
 use Rattle.search.specs.declared.Reading.the-variants.{Ends, Clear, Walled}
 use Rattle.search.specs.JudgeLaws.{after, readAt, readFrom, laid-after}
 use Rattle.search.specs.Placing.{Drawn, Raised, puzzle, bare, spelled, readRaised, readingOf, isClear}
 use Rattle.search.specs.PlacingLaws.{state-wall, off-above, off-left, off-below, off-right}
 use Rattle.search.specs.Searching.{Beside, groupIn, blockOf, blocksAmong, blocksBeside}
-use Rattle.planes.specs.Extras.{le-or-lt}
 use Rattle.planes.specs.Bits.{bit}
 use Rattle.planes.specs.FitLaws.{spot-clear, origins-on}
 use Rattle.planes.specs.Masks.{Masked, originsIn}
@@ -85,17 +87,6 @@ wall-reads Z bs h w y x e j =
         → cond t (cond v (Walled b) Clear) Ends ≡ cond v (Walled b) Clear
     go true v b j = refl
     go false v b j = absurd j
-
-all-some : (n : ℕ) (f : ℕ → Bool) → allBelow n f ≡ false → (j : ℕ) × (j < n) × (f j ≡ false)
-unfolding allBelow
-all-some zero f e = let z : _≡_ {A = ℕ} 0 1 = cc in absurd (omega arith)
-all-some (suc n) f e = go (allBelow n f) (f n) refl refl e (all-some n f)
-  where
-    go : (a b : Bool) → allBelow n f ≡ a → f n ≡ b → a && b ≡ false
-        → (allBelow n f ≡ false → (j : ℕ) × (j < n) × (f j ≡ false)) → (j : ℕ) × (j < suc n) × (f j ≡ false)
-    go true true p q e ih = let z : _≡_ {A = ℕ} 0 1 = cc in absurd (omega arith)
-    go true false p q e ih = (n, omega arith, q)
-    go false b p q e ih = let r = ih p in (r .0, omega (arith, r .1), r .2)
 
 -- the readings of m connections from i on, f of each
 module _ (f : ℕ → Reading) where
@@ -241,7 +232,7 @@ module _ {h w : ℕ} {cs : List ℕ} (d : Drawn h w cs) (bs ys xs : List ℕ) (n
 
   cannot : (y x : ℕ) → joined y x ≡ false → after Fits (map (at s y x) (rangeFrom 0 n)) ≡ Cannot
   cannot y x e =
-      let q = all-some n (λ j. isClear (at (statesIn noWalls) y x j)) e in
+      let q = all-witness n (λ j. isClear (at (statesIn noWalls) y x j)) e in
       after-ends (at s y x) Fits 0 n (q .0) (omega arith) (omega (arith, q .1)) (ends-both Z s _ (q .2))
 
   -- the origins of a mask at which every connection joins one colour

@@ -1,6 +1,6 @@
 -- Laws of the search in one row: the word that is left after some connections, and the loop with its early exit.
 use mathlib.Core.Path.{_≡_, refl, ap₂, sym, _∙_}
-use mathlib.Core.Bool.{Bool, false, not, _&&_}
+use mathlib.Core.Bool.{Bool, false, not, _&&_, and-assoc, and-true}
 use mathlib.Core.List.{List}
 use mathlib.Core.Logic.{⊎-elim}
 use Prim.Native.Nat.{ℕ, zero, suc, _+_, _*_, _/_, _^_, _<_, _≤_}
@@ -10,8 +10,8 @@ use native.Mathlib.Omega.{arith}
 use lib.Bits.{bitAnd, and-le-l}
 use lib.Dec.{eqb}
 use lib.ListN.{getD}
-use Rattle.lists.specs.Tests.{allBelow, any-cong}
-use Rattle.planes.specs.Extras.{and-assoc, and-swap}
+use Rattle.lists.specs.Tests.{allBelow}
+use Rattle.lists.specs.TestLaws.{any-cong}
 use Rattle.planes.specs.Bits.{bit}
 use Rattle.planes.specs.BitLaws.{bit-and, bit-shr, some-bit}
 use Rattle.planes.specs.Masks.{spot, clearWord, lineFits}
@@ -54,7 +54,7 @@ module _ (p : List ℕ) (y : ℕ) (ys xs : List ℕ) (v : ℕ) where
 
   pub left-bit : (n x : ℕ) → bit (left n) x ≡ bit v x && allBelow n (clear x)
   unfolding clearWord allBelow
-  left-bit zero x = and-swap (bit v x)
+  left-bit zero x = sym (and-true (bit v x))
   left-bit (suc n) x =
       bit-and (left n) (mask n) x
       ∙ (ap₂ (λ (a b : Bool). a && b) (left-bit n x)

@@ -2,7 +2,6 @@ pub mod Placing
 pub mod PlacingLaws
 pub mod JudgeLaws
 pub mod Searching
-pub mod ListExtras
 pub mod SearchLaws
 pub mod Mates
 pub mod MateLaws

@@ -1,14 +1,15 @@
 -- Laws of the search: the parts that it goes through lie in their lists, and what it answers is the check's.
-use mathlib.Core.Path.{_≡_, refl, sym, ap, _∙_}
-use mathlib.Core.Bool.{Bool}
-use mathlib.Core.List.{List, [], _∷_, map, List·Memᴰ·head, List·Memᴰ·tail}
+use mathlib.Core.Path.{_≡_, sym, ap, _∙_}
+use mathlib.Core.List.{List, [], map}
 use Prim.Native.Nat.{ℕ, _+_, _-_, _*_, _≤_, _<_}
 use native.Mathlib.Omega.{arith}
 use lib.ListN.{length, getD, drop, length-drop}
 use lib.Seq.{getD-take, length-take-le}
-use Rattle.lists.specs.Appends.{flat-map, flat-flat}
 use Rattle.lists.specs.Lists.{_∈_, any, flatMap}
-use Rattle.lists.specs.ListLaws.{filter-mem, range-lt, getD-mem}
+use Rattle.lists.specs.ListLaws.{filter-mem, getD-mem}
+use Rattle.lists.specs.Flats.{flat-map, flat-flat, flat-same}
+use Rattle.lists.specs.Ranges.{range-lt}
+use Rattle.lists.specs.AnyAll.{any-same, any-map, any-flat}
 use Rattle.rules.specs.Page.{Puzzle, Shape, State}
 use Rattle.rules.specs.Codes.{statesIn}
 use Rattle.rules.specs.Flat.{flat}
@@ -16,7 +17,6 @@ use Rattle.rules.specs.Groups.{members, potentialOf}
 use Rattle.rules.specs.Check.{laid, isFit, blockers, mates}
 use Rattle.reasons.specs.Arrays.{Cells}
 use Rattle.search.specs.Placing.{puzzle, fitsOf}
-use Rattle.search.specs.ListExtras.{any-append}
 use Rattle.search.specs.Mates.{Grouped, Known, Leading}
 use Rattle.search.specs.Searching.{Beside, groupIn, fitsAmong, fitsBeside, blockOf, blocksAmong, blocksBeside}
 
@@ -32,27 +32,6 @@ module _ {h w : ℕ} {cells : List ℕ} {from to : ℕ} (p : Cells h w cells fro
 pub mates-reach : {h w : ℕ} {cells offs mates : List ℕ} {from to : ℕ} → Beside h w cells offs mates from to
     → to ≤ length mates
 mates-reach p = omega (arith, p .end, p .long)
-
-module _ {A B : Type 0} where
-  pub any-map : (p : B → Bool) (f : A → B) (xs : List A) → any p (map f xs) ≡ any (λ x. p (f x)) xs
-  unfolding any
-  any-map p f [] = refl
-  any-map p f (x ∷ xs) = rw (any-map p f xs)
-
-  pub any-flat : (p : B → Bool) (f : A → List B) (xs : List A) → any p (flatMap f xs) ≡ any (λ x. any p (f x)) xs
-  unfolding any flatMap
-  any-flat p f [] = refl
-  any-flat p f (x ∷ xs) = any-append p (f x) (flatMap f xs) ∙ rw (any-flat p f xs)
-
-any-same : (f g : ℕ → Bool) (xs : List ℕ) → ((x : ℕ) → x ∈ xs → f x ≡ g x) → any f xs ≡ any g xs
-unfolding any
-any-same f g [] h = refl
-any-same f g (x ∷ xs) h = rw (h x (List·Memᴰ·head refl), any-same f g xs (λ y m. h y (List·Memᴰ·tail m)))
-
-flat-same : {A : Type 0} (f g : ℕ → List A) (xs : List ℕ) → ((x : ℕ) → x ∈ xs → f x ≡ g x) → flatMap f xs ≡ flatMap g xs
-unfolding flatMap
-flat-same f g [] h = refl
-flat-same f g (x ∷ xs) h = rw (h x (List·Memᴰ·head refl), flat-same f g xs (λ y m. h y (List·Memᴰ·tail m)))
 
 -- the placements of one transform at the cells of some potential units, and the mates of p among them
 module _ {h w : ℕ} {cs bs cells offs : List ℕ} {count : ℕ} (g : Grouped h w cs bs cells offs count) (t : Shape) where
@@ -102,7 +81,7 @@ module _ {h w : ℕ} {cs bs ids cells offs : List ℕ} {count : ℕ} (g : Groupe
         ∙ length-take-le (n - 0) (drop 0 list) (omega (arith, length-drop 0 list, l .long, l .few)) in
         let v : getD f i 0 ≡ getD list i 0 =
         rw (← l .first, getD-take (n - 0) (drop 0 list) i 0 (omega arith)) in
-        rw v at (mates-low g p _ (getD-mem f i (omega arith)))
+        rw v at (mates-low g p _ (getD-mem f i 0 (omega arith)))
 
     pub beside-leading : Beside h w cells offs list 0 n
     beside-leading =

@@ -13,10 +13,11 @@ use mathlib.Core.List.{List}
 use Prim.Native.Nat.{ℕ, _+_, _≤_, _<_}
 use lib.ListN.{length, getD}
 use Rattle.lists.specs.Lists.{any, flatMap}
+use Rattle.lists.specs.Parts.{part}
 use Rattle.rules.specs.declared.Literal.{Literal}
 use Rattle.rules.specs.Page.{Puzzle, Shape, State}
 use Rattle.rules.specs.Check.{laid, blockers}
-use Rattle.reasons.specs.Arrays.{Cells, part}
+use Rattle.reasons.specs.Arrays.{Cells}
 use Rattle.search.specs.Placing.{fitsOf}
 
 unfoldable pub groupIn : List ℕ → List ℕ → ℕ → List ℕ

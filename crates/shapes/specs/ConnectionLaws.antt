@@ -1,7 +1,7 @@
 -- The connections of a cell on a flat page, by its row and column; the cells of a unit by theirs.
 use mathlib.Core.Path.{_≡_, refl, sym, ap, ap₂, _∙_}
 use mathlib.Core.Bool.{Bool, true, false, _&&_}
-use mathlib.Core.List.{List, [], _∷_, _++_, map}
+use mathlib.Core.List.{List, [], _∷_, _++_, map, map-append}
 use Prim.Native.Nat.{ℕ, _+_, _-_, _*_, _/_, _%_, _<_}
 use native.Mathlib.Nat.{add-mul, div-add-mod'}
 use native.Mathlib.Omega.{arith}
@@ -10,9 +10,10 @@ use lib.Arith.{digits-div, digits-mod}
 use lib.Dec.{eqb, ltb}
 use lib.IntN.{pos, natAbs}
 use lib.ListN.{getD}
-use Rattle.lists.specs.Appends.{map-append, filter-append}
+use Rattle.lists.specs.Appends.{filter-append}
 use Rattle.lists.specs.Lists.{keep, filter}
 use Rattle.lists.specs.Table.{table}
+use Rattle.lists.specs.TableLaws.{map-table}
 use Rattle.rules.specs.Page.{Point, _⊕_, Hop}
 use Rattle.rules.specs.Flat.{flat, flatPlace, cellAt, hopIf, hopBelow, hopRight, aheadAt}
 use Rattle.rules.specs.Groups.{entry, members}
@@ -20,7 +21,6 @@ use Rattle.rules.specs.Shapes.{connectionsAt}
 use Rattle.argument.specs.Points.{point-eq}
 use Rattle.shapes.specs.Spots.{placeAt, spotAt, spots, places, UnitAt}
 use Rattle.shapes.specs.Joints.{jointIf}
-use Rattle.shapes.specs.ListExtras.{map-table}
 
 -- one neighbour
 hop-joint : (p : ℕ → Bool) (f : ℕ → Point) (b : Bool) (B C Y X : ℕ) → (b ≡ true → f C ≡ placeAt Y X)

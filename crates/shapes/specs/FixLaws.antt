@@ -4,12 +4,12 @@ use mathlib.Core.Bool.{xor}
 use mathlib.Core.List.{List, [], _∷_, map, Memᴰ·cast}
 use Prim.Native.Nat.{ℕ, zero, suc}
 use lib.Dec.{T}
-use lib.ListN.{length}
+use lib.ListN.{length, length-map}
 use Rattle.argument.specs.Same.{samePoint→eq, samePoint-refl, samePoints→eq}
 use Rattle.argument.specs.Pairs.{distinct-map}
-use Rattle.lists.specs.Tests.{same-test}
 use Rattle.lists.specs.Lists.{_∈_, any, all}
-use Rattle.lists.specs.ListLaws.{mem-map, map-find, any-mem, any-find, all-mem}
+use Rattle.lists.specs.ListLaws.{mem-map, map-find, any-mem, any-find, all-mem, mem-all}
+use Rattle.lists.specs.Booleans.{same-test}
 use Rattle.rules.specs.Page.{Point, _⊕_, opposite}
 use Rattle.rules.specs.Turns.{Turn, apply, compose, keep, half, quarter, halfQuarter, flip}
 use Rattle.rules.specs.Turns.{flipHalf, flipQuarter, flipHalfQuarter}
@@ -23,7 +23,6 @@ use Rattle.shapes.specs.TurnedLaws.{turned-normal, shift-shift}
 use Rattle.shapes.specs.RowLaws.{same-when}
 use Rattle.shapes.specs.Rows.{turnAt, image, fixes}
 use Rattle.shapes.specs.Spots.{leastImage, onto}
-use Rattle.shapes.specs.ListExtras.{length-map, all-every}
 use Rattle.shapes.specs.Order.{Sorted}
 
 -- every row is undone by a row
@@ -67,7 +66,7 @@ shift-sorted v (p ∷ ps) s = (later, shift-sorted v ps (s .1))
 
 pub length-shift : (v : Point) (ps : List Point) → length (shiftBy v ps) ≡ length ps
 unfolding shiftBy
-length-shift v ps = length-map (λ q. q ⊕ v) ps
+length-shift v ps = length-map ps (λ q. q ⊕ v)
 
 -- the first image is the first of the images in order
 pub least-image : (r : ℕ) (p : Point) (ps : List Point)
@@ -139,7 +138,7 @@ module _ (r : ℕ) (p : Point) (ps js : List Point) (s : Sorted (p ∷ ps)) wher
       let e : shiftBy (opposite m ⊕ p) (sort (map g L)) ≡ L =
       sorted-count (shiftBy (opposite m ⊕ p) (sort (map g L))) L
       (shift-sorted (opposite m ⊕ p) (sort (map g L)) sorted-images) s inside
-      (length-shift (opposite m ⊕ p) (sort (map g L)) ∙ (length-sort (map g L) ∙ length-map g L)) in
+      (length-shift (opposite m ⊕ p) (sort (map g L)) ∙ (length-sort (map g L) ∙ length-map L g)) in
       sym (ap (shiftBy (opposite p)) e)
       ∙ shift-shift (opposite m ⊕ p) (opposite p) (opposite m) (λ q. lift q m p) (sort (map g L))
     where
@@ -158,7 +157,7 @@ module _ (r : ℕ) (p : Point) (ps js : List Point) (s : Sorted (p ∷ ps)) wher
   fixes-within =
       same-test (samePoints (normal L js .cells) (image r (normal L js) .cells))
       (all (λ q. any (samePoint (laid q)) L) L)
-      (λ t. all-every (λ q. any (samePoint (laid q)) L) L
+      (λ t. mem-all (λ q. any (samePoint (laid q)) L) L
       (there (sym own-cells ∙ (samePoints→eq (normal L js .cells) (image r (normal L js) .cells) t ∙ image-cells))))
       (λ t. same-when (normal L js .cells) (image r (normal L js) .cells)
       (own-cells

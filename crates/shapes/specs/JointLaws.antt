@@ -18,9 +18,11 @@ use Rattle.shapes.specs.Pairs.{pointOf, SmallPair}
 use Rattle.shapes.specs.Rows.{turnAt}
 use Rattle.shapes.specs.PartLaws.{mem-spots}
 use Rattle.rules.specs.Turns.{apply, read}
-use Rattle.lists.specs.ListLaws.{flat-find, filter-mem, range-lt}
+use Rattle.lists.specs.ListLaws.{flat-find, filter-mem}
 use Rattle.lists.specs.Lists.{flatMap, _∈_, range}
 use Rattle.lists.specs.Table.{table}
+use Rattle.lists.specs.Ranges.{range-lt}
+use Rattle.lists.specs.TableLaws.{flat-table}
 use Rattle.rules.specs.Page.{Point}
 use Rattle.rules.specs.Groups.{entry, members}
 use Rattle.rules.specs.Flat.{Sized, flat}
@@ -30,7 +32,6 @@ use Rattle.shapes.specs.Spots.{spotAt, placeAt, spots, joints, UnitAt}
 use Rattle.shapes.specs.SpotLaws.{spots-more, spots-cong, length-spots}
 use Rattle.shapes.specs.ConnectionLaws.{connections-at, unit-cells}
 use Rattle.shapes.specs.Joints.{jointIf, Room, Grown, Joining, Joined, JointIn}
-use Rattle.shapes.specs.ListExtras.{flat-table}
 
 pub grown-none : (D A : List ℕ) (k : ℕ) → Room D A k → Grown D A k [] D A k
 grown-none D A k r = record { downs = r .downs; acrosses = r .acrosses; here = sym (append-nil (spots D A k)) }

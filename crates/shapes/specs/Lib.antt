@@ -1,4 +1,3 @@
-pub mod ListExtras
 pub mod Order
 pub mod Rows
 pub mod Pairs

@@ -8,8 +8,7 @@ use borrow.Author.Tests.{lt-ltb, le-ltb}
 use lib.Dec.{T, ltb, leb·suc-suc, eqb→eq, eqb-refl, ltb→lt, nltb→le, not-T, T-not}
 use lib.IntN.{ℤ, pos, negsuc, negℤ, _+ℤ_, subℕ, +ℤ-assoc, +ℤ-comm, +ℤ-invr, +ℤ-invl, +ℤ-idl, +ℤ-idr, negℤ-+ℤ, negℤ-negℤ}
 use Rattle.argument.specs.Order.{less-trans}
-use Rattle.lists.specs.Tests.{same-test}
-use Rattle.lists.specs.ListLaws.{T-and, T-and-l, T-and-r, T-or, T-or-l, T-or-r, T-dec}
+use Rattle.lists.specs.Booleans.{same-test, T-and, T-and-l, T-and-r, T-or, T-or-l, T-or-r, T-dec}
 use Rattle.rules.specs.Page.{Point, _⊕_}
 use Rattle.rules.specs.Shapes.{lessℤ, sameℤ, before}
 use Rattle.argument.specs.Points.{point-eq}

@@ -5,8 +5,7 @@ use mathlib.Core.Bool.{Bool, true, false, not, cond}
 use Prim.Native.Nat.{ℕ, zero, suc, _+_, _*_, _<_, _≤_}
 use native.Mathlib.Omega.{arith}
 use lib.IntN.{ℤ, pos, negsuc, negℤ, subℕ, _+ℤ_, _-ℤ_, _*ℤ_, negℤ-+ℤ}
-use Rattle.lists.specs.Tests.{same-test}
-use Rattle.lists.specs.ListLaws.{T-dec}
+use Rattle.lists.specs.Booleans.{same-test, T-dec}
 use borrow.Author.Tests.{lt-ltb, le-ltb}
 use lib.Dec.{T, ltb, ltb→lt, nltb→le}
 use lib.Signed.{mag, ltZ}

@@ -6,25 +6,20 @@ use native.Mathlib.Nat.{mod-lt, div-lt-iff-lt-mul}
 use native.Mathlib.Omega.{arith}
 use lib.Dec.{eqb}
 use lib.IntN.{natAbs}
-use lib.ListN.{length, getD, length-take, length-drop}
-use lib.Seq.{getD-take, getD-drop}
+use lib.ListN.{length, getD, length-map}
 use Rattle.lists.specs.Lists.{_∈_, filter, range}
-use Rattle.lists.specs.ListLaws.{filter-mem, range-lt, map-find}
-use Rattle.lists.specs.Table.{table, table-is, getD-table, table-cong}
+use Rattle.lists.specs.ListLaws.{filter-mem, map-find, getD-mem}
+use Rattle.lists.specs.Ranges.{range-lt}
+use Rattle.lists.specs.TableLaws.{getD-table, table-cong, map-table, table-part}
+use Rattle.lists.specs.Maps.{getD-map}
+use Rattle.lists.specs.Parts.{part}
 use Rattle.rules.specs.Page.{Point}
 use Rattle.rules.specs.Flat.{Sized, flat, flatPlace}
 use Rattle.rules.specs.Groups.{entry, members}
 use Rattle.argument.specs.Points.{origin}
 use Rattle.shapes.specs.Spots.{placeAt, spotAt, spots, places, UnitAt}
 use Rattle.shapes.specs.SpotLaws.{length-spots}
-use Rattle.shapes.specs.Parts.{part, Part, placeOf, Placed}
-use Rattle.shapes.specs.ListExtras.{map-table, getD-map, mem-getD, length-map}
-
-pub part-table : (L : List ℕ) (from to : ℕ) → from ≤ to → to ≤ length L
-    → part L from to ≡ table (to - from) (λ j. getD L (from + j) 0)
-part-table L from to h k =
-    table-is (to - from) (λ j. getD L (from + j) 0) 0 (part L from to) (simp (length-take, length-drop) (omega arith))
-    (λ i l. rw (getD-take, getD-drop))
+use Rattle.shapes.specs.Parts.{Part, placeOf, Placed}
 
 -- the memory as the loop leaves it
 pub placed-is : (L : List ℕ) (from to w i : ℕ) (R C : List ℕ) → Part L from to w → length R ≡ 1024 → length C ≡ 1024
@@ -38,8 +33,9 @@ placed-is L from to w i R C p a b m f g =
       here =
           table-cong (to - from) (spotAt R C) (λ j. placeOf w (getD L (from + j) 0))
           (λ j l. ap₂ placeAt (f j (omega arith)) (g j (omega arith)))
-          ∙ sym (ap (map (placeOf w)) (part-table L from to (p .order) (omega (arith, p .long, p .inside)))
-          ∙ map-table (placeOf w) (to - from) (λ j. getD L (from + j) 0));
+          ∙ sym (map-table (placeOf w) (to - from) (λ j. getD L (from + j) 0))
+          ∙ ap (map (placeOf w))
+          (table-part from (to - from) 0 L (omega (arith, p .order, p .long, p .inside)));
     }
 
 spot-of : (R C : List ℕ) (n i : ℕ) → i < n → getD (spots R C n) i origin ≡ spotAt R C i
@@ -48,7 +44,7 @@ spot-of R C n i l = getD-table n (spotAt R C) i origin l
 
 pub mem-spots : (R C : List ℕ) (n i : ℕ) → i < n → spotAt R C i ∈ spots R C n
 mem-spots R C n i l =
-    Memᴰ·cast (sym (spot-of R C n i l)) (mem-getD (spots R C n) i origin (rw (length-spots R C n) l))
+    Memᴰ·cast (sym (spot-of R C n i l)) (getD-mem (spots R C n) i origin (rw (length-spots R C n) l))
 
 -- the places of a group's part are the group's unit
 pub unit-at : (h w : ℕ) (ids : List ℕ) (g : ℕ) (L R C : List ℕ) (n : ℕ) → Sized h w → length ids ≡ 1024
@@ -79,7 +75,7 @@ unit-at h w ids g L R C n s long e p some most =
     }
   where
     count : length L ≡ n
-    count = sym (length-map (placeOf w) L) ∙ (ap length (sym (p .here)) ∙ length-spots R C n)
+    count = sym (length-map L (placeOf w)) ∙ (ap length (sym (p .here)) ∙ length-spots R C n)
 
     at : (i : ℕ) → i < n → spotAt R C i ≡ placeOf w (getD L i 0)
     at i l =
@@ -89,7 +85,7 @@ unit-at h w ids g L R C n s long e p some most =
     cell : (i : ℕ) → i < n → getD L i 0 < h * w
     cell i l =
         range-lt (h * w) (filter-mem (λ x. eqb (entry ids x) g) (range (h * w))
-        (subst (λ (M : List ℕ). getD L i 0 ∈ M) e (mem-getD L i 0 (omega (arith, count)))))
+        (subst (λ (M : List ℕ). getD L i 0 ∈ M) e (getD-mem L i 0 (omega (arith, count)))))
 
 -- each place of a unit is on the page
 pub unit-bounds : {h w : ℕ} {ids : List ℕ} {g : ℕ} {R C : List ℕ} {n : ℕ} (i : ℕ) → UnitAt h w ids g R C n → i < n

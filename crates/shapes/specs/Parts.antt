@@ -1,18 +1,14 @@
 -- A unit's part of the list of cells, and its places as written to the lent memory.
 --
---   part L from to      the entries from to to - 1 of the list
 --   Part L from to w    the part lies in the list of 1,024 cells, and the width is 1 to 32
 --   placeOf w c         the place of cell c on a page of width w
 --   Placed w L n R C    the memory R and C has the places of the n cells L
 use mathlib.Core.Path.{_≡_}
 use mathlib.Core.List.{List, map}
-use Prim.Native.Nat.{ℕ, _-_, _/_, _%_, _≤_}
-use lib.ListN.{length, take, drop}
+use Prim.Native.Nat.{ℕ, _/_, _%_, _≤_}
+use lib.ListN.{length}
 use Rattle.rules.specs.Page.{Point}
 use Rattle.shapes.specs.Spots.{placeAt, spots}
-
-abbrev pub part : List ℕ → ℕ → ℕ → List ℕ
-part L from to = take (to - from) (drop from L)
 
 pub record Part (L : List ℕ) (from to w : ℕ) : Type 0 where
   pub long : length L ≡ 1024

@@ -1,13 +1,12 @@
 -- The listed transforms of a shape are its images by the listed rows.
 use mathlib.Core.Path.{_≡_, refl, sym, ap, ap₂, _∙_, subst}
 use mathlib.Core.Bool.{Bool, true, false, _||_, cond, xor}
-use mathlib.Core.List.{List, [], _∷_, _++_, map}
+use mathlib.Core.List.{List, [], _∷_, _++_, map, map-append}
 use Prim.Native.Nat.{ℕ, _+_}
 use lib.Dec.{T}
 use Rattle.argument.specs.Same.{samePoints→eq, samePoints-refl}
-use Rattle.lists.specs.Appends.{map-append}
-use Rattle.lists.specs.Tests.{same-test}
 use Rattle.lists.specs.Lists.{any}
+use Rattle.lists.specs.Booleans.{same-test}
 use Rattle.rules.specs.Page.{Point, Shape}
 use Rattle.rules.specs.Turns.{Turn, apply, compose, keep, half, quarter, halfQuarter, flip}
 use Rattle.rules.specs.Shapes.{turned, normal, sort, sameShape, samePoints}

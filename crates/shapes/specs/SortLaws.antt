@@ -8,20 +8,11 @@ use native.Mathlib.Omega.{arith}
 use lib.Dec.{T, T-not, not-T}
 use lib.ListN.{length}
 use Rattle.lists.specs.Lists.{_∈_, Distinct}
-use Rattle.lists.specs.ListLaws.{T-dec}
+use Rattle.lists.specs.Booleans.{T-dec, T-true, T-false}
 use Rattle.rules.specs.Page.{Point, _⊕_}
 use Rattle.rules.specs.Shapes.{before, insert, sort, shiftBy}
 use Rattle.shapes.specs.OrderLaws.{before-irrefl, before-trans, before-total, before-shift}
 use Rattle.shapes.specs.Order.{Sorted, least}
-
--- a test that is known
-T-true : (b : Bool) → T b → b ≡ true
-T-true true t = refl
-T-true false t = absurd t
-
-T-false : (b : Bool) → T (not b) → b ≡ false
-T-false true t = absurd t
-T-false false t = refl
 
 -- two that are not in order are one
 never-both : (p q : Point) → T (before p q) → T (before q p) → ⊥

@@ -1,17 +1,18 @@
 -- The places that the code reads: one more of them, the first, their bounds, and the first image in order.
 use mathlib.Core.Path.{_≡_, refl, sym, ap, ap₂, _∙_, subst}
-use mathlib.Core.Bool.{Bool, true, false, _&&_, cond}
-use mathlib.Core.List.{List, [], _∷_, _++_, map, List·Memᴰ·head, List·Memᴰ·tail}
+use mathlib.Core.Bool.{Bool, true, false, cond}
+use mathlib.Core.List.{List, [], _∷_, _++_, map, List·Memᴰ·head, List·Memᴰ·tail, map-append}
 use Prim.Native.Nat.{ℕ, zero, suc, _+_, _<_, _≤_}
 use native.Mathlib.Numerals.{add-one}
 use native.Mathlib.Omega.{arith}
 use lib.IntN.{pos, negℤ, _+ℤ_}
 use lib.ListN.{length, getD}
-use Rattle.lists.specs.Appends.{map-append}
 use Rattle.lists.specs.Lists.{_∈_, all}
 use Rattle.lists.specs.ListLaws.{map-find}
-use Rattle.lists.specs.Table.{table, length-table, table-find}
+use Rattle.lists.specs.Table.{table}
 use Rattle.lists.specs.Tests.{allBelow}
+use Rattle.lists.specs.TableLaws.{length-table, table-find}
+use Rattle.lists.specs.AnyAll.{all-table}
 use Rattle.rules.specs.Page.{Point, _⊕_, opposite}
 use Rattle.rules.specs.Turns.{apply}
 use Rattle.rules.specs.Shapes.{before}
@@ -52,24 +53,9 @@ first-spot R C (suc (suc n)) h =
     ∙ first-spot R C (suc n) (omega arith)
 
 -- a test of every place
-all-append : (f : Point → Bool) (ps : List Point) (q : Point) → all f (ps ++ (q ∷ [])) ≡ all f ps && f q
-unfolding all
-all-append f [] q = go (f q)
-  where
-    go : (b : Bool) → b && true ≡ b
-    go true = refl
-    go false = refl
-all-append f (p ∷ ps) q = go (f p) (all-append f ps q)
-  where
-    go : (b : Bool) → all f (ps ++ (q ∷ [])) ≡ all f ps && f q → b && all f (ps ++ (q ∷ [])) ≡ b && all f ps && f q
-    go true e = e
-    go false e = refl
-
 pub all-spots : (f : Point → Bool) (R C : List ℕ) (n : ℕ) → all f (spots R C n) ≡ allBelow n (λ i. f (spotAt R C i))
-unfolding spots table all allBelow
-all-spots f R C zero = refl
-all-spots f R C (suc n) =
-    all-append f (spots R C n) (spotAt R C n) ∙ ap (λ b. b && f (spotAt R C n)) (all-spots f R C n)
+unfolding spots
+all-spots f R C n = all-table f n (spotAt R C)
 
 -- the first image in order, one place more
 least-append : (p : Point) (ps : List Point) (q : Point)

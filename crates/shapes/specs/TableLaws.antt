@@ -9,7 +9,9 @@ use Prim.Native.Nat.{ℕ, _<_}
 use lib.Dec.{T}
 use lib.ListN.{getD}
 use Rattle.lists.specs.Lists.{all, range}
-use Rattle.lists.specs.ListLaws.{all-mem, mem-range, T-and-l, T-and-r}
+use Rattle.lists.specs.ListLaws.{all-mem}
+use Rattle.lists.specs.Ranges.{mem-range}
+use Rattle.lists.specs.Booleans.{T-and-l, T-and-r, beq-eq}
 use Rattle.rules.specs.Page.{Shape}
 use Rattle.rules.specs.Turns.{Axis, layerward, rowward, columnward, Row, Turn, apply, compose}
 use Rattle.rules.specs.Shapes.{turned}
@@ -60,16 +62,10 @@ axis-same columnward layerward t = absurd t
 axis-same columnward rowward t = absurd t
 axis-same columnward columnward t = refl
 
-sign-same : (a b : Bool) → T (Bool·beq a b) → a ≡ b
-sign-same true true t = refl
-sign-same true false t = absurd t
-sign-same false true t = absurd t
-sign-same false false t = refl
-
 row-same : (r q : Row) → T (sameRow r q) → r ≡ q
 row-same r q t =
     let a = axis-same (r .axis) (q .axis) (T-and-l (sameAxis (r .axis) (q .axis)) (Bool·beq (r .minus) (q .minus)) t) in
-    let b = sign-same (r .minus) (q .minus) (T-and-r (sameAxis (r .axis) (q .axis)) (Bool·beq (r .minus) (q .minus)) t)
+    let b = beq-eq (r .minus) (q .minus) (T-and-r (sameAxis (r .axis) (q .axis)) (Bool·beq (r .minus) (q .minus)) t)
     in
     λ i. record { axis = a i; minus = b i }
 

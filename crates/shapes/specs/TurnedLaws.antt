@@ -3,6 +3,7 @@ use mathlib.Core.Path.{_≡_, refl, sym, ap, ap₂, _∙_}
 use mathlib.Core.List.{List, [], _∷_, map}
 use native.Mathlib.Omega.{arith}
 use lib.ListN.{length}
+use Rattle.lists.specs.Maps.{map-map, map-same}
 use Rattle.rules.specs.Page.{Point, _⊕_, opposite, Shape}
 use Rattle.rules.specs.Turns.{Turn, apply, compose, keep}
 use Rattle.rules.specs.Shapes.{sort, shiftBy, normal, turned}
@@ -10,7 +11,6 @@ use Rattle.argument.specs.Points.{swap4, opposite-add, same-difference}
 use Rattle.shapes.specs.SortLaws.{length-sort, sort-map-sort, sort-shift, sorted-sort}
 use Rattle.argument.specs.TurnLaws.{apply-compose, apply-sum, apply-keep}
 use Rattle.shapes.specs.Order.{Sorted}
-use Rattle.shapes.specs.ListExtras.{map-map, map-cong}
 
 map-shift : (a : Turn) (v : Point) (ps : List Point)
     → map (apply a) (shiftBy v ps) ≡ shiftBy (apply a v) (map (apply a) ps)
@@ -21,7 +21,7 @@ map-shift a v (p ∷ ps) = ap₂ (λ x xs. x ∷ xs) (apply-sum a p v) (map-shif
 pub shift-shift : (v u w : Point) → ((p : Point) → (p ⊕ v) ⊕ u ≡ p ⊕ w) → (ps : List Point)
     → shiftBy u (shiftBy v ps) ≡ shiftBy w ps
 unfolding shiftBy
-shift-shift v u w e ps = map-map (λ p. p ⊕ u) (λ p. p ⊕ v) ps ∙ map-cong _ _ e ps
+shift-shift v u w e ps = map-map (λ p. p ⊕ u) (λ p. p ⊕ v) ps ∙ map-same _ _ ps (λ p m. e p)
 
 -- a shape does not depend on where its cells stood
 normal-shift : (v p : Point) (ps js : List Point)
@@ -65,7 +65,7 @@ turned-compose a b t =
     (joined (t .connections))
   where
     joined : (ps : List Point) → map (apply a) (map (apply b) ps) ≡ map (apply (compose a b)) ps
-    joined ps = map-map (apply a) (apply b) ps ∙ map-cong _ _ (λ p. sym (apply-compose a b p)) ps
+    joined ps = map-map (apply a) (apply b) ps ∙ map-same _ _ ps (λ p m. sym (apply-compose a b p))
 
 -- a shape of sorted cells is its own first row
 pub turned-keep : (ps js : List Point) → Sorted ps → turned (apply keep) (normal ps js) ≡ normal ps js

@@ -1,7 +1,7 @@
 -- The shape of a group on a flat page: its places are sorted, and a test of the page tells what is a cell of it.
 use mathlib.Core.Path.{_≡_, refl, sym, ap, _∙_, subst}
 use mathlib.Core.Logic.{_⊎_, inl, inr, ⊎-elim}
-use mathlib.Core.Bool.{Bool, true, false, not, _&&_, _||_}
+use mathlib.Core.Bool.{Bool, true, false, not, _&&_, _||_, true≢false}
 use mathlib.Core.List.{List, [], _∷_, map}
 use Prim.Native.Nat.{ℕ, zero, suc, _+_, _*_, _/_, _%_, _<_, _≤_}
 use native.Mathlib.Nat.{add-mul, eq-or-lt-of-le, mul-le-mul-right, div-add-mod', mod-lt, div-lt-iff-lt-mul}
@@ -13,11 +13,13 @@ use lib.IntN.{ℤ, pos, negsuc, natAbs}
 use lib.Signed.{nonNeg}
 use lib.ListN.{length}
 use Rattle.argument.specs.Same.{samePoint→eq, samePoint-refl}
-use Rattle.lists.specs.Lengths.{rangeFrom-ge}
 use Rattle.lists.specs.Lists.{_∈_, keep, filter, any, all, range, rangeFrom}
-use Rattle.lists.specs.ListLaws.{T-dec, T-and, T-and-l, T-and-r, T-or-l, T-or-r, mem-map, map-find, any-mem, any-find}
-use Rattle.lists.specs.ListLaws.{mem-filter, filter-mem, filter-test, mem-range, range-lt}
-use Rattle.lists.specs.Tests.{allBelow, all-fails, same-test}
+use Rattle.lists.specs.ListLaws.{mem-map, map-find, any-mem, any-find, mem-filter, filter-mem, filter-test}
+use Rattle.lists.specs.Tests.{allBelow}
+use Rattle.lists.specs.Ranges.{rangeFrom-ge, mem-range, range-lt}
+use Rattle.lists.specs.Booleans.{T-dec, T-and, T-and-l, T-and-r, T-or-l, T-or-r, same-test}
+use Rattle.lists.specs.TestLaws.{all-fails}
+use Rattle.lists.specs.AnyAll.{all-same}
 use Rattle.rules.specs.Page.{Point, _⊕_, opposite, Shape}
 use Rattle.rules.specs.Flat.{flat, flatPlace, cellAt}
 use Rattle.rules.specs.Groups.{entry, members}
@@ -71,9 +73,6 @@ rows-rise w i x p l = go (T-dec (ltb (i / w) (x / w)))
 
 ltb-zero : (n : ℕ) → ltb n 0 ≡ true → ⊥
 ltb-zero n e = let l = ltb-true n 0 e in omega arith
-
-true-false : _≡_ {A = Bool} true false → ⊥
-true-false e = let z : _≡_ {A = ℕ} 0 1 = cc in omega arith
 
 -- the places of the cells that pass a test, in row order
 module _ (h w : ℕ) (index : 1 ≤ w) (own : ℕ → Bool) where
@@ -188,11 +187,6 @@ module _ (h w : ℕ) (number : ℕ → ℕ) (g : ℕ) (index : 1 ≤ w) where
       ∙ (turned-keep (places h w number g) (joints h w number g) places-sorted ∙ sym shape-is))
 
   module _ (P : List Point) (here : P ≡ places h w number g) (full : 1 ≤ length P) where
-    all-cong : (f k : Point → Bool) → ((q : Point) → f q ≡ k q) → (qs : List Point) → all f qs ≡ all k qs
-    unfolding all
-    all-cong f k e [] = refl
-    all-cong f k e (q ∷ qs) = rw (e q, all-cong f k e qs)
-
     -- a row leaves the shape exactly if every image, laid on the first cell, is a cell of the group
     pub fixes-cells : (r : ℕ) → fixes shape r ≡ all (λ q. hasCell h w number g (apply (turnAt r) q ⊕ onto r P)) P
     fixes-cells r =
@@ -205,9 +199,9 @@ module _ (h w : ℕ) (number : ℕ → ℕ) (g : ℕ) (index : 1 ≤ w) where
         go [] e l = absurd (omega arith)
         go (p ∷ ps) e l =
             fixes-within r p ps (joints h w number g) (subst Sorted (sym e) places-sorted)
-            ∙ all-cong _ _
-            (λ q. ap (any (samePoint (apply (turnAt r) q ⊕ onto r (p ∷ ps)))) e
-            ∙ among-places (apply (turnAt r) q ⊕ onto r (p ∷ ps))) (p ∷ ps)
+            ∙ all-same _ _ (p ∷ ps)
+            (λ q m. ap (any (samePoint (apply (turnAt r) q ⊕ onto r (p ∷ ps)))) e
+            ∙ among-places (apply (turnAt r) q ⊕ onto r (p ∷ ps)))
 
     -- the cells of an image: turned, sorted, and shifted back by the first image
     pub image-places : (r : ℕ) → image r shape .cells
@@ -263,12 +257,12 @@ module _ (h w : ℕ) (number : ℕ → ℕ) (g : ℕ) where
       → hasCell h w number g (pointAt y x) ≡ cellIn h w number g (natAbs y) (natAbs x)
   unfolding hasCell
   on-page (pos y) (pos x) d e = refl
-  on-page (pos y) (negsuc x) d e = let z : _≡_ {A = Bool} true false = e in absurd (true-false z)
-  on-page (negsuc y) x d e = let z : _≡_ {A = Bool} true false = d in absurd (true-false z)
+  on-page (pos y) (negsuc x) d e = let z : _≡_ {A = Bool} true false = e in absurd (true≢false z)
+  on-page (negsuc y) x d e = let z : _≡_ {A = Bool} true false = d in absurd (true≢false z)
 
 pub non-neg : (y : ℤ) → lessℤ y (pos 0) ≡ false → T (nonNeg y)
 non-neg (pos y) e = tt
-non-neg (negsuc y) e = absurd (true-false e)
+non-neg (negsuc y) e = absurd (true≢false e)
 
 -- the loop that tests every image
 module _ (h w : ℕ) (ids : List ℕ) (g : ℕ) (R C : List ℕ) (n r : ℕ) (v : Point) where

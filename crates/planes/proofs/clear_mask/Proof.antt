@@ -3,8 +3,8 @@ use mathlib.Core.Path.{_≡_, refl, _∙_}
 use Prim.Native.Nat.{ℕ, zero, _≤_, _<_, _-_}
 use native.Mathlib.Omega.{arith}
 use lib.ListN.{length, getD, length-set}
-use Rattle.lists.specs.Table.{stored-more}
-use Rattle.planes.specs.Extras.{all-zero}
+use Rattle.lists.specs.TableLaws.{stored-more}
+use Rattle.lists.specs.PaddedLaws.{replicate-is}
 use Rattle.planes.proofs.clear_mask.Statement.{statement}
 use Rattle.planes.proofs.clear_mask.Tie as tie
 
@@ -40,7 +40,7 @@ loop-again c =
 returns : tie.Need-returns Inv-loop μ-loop
 returns c =
     let l = c .before .loop in
-    all-zero 33 (l .mask) (l .inv .1) (λ j h. l .inv .2 j (omega arith))
+    replicate-is 0 33 (l .mask) (l .inv .1) (λ j h. l .inv .2 j (omega arith))
 
 pub clear-mask-spec : {M : Type 1} → statement M
 clear-mask-spec =

@@ -4,7 +4,8 @@ use Prim.Native.Nat.{_+_, _-_, _≤_, _<_}
 use native.Mathlib.Omega.{arith}
 use lib.ListN.{getD}
 use lib.Seq.{getD-set-same}
-use Rattle.reasons.specs.Arrays.{Cells, part}
+use Rattle.lists.specs.Parts.{part}
+use Rattle.reasons.specs.Arrays.{Cells}
 use Rattle.search.specs.SearchLaws.{mates-reach}
 use Rattle.search.specs.Searching.{groupIn}
 use Rattle.planes.specs.Masks.{Masked, originsIn}

@@ -3,7 +3,7 @@ use mathlib.Core.Path.{_≡_}
 use Prim.Native.Nat.{ℕ, _-_, _≤_, _<_}
 use native.Mathlib.Omega.{arith}
 use lib.ListN.{getD}
-use Rattle.planes.specs.Extras.{zero-down}
+use Rattle.lists.specs.PaddedLaws.{zero-down}
 use Rattle.planes.proofs.end_row.Statement.{statement}
 use Rattle.planes.proofs.end_row.Tie as tie
 

@@ -3,7 +3,7 @@ use mathlib.Core.Path.{_≡_}
 use Prim.Native.Nat.{ℕ, _-_, _≤_, _<_}
 use native.Mathlib.Omega.{arith}
 use lib.ListN.{getD}
-use Rattle.planes.specs.Extras.{zero-more}
+use Rattle.lists.specs.PaddedLaws.{zero-more}
 use Rattle.planes.proofs.first_row.Statement.{statement}
 use Rattle.planes.proofs.first_row.Tie as tie
 

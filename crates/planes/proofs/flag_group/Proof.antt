@@ -5,8 +5,8 @@ use Prim.Native.Nat.{ℕ, _*_, _-_, _≤_, _<_}
 use native.Mathlib.Omega.{arith}
 use borrow.Author.Needs.{needs}
 use lib.ListN.{length, getD}
+use Rattle.lists.specs.Parts.{part}
 use Rattle.rules.specs.FlatLaws.{counts}
-use Rattle.reasons.specs.Arrays.{part}
 use Rattle.search.specs.SearchLaws.{cells-at}
 use Rattle.planes.specs.Masks.{Masked}
 use Rattle.planes.specs.MaskLaws.{group-none, group-more}

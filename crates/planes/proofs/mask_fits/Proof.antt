@@ -4,8 +4,8 @@ use mathlib.Core.Bool.{Bool, false}
 use Prim.Native.Nat.{ℕ, _-_, _≤_}
 use native.Mathlib.Omega.{arith}
 use lib.ListN.{getD}
-use Rattle.lists.specs.Tests.{anyBelow, any-none, any-some}
-use Rattle.planes.specs.Extras.{any-next, any-rest}
+use Rattle.lists.specs.Tests.{anyBelow}
+use Rattle.lists.specs.TestLaws.{any-none, any-some, none-more, none-rest}
 use Rattle.planes.specs.Masks.{lineFits, maskFits}
 use Rattle.planes.specs.WordLaws.{fits-empty}
 use Rattle.planes.proofs.mask_fits.Statement.{statement}
@@ -29,7 +29,7 @@ empty s y e = fits-empty (s .args .planes .now) y (s .args .ys .now) (s .args .x
 loop-holds : tie.Need-loop-holds Inv-loop μ-loop
 loop-holds c = (
   c .pre .1 .low .0,
-  any-rest 0 (c .args .top) (test c) (any-none (test c)) (omega arith) (λ y a b. empty c y (c .pre .1 .above y b)),
+  none-rest 0 (c .args .top) (test c) (any-none (test c)) (omega arith) (λ y a b. empty c y (c .pre .1 .above y b)),
 )
 
 mul-line-fits : tie.Need-mul-line-fits Inv-loop μ-loop
@@ -68,7 +68,7 @@ loop-again c =
     let i = c .before .before .before in
     let s = i .before .before in (
       omega (arith, i .loop-test .taken, s .pre .1 .low .1),
-      any-next (i .before .loop .y) (test s) (i .before .loop .inv .1)
+      none-more (i .before .loop .y) (test s) (i .before .loop .inv .1)
           (sym (c .before .line-fits .ensures) ∙ c .if1 .left),
     )
 
@@ -77,7 +77,7 @@ unfolding maskFits
 returns-2 c =
     let l = c .before in
     let s = l .before in
-    sym (any-rest (l .loop .y) (s .args .h) (test s) (l .loop .inv .1) (l .loop .inv .0)
+    sym (none-rest (l .loop .y) (s .args .h) (test s) (l .loop .inv .1) (l .loop .inv .0)
     (λ y a b. empty s y (s .pre .1 .below y (omega (arith, c .loop-test .left)) b)))
 
 pub mask-fits-spec : {M : Type 1} → statement M

@@ -4,7 +4,7 @@ use Prim.Native.Nat.{ℕ, _≤_, _<_, _-_}
 use native.Mathlib.Omega.{arith}
 use borrow.Author.Needs.{needs}
 use lib.ListN.{length, getD, length-set}
-use Rattle.lists.specs.Table.{stored-more}
+use Rattle.lists.specs.TableLaws.{stored-more}
 use Rattle.search.specs.Raising.{liftOf}
 use Rattle.search.proofs.lift_all.Statement.{statement}
 use Rattle.search.proofs.lift_all.Tie as tie

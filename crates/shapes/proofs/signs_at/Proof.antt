@@ -2,9 +2,9 @@
 use mathlib.Core.Bool.{false}
 use borrow.Author.Needs.{needs}
 use lib.IntN.{pos}
+use Rattle.lists.specs.Maps.{getD-map}
 use Rattle.rules.specs.Turns.{keep, flatTable}
 use Rattle.shapes.specs.Pairs.{signsOf}
-use Rattle.shapes.specs.ListExtras.{getD-map}
 use Rattle.shapes.proofs.signs_at.Statement.{statement}
 use Rattle.shapes.proofs.signs_at.Tie as tie
 

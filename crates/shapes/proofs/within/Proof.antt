@@ -4,7 +4,8 @@ use mathlib.Core.Bool.{true}
 use Prim.Native.Nat.{_-_, _≤_}
 use native.Mathlib.Omega.{arith}
 use borrow.Author.Needs.{needs}
-use Rattle.lists.specs.Tests.{allBelow, all-none, all-more, all-end}
+use Rattle.lists.specs.Tests.{allBelow}
+use Rattle.lists.specs.TestLaws.{all-none, all-more, all-end}
 use Rattle.rules.specs.Page.{_⊕_}
 use Rattle.rules.specs.Groups.{entry}
 use Rattle.rules.specs.Turns.{apply}

@@ -5,12 +5,12 @@ use Prim.Native.Nat.{ℕ, _≤_, _-_}
 use native.Mathlib.Omega.{arith}
 use borrow.Author.Needs.{needs}
 use Rattle.lists.specs.Lists.{flatMap}
+use Rattle.lists.specs.Parts.{part}
 use Rattle.rules.specs.declared.Literal.{Literal}
 use Rattle.rules.specs.FlatLaws.{counts}
-use Rattle.reasons.specs.Arrays.{part}
 use Rattle.reasons.specs.Memory.{Wrote}
 use Rattle.reasons.specs.MemoryLaws.{wrote-length}
-use Rattle.search.specs.ListExtras.{write-none, write-more, write-fits}
+use Rattle.reasons.specs.MemoryLaws.{write-none, write-more, write-fits}
 use Rattle.search.specs.SearchLaws.{cells-reach, cells-at}
 use Rattle.planes.specs.Survivors.{blockIn}
 use Rattle.planes.proofs.survivors.block_group.Statement.{statement}

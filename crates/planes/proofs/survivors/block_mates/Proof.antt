@@ -5,11 +5,11 @@ use Prim.Native.Nat.{ℕ, _≤_, _-_}
 use native.Mathlib.Omega.{arith}
 use borrow.Author.Needs.{needs}
 use Rattle.lists.specs.Lists.{flatMap}
+use Rattle.lists.specs.Parts.{part}
 use Rattle.rules.specs.declared.Literal.{Literal}
-use Rattle.reasons.specs.Arrays.{part}
 use Rattle.reasons.specs.Memory.{Wrote}
 use Rattle.reasons.specs.MemoryLaws.{wrote-length}
-use Rattle.search.specs.ListExtras.{write-none, write-more, write-fits}
+use Rattle.reasons.specs.MemoryLaws.{write-none, write-more, write-fits}
 use Rattle.search.specs.SearchLaws.{mates-reach}
 use Rattle.search.specs.Searching.{groupIn}
 use Rattle.planes.specs.Survivors.{blockIn}

@@ -3,7 +3,7 @@ use mathlib.Core.Path.{_≡_, _∙_}
 use Prim.Native.Nat.{ℕ, _-_, _≤_, _<_}
 use native.Mathlib.Omega.{arith}
 use lib.ListN.{length, getD, length-set}
-use Rattle.lists.specs.Table.{stored-more}
+use Rattle.lists.specs.TableLaws.{stored-more}
 use Rattle.planes.specs.Masks.{clearWord}
 use Rattle.planes.proofs.survivors.survivors.Statement.{statement}
 use Rattle.planes.proofs.survivors.survivors.Tie as tie

@@ -4,7 +4,7 @@ use mathlib.Core.Path.{_≡_, refl}
 use Prim.Native.Nat.{ℕ, _+_, _-_, _/_, _%_, _≤_, _<_}
 use native.Mathlib.Omega.{arith}
 use lib.ListN.{length, getD, length-set}
-use Rattle.lists.specs.Table.{stored-more}
+use Rattle.lists.specs.TableLaws.{stored-more}
 use Rattle.shapes.specs.PartLaws.{placed-is}
 use Rattle.shapes.proofs.connections.places.Statement.{statement}
 use Rattle.shapes.proofs.connections.places.Tie as tie
