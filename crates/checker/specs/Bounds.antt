@@ -10,7 +10,8 @@ use native.Mathlib.Omega.{arith}
 use lib.Dec.{eqb, ltb}
 use lib.ListN.{length, length-append}
 use Rattle.lists.specs.Lists.{range}
-use Rattle.lists.specs.Appends.{length-filter}
+use Rattle.lists.specs.Filters.{length-filter}
+use Rattle.lists.specs.Ranges.{length-range}
 use Rattle.rules.specs.declared.Literal.{Literal}
 use Rattle.rules.specs.Page.{State, wallAt}
 use Rattle.rules.specs.Flat.{Sized, flat, hopIf}
@@ -18,7 +19,6 @@ use Rattle.rules.specs.Codes.{statesIn, coloursIn}
 use Rattle.rules.specs.Groups.{entry, members}
 use Rattle.rules.specs.Reasons.{path}
 use Rattle.rules.specs.Check.{clash}
-use Rattle.groups.specs.ListExtras.{range-length}
 use Rattle.reasons.specs.declared.Neighbour.{Neighbour}
 use Rattle.reasons.specs.Arrays.{Stepped, hopsIn, hopOf, insideIn, edgeIn}
 use Rattle.reasons.specs.StepLaws.{step-any, row-of}
@@ -147,7 +147,7 @@ module _ (f : ℕ → Fault) where
 -- lengths
 members-le : (h w : ℕ) (number : ℕ → ℕ) (g : ℕ) → length (members (flat h w) number g) ≤ h * w
 unfolding members flat
-members-le h w number g = le-trans (length-filter _ (range (h * w))) (omega (arith, range-length (h * w)))
+members-le h w number g = le-trans (length-filter _ (range (h * w))) (omega (arith, length-range 0 (h * w)))
 
 literals-le : (i : List Literal) (e : ℕ → List Literal) (f : Fault)
     → length (faultLiterals i e f) ≤ length i + length (e (faultUnit f))

@@ -13,7 +13,7 @@
 --   partOf c xs         what step 1 asks of the cells of colour c among xs
 --   censusOf xs         what step 1 asks of the cells xs
 use mathlib.Core.Path.{_≡_, refl, sym, ap, _∙_}
-use mathlib.Core.Bool.{Bool, true, false, _||_, cond, Bool·beq}
+use mathlib.Core.Bool.{Bool, true, false, _||_, cond, Bool·beq, or-false}
 use mathlib.Core.List.{List, [], _∷_, _++_, append-nil}
 use mathlib.Core.Option.{Option, some, none}
 use Prim.Native.Nat.{ℕ, _+_}
@@ -98,10 +98,6 @@ module _ (colourAt : ℕ → Bool) (clueAt : ℕ → Option ℕ) (unitAt : ℕ �
   -- the cells ys of a part, with x put last
   abbrev partFrom : List ℕ → Part
   partFrom ys = record { size = length ys; unit = headOf unitAt ys; clued = hasClue ys }
-
-  or-false : (b : Bool) → (b || false) ≡ b
-  or-false true = refl
-  or-false false = refl
 
   part-put : (ys : List ℕ) (x : ℕ)
       → partFrom (snoc ys x) ≡ nextPart (partFrom ys) (unitAt x) (isSome (clueAt x))

@@ -4,30 +4,17 @@
 --                   on behind them
 --   page-clean      where it is so of the borders below and of those on the right, step 2 finds nothing
 use mathlib.Core.Path.{_≡_, refl, sym, ap, _∙_}
-use mathlib.Core.Logic.{⊎-elim}
 use mathlib.Core.Bool.{Bool, true, false}
 use Prim.Native.Nat.{ℕ, zero, suc, _+_, _-_, _*_, _/_, _%_, _<_, _≤_}
 use native.Mathlib.Omega.{arith}
 use borrow.Author.Tests.{ltb-true}
-use lib.Dec.{eqb, ltb, eqb→eq}
-use Rattle.lists.specs.ListLaws.{T-dec, neqb→ne}
+use lib.Dec.{ltb}
 use Rattle.rules.specs.Page.{State}
 use Rattle.rules.specs.Flat.{flat, aheadAt, hopBelow, hopRight, belowOf, rightOf, cellAt, hopIf}
 use Rattle.rules.specs.FlatLaws.{Spot, spot}
 use Rattle.reasons.specs.StepLaws.{row-of}
-use Rattle.checker.specs.Looks.{bitOf}
 use Rattle.checker.specs.Breaches.{noBreach, orBreach, isBreach, hopBreach, breachOn, breachFrom, firstBreach}
 use Rattle.checker.specs.WallCases.{on-append}
-
-pub no-bit : (b : Bool) → bitOf b ≡ 0 → b ≡ false
-no-bit true e = absurd (omega arith)
-no-bit false e = refl
-
--- one number more
-pub below-more : (P : ℕ → Type 0) (n : ℕ) → ((j : ℕ) → j < n → P j) → P n → (j : ℕ) → j < n + 1 → P j
-below-more P n h e j l =
-    ⊎-elim (λ t. let q : j ≡ n = eqb→eq j n t in rw q e)
-    (λ t. let q : j ≡ n → ⊥ = neqb→ne j n t in h j (omega arith)) (T-dec (eqb j n))
 
 module _ (s : ℕ → State) (block : ℕ → ℕ) where
   abbrev pub Apart : ℕ → ℕ → ℕ → ℕ → Type 0

@@ -1,5 +1,4 @@
 pub mod Arrays
-pub mod ArrayLaws
 pub mod Censuses
 pub mod Scan
 pub mod Faults

@@ -3,21 +3,18 @@
 --   onlyFault k u n     the fault of a cell with clue k, potential unit u and its size n
 --   loneFault x         that of the cell x
 --   lone-fault          it is the fault of the list of the one cell x
-use mathlib.Core.Path.{_≡_, refl, ap, _∙_}
+use mathlib.Core.Path.{_≡_, refl}
 use mathlib.Core.Bool.{Bool, true, false, _||_, cond}
-use mathlib.Core.List.{List, [], _∷_}
+use mathlib.Core.List.{[], _∷_}
 use mathlib.Core.Option.{Option, some, none}
-use Prim.Native.Nat.{ℕ, _+_, _<_, _≤_}
+use Prim.Native.Nat.{ℕ, _<_, _≤_}
 use native.Mathlib.Omega.{arith}
 use borrow.Author.Tests.{eq-eqb, lt-ltb, le-ltb}
 use lib.Dec.{eqb, ltb}
-use lib.ListN.{length, getD}
 use Rattle.lists.specs.Lists.{filter, any, firstHit, orElse}
 use Rattle.rules.specs.Check.{blockClue}
 use Rattle.checker.specs.declared.Fault.{Fault}
 use Rattle.checker.specs.declared.Fault.the-variants.{Clear, Inside, Edge}
-use Rattle.reasons.specs.Arrays.{part}
-use Rattle.checker.specs.ArrayLaws.{part-first, part-end}
 use Rattle.checker.specs.Censuses.{ofColour, ownUnit, hasClue, partOf, censusOf}
 use Rattle.checker.specs.Faults.{orFault, firstFault, scanFault, smallFault, bigFault, clueFault}
 use Rattle.checker.specs.Faults.{cellFault, censusFault, scanOn, faultOn}
@@ -82,7 +79,3 @@ module _ (clueAt : ℕ → Option ℕ) (unitAt sizeAt : ℕ → ℕ) where
       go : (c : Bool) → loneFault x ≡ faultOn (λ _. c) clueAt unitAt sizeAt (x ∷ [])
       go true = one (clueAt x)
       go false = zero (clueAt x)
-
-pub part-one : (from to : ℕ) (cs : List ℕ) → to ≡ from + 1 → to ≤ length cs → part cs from to ≡ getD cs from 0 ∷ []
-part-one from to cs e h =
-    part-first from to cs (omega arith) h ∙ ap (λ ys. getD cs from 0 ∷ ys) (part-end (from + 1) to cs (omega arith))

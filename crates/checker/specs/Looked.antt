@@ -16,23 +16,24 @@ use lib.Dec.{eqb}
 use lib.IntN.{ℤ, pos}
 use lib.ListN.{length, getD}
 use lib.Signed.{leZ}
-use Rattle.lists.specs.Appends.{length-filter}
+use Rattle.lists.specs.Filters.{length-filter}
+use Rattle.lists.specs.Parts.{part}
+use Rattle.lists.specs.PartLaws.{part-none, part-more, part-at, part-length, part-count}
+use Rattle.lists.specs.Count.{bit}
 use Rattle.rules.specs.Codes.{clueOf, coloursIn, cluesIn}
 use Rattle.rules.specs.Groups.{entry}
 use Rattle.rules.specs.Check.{clash}
-use Rattle.reasons.specs.Arrays.{part}
 use Rattle.checker.specs.declared.Clue.{Clue}
 use Rattle.checker.specs.declared.Clue.the-variants.{Free, Is}
 use Rattle.checker.specs.declared.Fault.{Fault}
 use Rattle.checker.specs.declared.Fault.the-variants.{Clear, InsideEdge, Inside}
 use Rattle.checker.specs.declared.Look.{Look}
 use Rattle.checker.specs.Arrays.{Parted, sizeIn}
-use Rattle.checker.specs.ArrayLaws.{part-none, part-more, part-at, part-length, part-count}
 use Rattle.checker.specs.Censuses.{optionOf, clueIn, option-clue, ofColour}
 use Rattle.checker.specs.BlockCases.{clue-free}
 use Rattle.checker.specs.Faults.{scanOn, faultOn}
 use Rattle.checker.specs.FaultCases.{own-parted}
-use Rattle.checker.specs.Looks.{bitOf, Put, Kept, Room, Owned, Seen, seen-none, owned-more, own-is, seen-more}
+use Rattle.checker.specs.Looks.{Put, Kept, Room, Owned, Seen, seen-none, owned-more, own-is, seen-more}
 use Rattle.checker.specs.Looks.{seen-stray, seen-clash, seen-scan, zeros-are, seen-clear}
 
 pub record Looked (cs : List ℕ) (ks : List ℤ) (ids cells : List ℕ) (from i : ℕ) (own : List ℕ) (k : Clue) (n : ℕ)
@@ -42,7 +43,7 @@ pub record Looked (cs : List ℕ) (ks : List ℤ) (ids cells : List ℕ) (from i
 pub looked-none : (cs : List ℕ) (ks : List ℤ) (ids cells : List ℕ) (from : ℕ)
     → Looked cs ks ids cells from from (1024 ∷ 1024 ∷ []) Free 0
 looked-none cs ks ids cells from =
-    record { seen = rw (part-none from cells) (seen-none (coloursIn cs) (cluesIn ks) (entry ids)) }
+    record { seen = rw (part-none cells from from (omega arith)) (seen-none (coloursIn cs) (cluesIn ks) (entry ids)) }
 
 -- no clue is kept of a cell that has none
 pub kept-none : (k : Clue) (z : ℤ) → leZ (pos 0) z ≡ false → Kept k (clueIn (clueOf z)) k
@@ -63,7 +64,7 @@ module _ {cs : List ℕ} {ks : List ℤ} {ids cells : List ℕ} {from i : ℕ} {
   -- the next cell
   module _ (c : ℕ) (g : from ≤ i) (e : c ≡ getD cells i 0) where
     owned : length own ≡ 2 → ((y : ℕ) → getD ids y 0 < 1024) → {after : List ℕ}
-        → Put own (bitOf (eqb (getD cs c 0) 1)) (getD ids c 0) after
+        → Put own (bit (eqb (getD cs c 0) 1)) (getD ids c 0) after
         → Owned (coloursIn cs) (cluesIn ks) (entry ids) (part cells from i ++ (c ∷ [])) after
     unfolding coloursIn entry
     owned two few p = owned-more (coloursIn cs) (cluesIn ks) (entry ids) (s .seen .owned) c two few _ p
@@ -73,13 +74,13 @@ module _ {cs : List ℕ} {ks : List ℤ} {ids cells : List ℕ} {from i : ℕ} {
     clashes = ap (clash (optionOf k)) (sym (option-clue (clueOf (getD ks c (pos 0)))))
 
     pub looked-more : i < length cells → length own ≡ 2 → ((y : ℕ) → getD ids y 0 < 1024) → (after : List ℕ)
-        → Put own (bitOf (eqb (getD cs c 0) 1)) (getD ids c 0) after
+        → Put own (bit (eqb (getD cs c 0) 1)) (getD ids c 0) after
         → (first : Clue) → Kept k (clueIn (clueOf (getD ks c (pos 0)))) first
-        → Looked cs ks ids cells from (i + 1) after first (n + bitOf (eqb (getD cs c 0) 1))
+        → Looked cs ks ids cells from (i + 1) after first (n + bit (eqb (getD cs c 0) 1))
     unfolding coloursIn cluesIn
     looked-more l two few after p first q =
         record {
-          seen = rw (part-more from i cells g l, ← e, q .0)
+          seen = rw (part-more cells from i g l, ← e, q .0)
               (seen-more (coloursIn cs) (cluesIn ks) (entry ids) (s .seen) c after (owned two few p)
               (clashes ∙ q .1));
         }
@@ -87,10 +88,10 @@ module _ {cs : List ℕ} {ks : List ℤ} {ids cells : List ℕ} {from i : ℕ} {
     -- where something is wrong at it, that is the fault of the whole part
     module _ (offs : List ℕ) (to : ℕ) (h : i < to) (l : to ≤ length cells) where
       whole : part cells from to ≡ part cells from i ++ (c ∷ part cells (i + 1) to)
-      whole = rw e (part-at from i to cells g h l)
+      whole = rw e (part-at cells from i to g h l)
 
-      pub looked-stray : (getD own (bitOf (eqb (getD cs c 0) 1)) 0 ≡ 1024 → ⊥)
-          → (getD own (bitOf (eqb (getD cs c 0) 1)) 0 ≡ getD ids c 0 → ⊥)
+      pub looked-stray : (getD own (bit (eqb (getD cs c 0) 1)) 0 ≡ 1024 → ⊥)
+          → (getD own (bit (eqb (getD cs c 0) 1)) 0 ≡ getD ids c 0 → ⊥)
           → InsideEdge (getD ids c 0)
           ≡ faultOn (coloursIn cs) (cluesIn ks) (entry ids) (sizeIn offs) (part cells from to)
       unfolding coloursIn entry
@@ -99,7 +100,7 @@ module _ {cs : List ℕ} {ks : List ℤ} {ids cells : List ℕ} {from i : ℕ} {
           (seen-stray (coloursIn cs) (cluesIn ks) (entry ids) (s .seen) (sizeIn offs) c (part cells (i + 1) to) a b)
 
       pub looked-clash : length own ≡ 2 → ((y : ℕ) → getD ids y 0 < 1024) → (after : List ℕ)
-          → Put own (bitOf (eqb (getD cs c 0) 1)) (getD ids c 0) after
+          → Put own (bit (eqb (getD cs c 0) 1)) (getD ids c 0) after
           → clash (optionOf k) (optionOf (clueIn (clueOf (getD ks c (pos 0))))) ≡ true
           → Inside ≡ faultOn (coloursIn cs) (cluesIn ks) (entry ids) (sizeIn offs) (part cells from to)
       looked-clash two few after p f =
@@ -114,22 +115,22 @@ module _ {cs : List ℕ} {ks : List ℤ} {ids cells : List ℕ} {from i : ℕ} {
   unfolding ofColour
   looked-few =
       let l : length (ofColour (coloursIn cs) (cluesIn ks) (entry ids) true (part cells from i)) ≤ i - from =
-      le-trans (length-filter _ (part cells from i)) (part-length from i cells) in
+      le-trans (length-filter _ (part cells from i)) (part-length cells from i) in
       omega (arith, s .seen .count)
 
   module _ (g : from ≤ i) (l : i ≤ length cells) where
     -- a colour of which there are cells has a potential unit, with a size
     parted : (offs : List ℕ) → Parted ids offs → (c : Bool)
         → (length (ofColour (coloursIn cs) (cluesIn ks) (entry ids) c (part cells from i)) ≡ 0 → ⊥)
-        → (getD own (bitOf c) 0 < 1024)
-        × (getD offs (getD own (bitOf c) 0) 0 ≤ getD offs (getD own (bitOf c) 0 + 1) 0)
+        → (getD own (bit c) 0 < 1024)
+        × (getD offs (getD own (bit c) 0) 0 ≤ getD offs (getD own (bit c) 0 + 1) 0)
     parted offs p c h =
         rw (own-is (coloursIn cs) (cluesIn ks) (entry ids) (s .seen .owned) [] c h)
         (own-parted (coloursIn cs) (cluesIn ks) ids offs (part cells from i ++ []) p c)
 
     zeros : i - from - n ≡ length (ofColour (coloursIn cs) (cluesIn ks) (entry ids) false (part cells from i))
     zeros =
-        ap (λ m. m - n) (sym (part-count from i cells g l))
+        ap (λ m. m - n) (sym (part-count cells from i g l))
         ∙ zeros-are (coloursIn cs) (cluesIn ks) (entry ids) (s .seen)
 
     pub zero-parted : (offs : List ℕ) → Parted ids offs → (i - from - n ≡ 0 → ⊥)
@@ -145,5 +146,5 @@ module _ {cs : List ℕ} {ks : List ℤ} {ids cells : List ℕ} {from i : ℕ} {
         → Room n (i - from - n) k (sizeIn offs (getD own 1 0))
         → Clear ≡ faultOn (coloursIn cs) (cluesIn ks) (entry ids) (sizeIn offs) (part cells from i)
     looked-clear offs r q =
-        let z = part-count from i cells g l in
+        let z = part-count cells from i g l in
         seen-clear (coloursIn cs) (cluesIn ks) (entry ids) (s .seen) (sizeIn offs) (rw (← z) at r) (rw (← z) at q)

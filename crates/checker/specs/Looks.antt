@@ -1,6 +1,5 @@
 -- Looks: one look at a block's cells, which ends at the first cell at which something is wrong.
 --
---   bitOf c             1 for colour 1, 0 for colour 0
 --   Put own j u after   own, where u stands at j; or with u put at j, where 1,024 stood for none
 --   Kept k j after      the clue k, or the clue j after none; the two do not clash
 --   Room m o k a        m cells of one colour fit o of the other and the clue k, where their potential unit has a cells
@@ -26,6 +25,9 @@ use lib.Seq.{getD-set-same, getD-set-other}
 use Rattle.lists.specs.Lists.{_∈_, keep, filter, firstHit, orElse}
 use Rattle.lists.specs.ListLaws.{mem-filter, filter-mem, filter-test}
 use Rattle.lists.specs.Appends.{filter-append, first-append}
+use Rattle.lists.specs.Booleans.{beq-eq, eq-beq}
+use Rattle.lists.specs.Count.{bit}
+use Rattle.lists.specs.CountLaws.{bit-under}
 use Rattle.rules.specs.Check.{clash, blockClue}
 use Rattle.checker.specs.declared.Clue.{Clue}
 use Rattle.checker.specs.declared.Clue.the-variants.{Free, Is}
@@ -35,25 +37,17 @@ use Rattle.checker.specs.declared.Fault.{Fault}
 use Rattle.checker.specs.declared.Fault.the-variants.{Clear, InsideEdge, Inside}
 use Rattle.checker.specs.Censuses.{headOf, optionOf, clueIn, firstClue, option-clue, ofColour, ownUnit, partOf}
 use Rattle.checker.specs.Censuses.{censusOf, coloured-more, clue-more}
-use Rattle.checker.specs.Scan.{beq-eq, beq-refl, clash-none, clash-self, clash-cases}
+use Rattle.checker.specs.Scan.{clash-none, clash-self, clash-cases}
 use Rattle.checker.specs.Faults.{orFault, isClear, firstFault, cellFault, smallFault, bigFault, clueFault}
 use Rattle.checker.specs.Faults.{censusFault, scanOn, faultOn}
 use Rattle.checker.specs.FaultCases.{or-found, scan-stray, scan-clash, scan-clear, small-none, small-fits}
 use Rattle.checker.specs.FaultCases.{big-none, big-fits, clue-none, clue-big}
 
-abbrev pub bitOf : Bool → ℕ
-bitOf true = 1
-bitOf false = 0
-
-bit-cases : (c d : Bool) → (c ≡ d) ⊎ (bitOf d ≡ bitOf c → ⊥)
+bit-cases : (c d : Bool) → (c ≡ d) ⊎ (bit d ≡ bit c → ⊥)
 bit-cases true true = inl refl
 bit-cases true false = inr (λ e. omega arith)
 bit-cases false true = inr (λ e. omega arith)
 bit-cases false false = inl refl
-
-pub bit-under : (c : Bool) → bitOf c < 2
-bit-under true = omega arith
-bit-under false = omega arith
 
 abbrev pub Put : List ℕ → ℕ → ℕ → List ℕ → Type 0
 Put own j u after = ((after ≡ own) × (getD own j 0 ≡ u)) ⊎ ((after ≡ set own j u) × (getD own j 0 ≡ 1024))
@@ -111,8 +105,8 @@ module _ (colourAt : ℕ → Bool) (clueAt : ℕ → Option ℕ) (unitAt : ℕ �
   those c xs = ofColour colourAt clueAt unitAt c xs
 
   pub record Owned (xs own : List ℕ) : Type 0 where
-    pub units : (y : ℕ) → y ∈ xs → getD own (bitOf (colourAt y)) 0 ≡ unitAt y
-    pub firsts : (c : Bool) → (getD own (bitOf c) 0 ≡ 1024 → ⊥) → (y : ℕ) × y ∈ xs × (colourAt y ≡ c)
+    pub units : (y : ℕ) → y ∈ xs → getD own (bit (colourAt y)) 0 ≡ unitAt y
+    pub firsts : (c : Bool) → (getD own (bit c) 0 ≡ 1024 → ⊥) → (y : ℕ) × y ∈ xs × (colourAt y ≡ c)
 
   pub record Seen (xs own : List ℕ) (k : Clue) (n : ℕ) : Type 0 where
     pub owned : Owned xs own
@@ -130,7 +124,7 @@ module _ (colourAt : ℕ → Bool) (clueAt : ℕ → Option ℕ) (unitAt : ℕ �
         count = refl;
       }
     where
-      bare : (c : Bool) → _≡_ {A = ℕ} (getD (1024 ∷ 1024 ∷ []) (bitOf c) 0) 1024
+      bare : (c : Bool) → _≡_ {A = ℕ} (getD (1024 ∷ 1024 ∷ []) (bit c) 0) 1024
       bare true = refl
       bare false = refl
 
@@ -149,20 +143,20 @@ module _ (colourAt : ℕ → Bool) (clueAt : ℕ → Option ℕ) (unitAt : ℕ �
       (List·Memᴰ·append-cases xs m)
 
   count-more : (xs : List ℕ) (x : ℕ)
-      → length (those true (xs ++ (x ∷ []))) ≡ length (those true xs) + bitOf (colourAt x)
+      → length (those true (xs ++ (x ∷ []))) ≡ length (those true xs) + bit (colourAt x)
   count-more xs x =
       ap length (coloured-more colourAt clueAt unitAt true xs x)
       ∙ length-append (those true xs) (keep (Bool·beq (colourAt x) true) x [])
       ∙ ap (λ m. length (those true xs) + m) (go (colourAt x))
     where
-      go : (c : Bool) → length (keep (Bool·beq c true) x []) ≡ bitOf c
+      go : (c : Bool) → length (keep (Bool·beq c true) x []) ≡ bit c
       go true = refl
       go false = refl
 
   module _ {xs own : List ℕ} (o : Owned xs own) where
     -- one cell more: the first of its colour, or of the colour's potential unit
     pub owned-more : (x : ℕ) → length own ≡ 2 → ((y : ℕ) → unitAt y < 1024) → (after : List ℕ)
-        → Put own (bitOf (colourAt x)) (unitAt x) after → Owned (xs ++ (x ∷ [])) after
+        → Put own (bit (colourAt x)) (unitAt x) after → Owned (xs ++ (x ∷ [])) after
     owned-more x two few after (inl q) =
         rw (q .0)
         (record {
@@ -188,38 +182,38 @@ module _ (colourAt : ℕ → Bool) (clueAt : ℕ → Option ℕ) (unitAt : ℕ �
               (bit-cases (colourAt x) c);
         })
       where
-        apart : (y : ℕ) → y ∈ xs → bitOf (colourAt y) ≡ bitOf (colourAt x) → ⊥
+        apart : (y : ℕ) → y ∈ xs → bit (colourAt y) ≡ bit (colourAt x) → ⊥
         apart y p d =
             let f : 1024 ≡ unitAt y = sym (q .1) ∙ ap (λ i. getD own i 0) (sym d) ∙ o .units y p in
             omega (arith, few y)
 
     -- the unit of the first cell of a colour, whatever cells ys follow
     pub own-is : (ys : List ℕ) (c : Bool) → (length (those c xs) ≡ 0 → ⊥)
-        → getD own (bitOf c) 0 ≡ ownUnit colourAt clueAt unitAt (xs ++ ys) c
+        → getD own (bit c) 0 ≡ ownUnit colourAt clueAt unitAt (xs ++ ys) c
     unfolding ownUnit ofColour
     own-is ys c h =
         go (those c xs) refl ∙ ap (headOf unitAt) (sym (filter-append (λ z. Bool·beq (colourAt z) c) xs ys))
       where
-        go : (zs : List ℕ) → those c xs ≡ zs → getD own (bitOf c) 0 ≡ headOf unitAt (zs ++ those c ys)
+        go : (zs : List ℕ) → those c xs ≡ zs → getD own (bit c) 0 ≡ headOf unitAt (zs ++ those c ys)
         go [] e = absurd (h (ap length e))
         go (z ∷ zs) e =
             let m : z ∈ those c xs = rw e (List·Memᴰ·head refl) in
             let b = beq-eq (colourAt z) c (filter-test (λ y. Bool·beq (colourAt y) c) xs m) in
-            ap (λ d. getD own (bitOf d) 0) (sym b) ∙ o .units z (filter-mem (λ y. Bool·beq (colourAt y) c) xs m)
+            ap (λ d. getD own (bit d) 0) (sym b) ∙ o .units z (filter-mem (λ y. Bool·beq (colourAt y) c) xs m)
 
     own-cell : (ys : List ℕ) (x : ℕ) → x ∈ xs → ownUnit colourAt clueAt unitAt (xs ++ ys) (colourAt x) ≡ unitAt x
     unfolding ofColour
     own-cell ys x m =
         sym (own-is ys (colourAt x)
-        (some-in (mem-filter (λ z. Bool·beq (colourAt z) (colourAt x)) xs m (beq-refl (colourAt x)))))
+        (some-in (mem-filter (λ z. Bool·beq (colourAt z) (colourAt x)) xs m (eq-beq (colourAt x) (colourAt x) refl))))
         ∙ o .units x m
       where
         some-in : {zs : List ℕ} → x ∈ zs → length zs ≡ 0 → ⊥
         some-in (List·Memᴰ·head q) e = omega arith
         some-in (List·Memᴰ·tail q) e = omega arith
 
-    own-found : (ys : List ℕ) (c : Bool) → (getD own (bitOf c) 0 ≡ 1024 → ⊥)
-        → ownUnit colourAt clueAt unitAt (xs ++ ys) c ≡ getD own (bitOf c) 0
+    own-found : (ys : List ℕ) (c : Bool) → (getD own (bit c) 0 ≡ 1024 → ⊥)
+        → ownUnit colourAt clueAt unitAt (xs ++ ys) c ≡ getD own (bit c) 0
     own-found ys c h =
         let r = o .firsts c h in rw (r .2) at (own-cell ys (r .0) (r .1) ∙ sym (o .units (r .0) (r .1)))
 
@@ -227,14 +221,14 @@ module _ (colourAt : ℕ → Bool) (clueAt : ℕ → Option ℕ) (unitAt : ℕ �
     -- one cell more, whose clue does not clash
     pub seen-more : (x : ℕ) (after : List ℕ) → Owned (xs ++ (x ∷ [])) after
         → clash (optionOf k) (clueAt x) ≡ false
-        → Seen (xs ++ (x ∷ [])) after (firstClue k (clueIn (clueAt x))) (n + bitOf (colourAt x))
+        → Seen (xs ++ (x ∷ [])) after (firstClue k (clueIn (clueAt x))) (n + bit (colourAt x))
     seen-more x after o e =
         record {
           owned = o;
           clues = clues-more xs x k (s .clues) e;
           clue = sym
               (clue-more colourAt clueAt unitAt xs x ∙ ap (λ j. firstClue j (clueIn (clueAt x))) (sym (s .clue)));
-          count = sym (count-more xs x ∙ ap (λ m. m + bitOf (colourAt x)) (sym (s .count)));
+          count = sym (count-more xs x ∙ ap (λ m. m + bit (colourAt x)) (sym (s .count)));
         }
 
     -- a clue that was seen is the first, whatever cells ys follow
@@ -270,8 +264,8 @@ module _ (colourAt : ℕ → Bool) (clueAt : ℕ → Option ℕ) (unitAt : ℕ �
     stop sizeAt x ys f e h = rw (← first-found _ xs x ys (cell-clear (x ∷ ys)) f e h) (or-found f _ h)
 
     -- its potential unit is another one than that of its colour
-    pub seen-stray : (sizeAt : ℕ → ℕ) (x : ℕ) (ys : List ℕ) → (getD own (bitOf (colourAt x)) 0 ≡ 1024 → ⊥)
-        → (getD own (bitOf (colourAt x)) 0 ≡ unitAt x → ⊥)
+    pub seen-stray : (sizeAt : ℕ → ℕ) (x : ℕ) (ys : List ℕ) → (getD own (bit (colourAt x)) 0 ≡ 1024 → ⊥)
+        → (getD own (bit (colourAt x)) 0 ≡ unitAt x → ⊥)
         → InsideEdge (unitAt x) ≡ faultOn colourAt clueAt unitAt sizeAt (xs ++ (x ∷ ys))
     unfolding cellFault
     seen-stray sizeAt x ys h g =
@@ -296,7 +290,7 @@ module _ (colourAt : ℕ → Bool) (clueAt : ℕ → Option ℕ) (unitAt : ℕ �
         go (Is i) e f = rw (clue-kept (x ∷ ys) i e) f
 
     room-own : (sizeAt : ℕ → ℕ) (c : Bool) (m o : ℕ) → m ≡ length (those c xs)
-        → Room m o k (sizeAt (getD own (bitOf c) 0))
+        → Room m o k (sizeAt (getD own (bit c) 0))
         → Room m o (clueIn (blockClue clueAt xs)) (sizeAt (ownUnit colourAt clueAt unitAt xs c))
     room-own sizeAt c m o e (inl h) = inl h
     room-own sizeAt c m o e (inr r) =

@@ -11,10 +11,11 @@ use mathlib.Core.List.{List, [], _∷_, _++_, List·Memᴰ·head, List·Memᴰ·
 use mathlib.Core.Option.{Option, some, none}
 use Prim.Native.Nat.{ℕ}
 use native.Mathlib.Omega.{arith}
-use lib.Dec.{T, eqb, eqb→eq, eqb-refl, T-not}
-use Rattle.lists.specs.Tests.{same-test}
+use lib.Dec.{T, eqb, eqb→eq, eqb-refl}
 use Rattle.lists.specs.Lists.{_∈_, keep, filter, any, firstHit, orElse}
-use Rattle.lists.specs.ListLaws.{any-mem, any-find, T-dec, T-and, T-and-l, T-and-r, neqb→ne}
+use Rattle.lists.specs.ListLaws.{any-mem, any-find}
+use Rattle.lists.specs.Booleans.{same-test, T-dec, T-and, T-and-l, T-and-r, T-true, beq-eq, eq-beq}
+use Rattle.lists.specs.Arithmetic.{neqb→ne, ne→neqb}
 use Rattle.rules.specs.Page.{Puzzle, State}
 use Rattle.rules.specs.Groups.{potentialOf}
 use Rattle.checker.specs.Censuses.{headOf, ofColour, ownUnit}
@@ -23,30 +24,13 @@ use Rattle.rules.specs.Check.{cellHit, cellHits}
 
 -- ---- tests
 
-is-false : (b : Bool) → (T b → ⊥) → b ≡ false
-is-false true f = absurd (f tt)
-is-false false f = refl
-
-pub beq-eq : (a b : Bool) → T (Bool·beq a b) → a ≡ b
-beq-eq true true t = refl
-beq-eq true false t = absurd t
-beq-eq false true t = absurd t
-beq-eq false false t = refl
-
-pub beq-refl : (a : Bool) → T (Bool·beq a a)
-beq-refl true = tt
-beq-refl false = tt
-
-ne-test : (m n : ℕ) → (m ≡ n → ⊥) → T (not (eqb m n))
-ne-test m n f = ⊎-elim (λ t. absurd (f (eqb→eq m n t))) (λ t. t) (T-dec (eqb m n))
-
 pub clash-none : (o : Option ℕ) → clash o none ≡ false
 clash-none none = refl
 clash-none (some n) = refl
 
 pub clash-self : (o : Option ℕ) → clash o o ≡ false
 clash-self none = refl
-clash-self (some n) = is-false (not (eqb n n)) (λ t. T-not (eqb n n) t (eqb-refl n))
+clash-self (some n) = ap not (T-true (eqb n n) (eqb-refl n))
 
 -- a clue that does not clash with the first one is the first one, or none
 pub clash-cases : (n o : Option ℕ) → clash n o ≡ false → (n ≡ none → o ≡ none) → (o ≡ none) ⊎ (o ≡ n)
@@ -79,7 +63,7 @@ module _ (Z : Puzzle) (s : ℕ → State) where
       -- the first cell of its colour
       own-first : q (Z .colour x) ≡ own (x ∷ xs) (Z .colour x) → q (Z .colour x) ≡ potentialOf Z s x
       unfolding ownUnit ofColour filter
-      own-first e = e ∙ go (Bool·beq (Z .colour x) (Z .colour x)) (beq-refl (Z .colour x))
+      own-first e = e ∙ go (Bool·beq (Z .colour x) (Z .colour x)) (eq-beq (Z .colour x) (Z .colour x) refl)
         where
           go : (b : Bool) → T b → headOf (potentialOf Z s)
               (keep b x (ofColour (Z .colour) (Z .clue) (potentialOf Z s) (Z .colour x) xs)) ≡ potentialOf Z s x
@@ -96,15 +80,15 @@ module _ (Z : Puzzle) (s : ℕ → State) where
               let c : Z .colour (r .0) ≡ Z .colour x =
               beq-eq _ _ (T-and-l (Bool·beq (Z .colour (r .0)) (Z .colour x)) _ (r .2)) in
               let d = neqb→ne _ _ (T-and-r (Bool·beq (Z .colour (r .0)) (Z .colour x)) _ (r .2)) in
-              ne-test _ _ (λ e. d (a .units (r .0) (r .1) ∙ (ap q c ∙ e)))
+              ne→neqb _ _ (λ e. d (a .units (r .0) (r .1) ∙ (ap q c ∙ e)))
 
           back : T (not (eqb (q (Z .colour x)) (potentialOf Z s x)))
               → ((y : ℕ) × y ∈ earlier × (Z .colour y ≡ Z .colour x)) ⊎ (q (Z .colour x) ≡ own (x ∷ xs) (Z .colour x))
               → T (any (strayFrom Z s x) earlier)
           back t (inl r) =
               any-mem (strayFrom Z s x) earlier (r .1)
-              (T-and (Bool·beq (Z .colour (r .0)) (Z .colour x)) _ (rw (r .2) (beq-refl (Z .colour x)))
-              (ne-test _ _ (λ e. neqb→ne _ _ t (ap q (sym (r .2)) ∙ (sym (a .units (r .0) (r .1)) ∙ e)))))
+              (T-and (Bool·beq (Z .colour (r .0)) (Z .colour x)) _ (rw (r .2) (eq-beq (Z .colour x) (Z .colour x) refl))
+              (ne→neqb _ _ (λ e. neqb→ne _ _ t (ap q (sym (r .2)) ∙ (sym (a .units (r .0) (r .1)) ∙ e)))))
           back t (inr e) = absurd (neqb→ne _ _ t (own-first e))
 
       -- the first clue among x and the cells after it

@@ -3,15 +3,16 @@ use mathlib.Core.Path.{_≡_, sym, ap, _∙_}
 use mathlib.Core.List.{List, [], _∷_, _++_}
 use Prim.Native.Nat.{ℕ, _+_, _-_, _<_, _≤_}
 use native.Mathlib.Nat.{le-trans}
+use native.Mathlib.Omega.{arith}
 use lib.Dec.{eqb}
 use lib.IntN.{ℤ, pos}
 use lib.ListN.{length, getD}
-use Rattle.lists.specs.Appends.{length-filter}
+use Rattle.lists.specs.Filters.{length-filter}
+use Rattle.lists.specs.Parts.{part}
+use Rattle.lists.specs.PartLaws.{part-none, part-more, part-length}
 use Rattle.rules.specs.Codes.{clueOf, coloursIn, cluesIn}
 use Rattle.rules.specs.Groups.{entry}
 use Rattle.checker.specs.declared.Census.{Census}
-use Rattle.reasons.specs.Arrays.{part}
-use Rattle.checker.specs.ArrayLaws.{part-none, part-more, part-length}
 use Rattle.checker.specs.Censuses.{clueIn, ofColour, partOf, censusOf, noCensus, nextCensus, census-none}
 use Rattle.checker.specs.Censuses.{census-more}
 
@@ -21,7 +22,9 @@ module _ (cs : List ℕ) (ks : List ℤ) (ids cells : List ℕ) (from : ℕ) whe
 
   pub surveyed-none : noCensus ≡ surveyed from
   unfolding surveyed
-  surveyed-none = sym (ap (censusOf (coloursIn cs) (cluesIn ks) (entry ids)) (part-none from cells) ∙ census-none _ _ _)
+  surveyed-none =
+      sym (ap (censusOf (coloursIn cs) (cluesIn ks) (entry ids)) (part-none cells from from (omega arith))
+      ∙ census-none _ _ _)
 
   -- one cell more
   pub surveyed-more : (i c : ℕ) → from ≤ i → i < length cells → c ≡ getD cells i 0
@@ -31,12 +34,12 @@ module _ (cs : List ℕ) (ks : List ℤ) (ids cells : List ℕ) (from : ℕ) whe
   surveyed-more i c h k e =
       sym
       (ap (censusOf (coloursIn cs) (cluesIn ks) (entry ids))
-      (part-more from i cells h k ∙ ap (λ x. part cells from i ++ (x ∷ [])) (sym e))
+      (part-more cells from i h k ∙ ap (λ x. part cells from i ++ (x ∷ [])) (sym e))
       ∙ census-more (coloursIn cs) (cluesIn ks) (entry ids) (part cells from i) c)
 
   pub surveyed-size : (i : ℕ) → (surveyed i .zero .size ≤ i - from) × (surveyed i .one .size ≤ i - from)
   unfolding surveyed censusOf partOf ofColour
   surveyed-size i = (
-    le-trans (length-filter _ (part cells from i)) (part-length from i cells),
-    le-trans (length-filter _ (part cells from i)) (part-length from i cells),
+    le-trans (length-filter _ (part cells from i)) (part-length cells from i),
+    le-trans (length-filter _ (part cells from i)) (part-length cells from i),
   )

@@ -4,18 +4,19 @@ ghost use mathlib.Core.Bool.{true, false};
 ghost use Prim.Native.Nat.{_+_, _-_, _<_, _≤_};
 ghost use lib.Dec.{eqb};
 ghost use lib.ListN.{getD};
+ghost use Rattle.lists.specs.Parts.{part};
+ghost use Rattle.lists.specs.Count.{bit};
 ghost use Rattle.rules.specs.Codes.{coloursIn, cluesIn};
 ghost use Rattle.rules.specs.Groups.{entry};
 ghost use Rattle.rules.specs.Check.{clash};
 ghost use Rattle.checker.specs.Censuses.{optionOf};
 ghost use Rattle.groups.specs.Parts.{partOf};
-ghost use Rattle.reasons.specs.Arrays.{part};
 ghost use Rattle.checker.specs.Arrays.{Listed, Lists, Parted, sizeIn};
 ghost use Rattle.checker.specs.Faults.{orFault, isClear, smallFault, bigFault, clueFault, censusFault};
 ghost use Rattle.checker.specs.Faults.{scanOn, faultOn};
 ghost use Rattle.checker.specs.Faulty.{firstFaulty};
 ghost use Rattle.checker.specs.LoneCases.{loneFault};
-ghost use Rattle.checker.specs.Looks.{bitOf, Room};
+ghost use Rattle.checker.specs.Looks.{Room};
 use crate::Census;
 use crate::Clue;
 use crate::Fault;
@@ -154,7 +155,7 @@ fn lone_fault<'a>(
 
 // A colour as an index.
 fn bit(colour: u8) -> usize
-    ensures { λ r. ⌜ r ≡ bitOf (eqb colour 1) ⌝ }
+    ensures { λ r. ⌜ r ≡ bit (eqb colour 1) ⌝ }
 {
     if colour == 1 {
         return 1;

@@ -2,11 +2,11 @@
 ghost use mathlib.Core.Path.{_≡_};
 ghost use mathlib.Core.Bool.{true, _||_};
 ghost use Prim.Native.Nat.{_+_, _<_};
+ghost use Rattle.lists.specs.Parts.{part};
 ghost use Rattle.rules.specs.Codes.{clueOf, coloursIn, cluesIn};
 ghost use Rattle.rules.specs.Groups.{entry};
 ghost use Rattle.rules.specs.Check.{isSome};
 ghost use Rattle.checker.specs.Censuses.{clueIn, optionOf, firstClue, nextPart, censusOf};
-ghost use Rattle.reasons.specs.Arrays.{part};
 ghost use Rattle.checker.specs.Arrays.{Listed};
 use crate::Census;
 use crate::Clue;

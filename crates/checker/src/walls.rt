@@ -3,13 +3,13 @@ ghost use mathlib.Core.Path.{_≡_};
 ghost use mathlib.Core.Bool.{true, _&&_};
 ghost use Prim.Native.Nat.{_+_, _*_, _<_, _≤_};
 ghost use lib.Dec.{eqb};
+ghost use Rattle.lists.specs.Count.{bit};
 ghost use Rattle.rules.specs.Flat.{Sized, flat};
 ghost use Rattle.rules.specs.Codes.{statesIn};
 ghost use Rattle.rules.specs.Groups.{entry};
 ghost use Rattle.reasons.specs.Arrays.{Arrays, Fits, hopsIn, hopOf};
 ghost use Rattle.checker.specs.Breaches.{noBreach, isBreach, breachOn, breachFrom, firstBreach};
 ghost use Rattle.checker.specs.WallCases.{breachAt};
-ghost use Rattle.checker.specs.Looks.{bitOf};
 ghost use Rattle.checker.specs.Clean.{Apart};
 use crate::Breach;
 use reasons::Neighbour;
@@ -103,7 +103,7 @@ fn row_breach<'a>(
 
 // 1 for a wall between two cells of one block, else 0.
 fn hit(state: u8, a: u16, b: u16) -> u16
-    ensures { λ r. ⌜ r ≡ bitOf (eqb state 1 && eqb a b) ⌝ }
+    ensures { λ r. ⌜ r ≡ bit (eqb state 1 && eqb a b) ⌝ }
 {
     if state != 1 {
         return 0;

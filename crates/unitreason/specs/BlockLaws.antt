@@ -3,9 +3,9 @@ use mathlib.Core.Path.{_≡_}
 use mathlib.Core.List.{List}
 use Prim.Native.Nat.{ℕ}
 use Rattle.lists.specs.Lists.{flatMap}
+use Rattle.lists.specs.Parts.{part}
 use Rattle.rules.specs.Codes.{statesIn}
 use Rattle.rules.specs.Page.{Point}
-use Rattle.reasons.specs.Arrays.{part}
 use Rattle.search.specs.Placing.{Drawn, Raised, puzzle, bare, spelled}
 use Rattle.search.specs.Searching.{Beside, groupIn, blocksBeside}
 use Rattle.planes.specs.Masks.{Masked, originsIn}

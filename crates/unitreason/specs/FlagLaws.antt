@@ -7,22 +7,25 @@ use mathlib.Core.List.{List, [], _∷_}
 use Prim.Native.Nat.{ℕ, _+_, _<_, _≤_}
 use native.Mathlib.Omega.{arith}
 use borrow.Author.Tests.{eq-eqb, ne-eqb}
-use lib.Dec.{eqb, eqb→eq, eqb-refl}
+use lib.Dec.{eqb}
 use lib.ListN.{length, getD, set, replicate, length-set, length-replicate}
 use lib.Seq.{getD-set-same, getD-set-other}
-use Rattle.lists.specs.Tests.{same-test}
-use Rattle.lists.specs.Padded.{zeros}
 use Rattle.lists.specs.Lists.{any, filter, range}
-use Rattle.lists.specs.ListLaws.{mem-filter, filter-test, any-mem, any-find, mem-range}
-use Rattle.lists.specs.Table.{getD-table, table-is}
-use Rattle.reasons.specs.Arrays.{part, isFlagged}
-use Rattle.reasons.specs.ListExtras.{if-same}
-use Rattle.search.specs.ListExtras.{any-append, part-none, part-one, part-split}
-use Rattle.unitreason.specs.Writing.{flag, flagsOf}
+use Rattle.lists.specs.PaddedLaws.{zeros}
+use Rattle.lists.specs.TableLaws.{getD-table, table-is}
+use Rattle.lists.specs.Parts.{part}
+use Rattle.lists.specs.Arithmetic.{if-same}
+use Rattle.lists.specs.Appends.{any-append}
+use Rattle.lists.specs.PartLaws.{part-none, part-more}
+use Rattle.lists.specs.Count.{bit}
+use Rattle.lists.specs.CountLaws.{bit-is}
+use Rattle.lists.specs.Filters.{any-filter}
+use Rattle.reasons.specs.Arrays.{isFlagged}
+use Rattle.unitreason.specs.Writing.{flagsOf}
 
 pub record Flagged (xs F : List ℕ) : Type 0 where
   pub long : length F ≡ 1024
-  pub each : (q : ℕ) → getD F q 0 ≡ flag (any (eqb q) xs)
+  pub each : (q : ℕ) → getD F q 0 ≡ bit (any (eqb q) xs)
 
 pub flagged-none : (l : List ℕ) (from : ℕ) → Flagged (part l from from) (replicate 1024 0)
 unfolding any
@@ -31,11 +34,11 @@ flagged-none l from =
     (record { long = length-replicate {A = ℕ} 1024 0; each = λ q. zeros 1024 q })
 
 -- one number more
-set-flag : (a b : Bool) → b ≡ true → 1 ≡ flag (a || (b || false))
+set-flag : (a b : Bool) → b ≡ true → 1 ≡ bit (a || (b || false))
 set-flag true b e = refl
 set-flag false b e = rw e
 
-kept-flag : (a b : Bool) → b ≡ false → flag a ≡ flag (a || (b || false))
+kept-flag : (a b : Bool) → b ≡ false → bit a ≡ bit (a || (b || false))
 kept-flag true b e = refl
 kept-flag false b e = rw e
 
@@ -49,8 +52,7 @@ flagged-more l from i {F} h k low f =
       each =
           λ q.
           rw (
-            part-split l from i (i + 1) h (omega arith),
-            part-one l i k,
+            part-more l from i h k,
             any-append (eqb q) (part l from i) (v ∷ []),
           )
           (if-same q v
@@ -62,24 +64,10 @@ flagged-more l from i {F} h k low f =
 
 pub flagged-all : {xs F : List ℕ} → Flagged xs F → F ≡ flagsOf xs
 unfolding flagsOf
-flagged-all {xs} {F} f = table-is 1024 (λ q. flag (any (eqb q) xs)) 0 F (f .long) (λ i l. f .each i)
-
--- a number is among those that pass a test exactly if it passes
-any-filter : (f : ℕ → Bool) (n q : ℕ) → q < n → any (eqb q) (filter f (range n)) ≡ f q
-any-filter f n q h =
-    same-test (any (eqb q) (filter f (range n))) (f q)
-    (λ t.
-    let r = any-find (eqb q) (filter f (range n)) t in
-    let e : q ≡ r .0 = eqb→eq q (r .0) (r .2) in
-    rw e (filter-test f (range n) (r .1)))
-    (λ t. any-mem (eqb q) (filter f (range n)) (mem-filter f (range n) (mem-range n h) t) (eqb-refl q))
-
-flag-is : (a : Bool) → eqb (flag a) 1 ≡ a
-flag-is true = refl
-flag-is false = refl
+flagged-all {xs} {F} f = table-is 1024 (λ q. bit (any (eqb q) xs)) 0 F (f .long) (λ i l. f .each i)
 
 pub flagged-is : (f : ℕ → Bool) (n q : ℕ) → n ≤ 1024 → q < n → isFlagged (flagsOf (filter f (range n))) q ≡ f q
 unfolding isFlagged flagsOf
 flagged-is f n q few h =
-    rw (getD-table 1024 (λ x. flag (any (eqb x) (filter f (range n)))) q 0 (omega arith))
-    (flag-is (any (eqb q) (filter f (range n))) ∙ any-filter f n q h)
+    rw (getD-table 1024 (λ x. bit (any (eqb x) (filter f (range n)))) q 0 (omega arith))
+    (bit-is (any (eqb q) (filter f (range n))) ∙ any-filter f n q h)

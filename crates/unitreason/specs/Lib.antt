@@ -1,5 +1,4 @@
 pub mod Writing
-pub mod ListExtras
 pub mod FlagLaws
 pub mod BlockLaws
 pub mod ClueLaws

@@ -7,8 +7,10 @@ use mathlib.Core.Option.{Option, none}
 use Prim.Native.Nat.{ℕ, _+_, _*_, _<_, _≤_}
 use native.Mathlib.Omega.{arith}
 use lib.ListN.{length, getD, List·getD-append}
-use Rattle.lists.specs.Appends.{flat-map, flat-flat}
 use Rattle.lists.specs.Lists.{flatMap}
+use Rattle.lists.specs.Flats.{flat-map, flat-flat, flat-same}
+use Rattle.lists.specs.Parts.{part}
+use Rattle.lists.specs.UpToLaws.{flat-up, up-same}
 use Rattle.rules.specs.declared.Literal.{Literal}
 use Rattle.rules.specs.Page.{Puzzle, Point, Shape, State}
 use Rattle.rules.specs.Flat.{flat}
@@ -17,9 +19,8 @@ use Rattle.rules.specs.Shapes.{shapeOf}
 use Rattle.rules.specs.Groups.{entry, members, unitOf, potentialOf, potentialCount}
 use Rattle.rules.specs.Check.{laid, blockers, placements, transformsOf, insideUnit, edgeOf, mates, farWalls, unitReason}
 use Rattle.rules.specs.Check.{adjacent as isAdjacent}
-use Rattle.reasons.specs.Arrays.{Cells, part, insideIn, edgeIn, isFlagged}
+use Rattle.reasons.specs.Arrays.{Cells, insideIn, edgeIn, isFlagged}
 use Rattle.reasons.specs.FarLaws.{far-walls}
-use Rattle.reasons.specs.ListExtras.{flat-same, flat-up, up-same}
 use Rattle.reasons.specs.Memory.{Wrote}
 use Rattle.reasons.specs.MemoryLaws.{wrote-more}
 use Rattle.reasons.specs.NumberLaws.{members-same, inside-same, edge-same}
@@ -35,8 +36,7 @@ use Rattle.units.specs.ImageLaws.{image-is}
 use Rattle.unitreason.specs.Writing.{Numbered, Mated, flagsOf, edgesIn, farIn, wallsIn, clued, Arranged}
 use Rattle.unitreason.specs.Writing.{blocksBy, blocksListed, Imaged}
 use Rattle.unitreason.specs.FlagLaws.{flagged-is}
-use Rattle.unitreason.specs.ListExtras.{flat-all}
-use Rattle.unitreason.specs.ListExtras.{room-first, room-second, room-third}
+use Rattle.reasons.specs.MemoryLaws.{room-first, room-second, room-third}
 use Rattle.unitreason.specs.ClueLaws.{reason-clue}
 
 abbrev pub partAt : List ℕ → List ℕ → ℕ → List ℕ
@@ -181,11 +181,11 @@ module _ {h w : ℕ} {cs bs ids cells offs pids pcells poffs list : List ℕ} {c
         flat-flat (blockers Z s)
         (λ x. flatMap (λ Q. map (laid Z s x) (members (flat h w) (potentialOf Z s) Q)) (mates Z s p))
         (transformsOf Z s u)
-        ∙ flat-all _ (λ x. blocksOf (joints x)) (transformsOf Z s u) one-shape
+        ∙ flat-same _ (λ x. blocksOf (joints x)) (transformsOf Z s u) (λ x m. one-shape x)
         ∙ ap (flatMap (λ (x : Shape). blocksOf (joints x)))
         (b .transforms ∙ transforms-flat h w (entry ids) u (b .cells .sized .columns))
         ∙ flat-map (λ x. blocksOf (joints x)) (λ r. image r shape) (rowsOf shape)
-        ∙ flat-all _ blocksRow (rowsOf shape) row-is
+        ∙ flat-same _ blocksRow (rowsOf shape) (λ r m. row-is r)
         ∙ rows-are
         ∙ ap (blocksListed Z s pcells poffs (part list 0 count) (spots R C n) (spots D A k))
         (sym (b .rows))

@@ -3,7 +3,7 @@
 --   Numbered             a group's cells stand in the list of cells from where it starts to where the next one does
 --   Low mates from to    a part of the list of mates; each of its entries is below 1024
 --   Mated                each of its entries is the number of such a group
---   flag, flagsOf xs     1 for yes, 0 for no; for each number below 1024 whether it is one of xs
+--   flagsOf xs           for each number below 1024 1 if it is one of xs, otherwise 0
 --   edgesIn gs           Edge of each of the groups gs, over the arrays
 --   farIn gs xs          the walls from the cells xs to other-coloured cells whose potential unit is not one of gs
 --   wallsIn              Edge(P), Edge of each adjacent unit, then the walls to units that are not adjacent
@@ -14,7 +14,7 @@
 --   Imaged               the places, the connections and the listed rows of unit U
 --   Asked                what a caller gives for unit U: the groups of the page
 use mathlib.Core.Path.{_≡_}
-use mathlib.Core.Bool.{Bool, true, false}
+use mathlib.Core.Bool.{false}
 use mathlib.Core.List.{List, _++_}
 use mathlib.Core.Option.{Option}
 use Prim.Native.Nat.{ℕ, _+_, _*_, _<_, _≤_}
@@ -22,6 +22,8 @@ use lib.Dec.{eqb}
 use lib.ListN.{length, getD}
 use Rattle.lists.specs.Lists.{any, flatMap}
 use Rattle.lists.specs.Table.{table}
+use Rattle.lists.specs.UpTo.{upTo}
+use Rattle.lists.specs.Count.{bit}
 use Rattle.rules.specs.declared.Side.the-variants.{Wall}
 use Rattle.rules.specs.declared.Literal.{Literal}
 use Rattle.rules.specs.Page.{Puzzle, Point, State}
@@ -31,7 +33,6 @@ use Rattle.rules.specs.Groups.{entry, unitOf, potentialCount}
 use Rattle.rules.specs.Shapes.{shapeOf, flatTransforms}
 use Rattle.rules.specs.Check.{mates, transformsOf}
 use Rattle.reasons.specs.Arrays.{Part, edgeIn, scanOf}
-use Rattle.reasons.specs.ListExtras.{upTo}
 use Rattle.groups.specs.declared.Kind.the-variants.{Units}
 use Rattle.groups.specs.Kinds.{joinsIn}
 use Rattle.groups.specs.Parts.{groupsOf}
@@ -60,12 +61,8 @@ pub record Mated (h w : ℕ) (ids cells offs mates : List ℕ) (from to : ℕ) :
   pub low : Low mates from to
   pub each : (i : ℕ) → from ≤ i → i < to → Numbered h w ids cells offs (getD mates i 0)
 
-abbrev pub flag : Bool → ℕ
-flag true = 1
-flag false = 0
-
 unfoldable pub flagsOf : List ℕ → List ℕ
-flagsOf xs = table 1024 (λ q. flag (any (eqb q) xs))
+flagsOf xs = table 1024 (λ q. bit (any (eqb q) xs))
 
 module _ (h w : ℕ) (cs bs ids : List ℕ) where
   -- "Edge of each adjacent unit"

@@ -2,8 +2,9 @@
 ghost use mathlib.Core.Path.{_≡_};
 ghost use Prim.Native.Nat.{_+_, _≤_};
 ghost use lib.ListN.{length, getD};
+ghost use Rattle.lists.specs.Parts.{part};
 ghost use Rattle.rules.specs.Flat.{Sized};
-ghost use Rattle.reasons.specs.Arrays.{Arrays, Cells, part};
+ghost use Rattle.reasons.specs.Arrays.{Arrays, Cells};
 ghost use Rattle.reasons.specs.Memory.{Wrote};
 ghost use Rattle.unitreason.specs.Writing.{Numbered, Low, Mated, flagsOf, edgesIn, farIn, wallsIn};
 use board::Board;

@@ -12,10 +12,10 @@ use Prim.Native.Nat.{ℕ, _+_, _%_, _<_}
 use lib.Dec.{ltb}
 use lib.ListN.{getD}
 use Rattle.lists.specs.Lists.{all}
+use Rattle.lists.specs.Parts.{part}
 use Rattle.rules.specs.Page.{State, Point, _⊕_}
 use Rattle.rules.specs.Flat.{flat}
 use Rattle.rules.specs.Shapes.{connectionsAt}
-use Rattle.reasons.specs.Arrays.{part}
 use Rattle.search.specs.Placing.{puzzle, raised, readingOf, isClear}
 
 pub record Shift (y x : ℕ) : Type 0 where

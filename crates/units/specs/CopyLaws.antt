@@ -7,7 +7,7 @@
 --   soon-cells          the first cells of a group are cells of the page
 --   soon-turned         what fits there is a listed transform that fits
 use mathlib.Core.Path.{_≡_, refl, sym, ap, ap₂, _∙_}
-use mathlib.Core.Bool.{Bool, true, false, _&&_, cond}
+use mathlib.Core.Bool.{Bool, true, false, _&&_, cond, and-true}
 use mathlib.Core.List.{List, map, List·Memᴰ·head, Memᴰ·append-right}
 use mathlib.Core.Logic.{⊎-elim}
 use Prim.Native.Nat.{ℕ, _+_, _-_, _*_, _/_, _%_, _≤_, _<_}
@@ -18,23 +18,25 @@ use lib.Dec.{eqb, ltb}
 use lib.IntN.{pos, negsuc, +ℤ-assoc}
 use lib.ListN.{getD}
 use Rattle.lists.specs.Lists.{_∈_, all, any, flatMap}
+use Rattle.lists.specs.Parts.{part}
+use Rattle.lists.specs.Appends.{any-append, all-append}
+use Rattle.lists.specs.PartLaws.{part-next, part-split}
+use Rattle.lists.specs.Arithmetic.{le-or-lt}
+use Rattle.lists.specs.AnyAll.{holds-any, all-same, all-map, all-flat}
 use Rattle.rules.specs.Page.{State, Point, Puzzle, Shape, _⊕_, opposite}
 use Rattle.rules.specs.Flat.{Sized, flat, flatPlace, flatReads}
 use Rattle.rules.specs.Groups.{entry}
 use Rattle.rules.specs.Shapes.{shiftBy, normal, connectionsAt, shapeOf}
 use Rattle.argument.specs.Numbers.{members-in}
 use Rattle.argument.specs.Points.{point-eq, add-assoc, add-comm}
-use Rattle.reasons.specs.Arrays.{Cells, part}
+use Rattle.reasons.specs.Arrays.{Cells}
 use Rattle.reasons.specs.StepLaws.{row-of}
 use Rattle.search.specs.JudgeLaws.{place-raised}
-use Rattle.search.specs.ListExtras.{any-append, part-next, part-split}
 use Rattle.search.specs.Placing.{puzzle, raised, readRaised, readingOf, isClear, fitsOf}
 use Rattle.search.specs.Searching.{groupIn, fitsAmong, fitsBeside}
-use Rattle.planes.specs.Extras.{le-or-lt, holds-any}
 use Rattle.shapes.specs.ConnectionLaws.{connections-at}
 use Rattle.shapes.specs.Joints.{jointIf}
 use Rattle.shapes.specs.Spots.{placeAt}
-use Rattle.units.specs.ListExtras.{and-true, all-cong, all-append, all-map, all-flat}
 use Rattle.units.specs.ImageLaws.{lower-raise}
 use Rattle.units.specs.SameCells.{fits-clear}
 use Rattle.units.specs.Fitting.{UnitIn, fitsTurned}
@@ -165,8 +167,8 @@ module _ {h w g first last : ℕ} {ids units : List ℕ} (z : Sized h w) (u : Un
           all-map isClear (readingOf Z s) _
           ∙ (all-map (λ o. isClear (readingOf Z s o)) (λ d. flat h w .reads (to ⊕ d)) _
           ∙ (all-map read (λ d. d ⊕ back) js
-          ∙ all-cong (λ d. read (d ⊕ back)) (clearAt h w cs s down across)
-          (λ d. ap (λ p. isClear (readingOf Z s (flat h w .reads p))) (shifted d)) js))
+          ∙ all-same (λ d. read (d ⊕ back)) (clearAt h w cs s down across)
+          js (λ d m. ap (λ p. isClear (readingOf Z s (flat h w .reads p))) (shifted d))))
 
       pub copy-cells : fitsOf (puzzle h w cs) s (shapeOf (flat h w) (entry ids) g) o
           ≡ all (cellClear h w cs s (entry ids) g down across) (part units first last)

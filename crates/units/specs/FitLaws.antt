@@ -7,23 +7,22 @@ use native.Mathlib.Omega.{arith}
 use lib.Dec.{T, ltb, ltb→lt}
 use lib.ListN.{length, getD, replicate}
 use Rattle.lists.specs.Lists.{_∈_, any, all}
-use Rattle.lists.specs.ListLaws.{all-mem}
+use Rattle.lists.specs.ListLaws.{all-mem, getD-mem}
 use Rattle.lists.specs.Padded.{padded}
 use Rattle.lists.specs.Tests.{anyBelow}
-use Rattle.lists.specs.Tests.{any-some as any-found}
+use Rattle.lists.specs.TestLaws.{any-some, any-witness}
+use Rattle.lists.specs.Parts.{part}
+use Rattle.lists.specs.Booleans.{same-true}
+use Rattle.lists.specs.AnyAll.{any-holds, holds-any, any-same, any-never, any-map}
 use Rattle.rules.specs.Page.{State, Puzzle, Shape}
 use Rattle.rules.specs.Flat.{Sized, flat}
 use Rattle.rules.specs.Groups.{entry}
 use Rattle.rules.specs.Check.{laid}
 use Rattle.rules.specs.Turns.{apply, half, quarter, flip}
 use Rattle.rules.specs.Shapes.{turned, sameShape, shapeOf, withHalf, withQuarter, withFlip, flatTransforms}
-use Rattle.reasons.specs.Arrays.{part}
 use Rattle.search.specs.Placing.{bare, fitsOf}
-use Rattle.search.specs.SearchLaws.{any-map}
 use Rattle.search.specs.Searching.{fitsAmong, fitsBeside}
-use Rattle.planes.specs.Extras.{same-test, any-some, any-holds, holds-any}
 use Rattle.shapes.specs.declared.Listed.{Listed}
-use Rattle.shapes.specs.ListExtras.{mem-getD}
 use Rattle.shapes.specs.Listing.{listing}
 use Rattle.shapes.specs.Rows.{image, fixes, flipListed, rowsBy, rowsOf}
 use Rattle.shapes.specs.Parts.{Part, Placed}
@@ -32,7 +31,6 @@ use Rattle.shapes.specs.Spots.{spots, places, UnitAt}
 use Rattle.shapes.specs.SpotLaws.{length-spots}
 use Rattle.shapes.specs.Joints.{Joined}
 use Rattle.shapes.specs.UnitLaws.{transforms-flat}
-use Rattle.units.specs.ListExtras.{any-cong, any-none}
 use Rattle.units.specs.Images.{imageJoints}
 use Rattle.units.specs.ImageLaws.{image-is}
 use Rattle.units.specs.SameCells.{same-connections, row-listed, beside-same}
@@ -102,7 +100,7 @@ rows-listed t e = subst Rows (sym e) (facts (fixes t 1) (fixes t 3) (flipListed 
               λ j h.
               ltb→lt (getD (padded 8 0 (rowsBy a b c)) j 0) 8
               (all-mem (λ r. ltb r 8) (padded 8 0 (rowsBy a b c)) (row-low a b c)
-              (mem-getD (padded 8 0 (rowsBy a b c)) j 0 (omega (arith, f .1))));
+              (getD-mem (padded 8 0 (rowsBy a b c)) j 0 (omega (arith, f .1))));
         }
 
 module _ (Z : Puzzle) (s : ℕ → State) (cells offs : List ℕ) where
@@ -120,8 +118,8 @@ module _ (Z : Puzzle) (s : ℕ → State) (cells offs : List ℕ) where
     turned-listed =
         ap (any (λ t. fitsBeside Z s t cells offs gs)) (transforms-flat h w (entry ids) g (u .sized .columns))
         ∙ (any-map (λ t. fitsBeside Z s t cells offs gs) (λ r. image r shape) (rowsOf shape)
-        ∙ any-cong (λ r. fitsBeside Z s (image r shape) cells offs gs) fit
-        (λ r. ap (λ js. fitsBeside Z s (bare js) cells offs gs) (image-is u j r)) (rowsOf shape))
+        ∙ any-same (λ r. fitsBeside Z s (image r shape) cells offs gs) fit
+        (rowsOf shape) (λ r m. ap (λ js. fitsBeside Z s (bare js) cells offs gs) (image-is u j r)))
 
     full : 1 ≤ length (places h w (entry ids) g)
     full = omega (arith, u .spotted .some, length-spots R C n, ap length (u .here))
@@ -138,14 +136,14 @@ module _ (Z : Puzzle) (s : ℕ → State) (cells offs : List ℕ) where
         ≡ fitsTurned Z s cells offs gs (shapeOf (flat h w) (entry ids) g)
     unfolding fitsRows
     rows-turned =
-        same-test (anyBelow 8 fit) (any fit (rowsOf shape))
+        same-true (anyBelow 8 fit) (any fit (rowsOf shape))
         (λ e.
-        let r = any-some 8 fit e in
+        let r = any-witness 8 fit e in
         let q = row-listed h w (entry ids) g (u .sized .columns) full (r .0) (r .1) in
         holds-any fit (q .1) (same-fit (q .0) (r .0) (row-in shape (q .1)) (r .1) (q .2) ∙ r .2))
         (λ e.
         let q = any-holds fit (rowsOf shape) e in
-        any-found 8 fit (q .0) (row-in shape (q .1)) (q .2))
+        any-some 8 fit (q .0) (row-in shape (q .1)) (q .2))
         ∙ sym turned-listed
 
   -- no adjacent unit
@@ -155,7 +153,7 @@ module _ (Z : Puzzle) (s : ℕ → State) (cells offs : List ℕ) where
 
   pub turned-none : {gs : List ℕ} (t : Shape) → gs ≡ [] → fitsTurned Z s cells offs gs t ≡ false
   unfolding fitsTurned
-  turned-none t e = rw e (any-none _ fits-none (flatTransforms t))
+  turned-none t e = rw e (any-never _ (flatTransforms t) (λ x m. fits-none x))
 
   -- the shape itself is listed
   pub turned-own : (t : Shape) (gs : List ℕ) → fitsBeside Z s t cells offs gs ≡ true

@@ -12,11 +12,11 @@ use Prim.Native.Nat.{ℕ, _<_, _≤_}
 use lib.ListN.{length, getD}
 use Rattle.lists.specs.Lists.{any}
 use Rattle.lists.specs.Tests.{anyBelow}
+use Rattle.lists.specs.Parts.{part}
 use Rattle.rules.specs.Page.{State, Point, Puzzle, Shape}
 use Rattle.rules.specs.Flat.{flat}
 use Rattle.rules.specs.Groups.{entry, members}
 use Rattle.rules.specs.Shapes.{flatTransforms}
-use Rattle.reasons.specs.Arrays.{part}
 use Rattle.search.specs.Placing.{bare}
 use Rattle.search.specs.Searching.{fitsBeside}
 use Rattle.shapes.specs.declared.Listed.{Listed}

@@ -7,14 +7,15 @@ use lib.ListN.{length, getD, set, replicate, length-append, length-set, length-r
 use lib.Seq.{getD-set-same, getD-set-other, take-append-le, take-length}
 use Rattle.planes.specs.DrawLaws.{planes-long}
 use Rattle.lists.specs.Lists.{_∈_, range}
-use Rattle.lists.specs.Appends.{length-filter}
-use Rattle.lists.specs.Padded.{padded, zeros}
+use Rattle.lists.specs.Padded.{padded}
+use Rattle.lists.specs.Filters.{length-filter}
+use Rattle.lists.specs.PaddedLaws.{zeros}
+use Rattle.lists.specs.Ranges.{length-range}
+use Rattle.lists.specs.Arithmetic.{if-same}
 use Rattle.rules.specs.Check.{adjacent, mates}
 use Rattle.rules.specs.Codes.{statesIn}
 use Rattle.rules.specs.Groups.{potentialCount}
-use Rattle.argument.specs.ListExtras.{length-rangeFrom}
 use Rattle.reasons.specs.Arrays.{Cells}
-use Rattle.reasons.specs.ListExtras.{if-same}
 use Rattle.search.specs.Mates.{OneOf, Leading}
 use Rattle.search.specs.Placing.{puzzle, bare}
 use Rattle.search.specs.Searching.{fitsBeside}
@@ -81,7 +82,7 @@ module _ {h w : ℕ} {cs bs ids cells offs : List ℕ} {p : ℕ} (k : Home h w c
       omega (
         arith,
         length-filter (adjacent (puzzle h w cs) (statesIn bs) p) (range n),
-        length-rangeFrom 0 n,
+        length-range 0 n,
         k .known .few,
       )
 

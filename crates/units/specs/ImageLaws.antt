@@ -10,9 +10,11 @@ use lib.Signed.{mag, ltZ}
 use lib.ListN.{length, getD}
 use mir.Syntax.{w8}
 use mir.Val.{toZ, ofZ}
-use Rattle.lists.specs.Table.{table-find}
 use Rattle.lists.specs.Lists.{_∈_}
 use Rattle.lists.specs.ListLaws.{map-find}
+use Rattle.lists.specs.TableLaws.{table-find, map-range}
+use Rattle.lists.specs.Maps.{map-map}
+use Rattle.lists.specs.Booleans.{false-true}
 use Rattle.rules.specs.Page.{Point, _⊕_, opposite}
 use Rattle.rules.specs.Turns.{signed, apply}
 use Rattle.rules.specs.Shapes.{shiftBy, shapeOf}
@@ -30,10 +32,8 @@ use Rattle.shapes.specs.FixLaws.{least-image}
 use Rattle.shapes.specs.UnitLaws.{image-joints}
 use Rattle.shapes.specs.Joints.{Joined}
 use Rattle.shapes.specs.JointLaws.{joint-in}
-use Rattle.shapes.specs.ListExtras.{map-map}
 use Rattle.search.specs.Placing.{lowered, raised}
 use Rattle.search.specs.Raising.{turnOf, pointsOf, movedBy, Lifts, Turnable}
-use Rattle.units.specs.ListExtras.{map-range}
 use Rattle.units.specs.Images.{raiseOf, imageJoints, Jointed}
 
 -- the raised shift
@@ -53,16 +53,13 @@ lower-raise v h =
     ap (λ (z : ℤ). z -ℤ pos 64) (sym (raise-sum v h) ∙ +ℤ-comm (pos 64) (negℤ v +ℤ negℤ v))
     ∙ +ℤ-negℤ-cancel (negℤ v +ℤ negℤ v) (pos 64)
 
-true-false : {C : Type 0} → _≡_ {A = Bool} true false → C
-true-false e = let z : _≡_ {A = ℕ} 0 1 = cc in absurd (omega arith)
-
 raise-lifts : (minus : Bool) (a d : ℕ) → a < 32 → d < 64 → Lifts minus (raiseOf (signed minus (pos a))) d
 raise-lifts true zero d h k =
-    record { small = omega arith; down = λ e. omega arith; up = λ e. true-false e }
+    record { small = omega arith; down = λ e. omega arith; up = λ e. false-true e refl }
 raise-lifts true (suc a) d h k =
-    record { small = omega arith; down = λ e. omega arith; up = λ e. true-false e }
+    record { small = omega arith; down = λ e. omega arith; up = λ e. false-true e refl }
 raise-lifts false a d h k =
-    record { small = omega arith; down = λ e. true-false (sym e); up = λ e. omega arith }
+    record { small = omega arith; down = λ e. false-true refl e; up = λ e. omega arith }
 
 raise-low : (minus : Bool) (a : ℕ) → a < 32 → raiseOf (signed minus (pos a)) < 128
 raise-low true zero h = omega arith

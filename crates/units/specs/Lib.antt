@@ -1,4 +1,3 @@
-pub mod ListExtras
 pub mod SameCells
 pub mod Images
 pub mod ImageLaws

@@ -1,12 +1,16 @@
 -- What the arrays of the units and of the potential units give to the search.
 use mathlib.Core.Path.{_≡_, refl, sym, ap, _∙_}
 use mathlib.Core.Bool.{Bool, true, false}
-use mathlib.Core.List.{List, [], _∷_, map, List·Memᴰ·head, List·Memᴰ·not-nil}
+use mathlib.Core.List.{List, [], _∷_, map, List·Memᴰ·head}
 use Prim.Native.Nat.{ℕ, _+_, _*_, _<_, _≤_}
 use native.Mathlib.Omega.{arith}
 use borrow.Author.Tests.{lt-ltb}
 use lib.ListN.{length, getD}
 use Rattle.lists.specs.Lists.{_∈_, any, flatMap}
+use Rattle.lists.specs.Parts.{part}
+use Rattle.lists.specs.PartLaws.{part-next}
+use Rattle.lists.specs.AnyAll.{any-same, any-flat}
+use Rattle.lists.specs.Lengths.{some-length}
 use Rattle.rules.specs.Page.{State, Puzzle}
 use Rattle.rules.specs.Flat.{Sized, flat}
 use Rattle.rules.specs.FlatLaws.{counts}
@@ -17,7 +21,7 @@ use Rattle.rules.specs.Shapes.{shapeOf, flatTransforms}
 use Rattle.rules.specs.Check.{laid, isFit, mates, placements, transformsOf}
 use Rattle.argument.specs.FlatPage.{flat-bordered}
 use Rattle.argument.specs.Numbers.{members-some}
-use Rattle.reasons.specs.Arrays.{Cells, part}
+use Rattle.reasons.specs.Arrays.{Cells}
 use Rattle.groups.specs.declared.Kind.the-variants.{Units, Potential}
 use Rattle.groups.specs.declared.Groups.{Groups}
 use Rattle.groups.specs.Kinds.{linkOf, coloured, joinsIn}
@@ -25,20 +29,14 @@ use Rattle.groups.specs.Parts.{groupsOf, partOf}
 use Rattle.groups.specs.PartLaws.{ids-entry, ids-length, ids-lt, count-le, offs-next, offs-le, cells-long}
 use Rattle.groups.specs.PartLaws.{cells-lt, part-members, cell-at}
 use Rattle.search.specs.Placing.{puzzle}
-use Rattle.search.specs.ListExtras.{part-next}
 use Rattle.search.specs.Searching.{groupIn, fitsBeside}
-use Rattle.search.specs.SearchLaws.{any-flat, cells-reach, placed-fits, mates-low}
+use Rattle.search.specs.SearchLaws.{cells-reach, placed-fits, mates-low}
 use Rattle.search.specs.Mates.{Known, Grouped}
-use Rattle.units.specs.ListExtras.{any-cong}
 use Rattle.units.specs.Held.{Home, Adjoined}
 use Rattle.units.specs.Fitting.{UnitIn, fitsTurned}
 use Rattle.units.specs.FitLaws.{turned-none}
 use Rattle.units.specs.SingleLaws.{single-fits}
 use Rattle.units.specs.Stuck.{Sorted, headOf, fitsOn, fitsUnit}
-
-some-length : {x : ℕ} (xs : List ℕ) → x ∈ xs → 1 ≤ length xs
-some-length [] m = absurd (List·Memᴰ·not-nil m)
-some-length (y ∷ xs) m = omega arith
 
 -- the groups of a flat page, by any test of its borders
 module _ {h w : ℕ} (z : Sized h w) (link : ℕ → Bool) where
@@ -238,9 +236,9 @@ module _ {h w : ℕ} {cs bs ids cells offs pids pcells poffs : List ℕ}
         any-flat (isFit Z s)
         (λ t. flatMap (λ Q. map (laid Z s t) (members (flat h w) (potentialOf Z s) Q)) (mates Z s p))
         (transformsOf Z s u)
-        ∙ (any-cong _ (λ t. fitsBeside Z s t pcells poffs (mates Z s p))
-        (λ t. placed-fits potential-grouped t (mates Z s p) (λ q m. mates-low potential-grouped p q m))
+        ∙ (any-same _ (λ t. fitsBeside Z s t pcells poffs (mates Z s p))
         (transformsOf Z s u)
+        (λ t m. placed-fits potential-grouped t (mates Z s p) (λ q m. mates-low potential-grouped p q m))
         ∙ ap (any (λ t. fitsBeside Z s t pcells poffs (mates Z s p))) transforms-are)
 
     pub head-of : getD cells (getD offs u 0) 0 ≡ headOf (members (flat h w) (unitOf Z s) u)

@@ -17,7 +17,9 @@ use lib.Dec.{T, eqb, eqb→eq, eqb-refl}
 use lib.ListN.{length}
 use Rattle.lists.specs.Lists.{_∈_, all, filter}
 use Rattle.lists.specs.ListLaws.{all-mem, mem-map, map-find, mem-flat, flat-find, mem-filter, filter-mem, filter-test}
-use Rattle.lists.specs.Tests.{same-test}
+use Rattle.lists.specs.ListLaws.{getD-mem, mem-all}
+use Rattle.lists.specs.Booleans.{same-test}
+use Rattle.lists.specs.AnyAll.{any-same}
 use Rattle.rules.specs.Page.{Hop, State, Page, Point, Puzzle, Shape, _⊕_, opposite}
 use Rattle.rules.specs.Turns.{Turn, apply, keep, flatTable}
 use Rattle.rules.specs.Flat.{flat}
@@ -35,7 +37,6 @@ use Rattle.argument.specs.FlatOnce.{flat-listing}
 use Rattle.argument.specs.FlatShapes.{shape-canonical}
 use Rattle.argument.specs.Sorted.{Canonical}
 use Rattle.shapes.specs.FixLaws.{mem-shift, shift-find}
-use Rattle.shapes.specs.ListExtras.{mem-getD, all-every}
 use Rattle.shapes.specs.Rows.{turnAt, image, rowsOf}
 use Rattle.shapes.specs.SortLaws.{mem-sort, sort-mem}
 use Rattle.shapes.specs.Spots.{leastImage, places, joints}
@@ -44,7 +45,6 @@ use Rattle.search.specs.JudgeLaws.{judge-after}
 use Rattle.search.specs.Placing.{bare, readingOf, isClear, fitsOf}
 use Rattle.search.specs.Searching.{groupIn, fitsAmong, fitsBeside}
 use Rattle.planes.specs.FitLaws.{after-clear}
-use Rattle.units.specs.ListExtras.{any-cong}
 
 record Sums (ps js : List Point) : Type 0 where
   are : (d : Point) → d ∈ js → (p : Point) × (q : Point) × p ∈ ps × q ∈ ps × Near p q × (d ≡ p ⊕ q)
@@ -118,7 +118,7 @@ sums-turn a t {ps} {js} S =
         (near-turn (map apply flatTable) flat-turns (apply (b .0)) (mem-map apply (b .1)) k)
 
 row-turn : (r : ℕ) → r < 8 → turnAt r ∈ flatTable
-row-turn r l = mem-getD flatTable r keep l
+row-turn r l = getD-mem flatTable r keep l
 
 module _ (h w : ℕ) (number : ℕ → ℕ) (g : ℕ) (index : 1 ≤ w) where
   abbrev G : Page
@@ -242,7 +242,7 @@ module _ (Z : Puzzle) (s : ℕ → State) where
       → T (fitsOf Z s (bare ks) o)
   fits-within js ks i o t =
       subst T (sym (fits-clear (bare ks) o))
-      (all-every isClear (map (readingOf Z s) (map (read o) ks))
+      (mem-all isClear (map (readingOf Z s) (map (read o) ks))
       (λ x m. all-mem isClear (map (readingOf Z s) (map (read o) js)) (subst T (fits-clear (bare js) o) t)
       (map-within (readingOf Z s) (map (read o) ks) (map (read o) js) (map-within (read o) ks js i) x m)))
 
@@ -250,8 +250,7 @@ module _ (Z : Puzzle) (s : ℕ → State) where
       → (cells offs gs : List ℕ) → fitsBeside Z s (bare js) cells offs gs ≡ fitsBeside Z s (bare ks) cells offs gs
   unfolding fitsBeside fitsAmong
   beside-same js ks i k cells offs gs =
-      any-cong _ _
-      (λ Q. any-cong (fitsOf Z s (bare js)) (fitsOf Z s (bare ks))
-      (λ o. same-test (fitsOf Z s (bare js) o) (fitsOf Z s (bare ks) o) (fits-within js ks k o) (fits-within ks js i o))
-      (groupIn cells offs Q))
-      gs
+      any-same _ _ gs
+      (λ Q n. any-same (fitsOf Z s (bare js)) (fitsOf Z s (bare ks)) (groupIn cells offs Q)
+      (λ o m. same-test (fitsOf Z s (bare js) o) (fitsOf Z s (bare ks) o) (fits-within js ks k o)
+      (fits-within ks js i o)))

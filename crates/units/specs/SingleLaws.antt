@@ -8,6 +8,9 @@ use borrow.Author.Tests.{ne-eqb, ltb-true}
 use lib.Dec.{eqb}
 use lib.ListN.{getD}
 use Rattle.lists.specs.Lists.{_∈_, any, filter, keep, flatMap}
+use Rattle.lists.specs.Arithmetic.{if-same}
+use Rattle.lists.specs.PartLaws.{part-one}
+use Rattle.lists.specs.AnyAll.{holds-any}
 use Rattle.rules.specs.Page.{Hop, State, Point, Puzzle, Shape}
 use Rattle.rules.specs.Flat.{flat, hopIf, hopBelow, hopRight, aheadAt, cellAt}
 use Rattle.rules.specs.FlatLaws.{spot}
@@ -15,12 +18,9 @@ use Rattle.rules.specs.Groups.{entry, members}
 use Rattle.rules.specs.Check.{laid, judge}
 use Rattle.rules.specs.Shapes.{shapeOf, normal, shiftBy, connectionsAt}
 use Rattle.argument.specs.Numbers.{mem-members, members-in}
-use Rattle.reasons.specs.ListExtras.{if-same}
 use Rattle.reasons.specs.StepLaws.{row-of}
-use Rattle.search.specs.ListExtras.{part-one}
 use Rattle.search.specs.Placing.{fitsOf}
 use Rattle.search.specs.Searching.{groupIn, fitsAmong, fitsBeside}
-use Rattle.planes.specs.Extras.{holds-any}
 use Rattle.units.specs.Fitting.{UnitIn, fitsTurned}
 use Rattle.units.specs.FitLaws.{turned-own}
 

@@ -4,11 +4,11 @@ use mathlib.Core.List.{List}
 use Prim.Native.Nat.{ℕ, zero, _≤_, _-_}
 use native.Mathlib.Omega.{arith}
 use lib.ListN.{length, getD, length-replicate}
+use Rattle.lists.specs.Parts.{part}
+use Rattle.lists.specs.UpTo.{upTo}
 use Rattle.planes.specs.DrawLaws.{planes-long}
 use Rattle.rules.specs.Codes.{statesIn}
 use Rattle.rules.specs.declared.Literal.{Literal}
-use Rattle.reasons.specs.Arrays.{part}
-use Rattle.reasons.specs.ListExtras.{upTo}
 use Rattle.reasons.specs.Memory.{Wrote}
 use Rattle.reasons.specs.MemoryLaws.{wrote-length, loop-none, loop-more, loop-fits, loop-end}
 use Rattle.search.specs.Placing.{puzzle}

@@ -3,12 +3,13 @@
 use mathlib.Core.Path.{ap, _∙_}
 use mathlib.Core.Bool.{Bool, true, false}
 use Prim.Native.Nat.{_+_, _<_, _≤_}
+use Rattle.lists.specs.Parts.{part}
+use Rattle.lists.specs.PartLaws.{part-one}
 use Rattle.rules.specs.Codes.{coloursIn, cluesIn}
 use Rattle.rules.specs.Groups.{entry}
 use Rattle.checker.specs.Arrays.{sizeIn}
-use Rattle.reasons.specs.Arrays.{part}
 use Rattle.checker.specs.Censuses.{ownUnit, partOf, censusOf}
-use Rattle.checker.specs.LoneCases.{lone-fault, part-one}
+use Rattle.checker.specs.LoneCases.{lone-fault}
 use Rattle.checker.specs.FaultCases.{fault-census, own-parted}
 use native.Mathlib.Omega.{arith}
 use lib.ListN.{getD}
@@ -39,7 +40,9 @@ returns c =
     let s = c .before .before .before .before in
     let a = s .args in
     let t = c .before .before .before .if1 .taken in
-    let one = part-one (a .from) (a .to) (a .cells .now) t (omega (arith, s .pre .0)) in
+    let one =
+    ap (part (a .cells .now) (a .from)) t
+    ∙ part-one (a .cells .now) (a .from) (omega (arith, s .pre .0, t)) in
     c .lone-fault .ensures
     ∙ rw (one, ← c .before .index .ensures)
     (lone-fault (cluesIn (a .clues .now)) (entry (a .ids .now)) (sizeIn (a .offs .now)) (coloursIn (a .colours .now))

@@ -11,10 +11,11 @@ use mir.Syntax.{w32}
 use mir.Val.{toZ, ofZ}
 use borrow.Author.Needs.{needs, sfits-of}
 use lib.Dec.{eqb}
+use Rattle.lists.specs.CountLaws.{bit-under}
 use Rattle.rules.specs.Codes.{clueOf}
 use Rattle.checker.specs.declared.Fault.the-variants.{InsideEdge}
 use Rattle.checker.specs.Censuses.{clueIn}
-use Rattle.checker.specs.Looks.{bit-under, Put, Kept}
+use Rattle.checker.specs.Looks.{Put, Kept}
 use Rattle.checker.specs.Looked.{Looked, looked-none, looked-more, looked-few, zero-parted, one-parted}
 use Rattle.checker.specs.Looked.{kept-none, settles, looked-stray, looked-clash, looked-scan, looked-clear}
 use Rattle.checker.proofs.blocks.look.Statement.{statement}

@@ -5,12 +5,13 @@ use Prim.Native.Nat.{_≤_, _<_, _+_, _-_}
 use native.Mathlib.Omega.{arith}
 use lib.Dec.{eqb}
 use lib.ListN.{getD}
+use Rattle.lists.specs.Arithmetic.{below-more}
+use Rattle.lists.specs.CountLaws.{bit-under, no-bit}
 use Rattle.rules.specs.Codes.{statesIn}
 use Rattle.rules.specs.Groups.{entry}
 use Rattle.reasons.specs.ScanLaws.{state-wall}
 use Rattle.checker.specs.Breaches.{isBreach}
-use Rattle.checker.specs.Looks.{bit-under}
-use Rattle.checker.specs.Clean.{Apart, no-bit, below-more}
+use Rattle.checker.specs.Clean.{Apart}
 use Rattle.checker.proofs.walls.count_hits.Statement.{statement}
 use Rattle.checker.proofs.walls.count_hits.Tie as tie
 

@@ -4,10 +4,11 @@ use Prim.Native.Nat.{_≤_, _-_}
 use native.Mathlib.Omega.{arith}
 use borrow.Author.Needs.{needs}
 use Rattle.lists.specs.Lists.{flatMap}
-use Rattle.reasons.specs.Arrays.{part, edgeIn}
+use Rattle.lists.specs.Parts.{part}
+use Rattle.reasons.specs.Arrays.{edgeIn}
 use Rattle.reasons.specs.Memory.{Wrote}
 use Rattle.reasons.specs.MemoryLaws.{wrote-length}
-use Rattle.search.specs.ListExtras.{write-none, write-more, write-fits}
+use Rattle.reasons.specs.MemoryLaws.{write-none, write-more, write-fits}
 use Rattle.unitreason.specs.Writing.{edgesIn}
 use Rattle.unitreason.proofs.walls.edges_of.Statement.{statement}
 use Rattle.unitreason.proofs.walls.edges_of.Tie as tie

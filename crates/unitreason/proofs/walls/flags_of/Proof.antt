@@ -3,7 +3,7 @@ use Prim.Native.Nat.{_≤_, _-_}
 use mathlib.Core.Path.{_≡_}
 use native.Mathlib.Omega.{arith}
 use borrow.Author.Needs.{needs}
-use Rattle.reasons.specs.Arrays.{part}
+use Rattle.lists.specs.Parts.{part}
 use Rattle.unitreason.specs.FlagLaws.{Flagged, flagged-none, flagged-more, flagged-all}
 use Rattle.unitreason.proofs.walls.flags_of.Statement.{statement}
 use Rattle.unitreason.proofs.walls.flags_of.Tie as tie

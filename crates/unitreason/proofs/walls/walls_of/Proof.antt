@@ -2,9 +2,10 @@
 use borrow.Author.Needs.{needs}
 use Prim.Native.Nat.{_+_}
 use lib.ListN.{getD}
-use Rattle.reasons.specs.Arrays.{part, edgeIn}
+use Rattle.lists.specs.Parts.{part}
+use Rattle.reasons.specs.Arrays.{edgeIn}
 use Rattle.reasons.specs.MemoryLaws.{wrote-more}
-use Rattle.unitreason.specs.ListExtras.{room-first, room-second, room-third}
+use Rattle.reasons.specs.MemoryLaws.{room-first, room-second, room-third}
 use Rattle.unitreason.specs.Writing.{edgesIn, farIn, wallsIn}
 use Rattle.unitreason.proofs.walls.walls_of.Statement.{statement}
 use Rattle.unitreason.proofs.walls.walls_of.Tie as tie

@@ -4,14 +4,14 @@ use Prim.Native.Nat.{ℕ, _+_, _-_, _*_, _/_, _%_, _≤_, _<_}
 use native.Mathlib.Omega.{arith}
 use lib.ListN.{getD}
 use Rattle.lists.specs.Lists.{all}
+use Rattle.lists.specs.Parts.{part}
+use Rattle.lists.specs.PartLaws.{all-done, all-ends, all-next}
 use Rattle.rules.specs.Codes.{statesIn}
 use Rattle.rules.specs.Flat.{flat}
 use Rattle.rules.specs.Groups.{entry}
 use Rattle.rules.specs.Shapes.{shapeOf}
-use Rattle.reasons.specs.Arrays.{part}
 use Rattle.reasons.specs.StepLaws.{row-of}
 use Rattle.search.specs.Placing.{puzzle, fitsOf}
-use Rattle.units.specs.ListExtras.{all-done, all-ends, all-next}
 use Rattle.units.specs.Copies.{cellClear}
 use Rattle.units.specs.CopyLaws.{unit-low, shift-of, copy-cells}
 use Rattle.units.proofs.copies.copy_fits.Statement.{statement}

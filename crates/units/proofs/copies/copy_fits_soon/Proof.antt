@@ -7,12 +7,13 @@ use native.Mathlib.Omega.{arith}
 use borrow.Author.Needs.{needs}
 use lib.ListN.{getD}
 use Rattle.lists.specs.Lists.{any}
+use Rattle.lists.specs.Parts.{part}
+use Rattle.lists.specs.PartLaws.{any-done, any-found, any-next}
 use Rattle.rules.specs.Codes.{statesIn}
 use Rattle.rules.specs.Flat.{flat}
 use Rattle.rules.specs.Groups.{entry}
 use Rattle.rules.specs.Shapes.{shapeOf}
-use Rattle.reasons.specs.Arrays.{Cells, part}
-use Rattle.search.specs.ListExtras.{any-done, any-found, any-next}
+use Rattle.reasons.specs.Arrays.{Cells}
 use Rattle.search.specs.Placing.{puzzle, fitsOf}
 use Rattle.search.specs.SearchLaws.{cells-reach, cells-at}
 use Rattle.search.specs.Searching.{fitsAmong}

@@ -5,9 +5,9 @@ use mathlib.Core.List.{List}
 use Prim.Native.Nat.{ℕ, _≤_, _-_}
 use native.Mathlib.Omega.{arith}
 use lib.ListN.{length}
-use Rattle.lists.specs.Tests.{anyBelow, any-none, any-some}
+use Rattle.lists.specs.Tests.{anyBelow}
+use Rattle.lists.specs.TestLaws.{any-none, any-some, none-more}
 use Rattle.rules.specs.Page.{Point}
-use Rattle.planes.specs.Extras.{any-next}
 use Rattle.planes.specs.Masks.{Answers}
 use Rattle.shapes.specs.Spots.{spots}
 use Rattle.units.specs.Images.{imageJoints}
@@ -31,7 +31,7 @@ test s F i =
     (spots (s .args .down .now) (s .args .across .now) (s .args .k)))
 
 loop-holds : tie.Need-loop-holds Inv-loop μ-loop
-loop-holds c = (omega arith, c .pre .4, c .pre .5, λ F a e. any-next 0 (test c F) (any-none (test c F)) e)
+loop-holds c = (omega arith, c .pre .4, c .pre .5, λ F a e. none-more 0 (test c F) (any-none (test c F)) e)
 
 row-fits-requires : tie.Need-row-fits-requires Inv-loop μ-loop
 row-fits-requires c κs =
@@ -65,7 +65,7 @@ loop-again c =
       omega (arith, t .loop-test .taken),
       e .1,
       e .2,
-      λ F a z. any-next (l .loop .row) (test s F) (l .loop .inv .3 F a z) (sym (e .0 F a) ∙ c .if1 .left),
+      λ F a z. none-more (l .loop .row) (test s F) (l .loop .inv .3 F a z) (sym (e .0 F a) ∙ c .if1 .left),
     )
 
 returns-2 : tie.Need-returns-2 Inv-loop μ-loop

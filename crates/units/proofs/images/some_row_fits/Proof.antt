@@ -5,7 +5,7 @@ use mathlib.Core.List.{List}
 use Prim.Native.Nat.{ℕ}
 use native.Mathlib.Omega.{arith}
 use borrow.Author.Needs.{needs}
-use Rattle.lists.specs.Tests.{any-some}
+use Rattle.lists.specs.TestLaws.{any-some}
 use Rattle.rules.specs.Page.{Point}
 use Rattle.planes.specs.Masks.{Answers}
 use Rattle.shapes.specs.Spots.{spots}
