@@ -105,7 +105,7 @@ module _ (b : Board) (m : List ℕ) where
     unfolding checkMemory
     memory-found h = rw (t, le-ltb (length m) 16384 h)
 
-length-check : (b : Board) (m : List ℕ) → length (checkMemory b m) ≡ length m
+pub length-check : (b : Board) (m : List ℕ) → length (checkMemory b m) ≡ length m
 unfolding checkMemory
 length-check b m = go (isAlien b) (ltb (length m) 16384)
   where

@@ -17,7 +17,7 @@ use native.Mathlib.Omega.{arith}
 use borrow.Author.Tests.{eqb-false, ne-eqb, lt-ltb, le-ltb}
 use lib.Dec.{eqb, ltb}
 use lib.ListN.{length, getD}
-use Rattle.lists.specs.Count.{count-le}
+use Rattle.lists.specs.CountLaws.{count-le}
 use Rattle.rules.specs.declared.Call.{Call}
 use Rattle.rules.specs.declared.Call.the-variants.{Decide, Undo, Check}
 use Rattle.rules.specs.Page.{Puzzle, State, isUndecided}

@@ -13,8 +13,9 @@ use lib.IntN.{ℤ, pos, negsuc}
 use lib.ListN.{length}
 use lib.Signed.{leZ}
 use Rattle.lists.specs.Lists.{all, filter, any, orElse, flatMap, firstHit}
-use Rattle.lists.specs.Tests.{allBelow, and-left, and-right}
+use Rattle.lists.specs.Tests.{allBelow}
 use Rattle.lists.specs.Count.{countBelow}
+use Rattle.lists.specs.Booleans.{and-left, and-right}
 use Rattle.rules.specs.declared.Call.{Call}
 use Rattle.rules.specs.declared.Call.the-variants.{Decide, Undo, Check}
 use Rattle.rules.specs.Page.{wallAt, openAt, _⊕_, opposite}

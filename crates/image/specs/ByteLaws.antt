@@ -11,7 +11,7 @@ use lib.ListN.{length, getD, take, drop}
 use lib.Seq.{sets, take-add, drop-drop}
 use lib.Signed.{leZ}
 use Rattle.lists.specs.Table.{table}
-use Rattle.image.specs.ListExtras.{table-part}
+use Rattle.lists.specs.TableLaws.{table-part}
 use Rattle.image.specs.Image.{pair, quad, fromBits, twoBytes, fourBytes, bitsOf, Bytes}
 
 pub two-long : (v : ℕ) → length (twoBytes v) ≡ 2

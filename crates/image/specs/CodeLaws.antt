@@ -13,6 +13,7 @@ use native.Mathlib.Omega.{arith}
 use lib.ListN.{length, drop, length-map, List·getD-eq-default}
 use lib.Seq.{sets-eq}
 use Rattle.lists.specs.Lists.{_∈_, flatMap}
+use Rattle.lists.specs.Flats.{length-flat}
 use Rattle.rules.specs.declared.Side.{Side}
 use Rattle.rules.specs.declared.Side.the-variants.{Wall, Open}
 use Rattle.rules.specs.declared.Literal.{Literal}
@@ -25,7 +26,6 @@ use Rattle.board.specs.Alien.{isAlien}
 use Rattle.board.specs.Board.{Typed}
 use Rattle.board.specs.View.{puzzleIn, puzzleOf, statesOf}
 use Rattle.board.specs.NativeLaws.{native-has}
-use Rattle.image.specs.ListExtras.{length-flat}
 use Rattle.image.specs.Image.{twoBytes, putBytes}
 use Rattle.image.specs.ByteLaws.{two-long}
 use Rattle.image.specs.Runs.{codesIn}
@@ -66,7 +66,7 @@ module _ (r : Reason) (h : (l : Literal) → l ∈ r → literalCode l < 65536) 
   codes-written m f =
       let cs = map literalCode r in
       let k = length-map r literalCode in
-      let n = length-flat twoBytes 2 two-long cs in
+      let n = length-flat twoBytes 2 cs (λ x m. two-long x) in
       let e : length (flatMap twoBytes cs) ≡ 2 * length cs = omega arith in
       let q = length-codes m in
       ap codesIn (sets-eq (flatMap twoBytes cs) m 0 (omega arith) ∙ simp (zero-add, e))

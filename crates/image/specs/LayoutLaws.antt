@@ -8,10 +8,11 @@ use lib.IntN.{pos}
 use lib.ListN.{length, getD, set, length-append, length-set, List·getD-append}
 use lib.Seq.{set-append-left, sets}
 use Rattle.lists.specs.Lists.{flatMap}
+use Rattle.lists.specs.Stores.{getD-past, sets-past, getD-sets-apart, sets-flat}
+use Rattle.lists.specs.Flats.{length-flat, getD-flat}
 use Rattle.board.specs.declared.Board.{Board}
 use Rattle.board.specs.Alien.{boardWith}
 use Rattle.board.specs.Board.{Typed}
-use Rattle.image.specs.ListExtras.{getD-past, sets-past, getD-sets-apart, length-flat, getD-flat, sets-flat}
 use Rattle.image.specs.Image.{twoBytes, fourBytes, bitsOf, clueBytes, imageOf, written}
 use Rattle.image.specs.ByteLaws.{two-long, four-long, two-over}
 
@@ -59,10 +60,10 @@ module _ (b : Board) where
 -- ---- what is read
 module _ (b : Board) (T : Typed b) where
   clues-long : length (flatMap clueBytes (b .clues)) ≡ 4096
-  clues-long = length-flat clueBytes 4 (λ k. four-long (bitsOf k)) (b .clues) ∙ ap (λ j. 4 * j) (T .clues)
+  clues-long = length-flat clueBytes 4 (b .clues) (λ k m. four-long (bitsOf k)) ∙ ap (λ j. 4 * j) (T .clues)
 
   stack-long : length (flatMap twoBytes (b .stack)) ≡ 3968
-  stack-long = length-flat twoBytes 2 two-long (b .stack) ∙ ap (λ j. 2 * j) (T .stack)
+  stack-long = length-flat twoBytes 2 (b .stack) (λ x m. two-long x) ∙ ap (λ j. 2 * j) (T .stack)
 
   abbrev size : List ℕ
   size = b .height ∷ b .width ∷ []

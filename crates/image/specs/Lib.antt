@@ -1,4 +1,3 @@
-pub mod ListExtras
 pub mod Image
 pub mod ByteLaws
 pub mod LayoutLaws

@@ -19,7 +19,10 @@ use lib.ListN.{length, set, replicate, length-replicate, replicate-append-replic
 use lib.Seq.{sets}
 use Rattle.lists.specs.Lists.{flatMap}
 use Rattle.lists.specs.Padded.{padded}
-use Rattle.board.specs.ListExtras.{length-padded}
+use Rattle.lists.specs.PaddedLaws.{length-padded}
+use Rattle.lists.specs.Stores.{sets-past, sets-over}
+use Rattle.lists.specs.Appends.{flat-append}
+use Rattle.lists.specs.Flats.{length-flat, flat-replicate}
 use Rattle.board.specs.declared.Returned.{Returned}
 use Rattle.board.specs.Board.{numberOf, freshBoard, freshOf, Small}
 use Rattle.board.specs.Accepted.{Accepted, madeBoard}
@@ -33,7 +36,6 @@ use Rattle.image.specs.Hosts.{HostCall, HostDemand}
 use Rattle.image.specs.HostLaws.{host-demand}
 use Rattle.image.specs.RoundLaws.{long-is, image-known}
 use Rattle.image.specs.ByteLaws.{four-long}
-use Rattle.image.specs.ListExtras.{sets-past, sets-over, flat-append, length-flat, flat-same}
 
 -- ---- what is stored
 abbrev zeros : ℕ → List ℕ
@@ -56,7 +58,7 @@ module _ (ks : List ℤ) (q : length ks ≤ 1024) where
   bytes = flatMap clueBytes ks
 
   bytes-long : length bytes ≡ 4 * length ks
-  bytes-long = length-flat clueBytes 4 (λ k. four-long (bitsOf k)) ks
+  bytes-long = length-flat clueBytes 4 ks (λ k m. four-long (bitsOf k))
 
   tail : flatMap clueBytes (padded 1024 (pos 0) ks) ++ (zeros 1984 ++ (twoBytes 0 ++ flatMap twoBytes (zeros 1984)))
       ≡ bytes ++ zeros (10050 - 4 * length ks)
@@ -64,12 +66,12 @@ module _ (ks : List ℤ) (q : length ks ≤ 1024) where
       let m = 1024 - length ks in
       let z : zeros 1984 ++ (twoBytes 0 ++ flatMap twoBytes (zeros 1984)) ≡ zeros 5954 =
       ap (λ (l : List ℕ). zeros 1984 ++ l)
-      (ap₂ (λ (x y : List ℕ). x ++ y) zero-two (flat-same twoBytes 2 0 0 zero-two 1984)
+      (ap₂ (λ (x y : List ℕ). x ++ y) zero-two (flat-replicate twoBytes 2 0 0 zero-two 1984)
       ∙ zeros-join 2 (2 * 1984) 3970 (omega arith))
       ∙ zeros-join 1984 3970 5954 (omega arith) in
       let f : flatMap clueBytes (padded 1024 (pos 0) ks) ≡ bytes ++ zeros (4 * m) =
       flat-append clueBytes ks (replicate m (pos 0))
-      ∙ ap (λ (l : List ℕ). bytes ++ l) (flat-same clueBytes 4 (pos 0) 0 zero-clue m) in
+      ∙ ap (λ (l : List ℕ). bytes ++ l) (flat-replicate clueBytes 4 (pos 0) 0 zero-clue m) in
       ap₂ (λ (x y : List ℕ). x ++ y) f z
       ∙ append-assoc bytes (zeros (4 * m)) (zeros 5954)
       ∙ ap (λ (l : List ℕ). bytes ++ l) (zeros-join (4 * m) 5954 (10050 - 4 * length ks) (omega arith))

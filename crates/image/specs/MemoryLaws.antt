@@ -7,9 +7,9 @@ use native.Mathlib.Omega.{arith}
 use lib.ListN.{length, getD, take, length-map}
 use lib.Seq.{sets, length-sets}
 use Rattle.lists.specs.Lists.{flatMap}
+use Rattle.lists.specs.Stores.{sets-flat-more, take-sets}
 use Rattle.rules.specs.declared.Literal.{Literal}
 use Rattle.rules.specs.Codes.{literalCode, put}
-use Rattle.image.specs.ListExtras.{flat-more, take-sets}
 use Rattle.image.specs.Image.{twoBytes, putCodes, putBytes}
 use Rattle.image.specs.ByteLaws.{two-long}
 
@@ -27,7 +27,8 @@ pub codes-more : (m codes : List ℕ) (i : ℕ) → i < length codes
 unfolding putCodes
 codes-more m codes i h =
     let e : 2 * i ≡ 0 + 2 * i = omega arith in
-    ap (λ j. sets (putCodes m codes i) j (twoBytes (getD codes i 0))) e ∙ flat-more twoBytes 2 two-long m 0 codes i 0 h
+    ap (λ j. sets (putCodes m codes i) j (twoBytes (getD codes i 0))) e
+    ∙ sets-flat-more twoBytes 2 two-long m 0 codes i 0 h
 
 -- where codes holds the literals ls from its start on, their bytes are the reason's
 pub codes-put : (m codes before : List ℕ) (ls : List Literal) → length ls ≤ length before → codes ≡ put before 0 ls

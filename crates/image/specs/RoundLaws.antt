@@ -13,12 +13,13 @@ use lib.ListN.{length, getD, take, drop, length-drop, List·getD-eq-default}
 use lib.Seq.{drop-cons, take-all}
 use lib.Signed.{leZ}
 use Rattle.lists.specs.Lists.{flatMap}
-use Rattle.lists.specs.Table.{table, table-is, getD-table, length-table}
+use Rattle.lists.specs.Table.{table}
+use Rattle.lists.specs.TableLaws.{table-is, getD-table, length-table, flat-part, table-part}
+use Rattle.lists.specs.Stores.{drop-split}
 use Rattle.board.specs.declared.Board.{Board}
 use Rattle.board.specs.Alien.{boardOf, isAlien}
 use Rattle.board.specs.Board.{Typed}
 use Rattle.board.specs.NativeLaws.{Native, native-has, borders-fit}
-use Rattle.image.specs.ListExtras.{drop-split, flat-part, table-part}
 use Rattle.image.specs.Image.{pair, quad, fromBits, spelledBoard, twoBytes, fourBytes, bitsOf, clueBytes, imageOf}
 use Rattle.image.specs.Image.{rightLength, imageAlien, Bytes, Proper}
 use Rattle.image.specs.ByteLaws.{pair-of, quad-of, two-of, four-of, quad-small, bits-from, from-small}

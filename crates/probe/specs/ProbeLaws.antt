@@ -7,10 +7,8 @@ use native.Mathlib.Omega.{arith}
 use native.Mathlib.Nat.{le-trans}
 use lib.Dec.{leb}
 use borrow.Author.Tests.{leb-true}
-use lib.ListN.{length, getD, set, take, length-map, length-append}
-use lib.Seq.{sets, take-suc, length-take-le}
-use native.Mathlib.Numerals.{add-one}
-use Rattle.lists.specs.Table.{length-table}
+use lib.ListN.{length, getD, length-map, length-append}
+use lib.Seq.{sets}
 use Rattle.rules.specs.declared.Side.{Side}
 use Rattle.rules.specs.declared.Side.the-variants.{Wall, Open}
 use Rattle.rules.specs.declared.Literal.{Literal}
@@ -18,6 +16,8 @@ use Rattle.rules.specs.Flat.{Sized, flat}
 use Rattle.rules.specs.FlatLaws.{counts}
 use Rattle.rules.specs.Codes.{literalCode, put}
 use Rattle.lists.specs.Lists.{flatMap}
+use Rattle.lists.specs.TableLaws.{length-table}
+use Rattle.lists.specs.Stores.{sets-append}
 use Rattle.rules.specs.Groups.{entry, groupCount, members}
 use Rattle.rules.specs.Reasons.{inside, edge}
 use Rattle.rules.specs.Codes.{statesIn, coloursIn}
@@ -30,7 +30,6 @@ use Rattle.groups.specs.PartLaws.{members-cells, members-none, part-members}
 use Rattle.groups.specs.SortLaws.{cells-length, size-le}
 use Rattle.reasons.specs.Arrays.{Part, groupReason, insideIn, edgeIn}
 use Rattle.reasons.specs.Lengths.{inside-le, edge-le, path-le}
-use Rattle.reasons.specs.ListExtras.{sets-append}
 use Rattle.reasons.specs.Memory.{Wrote}
 use Rattle.reasons.specs.Search.{pathIn}
 use Rattle.probe.specs.Probe.{places, isFit, kindOf, groupsIn, reasonWords}
@@ -39,13 +38,6 @@ use Rattle.probe.specs.Probe.{Long, Written, Answered}
 pub places-length : (n : ℕ) (l : List ℕ) → length (places n l) ≡ n
 unfolding places
 places-length n l = length-table n (entry l)
-
--- a loop that writes words one by one
-pub sets-more : (m : List ℕ) (at : ℕ) (ws : List ℕ) (i : ℕ) → i < length ws
-    → set (sets m at (take i ws)) (at + i) (getD ws i 0) ≡ sets m at (take (i + 1) ws)
-sets-more m at ws i h =
-    let e : length (take i ws) ≡ i = length-take-le i ws (omega arith) in
-    rw (add-one i, take-suc ws i 0 h, sets-append m at (take i ws) (getD ws i 0 ∷ []), e)
 
 -- a size that has cells is a page's
 pub sized-of : {h w : ℕ} → 1 ≤ cellsOf h w → Sized h w

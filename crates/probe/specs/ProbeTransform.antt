@@ -3,11 +3,10 @@
 --   countsOf a          an answer as four numbers: the outcome's number, transforms, cells, connections
 --   answerIn s u k n    the answer of the board that the image s spells; an image of another length is alien
 --   memoryIn s u k m    the memory afterwards
-use mathlib.Core.Path.{_≡_, refl, ap, _∙_}
+use mathlib.Core.Path.{_≡_, _∙_}
 use mathlib.Core.Bool.{cond}
 use mathlib.Core.List.{List, [], _∷_}
-use Prim.Native.Nat.{ℕ, zero, suc, _≤_}
-use native.Mathlib.Nat.{not-suc-le-zero, le-of-suc-le-suc}
+use Prim.Native.Nat.{ℕ}
 use borrow.Author.Tests.{ne-eqb}
 use lib.IntN.{ℤ}
 use lib.ListN.{length, set}
@@ -27,12 +26,6 @@ answerIn s u k n = cond (rightLength s) (transformOf (spelledBoard s) u k n) (tr
 
 unfoldable pub memoryIn : List ℕ → ℕ → ℕ → List ℤ → List ℤ
 memoryIn s u k m = cond (rightLength s) (memoryAfter (spelledBoard s) u k m) m
-
--- a store past the end
-pub set-past : (l : List ℕ) (i v : ℕ) → length l ≤ i → l ≡ set l i v
-set-past [] i v h = refl
-set-past (x ∷ l) zero v h = absurd (not-suc-le-zero h)
-set-past (x ∷ l) (suc i) v h = ap (λ t. x ∷ t) (set-past l i v (le-of-suc-le-suc h))
 
 -- four stores
 pub four-stores : (l : List ℕ) {l₁ l₂ l₃ l₄ : List ℕ} {n : ℕ} (a : Transformed) → n ≡ numberOf (a .outcome)

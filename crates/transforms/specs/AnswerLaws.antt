@@ -6,9 +6,10 @@ use Prim.Native.Nat.{ℕ, _+_, _-_, _<_, _≤_}
 use native.Mathlib.Omega.{arith}
 use borrow.Author.Tests.{lt-ltb, le-ltb}
 use lib.IntN.{ℤ}
-use lib.ListN.{length, getD, replicate, List·getD-append, List·getD-eq-default}
+use lib.ListN.{length, getD, replicate, List·getD-append, List·getD-eq-default, length-map}
 use lib.Seq.{sets}
 use Rattle.lists.specs.Lists.{flatMap}
+use Rattle.lists.specs.Maps.{getD-map}
 use Rattle.rules.specs.Page.{Shape}
 use Rattle.rules.specs.Rules.{oneColour, joinsUnit}
 use Rattle.rules.specs.Flat.{Sized, flat}
@@ -26,7 +27,6 @@ use Rattle.groups.specs.Kinds.{joinsIn}
 use Rattle.groups.specs.Parts.{groupsOf}
 use Rattle.search.specs.Placing.{puzzle}
 use Rattle.shapes.specs.declared.Listed.{Listed}
-use Rattle.shapes.specs.ListExtras.{length-map, getD-map}
 use Rattle.shapes.specs.Listing.{listing}
 use Rattle.shapes.specs.Rows.{image, rowsOf}
 use Rattle.shapes.specs.UnitLaws.{transforms-flat}
@@ -64,7 +64,7 @@ module _ (h w : ℕ) (ids : List ℕ) (g : ℕ) (index : 1 ≤ w) {t : Listed}
   pub listed-count : t .count ≡ length (flatTransforms (shapeOf (flat h w) (entry ids) g))
   listed-count =
       ap (λ (r : Listed). r .count) rows
-      ∙ sym (ap length transforms-are ∙ length-map (λ r. image r shape) (rowsOf shape))
+      ∙ sym (ap length transforms-are ∙ length-map (rowsOf shape) (λ r. image r shape))
 
   module _ (k : ℕ) (l : k < t .count) where
     kth-image : kth ts k ≡ image (getD (t .rows) k 0) shape

@@ -15,11 +15,11 @@ use Prim.Native.Nat.{ℕ}
 use lib.IntN.{negsuc}
 use lib.ListN.{getD}
 use Rattle.lists.specs.Lists.{keep}
+use Rattle.lists.specs.UpTo.{upTo}
 use Rattle.rules.specs.Page.{Point, _⊕_, opposite}
 use Rattle.rules.specs.Flat.{flatPlace}
 use Rattle.rules.specs.Turns.{apply}
 use Rattle.rules.specs.Shapes.{shiftBy}
-use Rattle.reasons.specs.ListExtras.{upTo}
 use Rattle.shapes.specs.declared.Signs.{Signs}
 use Rattle.shapes.specs.Pairs.{pointAt}
 use Rattle.shapes.specs.Rows.{turnAt}

@@ -13,9 +13,12 @@ use lib.Signed.{mag}
 use lib.ListN.{getD}
 use Rattle.argument.specs.Same.{samePoint→eq, samePoint-refl}
 use Rattle.argument.specs.Pairs.{distinct-map}
-use Rattle.lists.specs.Table.{table-find}
 use Rattle.lists.specs.Lists.{_∈_, filter, any, range}
-use Rattle.lists.specs.ListLaws.{mem-map, map-find, any-mem, any-find, mem-filter, filter-test, mem-range}
+use Rattle.lists.specs.ListLaws.{mem-map, map-find, any-mem, any-find, mem-filter, filter-test}
+use Rattle.lists.specs.TableLaws.{table-find}
+use Rattle.lists.specs.Ranges.{mem-range}
+use Rattle.lists.specs.Maps.{map-map}
+use Rattle.lists.specs.UpToLaws.{up-filter}
 use Rattle.rules.specs.Page.{Point, _⊕_, opposite}
 use Rattle.rules.specs.Flat.{flatPlace}
 use Rattle.rules.specs.Groups.{entry}
@@ -30,13 +33,11 @@ use Rattle.shapes.specs.PairLaws.{one-times, minus-times}
 use Rattle.shapes.specs.Order.{Sorted}
 use Rattle.shapes.specs.SortLaws.{mem-sort, sort-mem, sort-sorted, sorted-distinct, sorted-unique}
 use Rattle.shapes.specs.FixLaws.{row-inj, shift-sorted}
-use Rattle.shapes.specs.ListExtras.{map-map}
 use Rattle.shapes.specs.Rows.{turnAt}
 use Rattle.shapes.specs.Spots.{hasCell, spotAt, spots, Near, UnitAt}
 use Rattle.shapes.specs.SpotLaws.{near-image}
 use Rattle.shapes.specs.UnitLaws.{from-sorted, places-sorted, among-places}
 use Rattle.transforms.specs.Box.{undone, reversed, corner, boxAt, boxSize, ofImage, cellAt, sweep}
-use Rattle.transforms.specs.ListExtras.{up-filter}
 
 -- a row and the one that undoes it, either first; the layer stays
 abbrev Undoes : ℕ → Type 0

@@ -1,24 +1,24 @@
 -- Writing places one after the other, and an image as the code writes it.
 use mathlib.Core.Path.{_≡_, refl, sym, ap, ap₂, _∙_, subst}
 use mathlib.Core.Bool.{true, false}
-use mathlib.Core.List.{List, [], _∷_, _++_, map}
+use mathlib.Core.List.{List, [], _∷_, _++_, map, map-append}
 use Prim.Native.Nat.{ℕ, _+_, _*_, _<_, _≤_}
 use native.Mathlib.Numerals.{add-one}
 use native.Mathlib.Omega.{arith}
 use lib.IntN.{ℤ}
-use lib.ListN.{length, set, length-append}
+use lib.ListN.{length, set, length-append, length-map}
 use lib.Seq.{sets, length-sets}
 use Rattle.lists.specs.Lists.{flatMap}
-use Rattle.lists.specs.Appends.{flat-append, map-append}
+use Rattle.lists.specs.Appends.{flat-append}
 use Rattle.lists.specs.Table.{table}
+use Rattle.lists.specs.Stores.{sets-append}
+use Rattle.lists.specs.UpToLaws.{up-none, up-more, up-fits}
 use Rattle.rules.specs.Page.{Point, _⊕_, opposite, Shape}
 use Rattle.rules.specs.Flat.{flat}
 use Rattle.rules.specs.Groups.{entry}
 use Rattle.rules.specs.Turns.{apply}
 use Rattle.rules.specs.Shapes.{sort, shiftBy, shapeOf}
-use Rattle.reasons.specs.ListExtras.{sets-append, up-none, up-more, up-fits}
 use Rattle.shapes.specs.FixLaws.{length-shift}
-use Rattle.shapes.specs.ListExtras.{length-map}
 use Rattle.shapes.specs.Rows.{turnAt, image}
 use Rattle.shapes.specs.SortLaws.{length-sort}
 use Rattle.shapes.specs.Spots.{spotAt, spots, leastImage, UnitAt}
@@ -113,7 +113,7 @@ module _ (r : ℕ) (m : Point) (D A : List ℕ) where
   unfolding movedBack
   moved-length k =
       length-shift (opposite m ⊕ opposite m) (map (apply (turnAt r)) (spots D A k))
-      ∙ (length-map (apply (turnAt r)) (spots D A k) ∙ length-spots D A k)
+      ∙ (length-map (spots D A k) (apply (turnAt r)) ∙ length-spots D A k)
 
   moved-more : (j : ℕ) → moves (j + 1)
       ≡ moves j ++ ((apply (turnAt r) (spotAt D A j) ⊕ (opposite m ⊕ opposite m)) ∷ [])
@@ -154,7 +154,7 @@ module _ {h w : ℕ} {ids : List ℕ} {g : ℕ} {R C : List ℕ} {n : ℕ} (u : 
       ap length cells-are
       ∙ (length-shift (opposite (leastImage r (spots R C n))) (sort (map (apply (turnAt r)) (spots R C n)))
       ∙ (length-sort (map (apply (turnAt r)) (spots R C n))
-      ∙ (length-map (apply (turnAt r)) (spots R C n) ∙ length-spots R C n)))
+      ∙ (length-map (spots R C n) (apply (turnAt r)) ∙ length-spots R C n)))
 
   module _ {m : Point} (e : m ≡ leastImage r (spots R C n)) where
     pub swept : sweep h w (entry ids) g r m boxSize ≡ image r shape .cells

@@ -13,8 +13,8 @@ use Rattle.rules.specs.declared.Call.the-variants.{Check}
 use Rattle.board.specs.declared.Board.{Board}
 use Rattle.board.specs.Board.{decideOf}
 use Rattle.board.specs.Accepted.{madeBoard, decidesOf}
-use Rattle.calls.specs.Answers.{literalOf, answerNumber, checkAnswer, checkMemory, callOf, callMemory}
-use Rattle.calls.specs.AnswerLaws.{length-call}
+use Rattle.calls.specs.Answers.{literalOf, answerNumber, checkAnswer, checkMemory, callOf}
+use Rattle.calls.specs.AnswerLaws.{length-check}
 use Rattle.calls.specs.NumberLaws.{InRange, call-range}
 use Rattle.trial.specs.Trial.{checksNumber, checksMemory, streamMemory, made, boardIn}
 use Rattle.trial.specs.Trial.{trialNumber, trialMemory, trialStreamMemory}
@@ -23,10 +23,6 @@ use Rattle.trial.specs.Trial.{trialNumber, trialMemory, trialStreamMemor
 pub check-in-range : (b : Board) (m : List ℕ) → InRange (checkAnswer b (length m))
 unfolding callOf
 check-in-range b m = call-range b Check m
-
-pub check-length : (b : Board) (m : List ℕ) → length (checkMemory b m) ≡ length m
-unfolding callMemory
-check-length b m = length-call b Check m
 
 -- ---- the literals from the place i on: the one there comes first; none are left at the end
 pub decides-more : (b : Board) (codes : List ℕ) (i : ℕ) → i < length codes
@@ -56,13 +52,13 @@ pub stream-length : (b : Board) (ls : List Literal) (m : List ℕ) → length (s
 unfolding streamMemory
 stream-length b [] m = refl
 stream-length b (l ∷ ls) m =
-    stream-length (decideOf b l .board) ls (checkMemory (decideOf b l .board) m) ∙ check-length (decideOf b l .board) m
+    stream-length (decideOf b l .board) ls (checkMemory (decideOf b l .board) m) ∙ length-check (decideOf b l .board) m
 
 -- ---- several checks
 pub checks-length : (b : Board) (times : ℕ) (m : List ℕ) → length (checksMemory b times m) ≡ length m
 unfolding checksMemory
 checks-length b zero m = refl
-checks-length b (suc times) m = check-length b (checksMemory b times m) ∙ checks-length b times m
+checks-length b (suc times) m = length-check b (checksMemory b times m) ∙ checks-length b times m
 
 pub memory-more : (b : Board) (i : ℕ) (m : List ℕ) → checkMemory b (checksMemory b i m) ≡ checksMemory b (i + 1) m
 unfolding checksMemory

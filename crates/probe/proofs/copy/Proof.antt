@@ -5,7 +5,7 @@ use native.Mathlib.Nat.{not-suc-le-zero}
 use native.Mathlib.Omega.{arith}
 use borrow.Author.Needs.{needs}
 use lib.ListN.{length, getD, length-set}
-use Rattle.lists.specs.Table.{table-is, stored-more}
+use Rattle.lists.specs.TableLaws.{table-is, stored-more}
 use Rattle.rules.specs.Groups.{entry}
 use Rattle.probe.specs.Probe.{places}
 use Rattle.probe.proofs.copy.Statement.{statement}

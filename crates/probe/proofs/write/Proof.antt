@@ -5,7 +5,7 @@ use native.Mathlib.Omega.{arith}
 use borrow.Author.Needs.{needs}
 use lib.ListN.{length, take}
 use lib.Seq.{sets, length-sets, take-all}
-use Rattle.probe.specs.ProbeLaws.{sets-more}
+use Rattle.lists.specs.Stores.{sets-more}
 use Rattle.probe.proofs.write.Statement.{statement}
 use Rattle.probe.proofs.write.Tie as tie
 
@@ -48,7 +48,7 @@ loop-again : tie.Need-loop-again Inv-loop μ-loop
 loop-again c =
     let r = c .before .before .loop in
     let a = c .before .before .before .args in
-    (omega arith, rw (r .inv .1) (sets-more (a .memory .now) (a .at) (a .words .now) (r .i) (omega arith)))
+    (omega arith, rw (r .inv .1) (sets-more (a .memory .now) (a .at) (a .words .now) (r .i) 0 (omega arith)))
 
 same-length : tie.Need-same-length Inv-loop μ-loop
 same-length c =

@@ -9,8 +9,9 @@ use Rattle.board.specs.declared.Board.{Board}
 use Rattle.board.specs.Alien.{boardOf}
 use Rattle.board.specs.Accepted.{decidesOf}
 use Rattle.calls.specs.Answers.{literalOf, checkMemory}
+use Rattle.calls.specs.AnswerLaws.{length-check}
 use Rattle.trial.specs.Trial.{streamMemory}
-use Rattle.trial.specs.TrialLaws.{decides-more, decides-none, stream-more, stream-none, check-length}
+use Rattle.trial.specs.TrialLaws.{decides-more, decides-none, stream-more, stream-none}
 use Rattle.trial.proofs.streamed.Statement.{statement}
 use Rattle.trial.proofs.streamed.Tie as tie
 
@@ -69,7 +70,7 @@ loop-again c =
           ∙ ap (λ (b : Board). streamMemory b left (checkMemory b (p .loop .memory))) (d .decide-next .ensures)
           ∙ sym (stream-more (passed p) codes (p .loop .memory) i (omega arith))
           ∙ p .loop .inv .2,
-      ap length e ∙ check-length _ (p .loop .memory) ∙ p .loop .inv .3,
+      ap length e ∙ length-check _ (p .loop .memory) ∙ p .loop .inv .3,
     )
 
 same-length : tie.Need-same-length Inv-loop μ-loop

@@ -6,7 +6,7 @@ use native.Mathlib.Omega.{arith}
 use borrow.Author.Needs.{needs}
 use lib.ListN.{length, getD, replicate, length-set, length-replicate, getD-replicate}
 use lib.Seq.{ext-getD}
-use Rattle.lists.specs.Table.{stored-more}
+use Rattle.lists.specs.TableLaws.{stored-more}
 use Rattle.image.proofs.making.clear.Statement.{statement}
 use Rattle.image.proofs.making.clear.Tie as tie
 

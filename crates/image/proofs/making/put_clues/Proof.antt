@@ -9,9 +9,9 @@ use lib.Seq.{sets, length-sets, take-all}
 use mir.Facts.{toZ-ofZ}
 use mir.Syntax.{w32}
 use Rattle.lists.specs.Lists.{flatMap}
+use Rattle.lists.specs.Stores.{sets-flat-more}
 use Rattle.image.specs.Image.{bitsOf, clueBytes}
 use Rattle.image.specs.ByteLaws.{four-long}
-use Rattle.image.specs.ListExtras.{flat-more}
 use Rattle.image.proofs.making.put_clues.Statement.{statement}
 use Rattle.image.proofs.making.put_clues.Tie as tie
 
@@ -64,7 +64,7 @@ loop-again c =
       omega arith,
       c .before .before .put-four .ensures
           ∙ rw (r .inv .1, b)
-          (flat-more clueBytes 4 (λ y. four-long (bitsOf y)) (a .s .now) 1026 (a .clues .now) (r .i) (pos 0)
+          (sets-flat-more clueBytes 4 (λ y. four-long (bitsOf y)) (a .s .now) 1026 (a .clues .now) (r .i) (pos 0)
           (omega arith)),
     )
 

@@ -5,7 +5,7 @@ use native.Mathlib.Omega.{arith}
 use borrow.Author.Needs.{needs}
 use lib.ListN.{length, take}
 use lib.Seq.{sets, length-sets, take-all}
-use Rattle.image.specs.ListExtras.{sets-more}
+use Rattle.lists.specs.Stores.{sets-more}
 use Rattle.image.proofs.making.put_colours.Statement.{statement}
 use Rattle.image.proofs.making.put_colours.Tie as tie
 

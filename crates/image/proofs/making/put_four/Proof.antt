@@ -2,8 +2,8 @@
 use mathlib.Core.Path.{sym, _∙_}
 use Prim.Native.Nat.{_/_}
 use borrow.Author.Needs.{needs}
+use Rattle.lists.specs.Stores.{sets-append}
 use Rattle.image.specs.Image.{twoBytes, fourBytes}
-use Rattle.image.specs.ListExtras.{sets-append}
 use Rattle.image.proofs.making.put_four.Statement.{statement}
 use Rattle.image.proofs.making.put_four.Tie as tie
 

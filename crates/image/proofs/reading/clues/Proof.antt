@@ -8,7 +8,7 @@ use lib.IntN.{pos}
 use lib.ListN.{length, getD, length-set}
 use mir.Facts.{toZ-ofZ}
 use mir.Syntax.{w32}
-use Rattle.lists.specs.Table.{table-is, stored-more}
+use Rattle.lists.specs.TableLaws.{table-is, stored-more}
 use Rattle.image.specs.Image.{quad, fromBits}
 use Rattle.image.proofs.reading.clues.Statement.{statement}
 use Rattle.image.proofs.reading.clues.Tie as tie

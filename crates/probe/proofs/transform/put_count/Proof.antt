@@ -1,6 +1,7 @@
 -- A store past the end changes nothing.
+use mathlib.Core.Path.{sym}
 use native.Mathlib.Omega.{arith}
-use Rattle.probe.specs.ProbeTransform.{set-past}
+use lib.Seq.{set-out}
 use borrow.Author.Needs.{needs}
 use Rattle.probe.proofs.transform.put_count.Statement.{statement}
 use Rattle.probe.proofs.transform.put_count.Tie as tie
@@ -19,7 +20,7 @@ returns c = search needs
 
 returns-2 : tie.Need-returns-2
 returns-2 c =
-    let s = c .before in set-past (s .args .counts .now) (s .args .i) (s .args .n) (omega arith)
+    let s = c .before in sym (set-out (s .args .counts .now) (s .args .i) (s .args .n) (omega arith))
 
 pub put-count-spec : {M : Type 1} → statement M
 put-count-spec = tie.close (tie.spec mul-counts slice-write-counts same-length returns returns-2)
