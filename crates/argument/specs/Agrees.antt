@@ -6,9 +6,9 @@ use mathlib.Core.Path.{_∙_, sym}
 use Prim.Native.Nat.{ℕ, _<_}
 use Rattle.rules.specs.Page.{Puzzle, State}
 use Rattle.rules.specs.Rules.{joinsBlock, joinsUnit, SameBlock, SameUnit, Congruent, Solution}
-use Rattle.argument.specs.PageLaws.{Bordered}
+use Rattle.laws.specs.PageLaws.{Bordered}
+use Rattle.laws.specs.RuleLaws.{join-map, join-in}
 use Rattle.argument.specs.Demand.{SameSides}
-use Rattle.argument.specs.Joins.{join-map, join-in}
 
 pub sides-sym : (Z : Puzzle) (s σ : ℕ → State) → SameSides Z s σ → SameSides Z σ s
 unfolding SameSides

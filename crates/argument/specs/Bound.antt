@@ -11,7 +11,6 @@ use native.Mathlib.Nat.{mul-le-mul-left, le-trans, mul-suc, mul-add}
 use native.Mathlib.Omega.{arith}
 use lib.Dec.{eqb, ltb, T, eqb→eq, T-not}
 use lib.ListN.{length, length-append, length-map}
-use Rattle.rules.specs.SmallLaws.{gather-le, trace-le}
 use Rattle.lists.specs.Lists.{_∈_, filter, any, flatMap, range, Distinct}
 use Rattle.lists.specs.ListLaws.{filter-test, any-find}
 use Rattle.lists.specs.Filters.{length-filter, distinct-filter, filter-two}
@@ -25,18 +24,18 @@ use Rattle.rules.specs.declared.Placement.the-variants.{Fits, Blocked, Cannot}
 use Rattle.rules.specs.Page.{Hop, Shape, Puzzle, State, isWall, isOpen, wallAt}
 use Rattle.rules.specs.Rules.{Joined}
 use Rattle.rules.specs.Groups.{members, joinsPotential, blockOf, unitOf, unitCount, potentialOf, potentialCount}
-use Rattle.rules.specs.Reasons.{gather, insideAt, inside, edgeAt, edge, Found, Search, isFound, visitIf, trace, look}
-use Rattle.rules.specs.Reasons.{hunt, path}
+use Rattle.rules.specs.Reasons.{gather, inside, edgeAt, edge, Found, Search, isFound, visitIf, trace, look, hunt, path}
 use Rattle.rules.specs.Shapes.{shapeOf}
 use Rattle.rules.specs.Check.{Reason, conflict, insideBlock, insideUnit, edgeOf, touches, adjacent, mates, laid}
 use Rattle.rules.specs.Check.{blockers, transformsOf, placements, farWallsAt, farWalls, unitReason, hit, check}
-use Rattle.argument.specs.PageLaws.{Bordered}
-use Rattle.argument.specs.Numbers.{number-joined, members-in, members-number, potentialCells}
+use Rattle.laws.specs.ReasonLaws.{trace-le, inside-le, edge-le}
+use Rattle.laws.specs.PageLaws.{Bordered}
+use Rattle.laws.specs.GroupLaws.{number-joined, members-lt, members-number, potentialCells}
+use Rattle.laws.specs.RuleLaws.{joined-colour}
 use Rattle.argument.specs.Hits.{Each, each-some}
-use Rattle.argument.specs.Crossings.{joined-colour}
 use Rattle.argument.specs.Forms.{Forms, each-form}
 use Rattle.argument.specs.Checks.{check-each}
-use Rattle.argument.specs.Totals.{part, total, total-le, sum-flat}
+use Rattle.argument.specs.Totals.{ofGroup, total, total-le, sum-flat}
 
 gather-two : (s u : Side) (p q : Hop → Bool) (hs : List Hop) → ((h : Hop) → T (p h) → T (q h) → ⊥)
     → length (gather s p hs) + length (gather u q hs) ≤ length hs
@@ -57,24 +56,16 @@ module _ (Z : Puzzle) (K : Bordered (Z .page)) (s : ℕ → State) (D A M : ℕ)
   members-le number g = let a = length-filter (λ x. eqb (number x) g) (range n) in let b = length-range 0 n in
       omega arith
 
-  inside-le : (number : ℕ → ℕ) (g : ℕ) → length (inside (Z .page) s number g) ≤ D * n
-  unfolding inside insideAt
-  inside-le number g = let a = flat-le (insideAt (Z .page) s number g) D (members (Z .page) number g)
-      (λ x m. le-trans (gather-le _ _ _) (aheads x)) in le-trans a (mul-le-mul-left D (members-le number g))
+  inside-n : (number : ℕ → ℕ) (g : ℕ) → length (inside (Z .page) s number g) ≤ D * n
+  inside-n number g = le-trans (inside-le (Z .page) s number g D aheads) (mul-le-mul-left D (members-le number g))
 
   block-le : (B : ℕ) → length (insideBlock Z s B) ≤ D * n
   unfolding insideBlock
-  block-le B = inside-le (blockOf Z s) B
+  block-le B = inside-n (blockOf Z s) B
 
   unit-le : (U : ℕ) → length (insideUnit Z s U) ≤ D * n
   unfolding insideUnit
-  unit-le U = inside-le (unitOf Z s) U
-
-  edge-le : (number : ℕ → ℕ) (g : ℕ)
-      → length (edge (Z .page) (Z .colour) s number g) ≤ A * length (members (Z .page) number g)
-  unfolding edge edgeAt
-  edge-le number g = flat-le (edgeAt (Z .page) (Z .colour) s number g) A (members (Z .page) number g)
-      (λ x m. le-trans (gather-le _ _ _) (arounds x))
+  unit-le U = inside-n (unitOf Z s) U
 
   edge-far-le : (k : ℕ) → length (edgeOf Z s k) + length (farWalls Z s k) ≤ A * length (potentialCells Z s k)
   unfolding edgeOf edge edgeAt farWalls farWallsAt
@@ -91,7 +82,7 @@ module _ (Z : Puzzle) (K : Bordered (Z .page)) (s : ℕ → State) (D A M : ℕ)
   -- a potential unit has one colour, so it is not its own mate
   potential-colour : {x y : ℕ} → x < n → Joined (Z .page) (joinsPotential Z s) y x → Z .colour x ≡ Z .colour y
   unfolding joinsPotential
-  potential-colour h j = joined-colour Z K s (joinsPotential Z s) (λ b t. T-and-r (not (isWall (s b))) _ t) h j
+  potential-colour h j = joined-colour Z K (joinsPotential Z s) (λ b t. T-and-r (not (isWall (s b))) _ t) h j
 
   not-own : (P : ℕ) → P ∈ mates Z s P → ⊥
   unfolding mates adjacent touches
@@ -99,7 +90,7 @@ module _ (Z : Puzzle) (K : Bordered (Z .page)) (s : ℕ → State) (D A M : ℕ)
       let a = any-find (λ c. any (touches Z s P c) (Z .page .around c)) (potentialCells Z s P)
       (filter-test (adjacent Z s P) (range (potentialCount Z s)) m) in
       let b = any-find (touches Z s P (a .0)) (Z .page .around (a .0)) (a .2) in
-      let hx = members-in (Z .page) (potentialOf Z s) P (a .0) (a .1) in
+      let hx = members-lt (Z .page) (potentialOf Z s) P (a .0) (a .1) in
       let hy = K .hop-in (a .0) (b .0) hx (b .1) in
       let e = members-number (Z .page) (potentialOf Z s) P (a .0) (a .1)
       ∙ sym (eqb→eq (potentialOf Z s (b .0 .to)) P
@@ -124,7 +115,8 @@ module _ (Z : Puzzle) (K : Bordered (Z .page)) (s : ℕ → State) (D A M : ℕ)
 
   edges-le : (P : ℕ) → length (flatMap (edgeOf Z s) (mates Z s P)) ≤ A * total (potentialOf Z s) (range n) (mates Z s P)
   unfolding members edgeOf
-  edges-le P = sum-flat (edgeOf Z s) (potentialOf Z s) (range n) A (mates Z s P) (λ k. edge-le (potentialOf Z s) k)
+  edges-le P = sum-flat (edgeOf Z s) (potentialOf Z s) (range n) A (mates Z s P)
+      (λ k. edge-le (Z .page) s (potentialOf Z s) k A (Z .colour) arounds)
 
   blocker-le : (p : Placement) → length (blockers Z s p) ≤ 1
   blocker-le Fits = omega arith
@@ -146,7 +138,7 @@ module _ (Z : Puzzle) (K : Bordered (Z .page)) (s : ℕ → State) (D A M : ℕ)
       (flat-le _ n (transformsOf Z s U)
       (λ t m.
       let a = sum-flat (λ Q. map (laid Z s t) (potentialCells Z s Q)) (potentialOf Z s) (range n) 1 (mates Z s P)
-      (λ k. let e = length-map (part (potentialOf Z s) (range n) k) (laid Z s t) in omega arith) in
+      (λ k. let e = length-map (ofGroup (potentialOf Z s) (range n) k) (laid Z s t) in omega arith) in
       let b = all-le P in
       omega arith))
       (mul-le-mul-left n (transforms-le U))
@@ -200,7 +192,9 @@ module _ (Z : Puzzle) (K : Bordered (Z .page)) (s : ℕ → State) (D A M : ℕ)
 
   edge-n : (k : ℕ) → length (edgeOf Z s k) ≤ A * n
   unfolding edgeOf
-  edge-n k = le-trans (edge-le (potentialOf Z s) k) (mul-le-mul-left A (members-le (potentialOf Z s) k))
+  edge-n k =
+      le-trans (edge-le (Z .page) s (potentialOf Z s) k A (Z .colour) arounds)
+      (mul-le-mul-left A (members-le (potentialOf Z s) k))
 
   -- what a reason has at most
   abbrev bound : ℕ

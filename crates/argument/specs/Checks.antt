@@ -15,7 +15,7 @@ use Rattle.lists.specs.Ranges.{mem-range, range-lt}
 use Rattle.rules.specs.Page.{Puzzle, State, Contains}
 use Rattle.rules.specs.Rules.{Solution}
 use Rattle.rules.specs.Check.{Reason, Verdict, pass, conflict, hit, undecidedCount, verdictOf, check}
-use Rattle.argument.specs.PageLaws.{Bordered, Placed, Listed}
+use Rattle.laws.specs.PageLaws.{Bordered, Placed, Listed}
 use Rattle.argument.specs.Demand.{Full, Passes}
 use Rattle.argument.specs.Hits.{Each, each-some, each-or, each-first, else-none}
 use Rattle.argument.specs.Sound.{Sound, sound-block}

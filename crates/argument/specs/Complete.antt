@@ -16,18 +16,17 @@ use Rattle.lists.specs.ListLaws.{first-none}
 use Rattle.lists.specs.Booleans.{T-and, T-dec, beq-eq}
 use Rattle.rules.specs.declared.Side.the-variants.{Wall}
 use Rattle.rules.specs.Page.{Hop, Puzzle, State, decided, isWall}
-use Rattle.rules.specs.Rules.{stay, step, joinsBlock, joinsUnit, SameBlock, Congruent, Solution}
+use Rattle.rules.specs.Rules.{stay, joinsBlock, joinsUnit, SameBlock, Congruent, Solution, step}
 use Rattle.rules.specs.Groups.{blockOf, blockCount, unitOf, unitCount}
 use Rattle.rules.specs.Shapes.{shapeOf}
 use Rattle.rules.specs.Check.{blockHit, wallHit, wallHits, unitHit}
-use Rattle.argument.specs.PageLaws.{Bordered, Placed, Listed}
+use Rattle.laws.specs.PageLaws.{Bordered, Placed, Listed}
+use Rattle.laws.specs.StateLaws.{not-both}
+use Rattle.laws.specs.Copies.{shape-based, copy}
+use Rattle.laws.specs.RuleLaws.{join-trans, join-in, join-sym, unit-colour, unit-block}
+use Rattle.laws.specs.GroupLaws.{joined-number, mem-members}
 use Rattle.argument.specs.Demand.{Full}
-use Rattle.argument.specs.Joins.{join-trans, join-in, join-sym}
-use Rattle.argument.specs.Numbers.{joined-number, mem-members}
-use Rattle.argument.specs.States.{not-both}
 use Rattle.argument.specs.Hits.{hit-misses}
-use Rattle.argument.specs.Copies.{shape-based, copy}
-use Rattle.argument.specs.Crossings.{unit-colour, unit-block}
 use Rattle.argument.specs.Fulls.{unit-size}
 use Rattle.argument.specs.Passes.{one-unit, same-size, clue-kept}
 use Rattle.argument.specs.Fits.{Fit, fit}

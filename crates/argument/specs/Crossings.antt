@@ -1,39 +1,20 @@
--- The units of a setting, and where a path of a block leaves a unit.
+-- Where a path of a block leaves a unit.
 --
---   joined-colour             cells joined over borders of one colour have one colour
---   unit-colour, unit-block   the cells of a unit have one colour, and are of one block
 --   Crossing x y, cross       the hop to the other colour, from the unit of x, on the way to y
 use mathlib.Core.Path.{_≡_, _∙_, refl, ap, sym}
 use mathlib.Core.Logic.{_⊎_, inl, inr}
-use mathlib.Core.Bool.{Bool, not, Bool·beq}
+use mathlib.Core.Bool.{not, Bool·beq}
 use Prim.Native.Nat.{ℕ, _<_}
 use lib.Dec.{T}
 use Rattle.lists.specs.Lists.{_∈_}
-use Rattle.lists.specs.Booleans.{T-and-l, T-and-r, T-and, T-dec, beq-eq}
+use Rattle.lists.specs.Booleans.{T-and, T-dec, beq-eq}
 use Rattle.rules.specs.Page.{Hop, Puzzle, State, isOpen}
-use Rattle.rules.specs.Rules.{Joined, stay, step, oneColour, joinsBlock, joinsUnit, SameBlock, SameUnit}
-use Rattle.argument.specs.PageLaws.{Bordered}
-use Rattle.argument.specs.Joins.{join-weaken}
-use Rattle.argument.specs.States.{not-both, not-self}
-use Rattle.argument.specs.Keeps.{hop-colour, colour-hop}
+use Rattle.rules.specs.Rules.{stay, joinsBlock, joinsUnit, SameBlock, SameUnit, step}
+use Rattle.laws.specs.PageLaws.{Bordered}
+use Rattle.laws.specs.StateLaws.{not-both, not-self}
+use Rattle.laws.specs.RuleLaws.{colour-hop}
 
--- units of a setting
 module _ (Z : Puzzle) (K : Bordered (Z .page)) (σ : ℕ → State) where
-  pub joined-colour : (link : ℕ → Bool) → ((b : ℕ) → T (link b) → T (oneColour Z b)) → {x y : ℕ} → x < Z .page .cells
-      → Joined (Z .page) link y x → Z .colour x ≡ Z .colour y
-  joined-colour link f h (stay e) = ap (Z .colour) e
-  joined-colour link f {x} h (step j m t r) =
-      hop-colour Z K σ x j h m (f (j .border) t) ∙ joined-colour link f (K .hop-in x j h m) r
-
-  pub unit-colour : {x y : ℕ} → x < Z .page .cells → SameUnit Z σ x y → Z .colour x ≡ Z .colour y
-  unfolding joinsUnit
-  unit-colour h j = joined-colour (joinsUnit Z σ) (λ b t. T-and-r (isOpen (σ b)) _ t) h j
-
-  pub unit-block : {x y : ℕ} → SameUnit Z σ x y → SameBlock Z σ x y
-  unfolding joinsUnit joinsBlock
-  unit-block j = join-weaken (Z .page) (joinsUnit Z σ) (joinsBlock Z σ) (λ b t. T-and-l (isOpen (σ b)) _ t) j
-
-  -- where a block's path leaves a unit
   pub record Crossing (x y : ℕ) : Type 0 where
     pub out : ℕ
     pub over : Hop
@@ -64,7 +45,7 @@ module _ (Z : Puzzle) (K : Bordered (Z .page)) (σ : ℕ → State) where
       go (inl u) ih = let e = beq-eq (Z .colour x) (Z .colour (j .to)) u in let c = ih (q ∙ ap not e) in record {
         out = c .out;
         over = c .over;
-        same = step j m (let v = colour-hop Z K σ x j h m e in search T-and) (c .same);
+        same = step j m (let v = colour-hop Z K x j h m e in search T-and) (c .same);
         hop = c .hop;
         opens = c .opens;
         other = c .other ∙ ap not (sym e);

@@ -11,12 +11,11 @@ use Rattle.rules.specs.Page.{Puzzle, State, Contains}
 use Rattle.rules.specs.Rules.{Solution}
 use Rattle.rules.specs.Check.{Reason, Verdict, pass, conflict, check}
 use Rattle.rules.specs.Book.{Asked, states, sequence}
-use Rattle.argument.specs.PageLaws.{Bordered, Placed, Listed}
+use Rattle.laws.specs.PageLaws.{Bordered, Placed, Listed}
+use Rattle.laws.specs.BookLaws.{Clean, decided-mem, sequence-clean, answered-check}
 use Rattle.argument.specs.Demand.{SameSides, BookAnswered, BookRuledOut, BookStoodAt, Passes, BookDemand}
 use Rattle.argument.specs.Agrees.{sides-sym, solution-agrees}
 use Rattle.argument.specs.Checks.{check-kind, check-holds, check-sound, check-full}
-use Rattle.argument.specs.Sequences.{Clean, decided-mem}
-use Rattle.argument.specs.BookLaws.{sequence-clean, answered-check}
 
 module _ (Z : Puzzle) where
   pub answered-longer : (calls more : List Asked) (ls : List Literal) (r : Verdict) → BookAnswered Z calls ls r

@@ -22,11 +22,11 @@ use Rattle.rules.specs.Groups.{unitOf, unitCount, potentialOf, potentialCount}
 use Rattle.rules.specs.Shapes.{shapeOf}
 use Rattle.rules.specs.Check.{Reason, hitIf, touches, adjacent, mates, judge, laid, isFit, transformsOf, placements}
 use Rattle.rules.specs.Check.{unitReason, unitHitIn, unitHitOn, unitHit}
-use Rattle.argument.specs.PageLaws.{Bordered}
+use Rattle.laws.specs.PageLaws.{Bordered}
+use Rattle.laws.specs.StateLaws.{not-both}
+use Rattle.laws.specs.GroupLaws.{number-lt, mem-members, members-lt, members-number, unitCells, potentialCells}
+use Rattle.laws.specs.GroupLaws.{ownPotential}
 use Rattle.argument.specs.Demand.{Full}
-use Rattle.argument.specs.Numbers.{number-lt, mem-members, members-in, members-number, unitCells}
-use Rattle.argument.specs.Numbers.{potentialCells, ownPotential}
-use Rattle.argument.specs.States.{not-both}
 use Rattle.argument.specs.Hits.{hit-misses}
 use Rattle.argument.specs.Sizes.{mem-unit}
 use Rattle.argument.specs.Mates.{transforms-listed}
@@ -100,7 +100,7 @@ module _ (Z : Puzzle) (K : Bordered (Z .page)) (s : ℕ → State) (full : Full 
   unit-none x hx =
       let U = unitOf Z s x in
       let r = on-none U (unitCells Z s U) x (mem-members (Z .page) (unitOf Z s) U x hx refl)
-      (pass3 U (number-lt (Z .page) K (joinsUnit Z s) x hx)) in
+      (pass3 U (number-lt (Z .page) (joinsUnit Z s) (omega arith) x hx)) in
       let e = unit-pot Z K s full x (r .0) hx (mem-unit Z K s x (r .0) hx (r .1)) in
       rw e (r .2)
 
@@ -119,7 +119,8 @@ module _ (Z : Puzzle) (K : Bordered (Z .page)) (s : ℕ → State) (full : Full 
       (filter-test (adjacent Z s P′) (range (potentialCount Z s)) (c .1)) in
       let g = any-find (touches Z s (c .0) (f .0)) (Z .page .around (f .0)) (f .2) in
       build (b .0) (c .0) (f .0) (g .0) (d .0) (f .1) (g .1) (g .2) (d .1)
-      (subst (λ (us : List Shape). b .0 ∈ us) (transforms-listed Z s U (number-lt (Z .page) K (joinsUnit Z s) x hx))
+      (subst (λ (us : List Shape). b .0 ∈ us)
+      (transforms-listed Z s U (number-lt (Z .page) (joinsUnit Z s) (omega arith) x hx))
       (b .1)) (a .0) (a .2) (d .2)
     where
       build : (u : Shape) (Q c : ℕ) (h : Hop) (o : ℕ) → c ∈ ownPotential Z s x
@@ -131,8 +132,8 @@ module _ (Z : Puzzle) (K : Bordered (Z .page)) (s : ℕ → State) (full : Full 
           let free = not (isWall (s (h .border))) in
           let t1 = T-and-l (unlike && free) (eqb (potentialOf Z s (h .to)) Q) t in
           let t2 = T-and-r (unlike && free) (eqb (potentialOf Z s (h .to)) Q) t in
-          let hc = members-in (Z .page) (potentialOf Z s) _ c mc in
-          let ho = members-in (Z .page) (potentialOf Z s) Q o mo in
+          let hc = members-lt (Z .page) (potentialOf Z s) _ c mc in
+          let ho = members-lt (Z .page) (potentialOf Z s) Q o mo in
           record {
             out = c;
             over = h;

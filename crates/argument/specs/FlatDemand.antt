@@ -17,15 +17,15 @@ use lib.ListN.{length}
 use Rattle.rules.specs.Page.{State, Contains, Shape}
 use Rattle.rules.specs.Rules.{Solution}
 use Rattle.rules.specs.Flat.{Sized, flat}
-use Rattle.rules.specs.FlatLaws.{counts}
 use Rattle.rules.specs.Check.{Reason, conflict, check}
 use Rattle.rules.specs.Book.{Asked}
+use Rattle.laws.specs.FlatLaws.{counts}
+use Rattle.laws.specs.FlatPage.{flat-bordered, flat-placed, flat-listed, flat-ahead, flat-around}
+use Rattle.laws.specs.FlatShapes.{flatPuzzle, flat-eight}
 use Rattle.argument.specs.Demand.{Full, Passes, BookDemand}
 use Rattle.argument.specs.Checks.{check-holds, check-sound, check-full}
 use Rattle.argument.specs.DemandLaws.{book-demand}
 use Rattle.argument.specs.Bound.{check-short}
-use Rattle.argument.specs.FlatPage.{flat-bordered, flat-placed, flat-listed, flat-ahead, flat-around}
-use Rattle.argument.specs.FlatShapes.{flatPuzzle, flat-eight}
 
 module _ (h w : ℕ) (hw : 0 < w) (colour : ℕ → Bool) (clue : ℕ → Option ℕ) where
   pub flat-demand : (calls : List Asked) → BookDemand (flatPuzzle h w colour clue) calls

@@ -20,13 +20,12 @@ use Rattle.rules.specs.Page.{Puzzle, State, undecided, decided, isWall, isOpen}
 use Rattle.rules.specs.Rules.{Joined, joinsBlock, joinsUnit, SameBlock, SameUnit}
 use Rattle.rules.specs.Groups.{joinsPotential, blockOf, unitOf, potentialOf}
 use Rattle.rules.specs.Check.{sizeOf, coloured}
-use Rattle.argument.specs.PageLaws.{Bordered}
+use Rattle.laws.specs.PageLaws.{Bordered}
+use Rattle.laws.specs.RuleLaws.{join-weaken, join-map, join-in, unit-colour, unit-block}
+use Rattle.laws.specs.GroupLaws.{number-joined, joined-number, mem-members, members-lt, members-number}
+use Rattle.laws.specs.GroupLaws.{members-distinct, ownBlock, ownUnit, ownPotential}
 use Rattle.argument.specs.Demand.{Full}
-use Rattle.argument.specs.Joins.{join-weaken, join-map, join-in}
-use Rattle.argument.specs.Numbers.{number-joined, joined-number, mem-members, members-in, members-number}
-use Rattle.argument.specs.Numbers.{members-distinct, ownBlock, ownUnit, ownPotential}
 use Rattle.argument.specs.Sizes.{unitSize}
-use Rattle.argument.specs.Crossings.{unit-colour, unit-block}
 
 module _ (Z : Puzzle) (K : Bordered (Z .page)) (s : ℕ → State) (full : Full Z s) where
   pub open-of : (b : ℕ) → b < Z .page .borders → T (not (isWall (s b))) → T (isOpen (s b))
@@ -73,14 +72,14 @@ module _ (Z : Puzzle) (K : Bordered (Z .page)) (s : ℕ → State) (full : Full 
   unit-size x hx = let a = le in let b = ge in omega arith
     where
       le : length (ownUnit Z s x) ≤ length (ownPotential Z s x)
-      le = subset-le _ _ (members-distinct (Z .page) _ _) (λ y m. let hy = members-in (Z .page) (unitOf Z s) _ y m in
+      le = subset-le _ _ (members-distinct (Z .page) _ _) (λ y m. let hy = members-lt (Z .page) (unitOf Z s) _ y m in
           mem-members (Z .page) (potentialOf Z s) _ y hy
           (unit-pot y x hy (number-joined (Z .page) K (joinsUnit Z s) y x hy hx
           (members-number (Z .page) (unitOf Z s) _ y m))))
 
       ge : length (ownPotential Z s x) ≤ length (ownUnit Z s x)
       ge = subset-le _ _ (members-distinct (Z .page) _ _)
-          (λ y m. let hy = members-in (Z .page) (potentialOf Z s) _ y m in
+          (λ y m. let hy = members-lt (Z .page) (potentialOf Z s) _ y m in
           mem-members (Z .page) (unitOf Z s) _ y hy
           (joined-number (Z .page) K (joinsUnit Z s) hy
           (pot-unit y x hy hx (members-number (Z .page) (potentialOf Z s) _ y m))))
@@ -94,8 +93,8 @@ module _ (Z : Puzzle) (K : Bordered (Z .page)) (s : ℕ → State) (full : Full 
       → sizeOf Z s (potentialOf Z s y) ≤ length (coloured Z s (Z .colour y) (ownBlock Z s x))
   unfolding sizeOf coloured
   size-count x y hx m = subset-le _ _ (members-distinct (Z .page) _ _)
-      (λ z n. let hz = members-in (Z .page) (potentialOf Z s) _ z n in
-      let hy = members-in (Z .page) (blockOf Z s) _ y m in
+      (λ z n. let hz = members-lt (Z .page) (potentialOf Z s) _ z n in
+      let hy = members-lt (Z .page) (blockOf Z s) _ y m in
       let u = pot-unit z y hz hy (members-number (Z .page) (potentialOf Z s) _ z n) in
       mem-filter (λ w. Bool·beq (Z .colour w) (Z .colour y)) (ownBlock Z s x)
       (mem-members (Z .page) (blockOf Z s) _ z hz

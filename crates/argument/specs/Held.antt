@@ -23,8 +23,8 @@ use Rattle.rules.specs.Groups.{members, blockOf, unitOf, potentialOf}
 use Rattle.rules.specs.Reasons.{gather, insideAt, inside, edgeAt, edge, Found, trace, path}
 use Rattle.rules.specs.Check.{Reason, insideBlock, insideUnit, edgeOf, judge, laid, blockers, placements, farWallsAt}
 use Rattle.rules.specs.Check.{farWalls, unitReason}
-use Rattle.argument.specs.PageLaws.{Bordered}
-use Rattle.argument.specs.States.{open-is, wall-is}
+use Rattle.laws.specs.PageLaws.{Bordered}
+use Rattle.laws.specs.StateLaws.{open-is, wall-is}
 use Rattle.argument.specs.Paths.{Chain, found-all, path-traced}
 use Rattle.argument.specs.Forms.{Forms}
 

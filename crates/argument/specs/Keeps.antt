@@ -1,62 +1,30 @@
 -- Inside keeps a group joined in every setting that contains it; Edge keeps a unit within its potential unit.
 --
---   mem-gather               a literal that is gathered
---   hop-colour, colour-hop   the two cells of a hop have one colour exactly when its border's cells have
 --   inside-open              an open border between two cells of a group is in its Inside
 --   block-keeps, unit-keeps  what contains Inside has the group's cells in one block, in one unit
 --   edge-stays               what contains Edge(P) has the unit of a cell of P within P
 use mathlib.Core.Path.{_≡_, _∙_, sym}
 use mathlib.Core.Logic.{_⊎_, inl, inr}
 use mathlib.Core.Bool.{Bool, not, _&&_, Bool·beq}
-use mathlib.Core.List.{List}
 use Prim.Native.Nat.{ℕ, _<_}
 use lib.Dec.{eqb, T, eqb→eq, eqb-refl}
 use Rattle.lists.specs.Lists.{_∈_}
-use Rattle.lists.specs.ListLaws.{mem-filter, mem-map, mem-flat}
-use Rattle.lists.specs.Booleans.{T-and-l, T-and-r, T-and, T-dec, beq-eq, eq-beq}
+use Rattle.lists.specs.ListLaws.{mem-flat}
+use Rattle.lists.specs.Booleans.{T-and-l, T-and-r, T-and, T-dec, eq-beq}
 use Rattle.lists.specs.Arithmetic.{neqb→ne}
-use Rattle.rules.specs.declared.Side.{Side}
 use Rattle.rules.specs.declared.Side.the-variants.{Wall, Open}
 use Rattle.rules.specs.Page.{Hop, Puzzle, State, decided, Contains, isWall, isOpen, wallAt, openAt}
-use Rattle.rules.specs.Rules.{Joined, stay, step, oneColour, joinsBlock, joinsUnit}
+use Rattle.rules.specs.Rules.{Joined, stay, joinsBlock, joinsUnit, step}
 use Rattle.rules.specs.Groups.{entry, numbers, joinsPotential, blockOf, unitOf, potentialOf}
-use Rattle.rules.specs.Reasons.{gather, insideAt, inside, edgeAt, edge}
+use Rattle.rules.specs.Reasons.{insideAt, inside, edgeAt, edge}
 use Rattle.rules.specs.Check.{insideBlock, insideUnit, edgeOf}
-use Rattle.argument.specs.PageLaws.{Bordered}
-use Rattle.argument.specs.Numbers.{hop-number, mem-members}
-use Rattle.argument.specs.States.{has, open-not-wall}
-
-pub mem-gather : (side : Side) (p : Hop → Bool) (hs : List Hop) (h : Hop) → h ∈ hs → T (p h)
-    → record { border = h .border; side = side } ∈ gather side p hs
-unfolding gather
-mem-gather side p hs h m t =
-    mem-map (λ (j : Hop). record { border = j .border; side = side }) (mem-filter p hs m t)
+use Rattle.laws.specs.PageLaws.{Bordered}
+use Rattle.laws.specs.RuleLaws.{hop-colour, colour-hop}
+use Rattle.laws.specs.StateLaws.{has, open-not-wall}
+use Rattle.laws.specs.GroupLaws.{hop-number, mem-members}
+use Rattle.laws.specs.ReasonLaws.{mem-gather}
 
 module _ (Z : Puzzle) (K : Bordered (Z .page)) (s : ℕ → State) where
-  -- the two ends of a border, whichever way it is crossed
-  pub hop-colour : (x : ℕ) (h : Hop) → x < Z .page .cells → h ∈ Z .page .around x →
-      T (oneColour Z (h .border)) → Z .colour x ≡ Z .colour (h .to)
-  unfolding oneColour
-  hop-colour x h hx m t = go (K .hop-ends x h hx m) (beq-eq _ _ t)
-    where
-      go : ((Z .page .first (h .border) ≡ x) × (Z .page .second (h .border) ≡ h .to)) ⊎
-          ((Z .page .first (h .border) ≡ h .to) × (Z .page .second (h .border) ≡ x)) →
-          Z .colour (Z .page .first (h .border)) ≡ Z .colour (Z .page .second (h .border))
-          → Z .colour x ≡ Z .colour (h .to)
-      go (inl e) q = cc (e .0, e .1, q)
-      go (inr e) q = cc (e .0, e .1, q)
-
-  pub colour-hop : (x : ℕ) (h : Hop) → x < Z .page .cells → h ∈ Z .page .around x → Z .colour x ≡ Z .colour (h .to) →
-      T (oneColour Z (h .border))
-  unfolding oneColour
-  colour-hop x h hx m q = eq-beq _ _ (go (K .hop-ends x h hx m))
-    where
-      go : ((Z .page .first (h .border) ≡ x) × (Z .page .second (h .border) ≡ h .to)) ⊎
-          ((Z .page .first (h .border) ≡ h .to) × (Z .page .second (h .border) ≡ x)) →
-          Z .colour (Z .page .first (h .border)) ≡ Z .colour (Z .page .second (h .border))
-      go (inl e) = cc (e .0, e .1, q)
-      go (inr e) = cc (e .0, e .1, q)
-
   inside-mem : (number : ℕ → ℕ) (g x : ℕ) (h : Hop) → x < Z .page .cells → h ∈ Z .page .ahead x → number x ≡ g
       → number (h .to) ≡ g → T (isOpen (s (h .border))) →
       openAt (h .border) ∈ inside (Z .page) s number g
@@ -124,7 +92,7 @@ module _ (Z : Puzzle) (K : Bordered (Z .page)) (s : ℕ → State) where
       (λ f. edge-stays σ k c (K .hop-in x j h m) f r)
     where
       same : Z .colour x ≡ Z .colour (j .to)
-      same = hop-colour x j h m (T-and-r (isOpen (σ (j .border))) _ t)
+      same = hop-colour Z K x j h m (T-and-r (isOpen (σ (j .border))) _ t)
 
       go : T (eqb (potentialOf Z s (j .to)) k) ⊎ T (not (eqb (potentialOf Z s (j .to)) k)) →
           T (isWall (s (j .border))) ⊎ T (not (isWall (s (j .border)))) →
@@ -133,5 +101,6 @@ module _ (Z : Puzzle) (K : Bordered (Z .page)) (s : ℕ → State) where
       go (inr f) (inl w) ih = absurd (open-not-wall (σ (j .border)) (T-and-l (isOpen (σ (j .border))) _ t)
           (has σ _ c _ (edge-mem (potentialOf Z s) k x j h m e same f w)))
       go (inr f) (inr w) ih = absurd (neqb→ne _ _ f
-          (sym (hop-number (Z .page) K (joinsPotential Z s) x j h m (let v = colour-hop x j h m same in search T-and))
+          (sym (hop-number (Z .page) K (joinsPotential Z s) x j h m
+          (let v = colour-hop Z K x j h m same in search T-and))
           ∙ e))

@@ -14,18 +14,17 @@ use Rattle.lists.specs.ListLaws.{mem-map}
 use Rattle.lists.specs.Booleans.{T-and}
 use Rattle.lists.specs.Lengths.{inject-onto}
 use Rattle.rules.specs.Page.{Hop, Point, _⊕_, opposite, Puzzle, State, isOpen}
-use Rattle.rules.specs.Rules.{stay, step, oneColour, joinsUnit, SameUnit, Congruent}
+use Rattle.rules.specs.Rules.{stay, oneColour, joinsUnit, SameUnit, Congruent, step}
 use Rattle.rules.specs.Groups.{unitOf}
 use Rattle.rules.specs.Check.{laid}
-use Rattle.argument.specs.Points.{add-assoc, add-comm, add-origin, add-opposite, cancel, swap4}
-use Rattle.argument.specs.PageLaws.{Bordered, Near, Placed}
+use Rattle.laws.specs.PageLaws.{Bordered, Near, Placed, near-turn, near-right, near-left, near-eq}
+use Rattle.laws.specs.PointLaws.{add-assoc, add-comm, add-origin, add-opposite, cancel, swap4}
+use Rattle.laws.specs.Copies.{Copy}
+use Rattle.laws.specs.RuleLaws.{join-trans, join-in}
+use Rattle.laws.specs.GroupLaws.{number-joined, hop-number, mem-members, members-lt, members-number, members-distinct}
+use Rattle.laws.specs.GroupLaws.{unitCells, ownUnit}
 use Rattle.argument.specs.Demand.{Full}
-use Rattle.argument.specs.Joins.{join-trans, join-in}
-use Rattle.argument.specs.Numbers.{number-joined, hop-number, mem-members, members-in, members-number}
-use Rattle.argument.specs.Numbers.{members-distinct, unitCells, ownUnit}
 use Rattle.argument.specs.Sizes.{unitSize, unit-mem, mem-unit}
-use Rattle.argument.specs.Copies.{Copy}
-use Rattle.argument.specs.Nears.{near-turn, near-right, near-left, near-eq}
 use Rattle.argument.specs.Fulls.{open-of}
 use Rattle.argument.specs.Fits.{Reads, fits-all, Fit}
 
@@ -109,7 +108,7 @@ module _ (Z : Puzzle) (K : Bordered (Z .page)) (P : Placed (Z .page)) (s : ℕ �
   }
 
   landed : (y : ℕ) → SameUnit Z s x y → Landed y
-  landed y j = let hf = members-in (Z .page) (unitOf Z s) U (E .from) (E .from-in) in
+  landed y j = let hf = members-lt (Z .page) (unitOf Z s) U (E .from) (E .from-in) in
       let ef = members-number (Z .page) (unitOf Z s) U (E .from) (E .from-in) in
       walk hf ef start (join-trans (Z .page) (joinsUnit Z s)
       (number-joined (Z .page) K (joinsUnit Z s) (E .from) x hf hx ef) j)
@@ -135,7 +134,7 @@ module _ (Z : Puzzle) (K : Bordered (Z .page)) (P : Placed (Z .page)) (s : ℕ �
         (members-distinct (Z .page) (unitOf Z s) U)
         (λ p m. let n = onto p (mem-unit Z K s x p hx m) in (n .0, unit-mem Z K s y (n .0) hy (n .1), n .2))
         (λ p r z m n e f.
-        P .place-inj p r (members-in (Z .page) (unitOf Z s) U p m) (members-in (Z .page) (unitOf Z s) U r n)
+        P .place-inj p r (members-lt (Z .page) (unitOf Z s) U p m) (members-lt (Z .page) (unitOf Z s) U r n)
         (P .turns-ok .inj g gm _ _ (cancel _ _ shift (sym e ∙ f))))
         le q (unit-mem Z K s y q hy k) in
         (r .0, mem-unit Z K s x (r .0) hx (r .1), r .2);

@@ -1,15 +1,9 @@
--- The argument behind demand 3. To read first: PageLaws (what is asked of a page), Demand (what is claimed), Checks
--- (what check answers) and DemandLaws (the claim holds).
+-- The argument behind demand 3. To read first: PageLaws of crate laws (what is asked of a page), Demand (what is
+-- claimed), Checks (what check answers) and DemandLaws (the claim holds).
 
--- what is asked, and what is claimed
-pub mod Points
-pub mod PageLaws
+-- what is claimed
 pub mod Demand
--- groups and their numbers
-pub mod Joins
-pub mod Numbers
 -- the three steps are sound
-pub mod States
 pub mod Keeps
 pub mod Hits
 pub mod Sizes
@@ -17,9 +11,6 @@ pub mod CellScan
 pub mod Sound
 pub mod Paths
 pub mod Walls
-pub mod ShapeLaws
-pub mod Copies
-pub mod Nears
 pub mod Crossings
 pub mod Mates
 -- a reason holds on its board
@@ -34,24 +25,11 @@ pub mod Complete
 pub mod Agrees
 -- the answers of check and of the book
 pub mod Checks
-pub mod Sequences
-pub mod BookLaws
 pub mod DemandLaws
 -- how long a reason can be
 pub mod Totals
 pub mod Bound
--- flat pages meet what is asked, and list each of the eight images once
-pub mod Pairs
-pub mod Same
-pub mod TurnLaws
-pub mod FlatList
-pub mod Links
-pub mod FlatLinks
-pub mod FlatPage
-pub mod Order
-pub mod Sorted
-pub mod FlatOnce
-pub mod FlatShapes
+-- flat pages
 pub mod FlatDemand
 -- small boards: those of document 01, and a solution
 pub mod Boards

@@ -25,26 +25,24 @@ use Rattle.lists.specs.Ranges.{mem-range}
 use Rattle.rules.specs.declared.Side.the-variants.{Wall}
 use Rattle.rules.specs.declared.Placement.{Placement}
 use Rattle.rules.specs.declared.Placement.the-variants.{Fits, Blocked, Cannot}
-use Rattle.rules.specs.Page.{Hop, Point, _⊕_, opposite, Shape, Puzzle, State, decided, Contains, isWall, isOpen}
-use Rattle.rules.specs.Page.{wallAt}
-use Rattle.rules.specs.Rules.{stay, step, oneColour, joinsBlock, joinsUnit, SameBlock, SameUnit, Congruent, Solution}
+use Rattle.rules.specs.Page.{Hop, Point, _⊕_, opposite, Shape, Puzzle, State, decided, Contains, isWall, isOpen, wallAt}
+use Rattle.rules.specs.Rules.{stay, oneColour, joinsBlock, joinsUnit, SameBlock, SameUnit, Congruent, Solution, step}
 use Rattle.rules.specs.Groups.{joinsPotential, unitOf, unitCount, potentialOf, potentialCount}
 use Rattle.rules.specs.Shapes.{shapeOf}
 use Rattle.rules.specs.Check.{Reason, insideUnit, edgeOf, touches, adjacent, mates, judge, laid, isFit, blockers}
-use Rattle.rules.specs.Check.{transformsOf, placements, farWallsAt, farWalls, unitReason, unitHitIn, unitHitOn}
-use Rattle.rules.specs.Check.{unitHit}
-use Rattle.argument.specs.Points.{swap4, lands}
-use Rattle.argument.specs.PageLaws.{Bordered, Near, Placed, Listed}
-use Rattle.argument.specs.Joins.{join-trans, join-in, join-sym}
-use Rattle.argument.specs.Numbers.{number-joined, number-lt, mem-members, members-in, members-number, unitCells}
-use Rattle.argument.specs.Numbers.{potentialCells}
-use Rattle.argument.specs.States.{contains-l, contains-r, has, open-not-wall, unlike-T}
-use Rattle.argument.specs.Keeps.{mem-gather, colour-hop, unit-keeps, edge-stays}
+use Rattle.rules.specs.Check.{transformsOf, placements, farWallsAt, farWalls, unitReason, unitHitIn, unitHitOn, unitHit}
+use Rattle.laws.specs.PageLaws.{Bordered, Near, Placed, Listed, near-turn, near-right, near-left, near-eq}
+use Rattle.laws.specs.PointLaws.{swap4, lands}
+use Rattle.laws.specs.StateLaws.{contains-l, contains-r, has, open-not-wall, unlike-T}
+use Rattle.laws.specs.Copies.{CopyCells, Copy, shape-based, copy-cells, copy}
+use Rattle.laws.specs.RuleLaws.{join-trans, join-in, join-sym, colour-hop, unit-colour, unit-block}
+use Rattle.laws.specs.GroupLaws.{number-joined, number-lt, mem-members, members-lt, members-number, unitCells}
+use Rattle.laws.specs.GroupLaws.{potentialCells}
+use Rattle.laws.specs.ReasonLaws.{mem-gather}
+use Rattle.argument.specs.Keeps.{unit-keeps, edge-stays}
 use Rattle.argument.specs.Hits.{Each, each-none, each-hit}
 use Rattle.argument.specs.Sound.{Sound}
-use Rattle.argument.specs.Copies.{CopyCells, Copy, shape-based, copy-cells, copy}
-use Rattle.argument.specs.Nears.{near-turn, near-right, near-left, near-eq}
-use Rattle.argument.specs.Crossings.{unit-colour, unit-block, cross}
+use Rattle.argument.specs.Crossings.{cross}
 
 pub transforms-listed : (Z : Puzzle) (s : ℕ → State) (U : ℕ) → U < unitCount Z s
     → transformsOf Z s U ≡ Z .page .transforms (shapeOf (Z .page) (unitOf Z s) U)
@@ -134,7 +132,7 @@ module _ (Z : Puzzle) (K : Bordered (Z .page)) (P : Placed (Z .page)) (I : Liste
         ht = K .hop-in w h hw m
 
         low : Q ∈ range (potentialCount Z s)
-        low = mem-range (potentialCount Z s) (number-lt (Z .page) K (joinsPotential Z s) (h .to) ht)
+        low = mem-range (potentialCount Z s) (number-lt (Z .page) (joinsPotential Z s) (omega arith) (h .to) ht)
 
         unlike : T (not (Bool·beq (Z .colour w) (Z .colour (h .to))))
         unlike = unlike-T (Z .colour w) (Z .colour (h .to)) q
@@ -190,7 +188,7 @@ module _ (Z : Puzzle) (K : Bordered (Z .page)) (P : Placed (Z .page)) (I : Liste
     in-unit : Parts → (x : ℕ) → x ∈ unitCells Z s U → SameUnit Z σ cell x
     in-unit p x m =
         unit-keeps Z K s σ U (p .ins) on refl
-        (number-joined (Z .page) K (joinsUnit Z s) cell x on (members-in (Z .page) (unitOf Z s) U x m)
+        (number-joined (Z .page) K (joinsUnit Z s) cell x on (members-lt (Z .page) (unitOf Z s) U x m)
         (sym (members-number (Z .page) (unitOf Z s) U x m)))
 
     module _ (p : Parts) (M : Mate) (C : Congruent Z σ cell (M .y)) where
@@ -231,7 +229,7 @@ module _ (Z : Puzzle) (K : Bordered (Z .page)) (P : Placed (Z .page)) (I : Liste
                 (landed (copied (r .1 .to)) (E .is-cell (r .1 .to) mt))
               where
                 hc : r .0 < Z .page .cells
-                hc = members-in (Z .page) (unitOf Z s) U (r .0) (r .2)
+                hc = members-lt (Z .page) (unitOf Z s) U (r .0) (r .2)
 
                 am : r .1 ∈ Z .page .around (r .0)
                 am = K .ahead-around (r .0) (r .1) hc (r .3)
@@ -260,7 +258,7 @@ module _ (Z : Puzzle) (K : Bordered (Z .page)) (P : Placed (Z .page)) (I : Liste
                     record {
                       border = h .0 .border;
                       is = ap (Z .page .reads) e ∙ P .hop-reads (a .0) (h .0) ha (h .1);
-                      same = colour-hop Z K σ (a .0) (h .0) ha (h .1)
+                      same = colour-hop Z K (a .0) (h .0) ha (h .1)
                           (unit-colour Z K σ ha ab ∙ ap (Z .colour) (sym (h .2)));
                       free = sol .noWall (a .0) (h .0) ha (h .1) (rw (h .2) (unit-block Z K σ ab));
                     }
@@ -307,14 +305,14 @@ module _ (Z : Puzzle) (K : Bordered (Z .page)) (P : Placed (Z .page)) (I : Liste
         (copy (Z .page) (unitOf Z s) U cell mU (Z .page .turns) (P .turns-ok) (i .0) (i .2) (h .0) (i .1) (i .3) uo
         (i .4))
         (subst (λ (us : List Shape). h .0 ∈ us)
-        (sym (transforms-listed Z s U (number-lt (Z .page) K (joinsUnit Z s) cell on))) (h .2)) t
+        (sym (transforms-listed Z s U (number-lt (Z .page) (joinsUnit Z s) (omega arith) cell on))) (h .2)) t
 
   sound-on : (U : ℕ) (xs : List ℕ) → ((x : ℕ) → x ∈ xs → x ∈ unitCells Z s U) → Each (Sound Z) (unitHitOn Z s U xs)
   unfolding unitHitOn unitHitIn Sound
   sound-on U [] m = each-none (Sound Z)
   sound-on U (x ∷ xs) m =
       let k = m x (List·Memᴰ·head refl) in
-      let hx = members-in (Z .page) (unitOf Z s) U x k in
+      let hx = members-lt (Z .page) (unitOf Z s) U x k in
       let q = members-number (Z .page) (unitOf Z s) U x k in
       each-hit (Sound Z) _ _ (λ t σ sol c. no-fit x hx σ sol (rw (← q) at t) (rw (← q) at c))
 

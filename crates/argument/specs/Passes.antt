@@ -20,11 +20,11 @@ use Rattle.rules.specs.Rules.{stay, joinsBlock, SameBlock, SameUnit, UnitHas}
 use Rattle.rules.specs.Groups.{blockOf, blockCount, potentialOf}
 use Rattle.rules.specs.Check.{Reason, hitIf, blockClue, sizeOf, coloured, smallHit, bigHit, clueHit, blockHitOn}
 use Rattle.rules.specs.Check.{blockHit}
-use Rattle.argument.specs.PageLaws.{Bordered}
+use Rattle.laws.specs.PageLaws.{Bordered}
+use Rattle.laws.specs.StateLaws.{colour-listed}
+use Rattle.laws.specs.RuleLaws.{join-in}
+use Rattle.laws.specs.GroupLaws.{number-lt, ownBlock}
 use Rattle.argument.specs.Demand.{Full}
-use Rattle.argument.specs.Joins.{join-in}
-use Rattle.argument.specs.Numbers.{number-lt, ownBlock}
-use Rattle.argument.specs.States.{colour-listed}
 use Rattle.argument.specs.Hits.{hit-misses, else-none}
 use Rattle.argument.specs.Sizes.{unit-size-has}
 use Rattle.argument.specs.CellScan.{Agree, pass-cells, head-mem, clue-mem}
@@ -41,7 +41,7 @@ module _ (Z : Puzzle) (K : Bordered (Z .page)) (s : ℕ → State) (full : Full 
 
   passed : (x : ℕ) → x < Z .page .cells → Passed x
   unfolding blockHit blockHitOn
-  passed x h = let e = else-none _ _ (pass1 (blockOf Z s x) (number-lt (Z .page) K (joinsBlock Z s) x h)) in
+  passed x h = let e = else-none _ _ (pass1 (blockOf Z s x) (number-lt (Z .page) (joinsBlock Z s) (omega arith) x h)) in
       let f = else-none _ _ (e .1) in record {
         agree = λ y z m n. pass-cells Z s _ [] (ownBlock Z s x) (e .0) y z m n;
         small = λ c. first-none _ _ (f .0) (colour-listed c);

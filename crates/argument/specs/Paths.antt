@@ -21,10 +21,10 @@ use Rattle.lists.specs.Count.{countBelow}
 use Rattle.lists.specs.Booleans.{T-and-l, T-and-r, T-and, T-or, T-or-l, T-or-r, T-dec, T-true}
 use Rattle.lists.specs.CountLaws.{count-cong, count-lt, count-more}
 use Rattle.rules.specs.Page.{Hop, Puzzle, State, Contains, isOpen, openAt}
-use Rattle.rules.specs.Rules.{Joined, stay, step, joinsBlock, SameBlock}
+use Rattle.rules.specs.Rules.{Joined, stay, joinsBlock, SameBlock, step}
 use Rattle.rules.specs.Reasons.{Found, Search, isFound, visitIf, trace, look, hunt, path}
-use Rattle.argument.specs.PageLaws.{Bordered}
-use Rattle.argument.specs.Joins.{join-in}
+use Rattle.laws.specs.PageLaws.{Bordered}
+use Rattle.laws.specs.RuleLaws.{join-in}
 
 module _ (Z : Puzzle) (K : Bordered (Z .page)) (s : ℕ → State) (a : ℕ) (ha : a < Z .page .cells) where
   abbrev pub Reached : List Found → ℕ → Type 0

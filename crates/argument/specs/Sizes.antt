@@ -20,12 +20,12 @@ use Rattle.lists.specs.Booleans.{T-dec, beq-eq}
 use Rattle.rules.specs.Page.{_⊕_, Puzzle, State}
 use Rattle.rules.specs.Rules.{joinsUnit, SameBlock, SameUnit, UnitHas, Congruent, Solution}
 use Rattle.rules.specs.Groups.{members, unitOf}
-use Rattle.argument.specs.Points.{cancel}
-use Rattle.argument.specs.PageLaws.{Bordered, Placed}
-use Rattle.argument.specs.Joins.{join-in}
-use Rattle.argument.specs.Numbers.{number-joined, joined-number, mem-members, members-in, members-number}
-use Rattle.argument.specs.Numbers.{members-distinct, unitCells, ownUnit}
-use Rattle.argument.specs.States.{not-both}
+use Rattle.laws.specs.PointLaws.{cancel}
+use Rattle.laws.specs.PageLaws.{Bordered, Placed}
+use Rattle.laws.specs.StateLaws.{not-both}
+use Rattle.laws.specs.RuleLaws.{join-in}
+use Rattle.laws.specs.GroupLaws.{number-joined, joined-number, mem-members, members-lt, members-number}
+use Rattle.laws.specs.GroupLaws.{members-distinct, unitCells, ownUnit}
 
 unfoldable pub unitSize : Puzzle → (ℕ → State) → ℕ → ℕ
 unitSize Z s x = length (ownUnit Z s x)
@@ -46,7 +46,7 @@ module _ (Z : Puzzle) (K : Bordered (Z .page)) (s : ℕ → State) where
 
   pub mem-unit : (x y : ℕ) → x < Z .page .cells → y ∈ ownUnit Z s x → SameUnit Z s x y
   mem-unit x y h m =
-      number-joined (Z .page) K (joinsUnit Z s) x y h (members-in (Z .page) (unitOf Z s) _ y m)
+      number-joined (Z .page) K (joinsUnit Z s) x y h (members-lt (Z .page) (unitOf Z s) _ y m)
       (sym (members-number (Z .page) (unitOf Z s) _ y m))
 
   pub unit-has : (x : ℕ) → x < Z .page .cells
@@ -83,7 +83,7 @@ module _ (Z : Puzzle) (K : Bordered (Z .page)) (P : Placed (Z .page)) (σ : ℕ 
           (members-distinct (Z .page) (unitOf Z σ) _)
           (λ p m. let r = c .onto p (mem-unit Z K σ x p hx m) in (r .0, unit-mem Z K σ y (r .0) hy (r .1), r .2))
           (λ p q z m n e f.
-          P .place-inj p q (members-in (Z .page) (unitOf Z σ) _ p m) (members-in (Z .page) (unitOf Z σ) _ q n)
+          P .place-inj p q (members-lt (Z .page) (unitOf Z σ) _ p m) (members-lt (Z .page) (unitOf Z σ) _ q n)
           (P .turns-ok .inj (c .turn) (c .listed) _ _ (cancel _ _ (c .shift) (sym e ∙ f))))
 
       ge : length (ownUnit Z σ y) ≤ length (ownUnit Z σ x)
@@ -91,7 +91,7 @@ module _ (Z : Puzzle) (K : Bordered (Z .page)) (P : Placed (Z .page)) (σ : ℕ 
           (members-distinct (Z .page) (unitOf Z σ) _)
           (λ q m. let r = c .from q (mem-unit Z K σ y q hy m) in (r .0, unit-mem Z K σ x (r .0) hx (r .1), r .2))
           (λ p q z m n e f.
-          P .place-inj p q (members-in (Z .page) (unitOf Z σ) _ p m) (members-in (Z .page) (unitOf Z σ) _ q n)
+          P .place-inj p q (members-lt (Z .page) (unitOf Z σ) _ p m) (members-lt (Z .page) (unitOf Z σ) _ q n)
           (e ∙ sym f))
 
   pub block-size : Solution Z σ → (x y : ℕ) → x < Z .page .cells → SameBlock Z σ x y → unitSize Z σ x ≡ unitSize Z σ y

@@ -28,11 +28,10 @@ use Rattle.rules.specs.Rules.{joinsBlock, SameBlock, Solution}
 use Rattle.rules.specs.Groups.{blockOf, potentialOf}
 use Rattle.rules.specs.Check.{Reason, isSome, clash, blockClue, insideBlock, edgeOf, sizeOf, coloured, strayFrom}
 use Rattle.rules.specs.Check.{cellHit, cellHits, smallHit, bigHit, clueHit, blockHitOn, blockHit}
-use Rattle.argument.specs.PageLaws.{Bordered, Placed}
-use Rattle.argument.specs.Joins.{join-trans, join-in, join-sym}
-use Rattle.argument.specs.Numbers.{number-joined, mem-members, members-in, members-number, members-distinct}
-use Rattle.argument.specs.Numbers.{blockCells}
-use Rattle.argument.specs.States.{contains-l, contains-r}
+use Rattle.laws.specs.PageLaws.{Bordered, Placed}
+use Rattle.laws.specs.StateLaws.{contains-l, contains-r}
+use Rattle.laws.specs.RuleLaws.{join-trans, join-in, join-sym}
+use Rattle.laws.specs.GroupLaws.{number-joined, mem-members, members-lt, members-number, members-distinct, blockCells}
 use Rattle.argument.specs.Keeps.{block-keeps, edge-stays}
 use Rattle.argument.specs.Hits.{Each, each-hit, each-else, each-first}
 use Rattle.argument.specs.Sizes.{unitSize, unit-mem, mem-unit, unit-size-is, block-size}
@@ -47,8 +46,8 @@ module _ (Z : Puzzle) (K : Bordered (Z .page)) (P : Placed (Z .page)) (s : ℕ �
   -- two cells of B are in one block of the solution
   pub block-of : (σ : ℕ → State) (B x y : ℕ) → Contains σ (insideBlock Z s B) → x ∈ blockCells Z s B
       → y ∈ blockCells Z s B → SameBlock Z σ x y
-  block-of σ B x y c m n = let hx = members-in (Z .page) (blockOf Z s) B x m in
-      let hy = members-in (Z .page) (blockOf Z s) B y n in
+  block-of σ B x y c m n = let hx = members-lt (Z .page) (blockOf Z s) B x m in
+      let hy = members-lt (Z .page) (blockOf Z s) B y n in
       block-keeps Z K s σ B c hx (members-number (Z .page) (blockOf Z s) B x m)
       (number-joined (Z .page) K (joinsBlock Z s) x y hx hy
       (members-number (Z .page) (blockOf Z s) B x m ∙ sym (members-number (Z .page) (blockOf Z s) B y n)))
@@ -58,7 +57,7 @@ module _ (Z : Puzzle) (K : Bordered (Z .page)) (P : Placed (Z .page)) (s : ℕ �
       → potentialOf Z s x ≡ k → unitSize Z σ x ≤ sizeOf Z s k
   unfolding unitSize sizeOf
   edge-size σ sol k x c h e = subset-le _ _ (members-distinct (Z .page) _ _)
-      (λ y m. mem-members (Z .page) (potentialOf Z s) k y (members-in (Z .page) _ _ y m)
+      (λ y m. mem-members (Z .page) (potentialOf Z s) k y (members-lt (Z .page) _ _ y m)
       (edge-stays Z K s σ k c h e (mem-unit Z K σ x y h m)))
 
   -- B has no more cells of a colour than a unit of the solution's block
@@ -68,7 +67,7 @@ module _ (Z : Puzzle) (K : Bordered (Z .page)) (P : Placed (Z .page)) (s : ℕ �
   count-size σ sol B z c k m = rw (block-size Z K P σ sol z (w .0) hz (w .1)) sub
     where
       hz : z < Z .page .cells
-      hz = members-in (Z .page) (blockOf Z s) B z m
+      hz = members-lt (Z .page) (blockOf Z s) B z m
 
       w : (y : ℕ) × SameBlock Z σ z y × (Z .colour y ≡ c)
       w = sol .both z c hz
@@ -87,13 +86,13 @@ module _ (Z : Puzzle) (K : Bordered (Z .page)) (P : Placed (Z .page)) (s : ℕ �
   sound-a : (B x y : ℕ) → x ∈ blockCells Z s B → y ∈ blockCells Z s B → Z .colour y ≡ Z .colour x
       → (potentialOf Z s y ≡ potentialOf Z s x → ⊥) → Sound Z (insideBlock Z s B ++ edgeOf Z s (potentialOf Z s x))
   unfolding Sound
-  sound-a B x y m n q d σ sol c = let hx = members-in (Z .page) (blockOf Z s) B x m in
+  sound-a B x y m n q d σ sol c = let hx = members-lt (Z .page) (blockOf Z s) B x m in
       d (edge-stays Z K s σ (potentialOf Z s x) (contains-r σ (insideBlock Z s B) _ c) hx refl
       (sol .one x y hx (block-of σ B x y (contains-l σ (insideBlock Z s B) _ c) m n) (sym q)))
 
   clue-size : (σ : ℕ → State) → Solution Z σ → (B x y n : ℕ) → Contains σ (insideBlock Z s B) → x ∈ blockCells Z s B
       → y ∈ blockCells Z s B → Z .clue x ≡ some n → unitSize Z σ y ≡ n
-  clue-size σ sol B x y n c m k e = let hx = members-in (Z .page) (blockOf Z s) B x m in
+  clue-size σ sol B x y n c m k e = let hx = members-lt (Z .page) (blockOf Z s) B x m in
       sym (block-size Z K P σ sol x y hx (block-of σ B x y c m k)) ∙ unit-size-is Z K σ x n hx (sol .clues x n hx e)
 
   differ-clues : (a b : Option ℕ) → T (clash a b) → (i : ℕ) × (j : ℕ) × (a ≡ some i) × (b ≡ some j) × (i ≡ j → ⊥)
@@ -136,7 +135,7 @@ module _ (Z : Puzzle) (K : Bordered (Z .page)) (P : Placed (Z .page)) (s : ℕ �
       (λ t σ sol k. let m = head-mem Z s c (blockCells Z s B) (some x) e x refl in
       let a = count-size σ sol B x (not c) (contains-l σ (insideBlock Z s B) _ k) (m .0) in
       let b = edge-size σ sol (potentialOf Z s x) x (contains-r σ (insideBlock Z s B) _ k)
-      (members-in (Z .page) (blockOf Z s) B x (m .0)) refl in omega (arith, ltb→lt))
+      (members-lt (Z .page) (blockOf Z s) B x (m .0)) refl in omega (arith, ltb→lt))
 
   some-clue : (o : Option ℕ) → T (isSome o) → (n : ℕ) × (o ≡ some n)
   some-clue (some n) t = (n, refl)
@@ -165,14 +164,14 @@ module _ (Z : Puzzle) (K : Bordered (Z .page)) (P : Placed (Z .page)) (s : ℕ �
       go t true f σ sol k = let y = any-find (λ y. isSome (Z .clue y)) (coloured Z s c xs) (rw f tt) in
           let m = filter-mem (λ w. Bool·beq (Z .colour w) c) xs (y .1) in
           let i = some-clue (Z .clue (y .0)) (y .2) in
-          let hy = members-in (Z .page) (blockOf Z s) B (y .0) m in
+          let hy = members-lt (Z .page) (blockOf Z s) B (y .0) m in
           let d = (pass-cells Z s B [] xs p (z .0) (y .0) (z .1) m) .clues n (i .0) (z .2) (i .1) in
           let f = (pass-cells Z s B [] xs p (y .0) x m (mx .0)) .pots
           (beq-eq (Z .colour (y .0)) c (filter-test (λ w. Bool·beq (Z .colour w) c) xs (y .1)) ∙ sym (mx .1)) in
           let a = edge-size σ sol (potentialOf Z s x) (y .0) (contains-l σ (edgeOf Z s (potentialOf Z s x)) _ k) hy f in
           let b = unit-size-is Z K σ (y .0) (i .0) hy (sol .clues (y .0) (i .0) hy (i .1)) in omega (arith, ltb→lt)
       go t false f σ sol k = let a = edge-size σ sol (potentialOf Z s x) x
-          (contains-l σ (edgeOf Z s (potentialOf Z s x)) _ k) (members-in (Z .page) (blockOf Z s) B x (mx .0)) refl in
+          (contains-l σ (edgeOf Z s (potentialOf Z s x)) _ k) (members-lt (Z .page) (blockOf Z s) B x (mx .0)) refl in
           let b = clue-size σ sol B (z .0) x n (contains-r σ (edgeOf Z s (potentialOf Z s x)) _ k) (z .1) (mx .0) (z .2)
           in omega (arith, ltb→lt)
 

@@ -10,10 +10,10 @@ use Rattle.rules.specs.Rules.{joinsBlock}
 use Rattle.rules.specs.Groups.{blockOf}
 use Rattle.rules.specs.Reasons.{path}
 use Rattle.rules.specs.Check.{wallHit, wallHits}
-use Rattle.argument.specs.PageLaws.{Bordered, Placed}
-use Rattle.argument.specs.Joins.{join-sym}
-use Rattle.argument.specs.Numbers.{number-joined}
-use Rattle.argument.specs.States.{contains-l, contains-r, has}
+use Rattle.laws.specs.PageLaws.{Bordered, Placed}
+use Rattle.laws.specs.StateLaws.{contains-l, contains-r, has}
+use Rattle.laws.specs.RuleLaws.{join-sym}
+use Rattle.laws.specs.GroupLaws.{number-joined}
 use Rattle.argument.specs.Hits.{Each, each-hit, each-first}
 use Rattle.argument.specs.Sound.{Sound}
 use Rattle.argument.specs.Paths.{path-joins}

@@ -14,20 +14,20 @@ use Rattle.rules.specs.declared.Side.the-variants.{Wall, Open}
 use Rattle.rules.specs.declared.Literal.{Literal}
 use Rattle.rules.specs.declared.Call.the-variants.{Decide, Check}
 use Rattle.rules.specs.Page.{Puzzle, State, undecided, decided, Point, _⊕_, opposite, openAt, wallAt}
-use Rattle.rules.specs.Rules.{Joined, stay, step, oneColour, joinsBlock, joinsUnit, SameBlock, SameUnit, UnitHas}
-use Rattle.rules.specs.Rules.{Congruent, Solution}
+use Rattle.rules.specs.Rules.{Joined, stay, oneColour, joinsBlock, joinsUnit, SameBlock, SameUnit, UnitHas, Congruent}
+use Rattle.rules.specs.Rules.{Solution, step}
 use Rattle.rules.specs.Turns.{apply, keep}
 use Rattle.rules.specs.Codes.{coloursIn, cluesIn}
-use Rattle.rules.specs.Flat.{flat, cellAt, rightOf, borderCount, hopIf, hopAbove, hopBelow, hopLeft, hopRight}
-use Rattle.rules.specs.Flat.{aroundAt, flatFirst, flatSecond}
+use Rattle.rules.specs.Flat.{flat, cellAt, rightOf, borderCount, hopIf, hopAbove, hopBelow, hopLeft, hopRight, aroundAt}
+use Rattle.rules.specs.Flat.{flatFirst, flatSecond}
 use Rattle.rules.specs.Book.{Asked, ask, states, stateIf, names, sequence, replies, done, answered, sequenceFrom}
 use Rattle.rules.specs.Book.{repliesFrom, replyTo, afterCall, decideReply, decideAfter}
 use Rattle.rules.specs.Check.{check}
-use Rattle.argument.specs.Points.{add-assoc, add-comm, add-opposite, add-origin, origin}
+use Rattle.laws.specs.PageLaws.{Bordered}
+use Rattle.laws.specs.PointLaws.{add-assoc, add-comm, add-opposite, add-origin, origin}
+use Rattle.laws.specs.TurnLaws.{apply-keep}
+use Rattle.laws.specs.FlatPage.{flat-bordered}
 use Rattle.argument.specs.Boards.{pair}
-use Rattle.argument.specs.TurnLaws.{apply-keep}
-use Rattle.argument.specs.PageLaws.{Bordered}
-use Rattle.argument.specs.FlatPage.{flat-bordered}
 
 -- 1×2, 01, the clue 1 at (0,0)
 abbrev pub small : Puzzle

@@ -12,7 +12,7 @@ use lib.Seq.{getD-set-same, getD-set-other}
 use Rattle.lists.specs.Booleans.{and-left, and-right}
 use Rattle.lists.specs.TestLaws.{any-none, any-more, all-at}
 use Rattle.rules.specs.Flat.{Sized, borderCount}
-use Rattle.rules.specs.FlatLaws.{borders-le}
+use Rattle.laws.specs.FlatLaws.{borders-le}
 use Rattle.board.specs.Alien.{sizeRight, cellsOf, bordersOf, stacked, entriesRight, borderRight}
 
 pub sized : {h w : ℕ} → sizeRight h w ≡ true → Sized h w

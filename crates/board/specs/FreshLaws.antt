@@ -12,7 +12,7 @@ use lib.ListN.{length, getD, replicate, length-replicate, List·getD-eq-default}
 use Rattle.lists.specs.PaddedLaws.{zeros, getD-padded, length-padded}
 use Rattle.lists.specs.TestLaws.{all-at}
 use Rattle.rules.specs.Flat.{Sized}
-use Rattle.rules.specs.FlatLaws.{counts}
+use Rattle.laws.specs.FlatLaws.{counts}
 use Rattle.board.specs.declared.Board.{Board}
 use Rattle.board.specs.declared.Outcome.the-variants.{Done}
 use Rattle.board.specs.declared.Returned.{Returned}

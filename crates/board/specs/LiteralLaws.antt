@@ -7,7 +7,6 @@ use native.Mathlib.Decide.{decLt}
 use native.Mathlib.Omega.{arith}
 use lib.ListN.{length, getD, set}
 use lib.Seq.{getD-set-same, getD-set-other, ext-getD}
-use Rattle.rules.specs.SmallLaws.{without-last}
 use Rattle.lists.specs.Table.{table}
 use Rattle.lists.specs.TableLaws.{getD-table, table-cong, table-more}
 use Rattle.rules.specs.declared.Literal.{Literal}
@@ -15,6 +14,7 @@ use Rattle.rules.specs.Page.{State, wallAt}
 use Rattle.rules.specs.Flat.{borderCount}
 use Rattle.rules.specs.Codes.{codeOf, statesIn}
 use Rattle.rules.specs.Book.{states, withLast, withoutLast}
+use Rattle.laws.specs.BookLaws.{without-last}
 use Rattle.board.specs.declared.Board.{Board}
 use Rattle.board.specs.declared.Outcome.the-variants.{Done}
 use Rattle.board.specs.Alien.{stacked, boardOf, isAlien}

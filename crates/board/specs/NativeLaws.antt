@@ -15,7 +15,7 @@ use Rattle.lists.specs.Booleans.{and-left, and-right, beq-eq, eq-beq, T-true}
 use Rattle.lists.specs.TestLaws.{all-at, all-every, between-at, between-every}
 use Rattle.lists.specs.CountLaws.{count-cong, count-none, count-lt, count-more, count-not}
 use Rattle.rules.specs.Flat.{Sized, borderCount}
-use Rattle.rules.specs.FlatLaws.{borders-le}
+use Rattle.laws.specs.FlatLaws.{borders-le}
 use Rattle.board.specs.declared.Board.{Board}
 use Rattle.board.specs.Alien.{sizeRight, coloursRight, clueRight, cluesRight, stacked, entriesRight, onceEach}
 use Rattle.board.specs.Alien.{borderRight, bordersRight, zerosFrom, clueZero, zeroCluesFrom, cellsIn}

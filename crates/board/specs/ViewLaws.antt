@@ -9,7 +9,6 @@ use borrow.Author.Tests.{eq-eqb, ne-eqb, eqb-true, eqb-false, not-false}
 use lib.Dec.{eqb}
 use lib.IntN.{ℤ, pos}
 use lib.ListN.{length, getD}
-use Rattle.rules.specs.SmallLaws.{states-none}
 use Rattle.lists.specs.Lists.{_∈_}
 use Rattle.lists.specs.Table.{table}
 use Rattle.lists.specs.TestLaws.{any-some, any-fails}
@@ -24,6 +23,7 @@ use Rattle.rules.specs.Flat.{flat, borderCount}
 use Rattle.rules.specs.Codes.{stateOf, codeOf, statesIn, coloursIn, clueOf, cluesIn}
 use Rattle.rules.specs.Check.{undecidedCount}
 use Rattle.rules.specs.Book.{states, names}
+use Rattle.laws.specs.BookLaws.{states-none}
 use Rattle.board.specs.declared.Board.{Board}
 use Rattle.board.specs.declared.Outcome.the-variants.{Done}
 use Rattle.board.specs.Alien.{stacked}

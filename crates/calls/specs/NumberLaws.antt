@@ -22,8 +22,8 @@ use Rattle.rules.specs.declared.Call.{Call}
 use Rattle.rules.specs.declared.Call.the-variants.{Decide, Undo, Check}
 use Rattle.rules.specs.Page.{Puzzle, State, isUndecided}
 use Rattle.rules.specs.Flat.{flat}
-use Rattle.rules.specs.FlatLaws.{borders-le}
 use Rattle.rules.specs.Check.{Reason, Verdict as Found, pass, conflict, hit, undecidedCount, verdictOf, check}
+use Rattle.laws.specs.FlatLaws.{borders-le}
 use Rattle.board.specs.declared.Board.{Board}
 use Rattle.board.specs.declared.Outcome.{Outcome}
 use Rattle.board.specs.declared.Outcome.the-variants.{Done as Fine, Size, Ragged, Colour, Clue}

@@ -19,10 +19,11 @@ use Rattle.rules.specs.Codes.{statesIn, coloursIn}
 use Rattle.rules.specs.Groups.{entry, members}
 use Rattle.rules.specs.Reasons.{path}
 use Rattle.rules.specs.Check.{clash}
+use Rattle.laws.specs.FlatReasons.{flat-inside-le, flat-edge-le, flat-path-le}
+use Rattle.laws.specs.FlatLaws.{row-of}
 use Rattle.reasons.specs.declared.Neighbour.{Neighbour}
 use Rattle.reasons.specs.Arrays.{Stepped, hopsIn, hopOf, insideIn, edgeIn}
-use Rattle.reasons.specs.StepLaws.{step-any, row-of}
-use Rattle.reasons.specs.Lengths.{inside-le, edge-le, path-le}
+use Rattle.reasons.specs.StepLaws.{step-any}
 use Rattle.checker.specs.declared.Clue.{Clue}
 use Rattle.checker.specs.declared.Clue.the-variants.{Free, Is}
 use Rattle.checker.specs.declared.Part.{Part}
@@ -165,8 +166,8 @@ reason-short h w cs bs blocks units f =
     omega (
       arith,
       literals-le (insideIn h w bs blocks (f .block)) (edgeIn h w cs bs units) (f .fault),
-      inside-le h w (statesIn bs) (entry blocks) (f .block),
-      edge-le h w (statesIn bs) (entry units) (faultUnit (f .fault)) (coloursIn cs),
+      flat-inside-le h w (statesIn bs) (entry blocks) (f .block),
+      flat-edge-le h w (statesIn bs) (entry units) (faultUnit (f .fault)) (coloursIn cs),
       members-le h w (entry blocks) (f .block),
       members-le h w (entry units) (faultUnit (f .fault)),
     )
@@ -178,7 +179,7 @@ breach-short {h} {w} z s b =
     omega (
       arith,
       length-append (path (flat h w) s (b .cell) (b .to)) (wallAt (b .border) ∷ []),
-      path-le z s (b .cell) (b .to),
+      flat-path-le z s (b .cell) (b .to),
     )
 
 -- a breach's border

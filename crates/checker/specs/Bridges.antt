@@ -14,21 +14,21 @@ use lib.IntN.{ℤ}
 use lib.ListN.{length, getD, List·getD-eq-default}
 use Rattle.rules.specs.Page.{Puzzle, State}
 use Rattle.rules.specs.Flat.{Sized, flat}
-use Rattle.rules.specs.FlatLaws.{counts}
 use Rattle.rules.specs.Codes.{statesIn, coloursIn, cluesIn}
 use Rattle.rules.specs.Rules.{oneColour, joinsBlock, joinsUnit}
 use Rattle.rules.specs.Groups.{entry, numbers, groupCount, members, joinsPotential}
 use Rattle.rules.specs.Groups.{blockOf, blockCount, unitOf, unitCount, potentialOf, potentialCount}
 use Rattle.rules.specs.Check.{sizeOf}
+use Rattle.laws.specs.FlatLaws.{counts}
+use Rattle.laws.specs.GroupLaws.{numbers-length, members-none}
 use Rattle.groups.specs.declared.Kind.{Kind}
 use Rattle.groups.specs.declared.Kind.the-variants.{Blocks, Units, Potential}
 use Rattle.groups.specs.declared.Groups.{Groups}
 use Rattle.groups.specs.Kinds.{linkOf, coloured, joinsIn}
 use Rattle.groups.specs.Parts.{groupsOf, partOf}
-use Rattle.groups.specs.LabelLaws.{numbers-length}
 use Rattle.groups.specs.NumberLaws.{starts-past}
 use Rattle.groups.specs.PartLaws.{ids-entry, ids-length, ids-lt, count-le, offs-next, offs-le, cells-long, cells-lt}
-use Rattle.groups.specs.PartLaws.{members-none, part-members}
+use Rattle.groups.specs.PartLaws.{part-members}
 use Rattle.checker.specs.Arrays.{Lists, Parted, Numbered, sizeIn}
 use Rattle.checker.specs.declared.Fault.{Fault}
 use Rattle.checker.specs.Faults.{faultOn, blockFault}
@@ -153,7 +153,7 @@ module _ {h w : ℕ} (z : Sized h w) (link : ℕ → Bool) where
         omega (
           arith,
           past (g + 1) (omega arith),
-          ap length (members-none (flat h w) link some few g (omega (arith, is-count))),
+          ap length (members-none (flat h w) link g (omega (arith, is-count))),
         )
   ])
 

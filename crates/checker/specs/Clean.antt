@@ -11,8 +11,7 @@ use borrow.Author.Tests.{ltb-true}
 use lib.Dec.{ltb}
 use Rattle.rules.specs.Page.{State}
 use Rattle.rules.specs.Flat.{flat, aheadAt, hopBelow, hopRight, belowOf, rightOf, cellAt, hopIf}
-use Rattle.rules.specs.FlatLaws.{Spot, spot}
-use Rattle.reasons.specs.StepLaws.{row-of}
+use Rattle.laws.specs.FlatLaws.{Spot, spot, row-of}
 use Rattle.checker.specs.Breaches.{noBreach, orBreach, isBreach, hopBreach, breachOn, breachFrom, firstBreach}
 use Rattle.checker.specs.WallCases.{on-append}
 

@@ -9,9 +9,9 @@ use native.Mathlib.Nat.{mul-le-mul-right, add-mul}
 use native.Mathlib.Omega.{arith}
 use Rattle.rules.specs.Page.{State, Hop}
 use Rattle.rules.specs.Flat.{flat, aheadAt, hopIf}
-use Rattle.rules.specs.FlatLaws.{spot}
 use Rattle.rules.specs.Codes.{statesIn}
 use Rattle.rules.specs.Groups.{entry}
+use Rattle.laws.specs.FlatLaws.{spot}
 use Rattle.reasons.specs.declared.Neighbour.{Neighbour}
 use Rattle.reasons.specs.Arrays.{Stepped, hopAt, hopsIn, hopOf}
 use Rattle.checker.specs.declared.Breach.{Breach}

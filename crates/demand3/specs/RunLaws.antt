@@ -17,7 +17,6 @@ use Prim.Native.Nat.{ℕ}
 use borrow.Author.Tests.{ltb-true, eqb-true}
 use lib.Dec.{eqb, ltb}
 use lib.ListN.{length, getD}
-use Rattle.rules.specs.SmallLaws.{without-last}
 use Rattle.rules.specs.declared.Literal.{Literal}
 use Rattle.rules.specs.declared.Call.{Call}
 use Rattle.rules.specs.declared.Call.the-variants.{Decide, Undo, Check}
@@ -26,6 +25,7 @@ use Rattle.rules.specs.Flat.{flat, borderCount}
 use Rattle.rules.specs.Codes.{codeOf}
 use Rattle.rules.specs.Book.{Reply, names, withLast, withoutLast, decideAfter, reply, afterCall, after}
 use Rattle.rules.specs.Book.{sequenceFrom, repliesFrom}
+use Rattle.laws.specs.BookLaws.{without-last}
 use Rattle.board.specs.declared.Board.{Board}
 use Rattle.board.specs.declared.Outcome.the-variants.{Done, Border, Taken}
 use Rattle.board.specs.declared.Returned.{Returned}

@@ -5,13 +5,13 @@ use mathlib.Core.List.{List, map}
 use Prim.Native.Nat.{ℕ, _<_, _≤_}
 use native.Mathlib.Omega.{arith}
 use native.Mathlib.Decide.{ℕ-discrete}
-use borrow.Author.Tests.{le-leb, lt-leb}
 use lib.ListN.{getD, set, replicate, length-set, length-replicate}
 use lib.Seq.{getD-set-same, getD-set-other}
 use Rattle.lists.specs.PaddedLaws.{zeros}
 use Rattle.rules.specs.Groups.{entry, rename, mergeIf}
+use Rattle.laws.specs.LabelLaws.{rename-hit, rename-miss, renamed, labelled-renamed, merge-earlier, merge-later}
+use Rattle.laws.specs.LabelLaws.{merge-same}
 use Rattle.groups.specs.Forests.{Forest, Rep}
-use Rattle.groups.specs.LabelLaws.{rename-hit, rename-miss, rename-same, renamed, labelled-renamed}
 
 pub forest-zeros : Forest (replicate 1024 0)
 forest-zeros =
@@ -64,21 +64,6 @@ module _ (n : ℕ) (p L : List ℕ) (f : Forest p) (r : Rep n p L) (few : n ≤ 
       root x k e (no q) =
           let o : getD L x 0 ≡ x = r .root x k (sym (getD-set-other p hi x lo 0 q) ∙ e) in
           at x k ∙ rename-miss lo hi (getD L x 0) (λ z. q (sym o ∙ z)) ∙ o
-
--- the merge of a border that joins, by how its cells' labels stand
-module _ (L : List ℕ) (a b : ℕ) where
-  pub merge-earlier : getD L a 0 ≤ getD L b 0
-      → mergeIf true (entry L a) (entry L b) L ≡ map (rename (getD L a 0) (getD L b 0)) L
-  unfolding entry
-  merge-earlier h = rw (le-leb (getD L a 0) (getD L b 0) h)
-
-  pub merge-later : getD L b 0 < getD L a 0
-      → mergeIf true (entry L a) (entry L b) L ≡ map (rename (getD L b 0) (getD L a 0)) L
-  unfolding entry
-  merge-later h = rw (lt-leb (getD L a 0) (getD L b 0) h)
-
-  pub merge-same : getD L a 0 ≡ getD L b 0 → mergeIf true (entry L a) (entry L b) L ≡ L
-  merge-same e = merge-earlier (omega arith) ∙ rw e (rename-same (getD L b 0) L)
 
 -- what a border that joins cells a and b asks of the forest, whose roots there are u and v
 module _ (n : ℕ) (p L : List ℕ) (f : Forest p) (r : Rep n p L) (few : n ≤ 1024) (a b u v : ℕ) (ha : a < n) (hb : b < n)

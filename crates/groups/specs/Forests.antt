@@ -1,7 +1,5 @@
 -- How the array of parents stands to the labels of crate rules.
 --
---   after G link k      the labels once the first k borders are taken
---   Labelled n L        L has for each of n cells a label that is no later, and is its own label
 --   Forest p            p has for each of 1,024 cells a parent that is no later
 --   Rep n p L           each cell's root in the forest p is its label in L
 --   Linked h w link p   p represents the labels once all borders of a page are taken
@@ -10,18 +8,8 @@ use mathlib.Core.Bool.{Bool}
 use mathlib.Core.List.{List}
 use Prim.Native.Nat.{ℕ, _*_, _<_, _≤_}
 use lib.ListN.{length, getD}
-use Rattle.lists.specs.Lists.{range}
-use Rattle.rules.specs.Page.{Page}
 use Rattle.rules.specs.Flat.{flat, borderCount}
-use Rattle.rules.specs.Groups.{mergeAll}
-
-unfoldable pub after : Page → (ℕ → Bool) → ℕ → List ℕ
-after G link k = mergeAll G link (range (G .cells)) (range k)
-
-pub record Labelled (n : ℕ) (L : List ℕ) : Type 0 where
-  pub size : length L ≡ n
-  pub least : (x : ℕ) → x < n → getD L x 0 ≤ x
-  pub twice : (x : ℕ) → x < n → getD L (getD L x 0) 0 ≡ getD L x 0
+use Rattle.laws.specs.LabelLaws.{after, Labelled}
 
 pub record Forest (p : List ℕ) : Type 0 where
   pub long : length p ≡ 1024

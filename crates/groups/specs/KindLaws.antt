@@ -3,34 +3,17 @@ use mathlib.Core.Path.{_≡_, refl, sym}
 use mathlib.Core.Bool.{not, _&&_}
 use mathlib.Core.List.{List}
 use Prim.Native.Nat.{ℕ}
-use native.Mathlib.Decide.{ℕ-discrete}
-use borrow.Author.Tests.{ne-eqb}
 use lib.Dec.{eqb}
 use lib.ListN.{getD}
-use Rattle.rules.specs.Page.{Puzzle, isOpen, isWall}
+use Rattle.rules.specs.Page.{Puzzle}
 use Rattle.rules.specs.Rules.{oneColour, joinsBlock, joinsUnit}
 use Rattle.rules.specs.Groups.{joinsPotential}
 use Rattle.rules.specs.Flat.{flat, flatFirst, flatSecond}
-use Rattle.rules.specs.Codes.{stateOf, statesIn, coloursIn}
+use Rattle.rules.specs.Codes.{statesIn, coloursIn}
+use Rattle.laws.specs.CodeLaws.{wall-state, open-state}
 use Rattle.groups.specs.declared.Kind.{Kind}
 use Rattle.groups.specs.declared.Kind.the-variants.{Blocks, Units, Potential}
 use Rattle.groups.specs.Kinds.{linkOf, coloured, joinsIn, oneColourBy, joinsBy}
-
-open-state : (v : ℕ) → isOpen (stateOf v) ≡ eqb v 2
-open-state v = go (ℕ-discrete v 1) (ℕ-discrete v 2)
-  where
-    go : Dec (v ≡ 1) → Dec (v ≡ 2) → isOpen (stateOf v) ≡ eqb v 2
-    go (yes e) d = rw e
-    go (no n) (yes e) = rw e
-    go (no n) (no m) = rw (ne-eqb v 1 n, ne-eqb v 2 m)
-
-wall-state : (v : ℕ) → isWall (stateOf v) ≡ eqb v 1
-wall-state v = go (ℕ-discrete v 1) (ℕ-discrete v 2)
-  where
-    go : Dec (v ≡ 1) → Dec (v ≡ 2) → isWall (stateOf v) ≡ eqb v 1
-    go (yes e) d = rw e
-    go (no n) (yes e) = rw e
-    go (no n) (no m) = rw (ne-eqb v 1 n, ne-eqb v 2 m)
 
 -- what the code computes for each kind
 module _ (v a b : ℕ) where

@@ -3,7 +3,6 @@ pub mod Parts
 pub mod Forests
 pub mod Arrays
 pub mod KindLaws
-pub mod LabelLaws
 pub mod ForestLaws
 pub mod Ties
 pub mod MergeLaws

@@ -1,27 +1,25 @@
 -- Laws for callers: what the arrays of groupsOf hold, over any page with 1 to 1,024 cells.
 use mathlib.Core.Path.{_≡_, refl, sym, ap, fun-ext, subst, _∙_}
 use mathlib.Core.Bool.{Bool}
-use mathlib.Core.List.{List, []}
+use mathlib.Core.List.{List}
 use Prim.Native.Nat.{ℕ, suc, _+_, _-_, _<_, _≤_}
 use native.Mathlib.Numerals.{add-one}
 use native.Mathlib.Omega.{arith}
 use native.Mathlib.Decide.{decLt}
-use lib.Dec.{eqb, eqb→eq, eqb-refl}
 use lib.ListN.{length, getD, take, drop, length-drop}
 use lib.Seq.{drop-append-le, take-append-le, getD-take, getD-drop}
 use Rattle.lists.specs.Lists.{_∈_, flatMap, range}
-use Rattle.lists.specs.ListLaws.{filter-mem, filter-test, mem-filter, flat-find, getD-mem}
+use Rattle.lists.specs.ListLaws.{flat-find, getD-mem}
 use Rattle.lists.specs.Padded.{padded}
-use Rattle.lists.specs.Ranges.{mem-range, range-lt}
 use Rattle.lists.specs.TableLaws.{length-table}
 use Rattle.lists.specs.PaddedLaws.{getD-padded, length-padded}
 use Rattle.rules.specs.Page.{Page}
 use Rattle.rules.specs.Groups.{entry, numbers, groupCount, members}
+use Rattle.laws.specs.GroupLaws.{numbers-length, number-lt, groupCount-le, members-lt, members-none}
 use Rattle.groups.specs.Parts.{startOf, startsOf, cellsOf, listed, partOf, groupsOf}
 use Rattle.groups.specs.Arrays.{Blank}
-use Rattle.groups.specs.LabelLaws.{numbers-length, number-lt, groupCount-le}
 use Rattle.groups.specs.NumberLaws.{starts-at, starts-past, starts-length, starts-end, blank-padded}
-use Rattle.groups.specs.SortLaws.{cells-length, cells-none, start-suc, start-up, start-le, listed-length}
+use Rattle.groups.specs.SortLaws.{cells-length, start-suc, start-up, start-le, listed-length}
 use Rattle.groups.specs.SortLaws.{listed-part}
 
 -- an array filled up with 0 numbers the cells as its list does
@@ -37,20 +35,6 @@ module _ (G : Page) (number : ℕ → ℕ) where
   pub members-listed : (k : ℕ) → flatMap (members G number) (range k) ≡ listed (G .cells) number k
   unfolding members cellsOf listed
   members-listed k = refl
-
-  -- a group's cells are those with its number
-  pub members-in : (x : ℕ) → x < G .cells → x ∈ members G number (number x)
-  unfolding members
-  members-in x h = mem-filter (λ y. eqb (number y) (number x)) (range (G .cells)) (mem-range (G .cells) h)
-      (eqb-refl (number x))
-
-  pub members-number : (g : ℕ) {x : ℕ} → x ∈ members G number g → number x ≡ g
-  unfolding members
-  members-number g {x} m = eqb→eq (number x) g (filter-test (λ y. eqb (number y) g) (range (G .cells)) m)
-
-  pub members-lt : (g : ℕ) {x : ℕ} → x ∈ members G number g → x < G .cells
-  unfolding members
-  members-lt g m = range-lt (G .cells) (filter-mem (λ y. eqb (number y) g) (range (G .cells)) m)
 
 module _ (G : Page) (link : ℕ → Bool) (some : 1 ≤ G .cells) (few : G .cells ≤ 1024) where
   abbrev number : ℕ → ℕ
@@ -134,13 +118,7 @@ module _ (G : Page) (link : ℕ → Bool) (some : 1 ≤ G .cells) (few : G .cell
           let q : x ∈ flatMap (members G number) (range count) =
           subst (λ (l : List ℕ). x ∈ l) (sym (members-listed G number count)) m in
           let r = flat-find (members G number) (range count) q in
-          members-lt G number (r .0) (r .2)
-
-  -- "A number that no group has gives an empty part"
-  pub members-none : (g : ℕ) → count ≤ g → members G number g ≡ []
-  members-none g h =
-      members-cells G number g
-      ∙ cells-none number (G .cells) g (λ x l e. omega (arith, number-lt G link some x l))
+          members-lt G number (r .0) x (r .2)
 
   -- the part from where a group starts to where it ends is its cells
   pub part-members : (g : ℕ) → partOf (groupsOf G link .cells) (groupsOf G link .offs) g ≡ members G number g
@@ -164,7 +142,7 @@ module _ (G : Page) (link : ℕ → Bool) (some : 1 ≤ G .cells) (few : G .cell
       go (no h) =
           let z = offs-past (g + 1) (omega arith) in
           let y : getD (groupsOf G link .offs) (g + 1) 0 - getD (groupsOf G link .offs) g 0 ≡ 0 = omega arith in
-          rw y (sym (members-none g (omega arith)))
+          rw y (sym (members-none G link g (omega arith)))
 
   -- the i-th cell of a group
   pub cell-at : (g : ℕ) → g < count → (i : ℕ) → i < length (members G number g)

@@ -15,13 +15,12 @@ use Rattle.lists.specs.TableLaws.{stored-more}
 use Rattle.lists.specs.PaddedLaws.{replicate-at}
 use Rattle.lists.specs.Booleans.{false-true}
 use Rattle.rules.specs.Flat.{Sized, flat, flatFirst, flatSecond, borderCount}
-use Rattle.rules.specs.FlatLaws.{counts}
 use Rattle.rules.specs.Groups.{entry}
-use Rattle.groups.specs.Forests.{after, Labelled, Forest, Rep}
+use Rattle.laws.specs.FlatLaws.{counts}
+use Rattle.laws.specs.LabelLaws.{after, Labelled, labelled-after, labels-one, after-meets, after-sound}
+use Rattle.groups.specs.Forests.{Forest, Rep}
 use Rattle.groups.specs.Ties.{leftAt, aboveAt, Flagged, Tied, Scanned, joined}
-use Rattle.groups.specs.LabelLaws.{labelled-after}
 use Rattle.groups.specs.GridLaws.{right-first, right-second, right-lt, below-first, below-second, below-lt}
-use Rattle.groups.specs.MergeLaws.{labels-one, after-meets, after-sound}
 use Rattle.groups.specs.MergeLaws.{joined-labels, joined-keeps, joined-meets, joined-sound}
 
 -- one more flag

@@ -9,9 +9,9 @@ use lib.IntN.{ℤ}
 use lib.ListN.{length}
 use Rattle.lists.specs.Lists.{orElse}
 use Rattle.rules.specs.Flat.{Sized, flat}
-use Rattle.rules.specs.FlatLaws.{counts}
 use Rattle.rules.specs.Codes.{statesIn}
 use Rattle.rules.specs.Check.{Reason}
+use Rattle.laws.specs.FlatLaws.{counts}
 use Rattle.reasons.specs.Arrays.{Arrays}
 use Rattle.reasons.specs.Memory.{Wrote}
 use Rattle.groups.specs.declared.Kind.the-variants.{Blocks, Potential}

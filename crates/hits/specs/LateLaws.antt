@@ -13,9 +13,9 @@ use Rattle.rules.specs.Flat.{Sized, flat}
 use Rattle.rules.specs.Codes.{statesIn, cluesIn}
 use Rattle.rules.specs.Groups.{unitCount}
 use Rattle.rules.specs.Check.{Reason, unitReason, hit}
+use Rattle.laws.specs.FlatPage.{flat-bordered, flat-ahead, flat-around}
+use Rattle.laws.specs.FlatShapes.{flat-eight}
 use Rattle.argument.specs.Bound.{unit-bound}
-use Rattle.argument.specs.FlatPage.{flat-bordered, flat-ahead, flat-around}
-use Rattle.argument.specs.FlatShapes.{flat-eight}
 use Rattle.groups.specs.declared.Kind.the-variants.{Units}
 use Rattle.checker.specs.Bridges.{puzzleIn, groupsIn, count-is}
 use Rattle.search.specs.Placing.{puzzle}

@@ -22,3 +22,4 @@ pub mod PaddedLaws
 pub mod PartLaws
 pub mod UpToLaws
 pub mod Stores
+pub mod Pairs

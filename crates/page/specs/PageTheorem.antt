@@ -12,7 +12,7 @@ use native.Mathlib.Omega.{arith}
 use borrow.Author.Tests.{le-leb, leb-true}
 use lib.Dec.{leb}
 use lib.ListN.{length, take}
-use Rattle.rules.specs.FlatLaws.{counts}
+use Rattle.laws.specs.FlatLaws.{counts}
 use Rattle.page.specs.Grammar.{Sheet, cluesFit, sheet, whole, pageOf}
 use Rattle.page.specs.PageText.{showSheet, SheetFit, sheet-prints}
 use Rattle.page.specs.Judge.{accepted, judgeRead, judgementOf, coloursOf, cluesOf}

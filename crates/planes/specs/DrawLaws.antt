@@ -17,7 +17,7 @@ use Rattle.lists.specs.PaddedLaws.{zeros}
 use Rattle.lists.specs.TableLaws.{table-is, length-table}
 use Rattle.lists.specs.Arithmetic.{le-or-lt, eq-or-not}
 use Rattle.rules.specs.Flat.{Sized}
-use Rattle.rules.specs.FlatLaws.{counts, spot}
+use Rattle.laws.specs.FlatLaws.{counts, spot}
 use Rattle.planes.specs.RowLaws.{row-fits}
 use Rattle.planes.specs.Planes.{clearAt, clearRow, lineWord, planeRow, planeWord, planesOf}
 

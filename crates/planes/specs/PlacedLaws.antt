@@ -17,8 +17,8 @@ use Rattle.lists.specs.Arithmetic.{eq-or-not}
 use Rattle.rules.specs.declared.Placement.{Placement}
 use Rattle.rules.specs.declared.Placement.the-variants.{Fits, Blocked, Cannot}
 use Rattle.rules.specs.Flat.{Sized, belowOf, rightOf}
-use Rattle.rules.specs.FlatLaws.{counts, spot}
 use Rattle.rules.specs.Page.{wallAt}
+use Rattle.laws.specs.FlatLaws.{counts, spot}
 use Rattle.search.specs.Placing.{readRaised}
 use Rattle.search.specs.PlacingLaws.{reads-below, reads-right}
 use Rattle.planes.specs.Bits.{bit}

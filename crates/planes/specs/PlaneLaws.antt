@@ -11,9 +11,10 @@ use lib.Dec.{eqb, ltb, leb}
 use lib.ListN.{getD}
 use Rattle.lists.specs.Arithmetic.{le-or-lt, eq-or-not}
 use Rattle.rules.specs.Codes.{coloursIn, statesIn}
+use Rattle.laws.specs.CodeLaws.{wall-state}
 use Rattle.search.specs.declared.Reading.the-variants.{Ends, Clear, Walled}
 use Rattle.search.specs.Placing.{Drawn, puzzle, readRaised, readingOf, between, isClear}
-use Rattle.search.specs.PlacingLaws.{state-wall, bit-same, right-reading, below-reading, off-ends, off-above, off-left}
+use Rattle.search.specs.PlacingLaws.{bit-same, right-reading, below-reading, off-ends, off-above, off-left}
 use Rattle.search.specs.PlacingLaws.{off-below, off-right, reads-below, reads-right}
 use Rattle.planes.specs.Bits.{bit}
 use Rattle.planes.specs.BitLaws.{bit-zero, bit-shl, bit-low}
@@ -24,7 +25,7 @@ clear-between : (cs bs : List ℕ) (f t b : ℕ) → ((c : ℕ) → getD cs c 0 
     → isClear (between (coloursIn cs) (statesIn bs) f t b) ≡ clearAt cs bs f t b
 unfolding between coloursIn statesIn clearAt
 clear-between cs bs f t b two =
-    rw (bit-same (getD cs f 0) (getD cs t 0) (two f) (two t), state-wall (getD bs b 0))
+    rw (bit-same (getD cs f 0) (getD cs t 0) (two f) (two t), wall-state (getD bs b 0))
     (go (eqb (getD cs f 0) (getD cs t 0)) (eqb (getD bs b 0) 1))
   where
     go : (p q : Bool) → isClear (cond p (cond q (Walled b) Clear) Ends) ≡ p && not q

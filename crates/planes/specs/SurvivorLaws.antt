@@ -27,11 +27,12 @@ use Rattle.rules.specs.Codes.{statesIn}
 use Rattle.rules.specs.Page.{Puzzle, State, isWall}
 use Rattle.rules.specs.Rules.{oneColour}
 use Rattle.rules.specs.Check.{laid, blockers}
+use Rattle.laws.specs.CodeLaws.{wall-state}
 use Rattle.search.specs.declared.Reading.{Reading}
 use Rattle.search.specs.declared.Reading.the-variants.{Ends, Clear, Walled}
 use Rattle.search.specs.JudgeLaws.{after, readAt, readFrom, laid-after}
 use Rattle.search.specs.Placing.{Drawn, Raised, puzzle, bare, spelled, readRaised, readingOf, isClear}
-use Rattle.search.specs.PlacingLaws.{state-wall, off-above, off-left, off-below, off-right}
+use Rattle.search.specs.PlacingLaws.{off-above, off-left, off-below, off-right}
 use Rattle.search.specs.Searching.{Beside, groupIn, blockOf, blocksAmong, blocksBeside}
 use Rattle.planes.specs.Bits.{bit}
 use Rattle.planes.specs.FitLaws.{spot-clear, origins-on}
@@ -51,7 +52,7 @@ Joins (Walled b) = Unit {0}
 
 no-wall : (b : ℕ) → isWall (statesIn noWalls b) ≡ false
 unfolding statesIn
-no-wall b = state-wall (getD noWalls b 0) ∙ ap (λ (v : ℕ). eqb v 1) (zeros 1984 b)
+no-wall b = wall-state (getD noWalls b 0) ∙ ap (λ (v : ℕ). eqb v 1) (zeros 1984 b)
 
 module _ (Z : Puzzle) (s : ℕ → State) where
   ends-both : (o : Option ℕ) → isClear (readingOf Z (statesIn noWalls) o) ≡ false → readingOf Z s o ≡ Ends
@@ -80,8 +81,8 @@ wall-reads : (Z : Puzzle) (bs : List ℕ) (h w y x : ℕ) {o : Option ℕ} → o
 unfolding readingOf statesIn wallOf
 wall-reads Z bs h w y x e j =
     let b = borderAt h w y x in
-    rw (e, state-wall (getD bs b 0))
-    (go (oneColour Z b) (eqb (getD bs b 0) 1) b (rw (e, state-wall (getD bs b 0)) at j))
+    rw (e, wall-state (getD bs b 0))
+    (go (oneColour Z b) (eqb (getD bs b 0) 1) b (rw (e, wall-state (getD bs b 0)) at j))
   where
     go : (t v : Bool) (b : ℕ) → Joins (cond t (cond v (Walled b) Clear) Ends)
         → cond t (cond v (Walled b) Clear) Ends ≡ cond v (Walled b) Clear

@@ -13,7 +13,6 @@ use Rattle.rules.specs.declared.Side.{Side}
 use Rattle.rules.specs.declared.Side.the-variants.{Wall, Open}
 use Rattle.rules.specs.declared.Literal.{Literal}
 use Rattle.rules.specs.Flat.{Sized, flat}
-use Rattle.rules.specs.FlatLaws.{counts}
 use Rattle.rules.specs.Codes.{literalCode, put}
 use Rattle.lists.specs.Lists.{flatMap}
 use Rattle.lists.specs.TableLaws.{length-table}
@@ -21,15 +20,17 @@ use Rattle.lists.specs.Stores.{sets-append}
 use Rattle.rules.specs.Groups.{entry, groupCount, members}
 use Rattle.rules.specs.Reasons.{inside, edge}
 use Rattle.rules.specs.Codes.{statesIn, coloursIn}
+use Rattle.laws.specs.FlatLaws.{counts}
+use Rattle.laws.specs.GroupLaws.{members-none}
+use Rattle.laws.specs.FlatReasons.{flat-inside-le, flat-edge-le, flat-path-le}
 use Rattle.board.specs.Alien.{sizeRight, cellsOf}
 use Rattle.board.specs.ConditionLaws.{sized}
 use Rattle.groups.specs.Kinds.{joinsIn}
 use Rattle.groups.specs.Parts.{groupsOf, partOf}
 use Rattle.groups.specs.PartLaws.{ids-entry, ids-length, count-le, offs-next, offs-le, cells-long, offs-length}
-use Rattle.groups.specs.PartLaws.{members-cells, members-none, part-members}
+use Rattle.groups.specs.PartLaws.{members-cells, part-members}
 use Rattle.groups.specs.SortLaws.{cells-length, size-le}
 use Rattle.reasons.specs.Arrays.{Part, groupReason, insideIn, edgeIn}
-use Rattle.reasons.specs.Lengths.{inside-le, edge-le, path-le}
 use Rattle.reasons.specs.Memory.{Wrote}
 use Rattle.reasons.specs.Search.{pathIn}
 use Rattle.probe.specs.Probe.{places, isFit, kindOf, groupsIn, reasonWords}
@@ -154,7 +155,7 @@ module _ {h w : ℕ} (z : Sized h w) (cs bs : List ℕ) (k : ℕ) where
       → members (flat h w) (entry (groupsIn h w cs bs k .ids)) g ≡ []
   unfolding groupsIn
   no-members g l =
-      rw (ids-entry (flat h w) link some small) (members-none (flat h w) link some small g (omega (arith, count-is)))
+      rw (ids-entry (flat h w) link some small) (members-none (flat h w) link g (omega (arith, count-is)))
 
   pub no-reason : (side : Side) (g : ℕ) → groupsIn h w cs bs k .count ≤ g → reasonWords h w cs bs k side g ≡ []
   unfolding reasonWords insideIn edgeIn inside edge flatMap
@@ -174,15 +175,15 @@ module _ {h w : ℕ} (z : Sized h w) (cs bs : List ℕ) (k : ℕ) where
       omega (
         arith,
         members-few g,
-        edge-le h w (statesIn (places 1984 bs)) (entry (groupsIn h w cs bs k .ids)) g (coloursIn (places 1024 cs)),
+        flat-edge-le h w (statesIn (places 1984 bs)) (entry (groupsIn h w cs bs k .ids)) g (coloursIn (places 1024 cs)),
       )
   reason-few Open g =
       omega (
         arith,
         members-few g,
-        inside-le h w (statesIn (places 1984 bs)) (entry (groupsIn h w cs bs k .ids)) g,
+        flat-inside-le h w (statesIn (places 1984 bs)) (entry (groupsIn h w cs bs k .ids)) g,
       )
 
 pub path-few : {h w : ℕ} → Sized h w → (bs : List ℕ) (a b : ℕ) → length (pathIn h w bs a b) ≤ 1024
 unfolding pathIn
-path-few z bs a b = le-trans (path-le z (statesIn bs) a b) (counts z .cells)
+path-few z bs a b = le-trans (flat-path-le z (statesIn bs) a b) (counts z .cells)

@@ -16,8 +16,8 @@ use Rattle.lists.specs.TestLaws.{all-every}
 use Rattle.lists.specs.PaddedLaws.{padded-take, replicate-is}
 use Rattle.rules.specs.declared.Literal.{Literal}
 use Rattle.rules.specs.Flat.{borderCount}
-use Rattle.rules.specs.FlatLaws.{counts}
 use Rattle.rules.specs.Codes.{codeOf}
+use Rattle.laws.specs.FlatLaws.{counts}
 use Rattle.board.specs.declared.Board.{Board}
 use Rattle.board.specs.declared.Outcome.the-variants.{Done}
 use Rattle.board.specs.Alien.{coloursRight, clueRight, cluesRight, stacked, boardOf, boardWith, isAlien}
@@ -26,8 +26,8 @@ use Rattle.board.specs.View.{sideIn}
 use Rattle.board.specs.ConditionLaws.{size-is, stacked-none}
 use Rattle.board.specs.Cases.{fresh-done, decide-done}
 use Rattle.board.specs.NativeLaws.{Native, native-has, native-of, borders-fit}
-use Rattle.board.specs.DecideLaws.{poppedAt, popped-native, popped-typed, decide-keeps, undo-keeps}
-use Rattle.board.specs.DecideLaws.{decided-typed, undone-typed}
+use Rattle.board.specs.DecideLaws.{poppedAt, popped-native, popped-typed, decide-keeps, undo-keeps, decided-typed}
+use Rattle.board.specs.DecideLaws.{undone-typed}
 use Rattle.board.specs.FreshLaws.{made-is, made-keeps, made-typed}
 use Rattle.board.specs.ViewLaws.{entry-held, code-small}
 use Rattle.reach.specs.Produced.{Produced, made, afterDecide, afterUndo, Move, decide, undo, moveOf, Leads, stop}

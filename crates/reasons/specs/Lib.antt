@@ -6,6 +6,4 @@ pub mod ScanLaws
 pub mod Search
 pub mod SearchLaws
 pub mod PathLaws
-pub mod Lengths
 pub mod FarLaws
-pub mod NumberLaws

@@ -8,5 +8,3 @@ pub mod Turns
 pub mod Shapes
 pub mod Check
 pub mod Book
-pub mod FlatLaws
-pub mod SmallLaws

@@ -1,6 +1,6 @@
 -- Laws of placements: what a raised place reads, case by case, and the two cells of the border there.
 use mathlib.Core.Path.{_≡_, refl, _∙_}
-use mathlib.Core.Bool.{Bool, true, false, cond, Bool·beq}
+use mathlib.Core.Bool.{Bool·beq}
 use mathlib.Core.List.{List}
 use mathlib.Core.Option.{Option, some, none}
 use Prim.Native.Nat.{ℕ, zero, suc, _+_, _-_, _*_, _/_, _%_, _<_, _≤_}
@@ -9,21 +9,13 @@ use borrow.Author.Tests.{lt-ltb, le-ltb, le-leb, lt-leb, eq-eqb, ne-eqb}
 use lib.Arith.{digits-lt, digits-div, digits-mod}
 use lib.Dec.{eqb}
 use lib.ListN.{getD}
-use Rattle.rules.specs.declared.Side.the-variants.{Wall, Open}
-use Rattle.rules.specs.Page.{Puzzle, State, undecided, decided, isWall}
+use Rattle.rules.specs.Page.{Puzzle, State}
 use Rattle.rules.specs.Rules.{oneColour}
-use Rattle.rules.specs.Codes.{coloursIn, statesIn, stateOf}
+use Rattle.rules.specs.Codes.{coloursIn, statesIn}
 use Rattle.rules.specs.Flat.{flat, flatReads, flatReadsAt, rightOf, belowOf, flatFirst, flatSecond, cellAt}
+use Rattle.laws.specs.CodeLaws.{wall-state}
 use Rattle.search.specs.declared.Reading.the-variants.{Ends, Clear, Walled}
 use Rattle.search.specs.Placing.{puzzle, readRaised, readingOf, between}
-
-pub state-wall : (v : ℕ) → isWall (stateOf v) ≡ eqb v 1
-state-wall v = go (eqb v 1) (eqb v 2)
-  where
-    go : (a b : Bool) → isWall (cond a (decided Wall) (cond b (decided Open) undecided)) ≡ a
-    go true b = refl
-    go false true = refl
-    go false false = refl
 
 pub bit-same : (a b : ℕ) → a ≤ 1 → b ≤ 1 → Bool·beq (eqb a 1) (eqb b 1) ≡ eqb a b
 bit-same zero zero p q = refl
@@ -53,7 +45,7 @@ module _ (cs bs : List ℕ) (from to b : ℕ) (two : (c : ℕ) → getD cs c 0 �
       → Clear ≡ between (coloursIn cs) (statesIn bs) from to b
   unfolding between statesIn
   between-clear e v =
-      rw (two-colours, eq-eqb (getD cs from 0) (getD cs to 0) e, state-wall (getD bs b 0), ne-eqb (getD bs b 0) 1 v)
+      rw (two-colours, eq-eqb (getD cs from 0) (getD cs to 0) e, wall-state (getD bs b 0), ne-eqb (getD bs b 0) 1 v)
 
 -- the numbers of two cells side by side, and of one below the other
 pub record Beside (h w y x : ℕ) : Type 0 where

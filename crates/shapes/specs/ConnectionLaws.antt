@@ -2,7 +2,7 @@
 use mathlib.Core.Path.{_≡_, refl, sym, ap, ap₂, _∙_}
 use mathlib.Core.Bool.{Bool, true, false, _&&_}
 use mathlib.Core.List.{List, [], _∷_, _++_, map, map-append}
-use Prim.Native.Nat.{ℕ, _+_, _-_, _*_, _/_, _%_, _<_}
+use Prim.Native.Nat.{ℕ, _+_, _*_, _/_, _%_, _<_}
 use native.Mathlib.Nat.{add-mul, div-add-mod'}
 use native.Mathlib.Omega.{arith}
 use borrow.Author.Tests.{ltb-true}
@@ -18,7 +18,7 @@ use Rattle.rules.specs.Page.{Point, _⊕_, Hop}
 use Rattle.rules.specs.Flat.{flat, flatPlace, cellAt, hopIf, hopBelow, hopRight, aheadAt}
 use Rattle.rules.specs.Groups.{entry, members}
 use Rattle.rules.specs.Shapes.{connectionsAt}
-use Rattle.argument.specs.Points.{point-eq}
+use Rattle.laws.specs.PointLaws.{point-eq}
 use Rattle.shapes.specs.Spots.{placeAt, spotAt, spots, places, UnitAt}
 use Rattle.shapes.specs.Joints.{jointIf}
 

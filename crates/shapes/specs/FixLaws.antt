@@ -1,29 +1,27 @@
 -- Which rows leave a shape as it is, without a sort: every image, shifted onto the first cell, is a cell.
 use mathlib.Core.Path.{_≡_, refl, sym, ap, _∙_, subst}
 use mathlib.Core.Bool.{xor}
-use mathlib.Core.List.{List, [], _∷_, map, Memᴰ·cast}
+use mathlib.Core.List.{List, _∷_, map, Memᴰ·cast}
 use Prim.Native.Nat.{ℕ, zero, suc}
 use lib.Dec.{T}
-use lib.ListN.{length, length-map}
-use Rattle.argument.specs.Same.{samePoint→eq, samePoint-refl, samePoints→eq}
-use Rattle.argument.specs.Pairs.{distinct-map}
+use lib.ListN.{length-map}
 use Rattle.lists.specs.Lists.{_∈_, any, all}
 use Rattle.lists.specs.ListLaws.{mem-map, map-find, any-mem, any-find, all-mem, mem-all}
+use Rattle.lists.specs.Pairs.{distinct-map}
 use Rattle.lists.specs.Booleans.{same-test}
 use Rattle.rules.specs.Page.{Point, _⊕_, opposite}
 use Rattle.rules.specs.Turns.{Turn, apply, compose, keep, half, quarter, halfQuarter, flip}
 use Rattle.rules.specs.Turns.{flipHalf, flipQuarter, flipHalfQuarter}
-use Rattle.rules.specs.Shapes.{normal, shiftBy, sort, samePoint, samePoints, before}
-use Rattle.argument.specs.Points.{add-assoc, add-comm, add-origin, add-opposite, add-back}
-use Rattle.shapes.specs.OrderLaws.{before-shift}
-use Rattle.shapes.specs.SortLaws.{sort-least, sort-sorted, sorted-distinct, sorted-count}
-use Rattle.shapes.specs.SortLaws.{mem-sort, sort-mem, length-sort}
-use Rattle.argument.specs.TurnLaws.{apply-compose, apply-keep}
-use Rattle.shapes.specs.TurnedLaws.{turned-normal, shift-shift}
-use Rattle.shapes.specs.RowLaws.{same-when}
+use Rattle.rules.specs.Shapes.{normal, shiftBy, sort, samePoint, samePoints}
+use Rattle.laws.specs.SameLaws.{samePoint→eq, samePoint-refl, samePoints→eq, same-when}
+use Rattle.laws.specs.PointLaws.{add-assoc, add-comm, add-origin, add-opposite, add-back}
+use Rattle.shapes.specs.OrderLaws.{sort-least}
+use Rattle.laws.specs.SortLaws.{sort-ascends, ascending-distinct, ascending-count, mem-sort, sort-mem, length-sort}
+use Rattle.laws.specs.SortLaws.{shift-ascends, Ascending, mem-shift, shift-find, length-shift}
+use Rattle.laws.specs.TurnLaws.{apply-compose, apply-keep}
+use Rattle.laws.specs.ShapeLaws.{turned-normal, shift-shift}
 use Rattle.shapes.specs.Rows.{turnAt, image, fixes}
 use Rattle.shapes.specs.Spots.{leastImage, onto}
-use Rattle.shapes.specs.Order.{Sorted}
 
 -- every row is undone by a row
 undoes : (r : ℕ) → (b : Turn) × (compose b (turnAt r) ≡ keep)
@@ -44,29 +42,6 @@ row-inj r p q e =
     let back : (z : Point) → apply (b .0) (apply (turnAt r) z) ≡ z =
     λ z. sym (apply-compose (b .0) (turnAt r) z) ∙ (ap (λ d. apply d z) (b .1) ∙ apply-keep z) in
     sym (back p) ∙ (ap (apply (b .0)) e ∙ back q)
-
--- shifts of lists
-pub mem-shift : (v : Point) {ps : List Point} {p : Point} → p ∈ ps → (p ⊕ v) ∈ shiftBy v ps
-unfolding shiftBy
-mem-shift v m = mem-map (λ q. q ⊕ v) m
-
-pub shift-find : (v : Point) (ps : List Point) {q : Point} → q ∈ shiftBy v ps → (p : Point) × p ∈ ps × (q ≡ p ⊕ v)
-unfolding shiftBy
-shift-find v ps m = map-find (λ q. q ⊕ v) ps m
-
-pub shift-sorted : (v : Point) (ps : List Point) → Sorted ps → Sorted (shiftBy v ps)
-unfolding shiftBy
-shift-sorted v [] s = tt
-shift-sorted v (p ∷ ps) s = (later, shift-sorted v ps (s .1))
-  where
-    later : (q : Point) → q ∈ shiftBy v ps → T (before (p ⊕ v) q)
-    later q m =
-        let r = shift-find v ps m in
-        subst (λ (z : Point). T (before (p ⊕ v) z)) (sym (r .2)) (rw (before-shift p (r .0) v) (s .0 (r .0) (r .1)))
-
-pub length-shift : (v : Point) (ps : List Point) → length (shiftBy v ps) ≡ length ps
-unfolding shiftBy
-length-shift v ps = length-map ps (λ q. q ⊕ v)
 
 -- the first image is the first of the images in order
 pub least-image : (r : ℕ) (p : Point) (ps : List Point)
@@ -96,7 +71,7 @@ lift q m p = ap (λ z. z ⊕ opposite p) (sym (land q m p)) ∙ add-back (q ⊕ 
 off : (q p : Point) → (q ⊕ opposite p) ⊕ p ≡ q
 off q p = add-assoc q (opposite p) p ∙ (ap (λ z. q ⊕ z) (add-comm (opposite p) p ∙ add-opposite p) ∙ add-origin q)
 
-module _ (r : ℕ) (p : Point) (ps js : List Point) (s : Sorted (p ∷ ps)) where
+module _ (r : ℕ) (p : Point) (ps js : List Point) (s : Ascending (p ∷ ps)) where
   abbrev L : List Point
   L = p ∷ ps
 
@@ -120,8 +95,8 @@ module _ (r : ℕ) (p : Point) (ps js : List Point) (s : Sorted (p ∷ ps)) wher
   unfolding normal
   own-cells = refl
 
-  sorted-images : Sorted (sort (map g L))
-  sorted-images = sort-sorted (map g L) (distinct-map g (row-inj r) L (sorted-distinct L s))
+  sorted-images : Ascending (sort (map g L))
+  sorted-images = sort-ascends (map g L) (distinct-map g (row-inj r) L (ascending-distinct L s))
 
   there : shiftBy (opposite p) L ≡ shiftBy (opposite m) (sort (map g L)) → (q : Point) → q ∈ L
       → T (any (samePoint (laid q)) L)
@@ -136,8 +111,8 @@ module _ (r : ℕ) (p : Point) (ps js : List Point) (s : Sorted (p ∷ ps)) wher
       → shiftBy (opposite p) L ≡ shiftBy (opposite m) (sort (map g L))
   back f =
       let e : shiftBy (opposite m ⊕ p) (sort (map g L)) ≡ L =
-      sorted-count (shiftBy (opposite m ⊕ p) (sort (map g L))) L
-      (shift-sorted (opposite m ⊕ p) (sort (map g L)) sorted-images) s inside
+      ascending-count (shiftBy (opposite m ⊕ p) (sort (map g L))) L
+      (shift-ascends (opposite m ⊕ p) (sort (map g L)) sorted-images) s inside
       (length-shift (opposite m ⊕ p) (sort (map g L)) ∙ (length-sort (map g L) ∙ length-map L g)) in
       sym (ap (shiftBy (opposite p)) e)
       ∙ shift-shift (opposite m ⊕ p) (opposite p) (opposite m) (λ q. lift q m p) (sort (map g L))

@@ -26,8 +26,8 @@ use Rattle.lists.specs.TableLaws.{flat-table}
 use Rattle.rules.specs.Page.{Point}
 use Rattle.rules.specs.Groups.{entry, members}
 use Rattle.rules.specs.Flat.{Sized, flat}
-use Rattle.rules.specs.FlatLaws.{counts, spot}
 use Rattle.rules.specs.Shapes.{connectionsAt}
+use Rattle.laws.specs.FlatLaws.{counts, spot}
 use Rattle.shapes.specs.Spots.{spotAt, placeAt, spots, joints, UnitAt}
 use Rattle.shapes.specs.SpotLaws.{spots-more, spots-cong, length-spots}
 use Rattle.shapes.specs.ConnectionLaws.{connections-at, unit-cells}

@@ -7,8 +7,6 @@ pub mod Parts
 pub mod Joints
 pub mod OrderLaws
 pub mod PairLaws
-pub mod SortLaws
-pub mod TurnedLaws
 pub mod RowLaws
 pub mod FixLaws
 pub mod UnitLaws

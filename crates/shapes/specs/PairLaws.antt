@@ -16,8 +16,9 @@ use Rattle.rules.specs.Page.{Point}
 use Rattle.rules.specs.Turns.{Axis, layerward, rowward, columnward, Row, coordinate, signed, read, apply}
 use Rattle.rules.specs.Turns.{flatTurn}
 use Rattle.rules.specs.Shapes.{before, lessℤ, sameℤ}
-use Rattle.argument.specs.Points.{point-eq}
-use Rattle.shapes.specs.OrderLaws.{less-irrefl, less-total, same-eq, same-refl}
+use Rattle.laws.specs.PointLaws.{point-eq}
+use Rattle.laws.specs.OrderLaws.{less-irrefl, less-total}
+use Rattle.laws.specs.SameLaws.{sameℤ→eq, sameℤ-refl}
 use Rattle.shapes.specs.declared.Pair.{Pair}
 use Rattle.shapes.specs.declared.Signs.{Signs}
 use Rattle.shapes.specs.Pairs.{pointAt, pointOf, Small, Sign, BothSigns, turnBy, signOf, signsOf}
@@ -132,7 +133,7 @@ before-no y x b a e f = rw (e, different)
   where
     different : sameℤ y b ≡ false
     different = same-test (sameℤ y b) false
-        (λ t. let c : T (lessℤ b b) = subst (λ (z : ℤ). T (lessℤ b z)) (same-eq y b t) (rw f tt) in
+        (λ t. let c : T (lessℤ b b) = subst (λ (z : ℤ). T (lessℤ b z)) (sameℤ→eq y b t) (rw f tt) in
         rw (less-irrefl b) at c) (λ t. absurd t)
 
 pub before-even : (y x b a : ℤ) → lessℤ y b ≡ false → lessℤ b y ≡ false
@@ -144,7 +145,7 @@ before-even y x b a e f =
     same : sameℤ y b ≡ true
     same =
         let k : y ≡ b = less-total y b (rw e tt) (rw f tt) in
-        same-test (sameℤ y b) true (λ t. tt) (λ t. rw k (same-refl b))
+        same-test (sameℤ y b) true (λ t. tt) (λ t. rw k (sameℤ-refl b))
 
 -- a test of the code, on numbers read back from their bits
 pub less-known : {y b : ℤ} {t : Bool} → SFits w32 y → SFits w32 b

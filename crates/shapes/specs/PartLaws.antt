@@ -16,7 +16,7 @@ use Rattle.lists.specs.Parts.{part}
 use Rattle.rules.specs.Page.{Point}
 use Rattle.rules.specs.Flat.{Sized, flat, flatPlace}
 use Rattle.rules.specs.Groups.{entry, members}
-use Rattle.argument.specs.Points.{origin}
+use Rattle.laws.specs.PointLaws.{origin}
 use Rattle.shapes.specs.Spots.{placeAt, spotAt, spots, places, UnitAt}
 use Rattle.shapes.specs.SpotLaws.{length-spots}
 use Rattle.shapes.specs.Parts.{Part, placeOf, Placed}

@@ -4,30 +4,15 @@ use mathlib.Core.Bool.{Bool, true, false, _||_, cond, xor}
 use mathlib.Core.List.{List, [], _∷_, _++_, map, map-append}
 use Prim.Native.Nat.{ℕ, _+_}
 use lib.Dec.{T}
-use Rattle.argument.specs.Same.{samePoints→eq, samePoints-refl}
 use Rattle.lists.specs.Lists.{any}
 use Rattle.lists.specs.Booleans.{same-test}
 use Rattle.rules.specs.Page.{Point, Shape}
 use Rattle.rules.specs.Turns.{Turn, apply, compose, keep, half, quarter, halfQuarter, flip}
-use Rattle.rules.specs.Shapes.{turned, normal, sort, sameShape, samePoints}
+use Rattle.rules.specs.Shapes.{turned, sameShape}
 use Rattle.rules.specs.Shapes.{withHalf, quarters, withQuarter, withFlip, flatTransforms}
-use Rattle.shapes.specs.TurnedLaws.{turned-compose}
+use Rattle.laws.specs.SameLaws.{samePoints→eq, same-when}
+use Rattle.laws.specs.ShapeLaws.{turned-cells, turned-compose}
 use Rattle.shapes.specs.Rows.{turnAt, image, fixes, flipListed, rotationRows, rowsBy, rowsOf}
-
-pub same-when : (ps qs : List Point) → ps ≡ qs → T (samePoints ps qs)
-same-when ps qs e = subst (λ (l : List Point). T (samePoints ps l)) e (samePoints-refl ps)
-
--- the cells of a turned shape depend on its cells alone
-normal-cells : (ps js ks : List Point) → normal ps js .cells ≡ normal ps ks .cells
-unfolding normal
-normal-cells [] js ks = refl
-normal-cells (p ∷ ps) js ks = refl
-
-turned-cells : (g : Point → Point) (t u : Shape) → t .cells ≡ u .cells → turned g t .cells ≡ turned g u .cells
-unfolding turned
-turned-cells g t u e =
-    ap (λ l. normal (sort (map g l)) (map g (t .connections)) .cells) e
-    ∙ normal-cells (sort (map g (u .cells))) (map g (t .connections)) (map g (u .connections))
 
 module _ (t : Shape) (settled : turned (apply keep) t ≡ t) where
   -- the cells turned by a

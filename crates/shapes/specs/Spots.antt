@@ -31,7 +31,7 @@ use Rattle.rules.specs.Flat.{Sized, flat, cellAt}
 use Rattle.rules.specs.Groups.{entry, members}
 use Rattle.rules.specs.Turns.{apply}
 use Rattle.rules.specs.Shapes.{connectionsAt}
-use Rattle.argument.specs.Points.{origin}
+use Rattle.laws.specs.PointLaws.{origin}
 use Rattle.shapes.specs.Rows.{turnAt}
 use Rattle.shapes.specs.Order.{least}
 

@@ -1,23 +1,21 @@
 -- The shape of a group on a flat page: its places are sorted, and a test of the page tells what is a cell of it.
 use mathlib.Core.Path.{_≡_, refl, sym, ap, _∙_, subst}
-use mathlib.Core.Logic.{_⊎_, inl, inr, ⊎-elim}
-use mathlib.Core.Bool.{Bool, true, false, not, _&&_, _||_, true≢false}
+use mathlib.Core.Bool.{Bool, true, false, _&&_, true≢false}
 use mathlib.Core.List.{List, [], _∷_, map}
 use Prim.Native.Nat.{ℕ, zero, suc, _+_, _*_, _/_, _%_, _<_, _≤_}
-use native.Mathlib.Nat.{add-mul, eq-or-lt-of-le, mul-le-mul-right, div-add-mod', mod-lt, div-lt-iff-lt-mul}
+use native.Mathlib.Nat.{div-add-mod', mod-lt, div-lt-iff-lt-mul}
 use native.Mathlib.Omega.{arith}
 use borrow.Author.Tests.{lt-ltb, le-ltb, ltb-true}
 use lib.Arith.{digits-lt, digits-div, digits-mod}
-use lib.Dec.{T, eqb, ltb, ltb→lt, nltb→le, lt→ltb, eqb-refl}
+use lib.Dec.{T, eqb, ltb, ltb→lt, lt→ltb}
 use lib.IntN.{ℤ, pos, negsuc, natAbs}
 use lib.Signed.{nonNeg}
 use lib.ListN.{length}
-use Rattle.argument.specs.Same.{samePoint→eq, samePoint-refl}
-use Rattle.lists.specs.Lists.{_∈_, keep, filter, any, all, range, rangeFrom}
+use Rattle.lists.specs.Lists.{_∈_, keep, filter, any, all, range}
 use Rattle.lists.specs.ListLaws.{mem-map, map-find, any-mem, any-find, mem-filter, filter-mem, filter-test}
 use Rattle.lists.specs.Tests.{allBelow}
-use Rattle.lists.specs.Ranges.{rangeFrom-ge, mem-range, range-lt}
-use Rattle.lists.specs.Booleans.{T-dec, T-and, T-and-l, T-and-r, T-or-l, T-or-r, same-test}
+use Rattle.lists.specs.Ranges.{mem-range, range-lt}
+use Rattle.lists.specs.Booleans.{T-and, T-and-l, T-and-r, same-test}
 use Rattle.lists.specs.TestLaws.{all-fails}
 use Rattle.lists.specs.AnyAll.{all-same}
 use Rattle.rules.specs.Page.{Point, _⊕_, opposite, Shape}
@@ -25,9 +23,12 @@ use Rattle.rules.specs.Flat.{flat, flatPlace, cellAt}
 use Rattle.rules.specs.Groups.{entry, members}
 use Rattle.rules.specs.Turns as Turns
 use Rattle.rules.specs.Turns.{apply}
-use Rattle.rules.specs.Shapes.{sort, before, lessℤ, normal, turned, samePoint, shapeOf, shiftBy, flatTransforms}
-use Rattle.argument.specs.Points.{point-eq}
-use Rattle.shapes.specs.TurnedLaws.{turned-keep}
+use Rattle.rules.specs.Shapes.{sort, lessℤ, normal, turned, samePoint, shapeOf, shiftBy, flatTransforms}
+use Rattle.laws.specs.SameLaws.{samePoint→eq, samePoint-refl}
+use Rattle.laws.specs.PointLaws.{point-eq}
+use Rattle.laws.specs.ShapeLaws.{turned-keep}
+use Rattle.laws.specs.SortLaws.{Ascending}
+use Rattle.laws.specs.FlatShapes.{members-ascend}
 use Rattle.shapes.specs.RowLaws.{transforms-rows}
 use Rattle.shapes.specs.FixLaws.{fixes-within, image-normal}
 use Rattle.shapes.specs.Rows.{turnAt, image, fixes, rowsOf}
@@ -36,73 +37,17 @@ use Rattle.shapes.specs.Spots.{places, joints}
 use Rattle.shapes.specs.Spots.{UnitAt}
 use Rattle.shapes.specs.SpotLaws.{first-spot, length-spots, all-spots}
 use Rattle.shapes.specs.Pairs.{pointAt}
-use Rattle.shapes.specs.Order.{Sorted}
-
--- an earlier cell number stands before a later one
-rows-rise : (w i x : ℕ) → 0 < w → i < x → T (ltb (i / w) (x / w) || eqb (i / w) (x / w) && ltb (i % w) (x % w))
-rows-rise w i x p l = go (T-dec (ltb (i / w) (x / w)))
-  where
-    di : i / w * w + i % w ≡ i
-    di = div-add-mod' i w
-
-    dx : x / w * w + x % w ≡ x
-    dx = div-add-mod' x w
-
-    go : T (ltb (i / w) (x / w)) ⊎ T (not (ltb (i / w) (x / w)))
-        → T (ltb (i / w) (x / w) || eqb (i / w) (x / w) && ltb (i % w) (x % w))
-    go (inl t) = T-or-l (ltb (i / w) (x / w)) _ t
-    go (inr t) =
-        T-or-r (ltb (i / w) (x / w)) _
-        (T-and (eqb (i / w) (x / w)) (ltb (i % w) (x % w)) (rw e (eqb-refl (x / w))) (lt→ltb (i % w) (x % w) less))
-      where
-        most : x / w ≤ i / w
-        most = nltb→le (i / w) (x / w) t
-
-        up : x / w < i / w → ⊥
-        up u =
-            let a : (x / w + 1) * w ≤ i / w * w = mul-le-mul-right w (omega arith) in
-            let b : (x / w + 1) * w ≡ x / w * w + w = add-mul (x / w) 1 w ∙ omega arith in
-            let c : x % w < w = mod-lt x p in
-            omega (arith, di, dx)
-
-        e : i / w ≡ x / w
-        e = ⊎-elim (λ (q : x / w ≡ i / w). sym q) (λ u. absurd (up u)) (eq-or-lt-of-le most)
-
-        less : i % w < x % w
-        less = let f : i / w * w ≡ x / w * w = ap (λ k. k * w) e in omega (arith, di, dx)
 
 ltb-zero : (n : ℕ) → ltb n 0 ≡ true → ⊥
 ltb-zero n e = let l = ltb-true n 0 e in omega arith
-
--- the places of the cells that pass a test, in row order
-module _ (h w : ℕ) (index : 1 ≤ w) (own : ℕ → Bool) where
-  place-before : (i x : ℕ) → i < x → T (before (flatPlace h w i) (flatPlace h w x))
-  unfolding flatPlace
-  place-before i x l = rows-rise w i x (omega arith) l
-
-  pub from-sorted : (i n : ℕ) → Sorted (map (flatPlace h w) (filter own (rangeFrom i n)))
-  unfolding filter
-  from-sorted i zero = tt
-  from-sorted i (suc n) = go (own i) (from-sorted (suc i) n)
-    where
-      later : (q : Point) → q ∈ map (flatPlace h w) (filter own (rangeFrom (suc i) n)) → T (before (flatPlace h w i) q)
-      later q m =
-          let r = map-find (flatPlace h w) (filter own (rangeFrom (suc i) n)) m in
-          let k = rangeFrom-ge (suc i) n (filter-mem own (rangeFrom (suc i) n) (r .1)) in
-          subst (λ (z : Point). T (before (flatPlace h w i) z)) (sym (r .2)) (place-before i (r .0) (omega arith))
-
-      go : (b : Bool) → Sorted (map (flatPlace h w) (filter own (rangeFrom (suc i) n)))
-          → Sorted (map (flatPlace h w) (keep b i (filter own (rangeFrom (suc i) n))))
-      go true ih = (later, ih)
-      go false ih = ih
 
 module _ (h w : ℕ) (number : ℕ → ℕ) (g : ℕ) (index : 1 ≤ w) where
   abbrev own : ℕ → Bool
   own x = eqb (number x) g
 
-  pub places-sorted : Sorted (places h w number g)
-  unfolding places flat members
-  places-sorted = from-sorted h w index own 0 (h * w)
+  pub places-ascend : Ascending (places h w number g)
+  unfolding places flat
+  places-ascend = members-ascend h w index number g
 
   -- the place of a cell of the page
   pub place-at : (y x : ℕ) → x < w → flatPlace h w (cellAt h w y x) ≡ placeAt y x
@@ -184,7 +129,7 @@ module _ (h w : ℕ) (number : ℕ → ℕ) (g : ℕ) (index : 1 ≤ w) where
   transforms-flat =
       transforms-rows shape
       (ap (turned (apply Turns.keep)) shape-is
-      ∙ (turned-keep (places h w number g) (joints h w number g) places-sorted ∙ sym shape-is))
+      ∙ (turned-keep (places h w number g) (joints h w number g) places-ascend ∙ sym shape-is))
 
   module _ (P : List Point) (here : P ≡ places h w number g) (full : 1 ≤ length P) where
     -- a row leaves the shape exactly if every image, laid on the first cell, is a cell of the group
@@ -198,7 +143,7 @@ module _ (h w : ℕ) (number : ℕ → ℕ) (g : ℕ) (index : 1 ≤ w) where
             ≡ all (λ q. hasCell h w number g (apply (turnAt r) q ⊕ onto r qs)) qs
         go [] e l = absurd (omega arith)
         go (p ∷ ps) e l =
-            fixes-within r p ps (joints h w number g) (subst Sorted (sym e) places-sorted)
+            fixes-within r p ps (joints h w number g) (subst Ascending (sym e) places-ascend)
             ∙ all-same _ _ (p ∷ ps)
             (λ q m. ap (any (samePoint (apply (turnAt r) q ⊕ onto r (p ∷ ps)))) e
             ∙ among-places (apply (turnAt r) q ⊕ onto r (p ∷ ps)))

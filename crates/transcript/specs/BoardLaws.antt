@@ -20,7 +20,7 @@ use Rattle.lists.specs.TableLaws.{getD-table}
 use Rattle.lists.specs.Booleans.{and-left, and-right}
 use Rattle.lists.specs.TestLaws.{all-every}
 use Rattle.lists.specs.AnyAll.{all-get}
-use Rattle.rules.specs.FlatLaws.{counts}
+use Rattle.laws.specs.FlatLaws.{counts}
 use Rattle.board.specs.declared.Returned.{Returned}
 use Rattle.board.specs.Alien.{sizeRight, cellsOf, coloursRight, cluesRight}
 use Rattle.board.specs.Accepted.{Accepted}

@@ -11,10 +11,9 @@ use lib.Dec.{T}
 use lib.IntN.{ℤ, pos, negsuc, negℤ, _+ℤ_, _*ℤ_, +ℤ-negℤ-cancel, negℤ-negℤ}
 use lib.Signed.{mag}
 use lib.ListN.{getD}
-use Rattle.argument.specs.Same.{samePoint→eq, samePoint-refl}
-use Rattle.argument.specs.Pairs.{distinct-map}
 use Rattle.lists.specs.Lists.{_∈_, filter, any, range}
 use Rattle.lists.specs.ListLaws.{mem-map, map-find, any-mem, any-find, mem-filter, filter-test}
+use Rattle.lists.specs.Pairs.{distinct-map}
 use Rattle.lists.specs.TableLaws.{table-find}
 use Rattle.lists.specs.Ranges.{mem-range}
 use Rattle.lists.specs.Maps.{map-map}
@@ -24,19 +23,21 @@ use Rattle.rules.specs.Flat.{flatPlace}
 use Rattle.rules.specs.Groups.{entry}
 use Rattle.rules.specs.Turns.{apply, compose, keep, plus, layerward}
 use Rattle.rules.specs.Shapes.{sort, shiftBy, samePoint}
-use Rattle.argument.specs.Points.{point-eq}
-use Rattle.argument.specs.TurnLaws.{apply-compose, apply-keep}
+use Rattle.laws.specs.SameLaws.{samePoint→eq, samePoint-refl}
+use Rattle.laws.specs.PointLaws.{point-eq}
+use Rattle.laws.specs.TurnLaws.{apply-compose, apply-keep}
+use Rattle.laws.specs.SortLaws.{Ascending, mem-sort, sort-mem, sort-ascends, ascending-distinct, ascending-same}
+use Rattle.laws.specs.SortLaws.{shift-ascends}
+use Rattle.laws.specs.FlatShapes.{filter-ascends}
 use Rattle.shapes.specs.declared.Pair.{Pair}
 use Rattle.shapes.specs.declared.Signs.{Signs}
 use Rattle.shapes.specs.Pairs.{pointAt, pointOf, Sign, BothSigns, turnBy}
 use Rattle.shapes.specs.PairLaws.{one-times, minus-times}
-use Rattle.shapes.specs.Order.{Sorted}
-use Rattle.shapes.specs.SortLaws.{mem-sort, sort-mem, sort-sorted, sorted-distinct, sorted-unique}
-use Rattle.shapes.specs.FixLaws.{row-inj, shift-sorted}
+use Rattle.shapes.specs.FixLaws.{row-inj}
 use Rattle.shapes.specs.Rows.{turnAt}
 use Rattle.shapes.specs.Spots.{hasCell, spotAt, spots, Near, UnitAt}
 use Rattle.shapes.specs.SpotLaws.{near-image}
-use Rattle.shapes.specs.UnitLaws.{from-sorted, places-sorted, among-places}
+use Rattle.shapes.specs.UnitLaws.{among-places, places-ascend}
 use Rattle.transforms.specs.Box.{undone, reversed, corner, boxAt, boxSize, ofImage, cellAt, sweep}
 
 -- a row and the one that undoes it, either first; the layer stays
@@ -127,18 +128,18 @@ module _ {h w : ℕ} {ids : List ℕ} {g : ℕ} {R C : List ℕ} {n : ℕ} (u : 
   abbrev turn : Point → Point
   turn = apply (turnAt r)
 
-  found-sorted : Sorted found
+  found-sorted : Ascending found
   unfolding boxAt shiftBy
   found-sorted =
-      subst Sorted (map-map (λ p. p ⊕ corner) (flatPlace 66 66) (filter there (range boxSize)))
-      (shift-sorted corner (map (flatPlace 66 66) (filter there (range boxSize)))
-      (from-sorted 66 66 (omega arith) there 0 boxSize))
+      subst Ascending (map-map (λ p. p ⊕ corner) (flatPlace 66 66) (filter there (range boxSize)))
+      (shift-ascends corner (map (flatPlace 66 66) (filter there (range boxSize)))
+      (filter-ascends 66 66 (omega arith) there boxSize))
 
-  images-sorted : Sorted (sort (map turn P))
+  images-sorted : Ascending (sort (map turn P))
   images-sorted =
-      sort-sorted (map turn P)
+      sort-ascends (map turn P)
       (distinct-map turn (row-inj r) P
-      (sorted-distinct P (subst Sorted (sym (u .here)) (places-sorted h w (entry ids) g (u .sized .columns)))))
+      (ascending-distinct P (subst Ascending (sym (u .here)) (places-ascend h w (entry ids) g (u .sized .columns)))))
 
   -- a cell of the unit, on the page and among its places
   own : (z : Point) → any (samePoint z) P ≡ hasCell h w (entry ids) g z
@@ -172,7 +173,7 @@ module _ {h w : ℕ} {ids : List ℕ} {g : ℕ} {R C : List ℕ} {n : ℕ} (u : 
       (subst (λ (p : Point). T (hasCell h w (entry ids) g p)) (sym back) has)))
 
   found-is : found ≡ sort (map turn P)
-  found-is = sorted-unique found (sort (map turn P)) found-sorted images-sorted found-image image-found
+  found-is = ascending-same found (sort (map turn P)) found-sorted images-sorted found-image image-found
 
   -- what the loop gathers
   pub sweep-is : (m : Point) → sweep h w (entry ids) g r m boxSize ≡ shiftBy (opposite m) (sort (map turn P))

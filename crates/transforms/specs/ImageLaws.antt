@@ -18,9 +18,8 @@ use Rattle.rules.specs.Flat.{flat}
 use Rattle.rules.specs.Groups.{entry}
 use Rattle.rules.specs.Turns.{apply}
 use Rattle.rules.specs.Shapes.{sort, shiftBy, shapeOf}
-use Rattle.shapes.specs.FixLaws.{length-shift}
+use Rattle.laws.specs.SortLaws.{length-sort, length-shift}
 use Rattle.shapes.specs.Rows.{turnAt, image}
-use Rattle.shapes.specs.SortLaws.{length-sort}
 use Rattle.shapes.specs.Spots.{spotAt, spots, leastImage, UnitAt}
 use Rattle.shapes.specs.SpotLaws.{length-spots, spots-more}
 use Rattle.shapes.specs.UnitLaws.{image-places}

@@ -19,11 +19,11 @@ use Rattle.rules.specs.Shapes.{shapeOf}
 use Rattle.rules.specs.Groups.{entry, members, unitOf, potentialOf, potentialCount}
 use Rattle.rules.specs.Check.{laid, blockers, placements, transformsOf, insideUnit, edgeOf, mates, farWalls, unitReason}
 use Rattle.rules.specs.Check.{adjacent as isAdjacent}
+use Rattle.laws.specs.FlatReasons.{flat-members-same, flat-inside-same, flat-edge-same}
 use Rattle.reasons.specs.Arrays.{Cells, insideIn, edgeIn, isFlagged}
 use Rattle.reasons.specs.FarLaws.{far-walls}
 use Rattle.reasons.specs.Memory.{Wrote}
 use Rattle.reasons.specs.MemoryLaws.{wrote-more}
-use Rattle.reasons.specs.NumberLaws.{members-same, inside-same, edge-same}
 use Rattle.search.specs.Placing.{puzzle, bare}
 use Rattle.search.specs.Searching.{Beside, blockOf, blocksAmong, blocksBeside}
 use Rattle.search.specs.SearchLaws.{placed-blocks, mates-low, entry-low, beside-leading}
@@ -60,11 +60,11 @@ module _ {h w : ℕ} {cs bs ids cells offs pids pcells poffs list : List ℕ} {c
 
   edge-is : (q : ℕ) → edgeIn h w cs bs pids q ≡ edgeOf Z s q
   unfolding edgeIn edgeOf
-  edge-is q = edge-same (a .drawn .sized) (entry pids) (potentialOf Z s) number-same q (coloursIn cs) s
+  edge-is q = flat-edge-same (a .drawn .sized) (entry pids) (potentialOf Z s) number-same q (coloursIn cs) s
 
   inside-is : insideIn h w bs ids u ≡ insideUnit Z s u
   unfolding insideIn insideUnit
-  inside-is = inside-same (a .drawn .sized) (entry ids) (unitOf Z s) unit-same u s
+  inside-is = flat-inside-same (a .drawn .sized) (entry ids) (unitOf Z s) unit-same u s
 
   mates-are : part list 0 count ≡ mates Z s p
   mates-are = a .mates .first
@@ -87,7 +87,7 @@ module _ {h w : ℕ} {cs bs ids cells offs pids pcells poffs list : List ℕ} {c
               end = e .end;
               group =
                   a .grouped .group q l
-                  ∙ sym (members-same (a .drawn .sized) (entry pids) (potentialOf Z s) number-same q);
+                  ∙ sym (flat-members-same (a .drawn .sized) (entry pids) (potentialOf Z s) number-same q);
             };
       }
 

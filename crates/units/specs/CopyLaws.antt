@@ -27,10 +27,10 @@ use Rattle.rules.specs.Page.{State, Point, Puzzle, Shape, _⊕_, opposite}
 use Rattle.rules.specs.Flat.{Sized, flat, flatPlace, flatReads}
 use Rattle.rules.specs.Groups.{entry}
 use Rattle.rules.specs.Shapes.{shiftBy, normal, connectionsAt, shapeOf}
-use Rattle.argument.specs.Numbers.{members-in}
-use Rattle.argument.specs.Points.{point-eq, add-assoc, add-comm}
+use Rattle.laws.specs.PointLaws.{point-eq, add-assoc, add-comm}
+use Rattle.laws.specs.GroupLaws.{members-lt}
+use Rattle.laws.specs.FlatLaws.{row-of}
 use Rattle.reasons.specs.Arrays.{Cells}
-use Rattle.reasons.specs.StepLaws.{row-of}
 use Rattle.search.specs.JudgeLaws.{place-raised}
 use Rattle.search.specs.Placing.{puzzle, raised, readRaised, readingOf, isClear, fitsOf}
 use Rattle.search.specs.Searching.{groupIn, fitsAmong, fitsBeside}
@@ -91,7 +91,7 @@ module _ {h w g first last : ℕ} {ids units : List ℕ} (z : Sized h w) (u : Un
   pub unit-low : (i : ℕ) → first ≤ i → i < last → getD units i 0 < h * w
   unfolding flat
   unit-low i a b =
-      members-in (flat h w) (entry ids) g (getD units i 0)
+      members-lt (flat h w) (entry ids) g (getD units i 0)
       (rw (
         ← u .group,
         part-split units first i last a (omega arith),

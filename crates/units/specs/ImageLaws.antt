@@ -20,14 +20,14 @@ use Rattle.rules.specs.Turns.{signed, apply}
 use Rattle.rules.specs.Shapes.{shiftBy, shapeOf}
 use Rattle.rules.specs.Flat.{flat}
 use Rattle.rules.specs.Groups.{entry}
-use Rattle.argument.specs.Points.{point-eq}
+use Rattle.laws.specs.PointLaws.{point-eq}
+use Rattle.laws.specs.SortLaws.{sort-mem}
 use Rattle.shapes.specs.declared.Pair.{Pair}
 use Rattle.shapes.specs.declared.Signs.{Signs}
 use Rattle.shapes.specs.Pairs.{pointAt, pointOf, signOf, signsOf}
 use Rattle.shapes.specs.Rows.{turnAt, image}
 use Rattle.shapes.specs.Spots.{placeAt, spotAt, spots, leastImage, Near, Spotted, UnitAt}
 use Rattle.shapes.specs.SpotLaws.{length-spots, near-least}
-use Rattle.shapes.specs.SortLaws.{sort-mem}
 use Rattle.shapes.specs.FixLaws.{least-image}
 use Rattle.shapes.specs.UnitLaws.{image-joints}
 use Rattle.shapes.specs.Joints.{Joined}

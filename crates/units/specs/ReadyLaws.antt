@@ -13,14 +13,14 @@ use Rattle.lists.specs.AnyAll.{any-same, any-flat}
 use Rattle.lists.specs.Lengths.{some-length}
 use Rattle.rules.specs.Page.{State, Puzzle}
 use Rattle.rules.specs.Flat.{Sized, flat}
-use Rattle.rules.specs.FlatLaws.{counts}
 use Rattle.rules.specs.Codes.{statesIn}
 use Rattle.rules.specs.Groups.{entry, numbers, members}
 use Rattle.rules.specs.Groups.{unitOf, unitCount, potentialOf}
 use Rattle.rules.specs.Shapes.{shapeOf, flatTransforms}
 use Rattle.rules.specs.Check.{laid, isFit, mates, placements, transformsOf}
-use Rattle.argument.specs.FlatPage.{flat-bordered}
-use Rattle.argument.specs.Numbers.{members-some}
+use Rattle.laws.specs.FlatLaws.{counts}
+use Rattle.laws.specs.FlatPage.{flat-bordered}
+use Rattle.laws.specs.GroupLaws.{members-some}
 use Rattle.reasons.specs.Arrays.{Cells}
 use Rattle.groups.specs.declared.Kind.the-variants.{Units, Potential}
 use Rattle.groups.specs.declared.Groups.{Groups}

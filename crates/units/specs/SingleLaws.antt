@@ -13,12 +13,11 @@ use Rattle.lists.specs.PartLaws.{part-one}
 use Rattle.lists.specs.AnyAll.{holds-any}
 use Rattle.rules.specs.Page.{Hop, State, Point, Puzzle, Shape}
 use Rattle.rules.specs.Flat.{flat, hopIf, hopBelow, hopRight, aheadAt, cellAt}
-use Rattle.rules.specs.FlatLaws.{spot}
 use Rattle.rules.specs.Groups.{entry, members}
 use Rattle.rules.specs.Check.{laid, judge}
 use Rattle.rules.specs.Shapes.{shapeOf, normal, shiftBy, connectionsAt}
-use Rattle.argument.specs.Numbers.{mem-members, members-in}
-use Rattle.reasons.specs.StepLaws.{row-of}
+use Rattle.laws.specs.FlatLaws.{spot, row-of}
+use Rattle.laws.specs.GroupLaws.{mem-members, members-lt}
 use Rattle.search.specs.Placing.{fitsOf}
 use Rattle.search.specs.Searching.{groupIn, fitsAmong, fitsBeside}
 use Rattle.units.specs.Fitting.{UnitIn, fitsTurned}
@@ -49,7 +48,7 @@ normal-none (p ∷ ps) = refl
 module _ (h w : ℕ) (number : ℕ → ℕ) (g c : ℕ) (alone : members (flat h w) number g ≡ c ∷ []) where
   inside : c < h * w
   unfolding flat
-  inside = members-in (flat h w) number g c (rw alone (List·Memᴰ·head refl))
+  inside = members-lt (flat h w) number g c (rw alone (List·Memᴰ·head refl))
 
   -- another cell of the page is in another group
   other : (t : ℕ) → t < h * w → (t ≡ c → ⊥) → eqb (number t) g ≡ false

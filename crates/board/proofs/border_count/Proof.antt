@@ -3,7 +3,7 @@ use mathlib.Core.Path.{_∙_, sym}
 use native.Mathlib.Omega.{arith}
 use borrow.Author.Needs.{needs}
 use Rattle.rules.specs.Flat.{Sized, borderCount}
-use Rattle.rules.specs.FlatLaws.{counts}
+use Rattle.laws.specs.FlatLaws.{counts}
 use Rattle.board.specs.Alien.{bordersOf}
 use Rattle.board.specs.ConditionLaws.{sized}
 use Rattle.board.proofs.border_count.Statement.{statement}

@@ -2,7 +2,7 @@
 use mathlib.Core.Path.{_∙_, _≡_, sym}
 use Prim.Native.Nat.{_*_}
 use borrow.Author.Needs.{needs}
-use Rattle.rules.specs.FlatLaws.{counts}
+use Rattle.laws.specs.FlatLaws.{counts}
 use Rattle.board.specs.Cases.{cells-clues, cells-colours}
 use Rattle.board.specs.ConditionLaws.{cells-of}
 use Rattle.board.proofs.cells_right.Statement.{statement}

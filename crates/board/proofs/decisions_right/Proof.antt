@@ -4,7 +4,7 @@ use Prim.Native.Nat.{_≤_}
 use native.Mathlib.Omega.{arith}
 use borrow.Author.Needs.{needs}
 use Rattle.rules.specs.Flat.{borderCount}
-use Rattle.rules.specs.FlatLaws.{borders-le}
+use Rattle.laws.specs.FlatLaws.{borders-le}
 use Rattle.board.specs.Cases.{decisions-borders, decisions-many, decisions-entries, decisions-twice}
 use Rattle.board.specs.ConditionLaws.{borders-of, entries-low}
 use Rattle.board.proofs.decisions_right.Statement.{statement}

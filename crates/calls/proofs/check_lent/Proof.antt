@@ -2,7 +2,7 @@
 use mathlib.Core.Path.{_≡_, sym, ap, _∙_}
 use mathlib.Core.Bool.{false}
 use native.Mathlib.Omega.{arith}
-use Rattle.rules.specs.FlatLaws.{counts}
+use Rattle.laws.specs.FlatLaws.{counts}
 use Rattle.board.specs.Alien.{boardOf, isAlien}
 use Rattle.calls.specs.Answers.{asAnswer, written}
 use Rattle.calls.specs.AnswerLaws.{check-alien, check-short, check-found}

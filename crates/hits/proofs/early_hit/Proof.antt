@@ -1,8 +1,8 @@
 -- `early_hit` meets its contract: step 1's hit, and where there is none step 2's.
 use mathlib.Core.Path.{_≡_}
 use native.Mathlib.Omega.{arith}
-use Rattle.rules.specs.FlatLaws.{counts}
 use Rattle.rules.specs.Codes.{statesIn}
+use Rattle.laws.specs.FlatLaws.{counts}
 use Rattle.checker.specs.Steps.{breachIn}
 use Rattle.checker.specs.Bounds.{breach-small, breach-short}
 use Rattle.hits.specs.Found.{earlyHit}

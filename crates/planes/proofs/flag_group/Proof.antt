@@ -6,7 +6,7 @@ use native.Mathlib.Omega.{arith}
 use borrow.Author.Needs.{needs}
 use lib.ListN.{length, getD}
 use Rattle.lists.specs.Parts.{part}
-use Rattle.rules.specs.FlatLaws.{counts}
+use Rattle.laws.specs.FlatLaws.{counts}
 use Rattle.search.specs.SearchLaws.{cells-at}
 use Rattle.planes.specs.Masks.{Masked}
 use Rattle.planes.specs.MaskLaws.{group-none, group-more}

@@ -3,7 +3,7 @@ use mathlib.Core.Path.{sym, _∙_}
 use Prim.Native.Nat.{_+_, _/_, _<_}
 use native.Mathlib.Omega.{arith}
 use borrow.Author.Needs.{needs}
-use Rattle.rules.specs.FlatLaws.{counts}
+use Rattle.laws.specs.FlatLaws.{counts}
 use Rattle.planes.specs.PlaneLaws.{line-odd, line-even}
 use Rattle.planes.specs.DrawLaws.{Line, line-in}
 use Rattle.planes.proofs.line.Statement.{statement}

@@ -3,7 +3,7 @@ use Prim.Native.Nat.{_-_, _/_}
 use native.Mathlib.Omega.{arith}
 use borrow.Author.Needs.{needs}
 use Rattle.rules.specs.Codes.{statesIn}
-use Rattle.rules.specs.FlatLaws.{Counts, counts, Spot, spot}
+use Rattle.laws.specs.FlatLaws.{Counts, counts, Spot, spot}
 use Rattle.search.specs.PlacingLaws.{below-reading, right-reading, off-ends, off-above, off-left, off-below}
 use Rattle.search.specs.PlacingLaws.{off-right, reads-below, reads-right}
 use Rattle.search.proofs.read_place.Statement.{statement}

@@ -3,7 +3,7 @@ use mathlib.Core.Path.{sym}
 use Prim.Native.Nat.{_+_, _*_, _<_}
 use native.Mathlib.Omega.{arith}
 use Rattle.rules.specs.Groups.{entry}
-use Rattle.rules.specs.FlatLaws.{counts, spot}
+use Rattle.laws.specs.FlatLaws.{counts, spot}
 use Rattle.shapes.specs.UnitLaws.{in-below, in-beside, in-page}
 use borrow.Author.Needs.{needs}
 use Rattle.shapes.proofs.cell_in.Statement.{statement}

@@ -4,7 +4,7 @@ use Prim.Native.Nat.{ℕ, _<_}
 use native.Mathlib.Omega.{arith}
 use lib.IntN.{ℤ, pos, negℤ, _-ℤ_, +ℤ-comm}
 use Rattle.rules.specs.Page.{_⊕_, opposite}
-use Rattle.argument.specs.Points.{point-eq}
+use Rattle.laws.specs.PointLaws.{point-eq}
 use Rattle.shapes.specs.Pairs.{Small}
 use Rattle.shapes.specs.PairLaws.{difference-fits, difference-back}
 use borrow.Author.Needs.{needs}

@@ -1,7 +1,7 @@
 -- `transforms::back` meets its contract: the differences fit, and are the coordinates of the shifted place.
 use mathlib.Core.Path.{refl}
 use Rattle.rules.specs.Page.{_⊕_, opposite}
-use Rattle.argument.specs.Points.{point-eq}
+use Rattle.laws.specs.PointLaws.{point-eq}
 use Rattle.shapes.specs.PairLaws.{difference-fits, difference-back}
 use Rattle.transforms.proofs.back.Statement.{statement}
 use Rattle.transforms.proofs.back.Tie as tie

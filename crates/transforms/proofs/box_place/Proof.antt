@@ -9,7 +9,7 @@ use mir.Facts.{toZ-ofZ}
 use mir.ValLaws.{toZ-pos}
 use Rattle.rules.specs.Page.{_⊕_}
 use Rattle.rules.specs.Flat.{flatPlace}
-use Rattle.argument.specs.Points.{point-eq}
+use Rattle.laws.specs.PointLaws.{point-eq}
 use Rattle.shapes.specs.Pairs.{Small}
 use Rattle.shapes.specs.PairLaws.{mag-sum}
 use Rattle.transforms.specs.Box.{boxAt}

@@ -5,7 +5,7 @@ use mir.Syntax.{w32}
 use mir.Facts.{toZ-ofZ}
 use Rattle.rules.specs.Groups.{entry}
 use Rattle.rules.specs.Turns.{apply}
-use Rattle.argument.specs.Points.{point-eq}
+use Rattle.laws.specs.PointLaws.{point-eq}
 use Rattle.shapes.specs.Pairs.{pointAt, pointOf}
 use Rattle.shapes.specs.PairLaws.{small-back}
 use Rattle.shapes.specs.Rows.{turnAt}

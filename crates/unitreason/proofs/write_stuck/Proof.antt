@@ -4,7 +4,7 @@ use mathlib.Core.Path.{_≡_, ap, _∙_}
 use native.Mathlib.Omega.{arith}
 use borrow.Author.Needs.{needs}
 use lib.ListN.{getD}
-use Rattle.rules.specs.FlatLaws.{counts}
+use Rattle.laws.specs.FlatLaws.{counts}
 use Rattle.shapes.specs.Spots.{UnitAt}
 use Rattle.units.specs.Fitting.{UnitIn}
 use Rattle.units.specs.FitLaws.{unit-part, unit-placed}

@@ -5,9 +5,9 @@ use lib.ListN.{getD}
 use Rattle.rules.specs.Check.{mates}
 use Rattle.rules.specs.Codes.{statesIn}
 use Rattle.rules.specs.Flat.{flat}
-use Rattle.rules.specs.FlatLaws.{counts}
 use Rattle.rules.specs.Groups.{entry}
 use Rattle.rules.specs.Shapes.{shapeOf}
+use Rattle.laws.specs.FlatLaws.{counts}
 use Rattle.search.specs.Mates.{OneOf}
 use Rattle.search.specs.Placing.{puzzle}
 use Rattle.units.specs.CopyLaws.{soon-turned}

@@ -4,7 +4,7 @@ use mathlib.Core.Path.{_∙_, _≡_, sym}
 use Prim.Native.Nat.{_*_, _≤_}
 use native.Mathlib.Omega.{arith}
 use borrow.Author.Needs.{needs}
-use Rattle.rules.specs.FlatLaws.{counts}
+use Rattle.laws.specs.FlatLaws.{counts}
 use Rattle.board.specs.Alien.{sizeRight}
 use Rattle.board.specs.Cases.{fresh-clue, fresh-clues, fresh-colour, fresh-colours, fresh-done, fresh-size}
 use Rattle.board.specs.ConditionLaws.{cells-of, sized}

@@ -2,7 +2,7 @@
 use mathlib.Core.Path.{sym, _∙_}
 use native.Mathlib.Omega.{arith}
 use borrow.Author.Needs.{needs}
-use Rattle.rules.specs.FlatLaws.{Counts, counts, Spot, spot}
+use Rattle.laws.specs.FlatLaws.{Counts, counts, Spot, spot}
 use Rattle.reasons.specs.StepLaws.{step-any}
 use Rattle.checker.specs.WallCases.{or-found, or-missed, cell-split}
 use Rattle.checker.proofs.walls.cell_breach.Statement.{statement}

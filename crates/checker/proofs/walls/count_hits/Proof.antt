@@ -9,7 +9,7 @@ use Rattle.lists.specs.Arithmetic.{below-more}
 use Rattle.lists.specs.CountLaws.{bit-under, no-bit}
 use Rattle.rules.specs.Codes.{statesIn}
 use Rattle.rules.specs.Groups.{entry}
-use Rattle.reasons.specs.ScanLaws.{state-wall}
+use Rattle.laws.specs.CodeLaws.{state-wall}
 use Rattle.checker.specs.Breaches.{isBreach}
 use Rattle.checker.specs.Clean.{Apart}
 use Rattle.checker.proofs.walls.count_hits.Statement.{statement}

@@ -5,8 +5,8 @@ use native.Mathlib.Omega.{arith}
 use borrow.Author.Needs.{needs}
 use borrow.Author.Tests.{eq-eqb, ne-eqb, not-true, not-false}
 use Rattle.rules.specs.Groups.{entry}
+use Rattle.laws.specs.CodeLaws.{state-wall}
 use Rattle.reasons.specs.Arrays.{Fits}
-use Rattle.reasons.specs.ScanLaws.{state-wall}
 use Rattle.checker.specs.Breaches.{isBreach}
 use Rattle.checker.proofs.walls.is_breach.Statement.{statement}
 use Rattle.checker.proofs.walls.is_breach.Tie as tie

@@ -5,7 +5,7 @@ use native.Mathlib.Omega.{arith}
 use Rattle.lists.specs.Arithmetic.{below-more}
 use Rattle.rules.specs.Codes.{statesIn}
 use Rattle.rules.specs.Groups.{entry}
-use Rattle.rules.specs.FlatLaws.{Counts, counts, Spot, spot}
+use Rattle.laws.specs.FlatLaws.{Counts, counts, Spot, spot}
 use Rattle.checker.specs.Clean.{Apart, page-clean}
 use Rattle.checker.proofs.walls.is_clean.Statement.{statement}
 use Rattle.checker.proofs.walls.is_clean.Tie as tie

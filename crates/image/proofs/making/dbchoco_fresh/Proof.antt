@@ -2,7 +2,7 @@
 use mathlib.Core.Path.{_≡_, ap, sym, _∙_}
 use native.Mathlib.Omega.{arith}
 use borrow.Author.Needs.{needs}
-use Rattle.rules.specs.FlatLaws.{counts}
+use Rattle.laws.specs.FlatLaws.{counts}
 use Rattle.board.specs.Board.{freshOf, numberOf}
 use Rattle.board.specs.FreshLaws.{Made}
 use Rattle.board.specs.declared.Returned.{Returned}

@@ -1,5 +1,5 @@
 -- `half` meets its contract: there are at most 1,024 cells.
-use Rattle.rules.specs.FlatLaws.{counts}
+use Rattle.laws.specs.FlatLaws.{counts}
 use borrow.Author.Needs.{needs}
 use native.Mathlib.Omega.{arith}
 use Rattle.page.proofs.fitness.half.Statement.{statement}

@@ -9,8 +9,8 @@ use borrow.Author.Needs.{needs}
 use borrow.Enum.Known.{lives-at}
 use lib.ListN.{length, getD}
 use Rattle.rules.proofs.Placement.{enum}
-use Rattle.rules.specs.FlatLaws.{counts}
 use Rattle.rules.specs.Page.{wallAt}
+use Rattle.laws.specs.FlatLaws.{counts}
 use Rattle.reasons.specs.MemoryLaws.{wrote-none}
 use Rattle.planes.specs.Survivors.{placedAt, blockIn}
 use Rattle.planes.specs.PlacedLaws.{place-row, place-column, placed-within, block-one, block-none}

@@ -7,7 +7,7 @@ use borrow.Author.Needs.{needs}
 use Rattle.lists.specs.Lists.{flatMap}
 use Rattle.lists.specs.Parts.{part}
 use Rattle.rules.specs.declared.Literal.{Literal}
-use Rattle.rules.specs.FlatLaws.{counts}
+use Rattle.laws.specs.FlatLaws.{counts}
 use Rattle.reasons.specs.Memory.{Wrote}
 use Rattle.reasons.specs.MemoryLaws.{wrote-length}
 use Rattle.reasons.specs.MemoryLaws.{write-none, write-more, write-fits}

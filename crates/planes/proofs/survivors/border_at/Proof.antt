@@ -4,7 +4,7 @@ use Prim.Native.Nat.{_-_, _/_}
 use native.Mathlib.Omega.{arith}
 use borrow.Author.Needs.{needs}
 use Rattle.rules.specs.Flat.{belowOf, rightOf}
-use Rattle.rules.specs.FlatLaws.{counts}
+use Rattle.laws.specs.FlatLaws.{counts}
 use Rattle.planes.specs.DrawLaws.{Line, line-in}
 use Rattle.planes.specs.PlacedLaws.{border-below, border-right}
 use Rattle.planes.proofs.survivors.border_at.Statement.{statement}

@@ -7,7 +7,7 @@ use native.Mathlib.Omega.{arith}
 use lib.Arith.{digits-div, digits-mod}
 use lib.ListN.{length, getD, length-set}
 use Rattle.lists.specs.TableLaws.{stored-more}
-use Rattle.rules.specs.FlatLaws.{counts}
+use Rattle.laws.specs.FlatLaws.{counts}
 use Rattle.planes.specs.PlacedLaws.{next-row, next-column}
 use Rattle.planes.proofs.survivors.draw_places.Statement.{statement}
 use Rattle.planes.proofs.survivors.draw_places.Tie as tie

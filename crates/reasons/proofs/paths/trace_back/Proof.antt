@@ -1,7 +1,7 @@
 -- The way back: what is written, and the way from `c`, is the whole path.
 use Prim.Native.Nat.{_+_, _-_}
 use lib.ListN.{length}
-use Rattle.rules.specs.FlatLaws.{Counts, counts}
+use Rattle.laws.specs.FlatLaws.{Counts, counts}
 use Rattle.reasons.specs.Search.{pathIn}
 use Rattle.reasons.specs.MemoryLaws.{wrote-length}
 use Rattle.reasons.specs.PathLaws.{Tracing, tracing-start, tracing-none, tracing-end, tracing-left, tracing-room}

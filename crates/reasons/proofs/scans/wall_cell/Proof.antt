@@ -6,18 +6,17 @@ use lib.ListN.{length}
 use Rattle.lists.specs.UpTo.{upTo}
 use Rattle.rules.specs.declared.Side.the-variants.{Wall}
 use Rattle.rules.specs.declared.Literal.{Literal}
-use Rattle.rules.specs.FlatLaws.{counts}
+use Rattle.laws.specs.FlatLaws.{counts, OnPage, row-of}
 use Rattle.reasons.specs.Memory.{Wrote}
 use Rattle.reasons.specs.Arrays.{scanTo, scanAt}
 use Rattle.reasons.specs.MemoryLaws.{loop-none, loop-more, loop-fits}
-use Rattle.reasons.specs.StepLaws.{Row, row-of}
 use Rattle.reasons.specs.ScanLaws.{scan-walls}
 use native.Mathlib.Omega.{arith}
 use borrow.Author.Needs.{needs}
 use Rattle.reasons.proofs.scans.wall_cell.Statement.{statement}
 use Rattle.reasons.proofs.scans.wall_cell.Tie as tie
 
-row : (s : tie.Start) → Row (s .args .h) (s .args .w) (s .args .c)
+row : (s : tie.Start) → OnPage (s .args .h) (s .args .w) (s .args .c)
 row s = row-of _ _ _ (s .pre .4)
 
 abbrev at : tie.Start → ℕ → List Literal

@@ -1,7 +1,7 @@
 -- `shapes::back_twice` meets its contract: the sums and differences fit, and are the coordinates of the shifted place.
 use mathlib.Core.Path.{refl}
 use Rattle.rules.specs.Page.{_⊕_, opposite}
-use Rattle.argument.specs.Points.{point-eq}
+use Rattle.laws.specs.PointLaws.{point-eq}
 use Rattle.shapes.specs.PairLaws.{sum-fits, twice-fits, twice-back}
 use Rattle.shapes.proofs.connections.back_twice.Statement.{statement}
 use Rattle.shapes.proofs.connections.back_twice.Tie as tie

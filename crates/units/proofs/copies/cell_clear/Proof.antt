@@ -6,9 +6,8 @@ use native.Mathlib.Omega.{arith}
 use borrow.Author.Needs.{needs}
 use lib.Dec.{ltb}
 use Rattle.rules.specs.Codes.{statesIn}
-use Rattle.rules.specs.FlatLaws.{counts}
 use Rattle.rules.specs.Groups.{entry}
-use Rattle.reasons.specs.StepLaws.{row-of}
+use Rattle.laws.specs.FlatLaws.{counts, row-of}
 use Rattle.shapes.specs.JointLaws.{cell-room}
 use Rattle.units.specs.CopyLaws.{cell-yes, cell-no}
 use Rattle.units.proofs.copies.cell_clear.Statement.{statement}

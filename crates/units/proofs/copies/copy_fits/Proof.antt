@@ -10,7 +10,7 @@ use Rattle.rules.specs.Codes.{statesIn}
 use Rattle.rules.specs.Flat.{flat}
 use Rattle.rules.specs.Groups.{entry}
 use Rattle.rules.specs.Shapes.{shapeOf}
-use Rattle.reasons.specs.StepLaws.{row-of}
+use Rattle.laws.specs.FlatLaws.{row-of}
 use Rattle.search.specs.Placing.{puzzle, fitsOf}
 use Rattle.units.specs.Copies.{cellClear}
 use Rattle.units.specs.CopyLaws.{unit-low, shift-of, copy-cells}

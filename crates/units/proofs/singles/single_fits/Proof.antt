@@ -4,7 +4,7 @@ use Prim.Native.Nat.{ℕ, _+_}
 use native.Mathlib.Omega.{arith}
 use borrow.Author.Tests.{ltb-true}
 use lib.ListN.{getD}
-use Rattle.rules.specs.FlatLaws.{counts}
+use Rattle.laws.specs.FlatLaws.{counts}
 use Rattle.units.specs.ReadyLaws.{unit-few, unit-in, head-low, home-of, single-unit, sure-unit}
 use Rattle.units.proofs.singles.single_fits.Statement.{statement}
 use Rattle.units.proofs.singles.single_fits.Tie as tie

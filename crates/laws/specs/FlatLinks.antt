@@ -18,10 +18,10 @@ use Rattle.lists.specs.Booleans.{T-dec}
 use Rattle.rules.specs.Page.{Hop, _⊕_}
 use Rattle.rules.specs.Flat.{flat, cellAt, rightOf, belowOf, borderCount, hopIf, hopAbove, hopBelow, hopLeft}
 use Rattle.rules.specs.Flat.{hopRight, aroundAt, aheadAt, flatFirst, flatSecond, flatPlace, flatReadsAt, flatReads}
-use Rattle.rules.specs.FlatLaws.{spot}
-use Rattle.argument.specs.Points.{point-eq}
-use Rattle.argument.specs.PageLaws.{Near, at3}
-use Rattle.argument.specs.Links.{Link, Linking, Linked}
+use Rattle.laws.specs.FlatLaws.{spot}
+use Rattle.laws.specs.PointLaws.{point-eq}
+use Rattle.laws.specs.PageLaws.{Near, at3}
+use Rattle.laws.specs.Links.{Link, Linking, Linked}
 
 -- the hop, if there is one
 hop-mem : (b : Bool) (n c : ℕ) → T b → record { border = n; to = c } ∈ hopIf b n c

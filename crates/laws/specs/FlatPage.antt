@@ -16,22 +16,22 @@ use borrow.Author.Tests.{lt-leb}
 use lib.Dec.{T, ltb, leb, ltb→lt, nltb→le}
 use lib.IntN.{pos, negsuc}
 use lib.ListN.{length, length-append}
-use Rattle.rules.specs.SmallLaws.{hop-le}
 use Rattle.lists.specs.Lists.{_∈_}
 use Rattle.lists.specs.ListLaws.{mem-map, map-find}
 use Rattle.lists.specs.Booleans.{and-fails, T-dec}
 use Rattle.rules.specs.Page.{Hop, Point, _⊕_}
 use Rattle.rules.specs.Turns.{apply, flatTable}
-use Rattle.rules.specs.Flat.{hopAbove, hopBelow, hopLeft, hopRight, aheadAt}
-use Rattle.rules.specs.Flat.{flat, cellAt, rightOf, belowOf, aroundAt, flatPlace, flatReadsAt, flatReads}
-use Rattle.argument.specs.Points.{point-eq}
-use Rattle.argument.specs.PageLaws.{Near, steps, at3, Bordered, Placed, Listed, Moved}
-use Rattle.argument.specs.Links.{Linking, linking-hop, linking-in, linking-reads, linked-bordered}
-use Rattle.argument.specs.Links.{linked-near, linked-reads}
-use Rattle.argument.specs.TurnLaws.{Swaps, table-swaps}
-use Rattle.argument.specs.FlatList.{flat-are, flat-cover, flat-turns}
-use Rattle.argument.specs.FlatLinks.{flat-linked, down-link, right-link, place-at, cell-is, row-in, column-in}
-use Rattle.argument.specs.FlatLinks.{plus-none, step-back}
+use Rattle.rules.specs.Flat.{hopAbove, hopBelow, hopLeft, hopRight, aheadAt, flat, cellAt, rightOf, belowOf, aroundAt}
+use Rattle.rules.specs.Flat.{flatPlace, flatReadsAt, flatReads}
+use Rattle.laws.specs.FlatLaws.{hop-le}
+use Rattle.laws.specs.PointLaws.{point-eq}
+use Rattle.laws.specs.PageLaws.{Near, steps, at3, Bordered, Placed, Listed, Moved}
+use Rattle.laws.specs.Links.{Linking, linking-hop, linking-in, linking-reads, linked-bordered, linked-near}
+use Rattle.laws.specs.Links.{linked-reads}
+use Rattle.laws.specs.TurnLaws.{Swaps, table-swaps}
+use Rattle.laws.specs.FlatList.{flat-are, flat-cover, flat-turns}
+use Rattle.laws.specs.FlatLinks.{flat-linked, down-link, right-link, place-at, cell-is, row-in, column-in}
+use Rattle.laws.specs.FlatLinks.{step-back, plus-none}
 
 module _ (h w : ℕ) where
   record Next (Y X : ℕ) (e : Point) : Type 0 where

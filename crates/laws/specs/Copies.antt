@@ -13,9 +13,9 @@ use Rattle.lists.specs.ListLaws.{mem-filter, filter-mem, filter-test, mem-map, 
 use Rattle.rules.specs.Page.{Hop, Point, _⊕_, opposite, Shape, Page}
 use Rattle.rules.specs.Groups.{members}
 use Rattle.rules.specs.Shapes.{shiftBy, connectionsAt, shapeOf}
-use Rattle.argument.specs.Points.{origin, add-opposite, same-difference, twice-shift, opposite-unique}
-use Rattle.argument.specs.PageLaws.{Turns, Moved}
-use Rattle.argument.specs.ShapeLaws.{Normal, is-normal}
+use Rattle.laws.specs.PointLaws.{origin, add-opposite, same-difference, twice-shift, opposite-unique}
+use Rattle.laws.specs.PageLaws.{Turns, Moved}
+use Rattle.laws.specs.ShapeLaws.{Normal, is-normal}
 
 module _ (G : Page) (number : ℕ → ℕ) (k : ℕ) where
   -- a moved copy u of the group's shape, seen from its cell `from`, which lies at the origin

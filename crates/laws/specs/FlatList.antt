@@ -17,12 +17,12 @@ use Rattle.rules.specs.Page.{Point, _⊕_, opposite, Shape}
 use Rattle.rules.specs.Turns.{Turn, apply, compose, keep, half, quarter, halfQuarter, flip, flipHalf, flipQuarter}
 use Rattle.rules.specs.Turns.{flipHalfQuarter, flatTable}
 use Rattle.rules.specs.Shapes.{samePoint, sameShape, turned, withHalf, quarters, withQuarter, withFlip, flatTransforms}
-use Rattle.argument.specs.Points.{origin, add-assoc, add-origin, add-opposite, swap4}
-use Rattle.argument.specs.PageLaws.{Moved, Turns, steps}
-use Rattle.argument.specs.Same.{samePoint→eq, samePoints→eq}
-use Rattle.argument.specs.ShapeLaws.{TurnedBy, turned-by}
-use Rattle.argument.specs.TurnLaws.{sameTurn, sameTurn→eq, hasTurn, has-turn, undone, apply-undo, apply-compose}
-use Rattle.argument.specs.TurnLaws.{apply-sum, apply-keep}
+use Rattle.laws.specs.PointLaws.{origin, add-assoc, add-origin, add-opposite, swap4}
+use Rattle.laws.specs.PageLaws.{Moved, Turns, steps}
+use Rattle.laws.specs.SameLaws.{samePoint→eq, samePoints→eq}
+use Rattle.laws.specs.ShapeLaws.{TurnedBy, turned-by}
+use Rattle.laws.specs.TurnLaws.{sameTurn, sameTurn→eq, hasTurn, has-turn, undone, apply-undo, apply-compose}
+use Rattle.laws.specs.TurnLaws.{apply-sum, apply-keep}
 
 abbrev toSteps : Turn → Bool
 toSteps a = all (λ e. any (samePoint (apply a e)) steps) steps

@@ -1,16 +1,20 @@
--- Groups are numbered from 0 by their first cell, and two cells have the same number exactly when they are joined.
+-- Laws of groups: they are numbered from 0 by their first cell, two cells have the same number exactly when they are
+-- joined, and a group's cells are those with its number.
 --
 --   FirstOf G number x              x is the first cell of its group
 --   Numbered G link number count    01's sentence on numbers, for any numbering
---   numbered                        the numbers of Groups are such a numbering
+--   mem-members, members-lt, members-number   what is a member of a group
+--   members-distinct                no cell stands in a group twice
+--   members-same                    they come from the numbers of the page's cells alone
+--   numbers-length, number-at       there is a number for each cell: how many first cells stand before its label
+--   number-lt, groupCount-le        numbers are below the count, and there are no more groups than cells
+--   number-alone                    where there are as many, a cell's number is its place
+--   members-none                    "A number that no group has gives an empty part"
 --   number-joined, joined-number    equal numbers are joined cells, and the other way round
 --   hop-number                      the two cells of a hop over a border that links have one number
---   number-lt, number-has           numbers are below the count, and each number below the count is taken
---   number-first, number-order      by its first cell; an earlier first cell has the smaller number
---   numbers-length                  there is a number for each cell
---   mem-members, members-in, members-number   what is a member of a group
---   members-distinct                no cell stands in a group twice
---   members-some, members-none      each number below the count has cells, and no other
+--   number-first, number-order      each number has a first cell; an earlier first cell has the smaller number
+--   numbered                        the numbers of Groups are such a numbering
+--   number-has, members-some        each number below the count is that of a cell
 --   blockCells, unitCells, potentialCells   the cells of a block, of a unit, of a potential unit
 --   ownBlock, ownUnit, ownPotential         the cells of a cell's own block, unit, potential unit
 use mathlib.Core.Path.{_≡_, _∙_, refl, ap, sym}
@@ -18,20 +22,22 @@ use mathlib.Core.Bool.{Bool}
 use mathlib.Core.List.{List, [], _∷_, List·Memᴰ·head}
 use Prim.Native.Nat.{ℕ, _≤_, _<_}
 use native.Mathlib.Omega.{arith}
+use borrow.Author.Tests.{eqb-true}
 use lib.Dec.{eqb, T, eqb→eq, eqb-refl}
-use lib.ListN.{length, length-map}
+use lib.ListN.{length, getD, length-map}
 use Rattle.lists.specs.Lists.{_∈_, range, Distinct}
 use Rattle.lists.specs.ListLaws.{mem-filter, filter-mem, filter-test}
 use Rattle.lists.specs.Count.{countBelow}
+use Rattle.lists.specs.CountLaws.{count-le, count-grows, count-inj, count-find, count-all, count-full}
 use Rattle.lists.specs.Ranges.{mem-range, range-lt, distinct-range}
-use Rattle.lists.specs.Filters.{distinct-filter}
-use Rattle.lists.specs.CountLaws.{count-grows, count-inj, count-find}
+use Rattle.lists.specs.Filters.{distinct-filter, filter-same}
+use Rattle.lists.specs.Maps.{getD-map}
 use Rattle.rules.specs.Page.{Hop, Page, Puzzle, State}
 use Rattle.rules.specs.Rules.{Joined, stay, step}
 use Rattle.rules.specs.Groups.{entry, labels, isFirst, numbers, groupCount, members, blockOf, unitOf, potentialOf}
-use Rattle.argument.specs.PageLaws.{Bordered}
-use Rattle.argument.specs.Joins.{entry-map, join-in, label-le, label-idem, label-joined, joined-label}
-use Rattle.argument.specs.Joins.{labels-length}
+use Rattle.laws.specs.PageLaws.{Bordered}
+use Rattle.laws.specs.RuleLaws.{join-in}
+use Rattle.laws.specs.LabelLaws.{labelled, label-le, label-idem, label-joined, joined-label}
 
 -- x is a cell of the page, and no cell of its group stands before it
 pub record FirstOf (G : Page) (number : ℕ → ℕ) (x : ℕ) : Type 0 where
@@ -54,9 +60,9 @@ module _ (G : Page) (number : ℕ → ℕ) (g : ℕ) where
   unfolding members
   mem-members x h e = mem-filter (λ y. eqb (number y) g) _ (mem-range (G .cells) h) (rw e (eqb-refl g))
 
-  pub members-in : (x : ℕ) → x ∈ members G number g → x < G .cells
+  pub members-lt : (x : ℕ) → x ∈ members G number g → x < G .cells
   unfolding members
-  members-in x m = range-lt (G .cells) (filter-mem (λ y. eqb (number y) g) _ m)
+  members-lt x m = range-lt (G .cells) (filter-mem (λ y. eqb (number y) g) _ m)
 
   pub members-number : (x : ℕ) → x ∈ members G number g → number x ≡ g
   unfolding members
@@ -66,17 +72,64 @@ module _ (G : Page) (number : ℕ → ℕ) (g : ℕ) where
   unfolding members
   members-distinct = distinct-filter (λ y. eqb (number y) g) (range (G .cells)) (distinct-range 0 (G .cells))
 
-module _ (G : Page) (K : Bordered G) (link : ℕ → Bool) where
+-- another numbering with the same numbers on the page
+pub members-same : (G : Page) (f g : ℕ → ℕ) → ((x : ℕ) → x < G .cells → f x ≡ g x) → (k : ℕ)
+    → members G f k ≡ members G g k
+unfolding members
+members-same G f g same k = filter-same _ _ (range (G .cells)) (λ x m. rw (same x (range-lt (G .cells) m)))
+
+module _ (G : Page) (link : ℕ → Bool) where
+  pub groupCount-le : groupCount G link ≤ G .cells
+  unfolding groupCount
+  groupCount-le = count-le (G .cells) (isFirst (labels G link))
+
+module _ (G : Page) (link : ℕ → Bool) (some : 1 ≤ G .cells) where
   pub numbers-length : length (numbers G link) ≡ G .cells
   unfolding numbers
-  numbers-length = length-map (labels G link) (λ k. countBelow k (isFirst (labels G link))) ∙ labels-length G K link
+  numbers-length = length-map (labels G link) _ ∙ labelled G link some .size
 
+  pub number-at : (i : ℕ) → i < G .cells
+      → entry (numbers G link) i ≡ countBelow (getD (labels G link) i 0) (isFirst (labels G link))
+  unfolding numbers entry
+  number-at i h = getD-map _ (labels G link) i 0 0 (omega (arith, labelled G link some .size))
+
+  -- every cell's number is below the count
+  pub number-lt : (i : ℕ) → i < G .cells → entry (numbers G link) i < groupCount G link
+  unfolding groupCount isFirst entry
+  number-lt i h =
+      rw (number-at i h)
+      (count-grows (getD (labels G link) i 0) (G .cells) (isFirst (labels G link))
+      (omega (arith, labelled G link some .least i h))
+      (rw (labelled G link some .twice i h) (eqb-refl (getD (labels G link) i 0))))
+
+  -- where there are as many groups as cells, a cell's number is its place
+  pub number-alone : groupCount G link ≡ G .cells → (i : ℕ) → i < G .cells → entry (numbers G link) i ≡ i
+  unfolding groupCount isFirst entry
+  number-alone e i h =
+      let first = count-full (G .cells) (isFirst (labels G link)) e in
+      rw (number-at i h, eqb-true (getD (labels G link) i 0) i (first i h))
+      (count-all i (isFirst (labels G link)) (λ x l. first x (omega arith)))
+
+-- "A number that no group has gives an empty part"
+pub members-none : (G : Page) (link : ℕ → Bool) (g : ℕ) → groupCount G link ≤ g
+    → members G (entry (numbers G link)) g ≡ []
+members-none G link g h = go (members G (entry (numbers G link)) g) (λ x m. m)
+  where
+    go : (xs : List ℕ) → ((x : ℕ) → x ∈ xs → x ∈ members G (entry (numbers G link)) g) → xs ≡ []
+    go [] f = refl
+    go (x ∷ xs) f =
+        let m = f x (List·Memᴰ·head refl) in
+        let e = members-number G (entry (numbers G link)) g x m in
+        let k = members-lt G (entry (numbers G link)) g x m in
+        let l = number-lt G link (omega arith) x k in
+        absurd (omega arith)
+
+module _ (G : Page) (K : Bordered G) (link : ℕ → Bool) where
   -- a cell's number counts the first cells before its label
   number-is : (x : ℕ) → x < G .cells
       → entry (numbers G link) x ≡ countBelow (entry (labels G link) x) (isFirst (labels G link))
-  unfolding numbers
-  number-is x h =
-      entry-map (λ k. countBelow k (isFirst (labels G link))) (labels G link) x (rw (labels-length G K link) h)
+  unfolding entry
+  number-is x h = number-at G link (omega arith) x h
 
   label-first : (x : ℕ) → x < G .cells → T (isFirst (labels G link) (entry (labels G link) x))
   unfolding isFirst
@@ -102,13 +155,6 @@ module _ (G : Page) (K : Bordered G) (link : ℕ → Bool) where
   pub hop-number : (x : ℕ) (h : Hop) → x < G .cells → h ∈ G .around x → T (link (h .border))
       → entry (numbers G link) x ≡ entry (numbers G link) (h .to)
   hop-number x h hx m t = joined-number hx (step h m t (stay refl))
-
-  pub number-lt : (x : ℕ) → x < G .cells → entry (numbers G link) x < groupCount G link
-  unfolding groupCount
-  number-lt x h =
-      let l = label-le G K link x h in
-      rw (number-is x h)
-      (count-grows (entry (labels G link) x) (G .cells) (isFirst (labels G link)) (omega arith) (label-first x h))
 
   -- a label is the first cell of its group
   label-least : (x y : ℕ) → x < G .cells → y < G .cells → entry (numbers G link) y ≡ entry (numbers G link) x
@@ -152,7 +198,7 @@ module _ (G : Page) (K : Bordered G) (link : ℕ → Bool) where
   numbered = record {
     joined = number-joined;
     same = λ x y h j. joined-number h j;
-    below = number-lt;
+    below = λ x h. number-lt G link (omega arith) x h;
     first = number-first;
     order = number-order;
   }
@@ -161,23 +207,10 @@ module _ (G : Page) (K : Bordered G) (link : ℕ → Bool) where
   pub number-has : (g : ℕ) → g < groupCount G link → (x : ℕ) × (x < G .cells) × (entry (numbers G link) x ≡ g)
   number-has g h = let r = number-first g h in (r .0, r .1 .here, r .2)
 
-  -- so each of these groups has a cell ..
   pub members-some : (g : ℕ) → g < groupCount G link → (x : ℕ) × x ∈ members G (entry (numbers G link)) g
   members-some g h =
       let r = number-has g h in
       (r .0, mem-members G (entry (numbers G link)) g (r .0) (r .1) (r .2))
-
-  -- .. and "A number that no group has gives an empty part"
-  pub members-none : (g : ℕ) → groupCount G link ≤ g → members G (entry (numbers G link)) g ≡ []
-  members-none g h = go (members G (entry (numbers G link)) g) (λ x m. m)
-    where
-      go : (xs : List ℕ) → ((x : ℕ) → x ∈ xs → x ∈ members G (entry (numbers G link)) g) → xs ≡ []
-      go [] f = refl
-      go (x ∷ xs) f =
-          let m = f x (List·Memᴰ·head refl) in
-          let e = members-number G (entry (numbers G link)) g x m in
-          let l = number-lt x (members-in G (entry (numbers G link)) g x m) in
-          absurd (omega arith)
 
 module _ (Z : Puzzle) (s : ℕ → State) where
   abbrev pub blockCells : ℕ → List ℕ

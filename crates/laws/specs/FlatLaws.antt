@@ -1,10 +1,14 @@
--- Laws of the flat page's numbers: products of variables, which `omega` does not find by itself.
-use mathlib.Core.Path.{_≡_, _∙_}
-use Prim.Native.Nat.{ℕ, _+_, _-_, _*_, _/_, _%_, _<_, _≤_}
-use native.Mathlib.Nat.{mul-le-mul-left, mul-le-mul-right, add-mul, le-trans}
+-- Laws of the flat page: its counts and the numbers at a cell, which are products of variables that `omega` does not
+-- find by itself.
+use mathlib.Core.Path.{_≡_, sym, _∙_}
+use mathlib.Core.Bool.{Bool, true, false}
+use Prim.Native.Nat.{ℕ, zero, suc, _+_, _-_, _*_, _/_, _%_, _<_, _≤_}
+use native.Mathlib.Nat.{mul-le-mul-left, mul-le-mul-right, add-mul, le-trans, mul-zero, mod-lt, div-add-mod'}
+use native.Mathlib.Nat.{div-lt-iff-lt-mul}
 use native.Mathlib.Omega.{arith}
 use lib.Arith.{digits-lt, digits-div, digits-mod}
-use Rattle.rules.specs.Flat.{Sized, borderCount}
+use lib.ListN.{length}
+use Rattle.rules.specs.Flat.{Sized, hopIf, borderCount}
 
 -- the page's counts
 pub record Counts (h w : ℕ) : Type 0 where
@@ -63,3 +67,25 @@ spot h w y x hy hx =
       lower = λ p. digits-lt {q = y + 1} {m = h} {r = x} {c = w} p hx;
       beside = λ p. digits-lt hy p;
     }
+
+-- the row and the column of a cell c
+pub record OnPage (h w c : ℕ) : Type 0 where
+  pub broad : 0 < w
+  pub row : c / w < h
+  pub column : c % w < w
+  pub same : c ≡ c / w * w + c % w
+
+pub row-of : (h w c : ℕ) → c < h * w → OnPage h w c
+row-of h zero c q = absurd (omega (arith, mul-zero h))
+row-of h (suc w) c q =
+    record {
+      broad = omega arith;
+      row = div-lt-iff-lt-mul {k = suc w} {x = c} {y = h} (omega arith) .1 q;
+      column = mod-lt c (omega arith);
+      same = sym (div-add-mod' c (suc w));
+    }
+
+pub hop-le : (v : Bool) (b t : ℕ) → length (hopIf v b t) ≤ 1
+unfolding hopIf
+hop-le true b t = omega arith
+hop-le false b t = omega arith

@@ -1,13 +1,13 @@
--- The tests for equal points and equal lists of points.
-use mathlib.Core.Path.{_≡_, refl, ap}
+-- The tests for equal places and equal lists of places say so.
+use mathlib.Core.Path.{_≡_, refl, ap, subst}
 use mathlib.Core.Bool.{_&&_}
 use mathlib.Core.List.{List, [], _∷_}
 use lib.Dec.{T, eqb→eq, eqb-refl}
 use lib.IntN.{ℤ, pos, negsuc}
 use Rattle.lists.specs.Booleans.{T-and, T-and-l, T-and-r}
 use Rattle.rules.specs.Page.{Point}
-use Rattle.argument.specs.Points.{point-eq}
 use Rattle.rules.specs.Shapes.{sameℤ, samePoint, samePoints}
+use Rattle.laws.specs.PointLaws.{point-eq}
 
 pub sameℤ→eq : (a b : ℤ) → T (sameℤ a b) → a ≡ b
 sameℤ→eq (pos a) (pos b) t = ap pos (eqb→eq a b t)
@@ -40,3 +40,6 @@ pub samePoints-refl : (ps : List Point) → T (samePoints ps ps)
 unfolding samePoints
 samePoints-refl [] = tt
 samePoints-refl (p ∷ ps) = T-and (samePoint p p) _ (samePoint-refl p) (samePoints-refl ps)
+
+pub same-when : (ps qs : List Point) → ps ≡ qs → T (samePoints ps qs)
+same-when ps qs e = subst (λ (l : List Point). T (samePoints ps l)) e (samePoints-refl ps)

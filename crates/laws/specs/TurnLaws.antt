@@ -20,15 +20,15 @@ use lib.Dec.{T, T-not}
 use lib.IntN.{ℤ, pos, _+ℤ_, negℤ-negℤ, negℤ-+ℤ}
 use Rattle.lists.specs.Lists.{_∈_, Distinct, any, all}
 use Rattle.lists.specs.ListLaws.{any-find, all-mem, mem-map, map-find}
+use Rattle.lists.specs.Pairs.{pairwise, distinct-pairwise, distinct-map}
 use Rattle.lists.specs.Booleans.{T-and, T-and-l, T-and-r, T-or, beq-eq}
 use Rattle.rules.specs.Page.{Point, _⊕_}
-use Rattle.rules.specs.Turns.{Axis, layerward, rowward, columnward, Row, Turn, coordinate, signed, read, apply}
-use Rattle.rules.specs.Turns.{rowOf, composeRow, compose, plus, minus, flatTurn, keep, quarter, flip, flatTable}
+use Rattle.rules.specs.Turns.{Axis, layerward, rowward, columnward, Row, Turn, coordinate, signed, read, apply, rowOf}
+use Rattle.rules.specs.Turns.{composeRow, compose, plus, minus, flatTurn, keep, quarter, flip, flatTable}
 use Rattle.rules.specs.Shapes.{sameℤ}
-use Rattle.argument.specs.Pairs.{pairwise, distinct-pairwise, distinct-map}
-use Rattle.argument.specs.Points.{point-eq}
-use Rattle.argument.specs.PageLaws.{at3}
-use Rattle.argument.specs.Same.{sameℤ-refl}
+use Rattle.laws.specs.PointLaws.{point-eq}
+use Rattle.laws.specs.PageLaws.{at3}
+use Rattle.laws.specs.SameLaws.{sameℤ-refl}
 
 -- equality as a test
 abbrev pub sameAxis : Axis → Axis → Bool

@@ -1,21 +1,35 @@
 -- `sort`: its result is sorted, has the same places, and does not depend on the order in which they are given.
+--
+--   Ascending ps        each place stands before all later ones
+--   insert-mem, mem-insert, sort-mem, mem-sort   the places of an insert and of a sort
+--   length-sort         how many there are
+--   sort-ascends, sort-ascending   a sort ascends, and what ascends is its own sort
+--   ascending-distinct  no place stands there twice
+--   ascending-count, ascending-same   two such lists with the same places are one
+--   sort-map-sort       a sort before a map and a sort changes nothing
+--   mem-shift, shift-find, length-shift   the places of a shifted list
+--   shift-ascends, sort-shift   what ascends does so when shifted; a shift before or after a sort
 use mathlib.Core.Path.{_≡_, refl, sym, ap, ap₂, _∙_, subst}
 use mathlib.Core.Logic.{_⊎_, inl, inr}
 use mathlib.Core.Bool.{Bool, true, false, not, cond}
 use mathlib.Core.List.{List, [], _∷_, map, List·Memᴰ·head, List·Memᴰ·tail, List·Memᴰ·not-nil, List·Memᴰ·cases-cons}
 use Prim.Native.Nat.{suc, _≤_}
 use native.Mathlib.Omega.{arith}
-use lib.Dec.{T, T-not, not-T}
-use lib.ListN.{length}
+use lib.Dec.{T, T-not}
+use lib.ListN.{length, length-map}
 use Rattle.lists.specs.Lists.{_∈_, Distinct}
+use Rattle.lists.specs.ListLaws.{mem-map, map-find}
 use Rattle.lists.specs.Booleans.{T-dec, T-true, T-false}
 use Rattle.rules.specs.Page.{Point, _⊕_}
 use Rattle.rules.specs.Shapes.{before, insert, sort, shiftBy}
-use Rattle.shapes.specs.OrderLaws.{before-irrefl, before-trans, before-total, before-shift}
-use Rattle.shapes.specs.Order.{Sorted, least}
+use Rattle.laws.specs.OrderLaws.{before-irrefl, before-trans, before-total, before-shift}
+
+abbrev pub Ascending : List Point → Type 0
+Ascending [] = Unit {0}
+Ascending (p ∷ ps) = ((q : Point) → q ∈ ps → T (before p q)) × Ascending ps
 
 -- two that are not in order are one
-never-both : (p q : Point) → T (before p q) → T (before q p) → ⊥
+pub never-both : (p q : Point) → T (before p q) → T (before q p) → ⊥
 never-both p q s t = before-irrefl p (before-trans p q p s t)
 
 -- members of an insert, and of a sort
@@ -78,14 +92,14 @@ length-sort [] = refl
 length-sort (p ∷ ps) = length-insert p (sort ps) ∙ ap suc (length-sort ps)
 
 -- a sort is sorted
-insert-sorted : (p : Point) (qs : List Point) → (p ∈ qs → ⊥) → Sorted qs → Sorted (insert p qs)
+insert-ascends : (p : Point) (qs : List Point) → (p ∈ qs → ⊥) → Ascending qs → Ascending (insert p qs)
 unfolding insert
-insert-sorted p [] d s = (λ q m. absurd (List·Memᴰ·not-nil m), tt)
-insert-sorted p (q ∷ qs) d s =
-    go (before p q) refl (T-dec (before q p)) (insert-sorted p qs (λ m. d (List·Memᴰ·tail m)) (s .1))
+insert-ascends p [] d s = (λ q m. absurd (List·Memᴰ·not-nil m), tt)
+insert-ascends p (q ∷ qs) d s =
+    go (before p q) refl (T-dec (before q p)) (insert-ascends p qs (λ m. d (List·Memᴰ·tail m)) (s .1))
   where
-    go : (b : Bool) → before p q ≡ b → T (before q p) ⊎ T (not (before q p)) → Sorted (insert p qs)
-        → Sorted (cond b (p ∷ q ∷ qs) (q ∷ insert p qs))
+    go : (b : Bool) → before p q ≡ b → T (before q p) ⊎ T (not (before q p)) → Ascending (insert p qs)
+        → Ascending (cond b (p ∷ q ∷ qs) (q ∷ insert p qs))
     go true e c ih = (first, s)
       where
         pq : T (before p q)
@@ -101,10 +115,10 @@ insert-sorted p (q ∷ qs) d s =
         after x (inr m) = s .0 x m
     go false e (inr t) ih = absurd (d (List·Memᴰ·head (before-total p q (rw e tt) t)))
 
-pub sort-sorted : (ps : List Point) → Distinct ps → Sorted (sort ps)
+pub sort-ascends : (ps : List Point) → Distinct ps → Ascending (sort ps)
 unfolding sort
-sort-sorted [] d = tt
-sort-sorted (p ∷ ps) d = insert-sorted p (sort ps) (λ m. d .0 (sort-mem ps m)) (sort-sorted ps (d .1))
+sort-ascends [] d = tt
+sort-ascends (p ∷ ps) d = insert-ascends p (sort ps) (λ m. d .0 (sort-mem ps m)) (sort-ascends ps (d .1))
 
 -- a sorted list is its own sort
 insert-first : (p : Point) (qs : List Point) → ((q : Point) → q ∈ qs → T (before p q)) → insert p qs ≡ p ∷ qs
@@ -112,17 +126,17 @@ unfolding insert
 insert-first p [] f = refl
 insert-first p (q ∷ qs) f = rw (T-true (before p q) (f q (List·Memᴰ·head refl)))
 
-pub sorted-sort : (ps : List Point) → Sorted ps → sort ps ≡ ps
+pub sort-ascending : (ps : List Point) → Ascending ps → sort ps ≡ ps
 unfolding sort
-sorted-sort [] s = refl
-sorted-sort (p ∷ ps) s = ap (insert p) (sorted-sort ps (s .1)) ∙ insert-first p ps (s .0)
+sort-ascending [] s = refl
+sort-ascending (p ∷ ps) s = ap (insert p) (sort-ascending ps (s .1)) ∙ insert-first p ps (s .0)
 
-pub sorted-distinct : (ps : List Point) → Sorted ps → Distinct ps
-sorted-distinct [] s = tt
-sorted-distinct (p ∷ ps) s = (λ m. before-irrefl p (s .0 p m), sorted-distinct ps (s .1))
+pub ascending-distinct : (ps : List Point) → Ascending ps → Distinct ps
+ascending-distinct [] s = tt
+ascending-distinct (p ∷ ps) s = (λ m. before-irrefl p (s .0 p m), ascending-distinct ps (s .1))
 
 -- the first places of two sorted lists, one within the other
-within-tail : (x y : Point) (xs ys : List Point) → Sorted (x ∷ xs) → Sorted (y ∷ ys) → x ∈ ys
+within-tail : (x y : Point) (xs ys : List Point) → Ascending (x ∷ xs) → Ascending (y ∷ ys) → x ∈ ys
     → ((z : Point) → z ∈ (x ∷ xs) → z ∈ (y ∷ ys)) → (z : Point) → z ∈ (x ∷ xs) → z ∈ ys
 within-tail x y xs ys s t m f z n = go (List·Memᴰ·cases-cons (f z n))
   where
@@ -137,7 +151,7 @@ within-tail x y xs ys s t m f z n = go (List·Memᴰ·cases-cons (f z n))
     go (inl e) = absurd (before-irrefl y (subst (λ (u : Point). T (before y u)) e (yz n)))
     go (inr k) = k
 
-tail-within : (x y : Point) (xs ys : List Point) → x ≡ y → Sorted (x ∷ xs)
+tail-within : (x y : Point) (xs ys : List Point) → x ≡ y → Ascending (x ∷ xs)
     → ((z : Point) → z ∈ (x ∷ xs) → z ∈ (y ∷ ys)) → (z : Point) → z ∈ xs → z ∈ ys
 tail-within x y xs ys e s f z n = go (List·Memᴰ·cases-cons (f z (List·Memᴰ·tail n)))
   where
@@ -145,12 +159,13 @@ tail-within x y xs ys e s f z n = go (List·Memᴰ·cases-cons (f z (List·Mem�
     go (inl k) = absurd (before-irrefl x (subst (λ (u : Point). T (before x u)) (k ∙ sym e) (s .0 z n)))
     go (inr k) = k
 
-sorted-le : (xs ys : List Point) → Sorted xs → Sorted ys → ((z : Point) → z ∈ xs → z ∈ ys) → length xs ≤ length ys
-sorted-le [] ys s t f = omega arith
-sorted-le (x ∷ xs) [] s t f = absurd (List·Memᴰ·not-nil (f x (List·Memᴰ·head refl)))
-sorted-le (x ∷ xs) (y ∷ ys) s t f =
-    go (List·Memᴰ·cases-cons (f x (List·Memᴰ·head refl))) (λ g. sorted-le xs ys (s .1) (t .1) g)
-    (λ g. sorted-le (x ∷ xs) ys s (t .1) g)
+ascending-le : (xs ys : List Point) → Ascending xs → Ascending ys → ((z : Point) → z ∈ xs → z ∈ ys)
+    → length xs ≤ length ys
+ascending-le [] ys s t f = omega arith
+ascending-le (x ∷ xs) [] s t f = absurd (List·Memᴰ·not-nil (f x (List·Memᴰ·head refl)))
+ascending-le (x ∷ xs) (y ∷ ys) s t f =
+    go (List·Memᴰ·cases-cons (f x (List·Memᴰ·head refl))) (λ g. ascending-le xs ys (s .1) (t .1) g)
+    (λ g. ascending-le (x ∷ xs) ys s (t .1) g)
   where
     go : (x ≡ y) ⊎ x ∈ ys → (((z : Point) → z ∈ xs → z ∈ ys) → length xs ≤ length ys)
         → (((z : Point) → z ∈ (x ∷ xs) → z ∈ ys) → length (x ∷ xs) ≤ length ys) → length (x ∷ xs) ≤ length (y ∷ ys)
@@ -158,29 +173,29 @@ sorted-le (x ∷ xs) (y ∷ ys) s t f =
     go (inr m) a b = let r = b (within-tail x y xs ys s t m f) in omega arith
 
 -- a sorted list within another, with as many places, is that one
-pub sorted-count : (xs ys : List Point) → Sorted xs → Sorted ys → ((z : Point) → z ∈ xs → z ∈ ys)
+pub ascending-count : (xs ys : List Point) → Ascending xs → Ascending ys → ((z : Point) → z ∈ xs → z ∈ ys)
     → length xs ≡ length ys → xs ≡ ys
-sorted-count [] [] s t f e = refl
-sorted-count [] (y ∷ ys) s t f e = absurd (omega arith)
-sorted-count (x ∷ xs) [] s t f e = absurd (List·Memᴰ·not-nil (f x (List·Memᴰ·head refl)))
-sorted-count (x ∷ xs) (y ∷ ys) s t f e =
-    go (List·Memᴰ·cases-cons (f x (List·Memᴰ·head refl))) (λ g. sorted-count xs ys (s .1) (t .1) g (omega arith))
+ascending-count [] [] s t f e = refl
+ascending-count [] (y ∷ ys) s t f e = absurd (omega arith)
+ascending-count (x ∷ xs) [] s t f e = absurd (List·Memᴰ·not-nil (f x (List·Memᴰ·head refl)))
+ascending-count (x ∷ xs) (y ∷ ys) s t f e =
+    go (List·Memᴰ·cases-cons (f x (List·Memᴰ·head refl))) (λ g. ascending-count xs ys (s .1) (t .1) g (omega arith))
   where
     go : (x ≡ y) ⊎ x ∈ ys → (((z : Point) → z ∈ xs → z ∈ ys) → xs ≡ ys) → x ∷ xs ≡ y ∷ ys
     go (inl k) a = ap₂ (λ u us. u ∷ us) k (a (tail-within x y xs ys k s f))
     go (inr m) a =
-        let r = sorted-le (x ∷ xs) ys s (t .1) (within-tail x y xs ys s t m f) in absurd (omega arith)
+        let r = ascending-le (x ∷ xs) ys s (t .1) (within-tail x y xs ys s t m f) in absurd (omega arith)
 
 -- two sorted lists with the same places are one
-pub sorted-unique : (xs ys : List Point) → Sorted xs → Sorted ys → ((z : Point) → z ∈ xs → z ∈ ys)
+pub ascending-same : (xs ys : List Point) → Ascending xs → Ascending ys → ((z : Point) → z ∈ xs → z ∈ ys)
     → ((z : Point) → z ∈ ys → z ∈ xs) → xs ≡ ys
-sorted-unique xs ys s t f g =
-    let a = sorted-le xs ys s t f in
-    let b = sorted-le ys xs t s g in
-    sorted-count xs ys s t f (omega arith)
+ascending-same xs ys s t f g =
+    let a = ascending-le xs ys s t f in
+    let b = ascending-le ys xs t s g in
+    ascending-count xs ys s t f (omega arith)
 
 -- the order in which places are given does not matter
-insert-comm : (p q : Point) (rs : List Point) → insert p (insert q rs) ≡ insert q (insert p rs)
+pub insert-comm : (p q : Point) (rs : List Point) → insert p (insert q rs) ≡ insert q (insert p rs)
 unfolding insert
 insert-comm p q [] = go (before p q) refl (before q p) refl
   where
@@ -229,6 +244,19 @@ unfolding sort
 sort-map-sort g [] = refl
 sort-map-sort g (p ∷ ps) = sort-map-insert g p (sort ps) ∙ ap (insert (g p)) (sort-map-sort g ps)
 
+-- a shift of all places
+pub mem-shift : (v : Point) {ps : List Point} {p : Point} → p ∈ ps → (p ⊕ v) ∈ shiftBy v ps
+unfolding shiftBy
+mem-shift v m = mem-map (λ q. q ⊕ v) m
+
+pub shift-find : (v : Point) (ps : List Point) {q : Point} → q ∈ shiftBy v ps → (p : Point) × p ∈ ps × (q ≡ p ⊕ v)
+unfolding shiftBy
+shift-find v ps m = map-find (λ q. q ⊕ v) ps m
+
+pub length-shift : (v : Point) (ps : List Point) → length (shiftBy v ps) ≡ length ps
+unfolding shiftBy
+length-shift v ps = length-map ps (λ q. q ⊕ v)
+
 -- a shift before or after
 insert-shift : (v p : Point) (qs : List Point) → insert (p ⊕ v) (shiftBy v qs) ≡ shiftBy v (insert p qs)
 unfolding insert shiftBy
@@ -241,50 +269,17 @@ insert-shift v p (q ∷ qs) = rw (before-shift p q v) (go (before p q) (insert-s
     go true ih = refl
     go false ih = ap (λ x. (q ⊕ v) ∷ x) ih
 
+pub shift-ascends : (v : Point) (ps : List Point) → Ascending ps → Ascending (shiftBy v ps)
+unfolding shiftBy
+shift-ascends v [] s = tt
+shift-ascends v (p ∷ ps) s = (later, shift-ascends v ps (s .1))
+  where
+    later : (q : Point) → q ∈ shiftBy v ps → T (before (p ⊕ v) q)
+    later q m =
+        let r = shift-find v ps m in
+        subst (λ (z : Point). T (before (p ⊕ v) z)) (sym (r .2)) (rw (before-shift p (r .0) v) (s .0 (r .0) (r .1)))
+
 pub sort-shift : (v : Point) (ps : List Point) → sort (shiftBy v ps) ≡ shiftBy v (sort ps)
 unfolding sort shiftBy
 sort-shift v [] = refl
 sort-shift v (p ∷ ps) = ap (insert (p ⊕ v)) (sort-shift v ps) ∙ insert-shift v p (sort ps)
-
--- one pass finds the first place of a sort
-no-earlier : (x m l : Point) → T (not (before x m)) → T (not (before m l)) → T (not (before x l))
-no-earlier x m l s t = not-T (before x l) (λ u. go u (T-dec (before m x)))
-  where
-    go : T (before x l) → T (before m x) ⊎ T (not (before m x)) → ⊥
-    go u (inl k) = T-not (before m l) t (before-trans m x l k u)
-    go u (inr k) = T-not (before m l) t (subst (λ (z : Point). T (before z l)) (before-total x m s k) u)
-
-not-later : (q p : Point) → T (not (before p (cond (before q p) q p)))
-not-later q p = go (before q p) refl
-  where
-    go : (b : Bool) → before q p ≡ b → T (not (before p (cond b q p)))
-    go true e = not-T (before p q) (λ t. never-both p q t (rw e tt))
-    go false e = not-T (before p p) (before-irrefl p)
-
-least-first : (p : Point) (qs : List Point) → T (not (before p (least p qs)))
-unfolding least
-least-first p [] = not-T (before p p) (before-irrefl p)
-least-first p (q ∷ qs) =
-    let m : Point = cond (before q p) q p in no-earlier p m (least m qs) (not-later q p) (least-first m qs)
-
--- the one of two that is not taken
-insert-both : (p q : Point) (rs : List Point)
-    → (o : Point) × T (not (before o (cond (before q p) q p)))
-    × (insert p (insert q rs) ≡ insert o (insert (cond (before q p) q p) rs))
-insert-both p q rs = go (before q p) refl
-  where
-    go : (b : Bool) → before q p ≡ b
-        → (o : Point) × T (not (before o (cond b q p))) × (insert p (insert q rs) ≡ insert o (insert (cond b q p) rs))
-    go true e = (p, not-T (before p q) (λ t. never-both p q t (rw e tt)), refl)
-    go false e = (q, rw e tt, insert-comm p q rs)
-
-pub sort-least : (p : Point) (qs : List Point) → (rest : List Point) × (sort (p ∷ qs) ≡ least p qs ∷ rest)
-unfolding sort least insert
-sort-least p [] = ([], refl)
-sort-least p (q ∷ qs) =
-    let m : Point = cond (before q p) q p in
-    let r = sort-least m qs in
-    let o = insert-both p q (sort qs) in
-    let f : before (o .0) (least m qs) ≡ false =
-    T-false _ (no-earlier (o .0) m (least m qs) (o .1) (least-first m qs)) in
-    (insert (o .0) (r .0), o .2 ∙ (ap (insert (o .0)) (r .1) ∙ rw f))

@@ -14,18 +14,17 @@ use native.Mathlib.Omega.{arith}
 use lib.Dec.{T}
 use Rattle.lists.specs.Lists.{_∈_, Distinct, any, all}
 use Rattle.lists.specs.ListLaws.{any-find, any-mem, all-mem, mem-map, map-find}
+use Rattle.lists.specs.Pairs.{pairwise, distinct-pairwise}
 use Rattle.lists.specs.Booleans.{T-and-l, T-and-r}
 use Rattle.rules.specs.Page.{Point, _⊕_, opposite, Shape}
 use Rattle.rules.specs.Turns.{Turn, apply, compose, keep, half, quarter, halfQuarter, flip, flatTable}
 use Rattle.rules.specs.Shapes.{samePoints, sameShape, turned, withHalf, quarters, withQuarter, withFlip, flatTransforms}
-use Rattle.argument.specs.Pairs.{pairwise, distinct-pairwise}
-use Rattle.argument.specs.Points.{add-assoc, add-back}
-use Rattle.argument.specs.Same.{samePoints-refl}
-use Rattle.argument.specs.ShapeLaws.{turned-by}
-use Rattle.argument.specs.TurnLaws.{sameTurn, sameTurn→eq, hasTurn, has-turn, table-rules}
-use Rattle.argument.specs.Sorted.{Canonical, canonical-same, turned-canonical, turned-cells}
-use Rattle.argument.specs.FlatList.{Onto, image-onto, image-then, image-keep, flat-turns, rotations}
-use Rattle.argument.specs.FlatList.{reflections, rotations-listed, flat-are, flat-cover}
+use Rattle.laws.specs.PointLaws.{add-assoc, add-back}
+use Rattle.laws.specs.SameLaws.{samePoints-refl}
+use Rattle.laws.specs.ShapeLaws.{turned-by, Canonical, canonical-same, turned-canonical, turned-cells}
+use Rattle.laws.specs.TurnLaws.{sameTurn, sameTurn→eq, hasTurn, has-turn, table-rules}
+use Rattle.laws.specs.FlatList.{Onto, image-onto, image-then, image-keep, flat-turns, rotations, reflections}
+use Rattle.laws.specs.FlatList.{rotations-listed, flat-are, flat-cover}
 
 -- the places ps turned by one row, in two sorted lists
 same-onto : (a : Turn) (ps qs rs : List Point) → Onto a ps qs → Onto a ps rs → Canonical qs → Canonical rs → qs ≡ rs

@@ -1,6 +1,6 @@
 -- Points add up like numbers.
 use mathlib.Core.Path.{_≡_, sym, ap, _∙_}
-use lib.IntN.{pos, _+ℤ_, +ℤ-assoc, +ℤ-comm, +ℤ-invr, +ℤ-idr, negℤ-+ℤ}
+use lib.IntN.{pos, +ℤ-assoc, +ℤ-comm, +ℤ-invr, +ℤ-idr, negℤ-+ℤ}
 use Rattle.rules.specs.Page.{Point, _⊕_, opposite}
 
 pub point-eq : {p q : Point} → p .layer ≡ q .layer → p .row ≡ q .row → p .column ≡ q .column → p ≡ q

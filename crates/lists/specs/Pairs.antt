@@ -5,9 +5,9 @@ use mathlib.Core.Path.{_≡_, sym, subst}
 use mathlib.Core.Bool.{Bool, true, _&&_}
 use mathlib.Core.List.{List, [], _∷_, map}
 use lib.Dec.{T}
 use Rattle.lists.specs.Lists.{_∈_, Distinct, all}
-use Rattle.lists.specs.ListLaws.{all-mem, map-find}
 use Rattle.lists.specs.Booleans.{T-and-l, T-and-r}
+use Rattle.lists.specs.ListLaws.{all-mem, map-find}
 
 module _ {A : Type 0} where
   unfoldable pub pairwise : (A → A → Bool) → List A → Bool

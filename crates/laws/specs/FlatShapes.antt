@@ -8,23 +8,22 @@ use mathlib.Core.List.{List, [], _∷_, _++_, map, List·Memᴰ·head, List·Mem
 use Prim.Native.Nat.{ℕ, zero, suc, _*_, _/_, _%_, _<_, _≤_}
 use native.Mathlib.Nat.{div-add-mod', mod-lt, mul-le-mul-right, suc-mul}
 use native.Mathlib.Omega.{arith}
-use lib.Dec.{T, eqb, ltb, ltb→lt, lt→ltb, nltb→le}
-use lib.IntN.{pos}
+use lib.Dec.{T, eqb, eqb-refl, ltb, ltb→lt, lt→ltb, nltb→le}
 use lib.ListN.{length, length-append, length-map}
-use Rattle.lists.specs.Lists.{_∈_, Distinct, filter, keep, any, rangeFrom}
+use Rattle.lists.specs.Lists.{_∈_, Distinct, filter, keep, any, range, rangeFrom}
+use Rattle.lists.specs.Booleans.{T-and, T-or-l, T-or-r, T-dec}
 use Rattle.lists.specs.ListLaws.{map-find, filter-mem}
 use Rattle.lists.specs.Ranges.{rangeFrom-ge}
-use Rattle.lists.specs.Booleans.{T-dec}
 use Rattle.rules.specs.Page.{Puzzle, Shape, State}
 use Rattle.rules.specs.Groups.{members, unitOf, unitCount}
 use Rattle.rules.specs.Check.{transformsOf}
 use Rattle.rules.specs.Turns.{Turn, apply, half, quarter, flip}
-use Rattle.rules.specs.Shapes.{samePoints, sameShape, sort, normal, turned, shapeOf, withHalf, quarters}
+use Rattle.rules.specs.Shapes.{before, samePoints, sameShape, sort, normal, turned, shapeOf, withHalf, quarters}
 use Rattle.rules.specs.Shapes.{withQuarter, withFlip, flatTransforms}
 use Rattle.rules.specs.Flat.{flat, flatPlace}
-use Rattle.argument.specs.Order.{Before, by-row, by-column}
-use Rattle.argument.specs.Sorted.{Ascending, Canonical, normal-canonical}
-use Rattle.argument.specs.FlatOnce.{flat-listing}
+use Rattle.laws.specs.SortLaws.{Ascending}
+use Rattle.laws.specs.ShapeLaws.{Canonical, normal-canonical}
+use Rattle.laws.specs.FlatOnce.{flat-listing}
 
 -- a list of numbers that rises
 abbrev Rising : List ℕ → Type 0
@@ -54,13 +53,13 @@ none-once t e = rw (alone half, alone quarter) (rw (alone flip) ((λ m. List·Me
 
 module _ (h w : ℕ) (hw : 0 < w) where
   -- row order is the order of places
-  place-before : (c d : ℕ) → c < d → Before (flatPlace h w c) (flatPlace h w d)
+  place-before : (c d : ℕ) → c < d → T (before (flatPlace h w c) (flatPlace h w d))
   unfolding flatPlace
   place-before c d l = go (T-dec (ltb (c / w) (d / w))) (T-dec (ltb (d / w) (c / w)))
     where
       go : T (ltb (c / w) (d / w)) ⊎ T (not (ltb (c / w) (d / w)))
-          → T (ltb (d / w) (c / w)) ⊎ T (not (ltb (d / w) (c / w))) → Before (flatPlace h w c) (flatPlace h w d)
-      go (inl t) u = by-row refl t
+          → T (ltb (d / w) (c / w)) ⊎ T (not (ltb (d / w) (c / w))) → T (before (flatPlace h w c) (flatPlace h w d))
+      go (inl t) u = T-or-l (ltb (c / w) (d / w)) _ t
       go (inr s) (inl t) =
           let k = mul-le-mul-right w (ltb→lt (d / w) (c / w) t) in
           let j = suc-mul (d / w) w in
@@ -70,8 +69,9 @@ module _ (h w : ℕ) (hw : 0 < w) where
           let b = nltb→le (d / w) (c / w) t in
           let e : c / w ≡ d / w = omega arith in
           let m : c / w * w ≡ d / w * w = ap (λ z. z * w) e in
-          by-column refl (ap pos e)
-          (lt→ltb (c % w) (d % w) (omega (arith, div-add-mod' c w, div-add-mod' d w)))
+          T-or-r (ltb (c / w) (d / w)) _
+          (T-and (eqb (c / w) (d / w)) _ (rw e (eqb-refl (d / w)))
+          (lt→ltb (c % w) (d % w) (omega (arith, div-add-mod' c w, div-add-mod' d w))))
 
   places-ascend : (xs : List ℕ) → Rising xs → Ascending (map (flatPlace h w) xs)
   places-ascend [] r = tt
@@ -80,14 +80,21 @@ module _ (h w : ℕ) (hw : 0 < w) where
     places-ascend xs (r .1),
   )
 
+  -- so cells that pass a test, in row order, have sorted places, and a group's cells have
+  pub filter-ascends : (p : ℕ → Bool) (n : ℕ) → Ascending (map (flatPlace h w) (filter p (range n)))
+  filter-ascends p n = places-ascend (filter p (range n)) (rising-filter p (rangeFrom 0 n) (rising-range 0 n))
+
+  pub members-ascend : (number : ℕ → ℕ) (g : ℕ) → Ascending (map (flatPlace h w) (members (flat h w) number g))
+  unfolding members flat
+  members-ascend number g = filter-ascends (λ x. eqb (number x) g) (h * w)
+
   -- the shape of a group that has a cell is sorted
   pub shape-canonical : (number : ℕ → ℕ) (g x : ℕ) (xs : List ℕ) → members (flat h w) number g ≡ x ∷ xs
       → Canonical ((shapeOf (flat h w) number g) .cells)
   unfolding shapeOf members flat
   shape-canonical number g x xs e =
-      let r = rising-filter (λ x. eqb (number x) g) (rangeFrom 0 (h * w)) (rising-range 0 (h * w)) in
       normal-canonical (map (flatPlace h w) (members (flat h w) number g)) _ (flatPlace h w x)
-      (rw e (List·Memᴰ·head refl)) (places-ascend (members (flat h w) number g) r)
+      (rw e (List·Memᴰ·head refl)) (members-ascend number g)
 
   shape-none : (number : ℕ → ℕ) (g : ℕ) → members (flat h w) number g ≡ [] → (shapeOf (flat h w) number g) .cells ≡ []
   unfolding shapeOf normal flat

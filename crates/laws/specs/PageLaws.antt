@@ -2,6 +2,7 @@
 -- of it (FlatPage, FlatList).
 --
 --   Bordered G          neighbours stay on the page, and go both ways over the border between them
+--   second-in           so the second cell of a border is on the page
 --   at3 l y x           the place with the layer l, the row y and the column x
 --   steps               the six steps to a neighbour
 --   Near p q            q is one step from p
@@ -9,7 +10,9 @@
 --   Placed G            cells have different places, and a doubled place reads the border between two near cells
 --   Moved g k ps qs     qs are the places ps turned by g and shifted by k
 --   Listed G            every listed transform is the shape moved by a turn, and every turn is listed
-use mathlib.Core.Path.{_≡_}
+--   near-turn, near-right, near-left   near places are near when turned; shifted, the shift on the right or on the left
+--   near-eq             places that are equal to near ones
+use mathlib.Core.Path.{_≡_, _∙_, ap, sym, subst}
 use mathlib.Core.Logic.{_⊎_}
 use mathlib.Core.List.{List, [], _∷_}
 use mathlib.Core.Option.{some}
@@ -17,7 +20,7 @@ use Prim.Native.Nat.{ℕ, _<_}
 use lib.IntN.{ℤ, pos, negsuc}
 use Rattle.lists.specs.Lists.{_∈_}
 use Rattle.rules.specs.Page.{Page, Hop, Point, Shape, _⊕_}
-use Rattle.argument.specs.Points.{origin}
+use Rattle.laws.specs.PointLaws.{origin, add-assoc, add-comm}
 
 pub record Bordered (G : Page) : Type 0 where
   pub hop-in : (x : ℕ) (h : Hop) → x < G .cells → h ∈ G .around x → h .to < G .cells
@@ -32,6 +35,11 @@ pub record Bordered (G : Page) : Type 0 where
   pub ahead-around : (x : ℕ) (h : Hop) → x < G .cells → h ∈ G .ahead x → h ∈ G .around x
   pub ahead-all : (x : ℕ) (h : Hop) → x < G .cells → h ∈ G .around x
       → h ∈ G .ahead x ⊎ record { border = h .border; to = x } ∈ G .ahead (h .to)
+
+-- the second cell of a border is on the page
+pub second-in : (G : Page) → Bordered G → (b : ℕ) → b < G .borders → G .second b < G .cells
+second-in G K b h =
+    K .hop-in (G .first b) (record { border = b; to = G .second b }) (K .first-in b h) (K .first-hop b h)
 
 abbrev pub at3 : ℤ → ℤ → ℤ → Point
 at3 l y x = record { layer = l; row = y; column = x }
@@ -77,3 +85,28 @@ pub record Listed (G : Page) : Type 0 where
   pub is-based : (t u : Shape) → origin ∈ t .cells → u ∈ G .transforms t → origin ∈ u .cells
   pub has-turned : (t : Shape) (g : Point → Point) → origin ∈ t .cells → g ∈ G .turns
       → (u : Shape) × (k : Point) × u ∈ G .transforms t × Moved g k (t .cells) (u .cells)
+
+-- near places stay near when both are turned or shifted
+pub near-turn : (ts : List (Point → Point)) → Turns ts → (g : Point → Point) → g ∈ ts → {p q : Point} → Near p q
+    → Near (g p) (g q)
+near-turn ts W g m {p} n = record
+    { by = g (n .by); unit = W .step g m (n .by) (n .unit); reach = ap g (n .reach) ∙ W .sum g m p (n .by) }
+
+pub near-right : (v : Point) {p q : Point} → Near p q → Near (p ⊕ v) (q ⊕ v)
+near-right v {p} {q} n = record {
+  by = n .by;
+  unit = n .unit;
+  reach = ap (λ z. z ⊕ v) (n .reach)
+      ∙ (add-assoc p (n .by) v ∙ (ap (λ z. p ⊕ z) (add-comm (n .by) v) ∙ sym (add-assoc p v (n .by))));
+}
+
+pub near-left : (v : Point) {p q : Point} → Near p q → Near (v ⊕ p) (v ⊕ q)
+near-left v {p} {q} n = record {
+  by = n .by;
+  unit = n .unit;
+  reach = ap (λ z. v ⊕ z) (n .reach)
+      ∙ sym (add-assoc v p (n .by));
+}
+
+pub near-eq : {p q p′ q′ : Point} → p′ ≡ p → q′ ≡ q → Near p q → Near p′ q′
+near-eq {p} {q} {p′} {q′} e f n = subst (λ (z : Point). Near z q′) (sym e) (subst (λ (z : Point). Near p z) (sym f) n)

@@ -1,31 +1,55 @@
--- Sequences of literals, as the book keeps them: what is put last and taken off, and how states reads them.
+-- Laws of the book: what is put last in a sequence of literals and taken off it, what states reads in it, and the
+-- sequence and the answers of a list of calls.
 --
+--   states-none         a border that the sequence does not name is undecided
+--   without-last        taking the last literal off undoes putting it last
 --   bordersOf ls        the borders that a sequence names
 --   Clean Z ls          the sequence names borders of the page, none of them twice
---   with-without        putting a literal last undoes taking the last literal off
 --   clean-none, clean-with, clean-without   the empty sequence is so; with a literal put last; with the last taken off
---   states-with         what a literal put last changes
+--   decided-mem         a decided border has its literal in the sequence
 --   states-exact        exactly the sequence's literals are decided
 --   undecided-left      so the undecided borders are those that the sequence leaves
+--   after-clean, sequence-clean       the book's sequence is so
+--   from-append, sequence-append, replies-append   the sequence and the answers of a list that is followed by another
+--   answered-check      only a check is answered, and with what check gives
 use mathlib.Core.Path.{_≡_, _∙_, refl, ap, sym, subst}
 use mathlib.Core.Logic.{_⊎_, inl, inr, _↔_}
-use mathlib.Core.Bool.{Bool, true, false, _||_, or-false}
+use mathlib.Core.Bool.{Bool, true, false, _||_, cond, or-false}
 use mathlib.Core.List.{List, [], _∷_, map, _++_, List·Memᴰ·head, List·Memᴰ·tail, List·Memᴰ·not-nil}
 use mathlib.Core.List.{List·Memᴰ·append-cases, List·Memᴰ·eq-of-singleton, map-append}
 use Prim.Native.Nat.{ℕ, zero, suc, _+_, _<_}
 use native.Mathlib.Omega.{arith}
-use lib.Dec.{eqb, T, eqb→eq, eqb-refl}
+use lib.Dec.{eqb, ltb, T, eqb→eq, eqb-refl, ltb→lt}
 use lib.ListN.{length}
 use borrow.Author.Tests.{eq-eqb, ne-eqb}
-use Rattle.rules.specs.SmallLaws.{states-none}
 use Rattle.lists.specs.Lists.{_∈_, any, Distinct}
 use Rattle.lists.specs.ListLaws.{any-mem, any-find, mem-map, map-find}
 use Rattle.lists.specs.Count.{countBelow}
 use Rattle.lists.specs.CountLaws.{count-cong, count-more}
 use Rattle.rules.specs.declared.Literal.{Literal}
-use Rattle.rules.specs.Page.{Puzzle, decided, Has, isUndecided}
-use Rattle.rules.specs.Check.{undecidedCount}
-use Rattle.rules.specs.Book.{stateIf, states, names, withLast, withoutLast}
+use Rattle.rules.specs.declared.Call.{Call}
+use Rattle.rules.specs.declared.Call.the-variants.{Decide, Undo, Check}
+use Rattle.rules.specs.Page.{Puzzle, undecided, decided, Has, isUndecided}
+use Rattle.rules.specs.Check.{Verdict, undecidedCount, check}
+use Rattle.rules.specs.Book.{Asked, Reply, refused, done, answered, stateIf, states, names, withLast, withoutLast}
+use Rattle.rules.specs.Book.{bareOr, decideReply, decideAfter, replyTo, reply, afterCall, after, sequenceFrom}
+use Rattle.rules.specs.Book.{repliesFrom, sequence, replies}
+
+pub states-none : (ls : List Literal) (x : ℕ) → names ls x ≡ false → states ls x ≡ undecided
+unfolding names any states
+states-none [] x e = refl
+states-none (l ∷ ls) x e = go (eqb (l .border) x) e (states-none ls x)
+  where
+    go : (t : Bool) → t || names ls x ≡ false → (names ls x ≡ false → states ls x ≡ undecided)
+        → stateIf t (decided (l .side)) (states ls x) ≡ undecided
+    go true p ih = let z : _≡_ {A = Bool} true false = p in cc
+    go false p ih = ih p
+
+pub without-last : (ls : List Literal) (l : Literal) → withoutLast (withLast ls l) ≡ ls
+unfolding withoutLast
+without-last [] l = refl
+without-last (a ∷ []) l = refl
+without-last (a ∷ b ∷ ls) l = ap (λ (t : List Literal). a ∷ t) (without-last (b ∷ ls) l)
 
 abbrev pub bordersOf : List Literal → List ℕ
 bordersOf ls = map (λ l. l .border) ls
@@ -78,11 +102,6 @@ without-once (k ∷ j ∷ ls) d = (
         d .0 (subst (λ (b : ℕ). b ∈ bordersOf (j ∷ ls)) (sym (r .2))
         (mem-map (λ (l : Literal). l .border) (without-mem (j ∷ ls) (r .0) (r .1))))
 
-pub with-without : (l : Literal) (ls : List Literal) → (k : Literal) × (withLast (withoutLast (l ∷ ls)) k ≡ l ∷ ls)
-unfolding withoutLast
-with-without l [] = (l, refl)
-with-without l (j ∷ ls) = let r = with-without j ls in (r .0, ap (λ q. l ∷ q) (r .1))
-
 module _ (Z : Puzzle) where
   pub clean-none : Clean Z []
   clean-none = record { below = λ l m. absurd (List·Memᴰ·not-nil m); once = tt }
@@ -105,27 +124,6 @@ module _ (Z : Puzzle) where
     below = λ l m. c .below l (without-mem ls l m);
     once = without-once ls (c .once);
   }
-
-pub states-with : (ls : List Literal) (l : Literal) (b : ℕ) → names ls (l .border) ≡ false
-    → states (withLast ls l) b ≡ stateIf (eqb (l .border) b) (decided (l .side)) (states ls b)
-unfolding states names any
-states-with [] l b n = refl
-states-with (k ∷ ls) l b n = go (eqb (k .border) (l .border)) refl n (eqb (k .border) b) refl (states-with ls l b)
-  where
-    go : (t : Bool) → eqb (k .border) (l .border) ≡ t → t || names ls (l .border) ≡ false
-        → (u : Bool) → eqb (k .border) b ≡ u
-        → (names ls (l .border) ≡ false
-        → states (withLast ls l) b ≡ stateIf (eqb (l .border) b) (decided (l .side)) (states ls b))
-        → stateIf u (decided (k .side)) (states (withLast ls l) b)
-        ≡ stateIf (eqb (l .border) b) (decided (l .side)) (stateIf u (decided (k .side)) (states ls b))
-    go true e f u q ih = let z : _≡_ {A = ℕ} 0 1 = cc in absurd (omega arith)
-    go false e f false q ih = ih f
-    go false e f true q ih =
-        let p : k .border ≡ b = eqb→eq (k .border) b (rw q tt) in
-        rw (ne-eqb (l .border) b (λ r. apart (p ∙ sym r)))
-      where
-        apart : k .border ≡ l .border → ⊥
-        apart r = let z : T (eqb (k .border) (l .border)) = rw r (eqb-refl (l .border)) in rw e at z
 
 -- a decided border has its literal in the sequence
 pub decided-mem : (ls : List Literal) (l : Literal) → Has (states ls) l → l ∈ ls
@@ -193,3 +191,81 @@ pub undecided-left : (Z : Puzzle) (ls : List Literal) → Clean Z ls
     → undecidedCount Z (states ls) + length ls ≡ Z .page .borders
 unfolding undecidedCount
 undecided-left Z ls c = left-count (Z .page .borders) ls (c .once) (c .below)
+
+module _ (Z : Puzzle) where
+  call-clean : (ls : List Literal) (c : Call) → Clean Z ls → Clean Z (afterCall Z ls c)
+  unfolding afterCall decideAfter
+  call-clean ls (Decide l) c = go (ltb (l .border) (Z .page .borders)) refl (names ls (l .border)) refl
+    where
+      go : (t : Bool) → ltb (l .border) (Z .page .borders) ≡ t → (u : Bool) → names ls (l .border) ≡ u
+          → Clean Z (cond t (cond u ls (withLast ls l)) ls)
+      go true q true r = c
+      go true q false r = clean-with Z ls l c (ltb→lt (l .border) (Z .page .borders) (rw q tt)) r
+      go false q u r = c
+  call-clean ls Undo c = clean-without Z ls c
+  call-clean ls Check c = c
+
+  pub after-clean : (ls : List Literal) (a : Asked) → Clean Z ls → Clean Z (after Z ls a)
+  after-clean ls a c = call-clean ls (a .call) c
+
+  from-clean : (ls : List Literal) (calls : List Asked) → Clean Z ls → Clean Z (sequenceFrom Z ls calls)
+  unfolding sequenceFrom
+  from-clean ls [] c = c
+  from-clean ls (a ∷ calls) c = from-clean (after Z ls a) calls (after-clean ls a c)
+
+  pub sequence-clean : (calls : List Asked) → Clean Z (sequence Z calls)
+  sequence-clean calls = from-clean [] calls (clean-none Z)
+
+  pub from-append : (ls : List Literal) (calls more : List Asked)
+      → sequenceFrom Z ls (calls ++ more) ≡ sequenceFrom Z (sequenceFrom Z ls calls) more
+  unfolding sequenceFrom
+  from-append ls [] more = refl
+  from-append ls (a ∷ calls) more = from-append (after Z ls a) calls more
+
+  pub sequence-append : (calls more : List Asked)
+      → sequence Z (calls ++ more) ≡ sequenceFrom Z (sequence Z calls) more
+  sequence-append calls more = from-append [] calls more
+
+replies-from : (Z : Puzzle) (ls : List Literal) (calls more : List Asked)
+    → repliesFrom Z ls (calls ++ more) ≡ repliesFrom Z ls calls ++ repliesFrom Z (sequenceFrom Z ls calls) more
+unfolding repliesFrom sequenceFrom
+replies-from Z ls [] more = refl
+replies-from Z ls (a ∷ calls) more =
+    ap (λ (rs : List Reply). reply Z ls a ∷ rs) (replies-from Z (after Z ls a) calls more)
+
+-- a call in the middle of a list is answered on the sequence of the calls before it
+pub replies-append : (Z : Puzzle) (calls : List Asked) (a : Asked) (more : List Asked)
+    → replies Z (calls ++ (a ∷ more))
+    ≡ replies Z calls ++ (reply Z (sequence Z calls) a ∷ repliesFrom Z (sequence Z (calls ++ (a ∷ []))) more)
+unfolding repliesFrom sequenceFrom
+replies-append Z calls a more =
+    replies-from Z [] calls (a ∷ more)
+    ∙ ap (λ (ls : List Literal). replies Z calls ++ (reply Z (sequence Z calls) a ∷ repliesFrom Z ls more))
+    (sym (sequence-append Z calls (a ∷ [])))
+
+module _ (Z : Puzzle) (ls : List Literal) where
+  call-answered : (n : ℕ) (c : Call) (r : Verdict) → replyTo Z ls n c ≡ answered r
+      → (c ≡ Check) × (check Z (states ls) ≡ r)
+  unfolding replyTo decideReply
+  call-answered n (Decide l) r e = go (ltb (l .border) (Z .page .borders)) (names ls (l .border)) e
+    where
+      go : (b c : Bool) → cond b (cond c (refused 7) done) (refused 6) ≡ answered r
+          → (Decide l ≡ Check) × (check Z (states ls) ≡ r)
+      go true true f = let z : _≡_ {A = ℕ} 0 1 = cc in absurd (omega arith)
+      go true false f = let z : _≡_ {A = ℕ} 0 1 = cc in absurd (omega arith)
+      go false c f = let z : _≡_ {A = ℕ} 0 1 = cc in absurd (omega arith)
+  call-answered n Undo r e = go ls e
+    where
+      go : (ks : List Literal) → bareOr ks done ≡ answered r → (Undo ≡ Check) × (check Z (states ls) ≡ r)
+      go [] f = let z : _≡_ {A = ℕ} 0 1 = cc in absurd (omega arith)
+      go (k ∷ ks) f = let z : _≡_ {A = ℕ} 0 1 = cc in absurd (omega arith)
+  call-answered n Check r e = go (ltb n 16384) e
+    where
+      go : (b : Bool) → cond b (refused 9) (answered (check Z (states ls))) ≡ answered r
+          → (Check ≡ Check) × (check Z (states ls) ≡ r)
+      go true f = let z : _≡_ {A = ℕ} 0 1 = cc in absurd (omega arith)
+      go false f = let u : check Z (states ls) ≡ r = cc in (refl, u)
+
+  pub answered-check : (a : Asked) (r : Verdict) → reply Z ls a ≡ answered r
+      → (a .call ≡ Check) × (check Z (states ls) ≡ r)
+  answered-check a r e = call-answered (a .places) (a .call) r e

@@ -9,8 +9,8 @@ use mathlib.Core.Option.{some}
 use Prim.Native.Nat.{ℕ, _<_}
 use Rattle.lists.specs.Lists.{_∈_}
 use Rattle.rules.specs.Page.{Page, Hop, _⊕_}
-use Rattle.argument.specs.Points.{add-comm}
-use Rattle.argument.specs.PageLaws.{Near, Bordered}
+use Rattle.laws.specs.PointLaws.{add-comm}
+use Rattle.laws.specs.PageLaws.{Near, Bordered}
 
 pub record Link (G : Page) (b p q : ℕ) : Type 0 where
   pub border-in : b < G .borders

@@ -1,0 +1,40 @@
+-- Laws of codes: a border's state is told by its number.
+--
+--   wall-state, open-state   what a number says
+--   state-wall, state-open   the same in an array
+use mathlib.Core.Path.{_≡_, refl}
+use mathlib.Core.Bool.{Bool, true, false, cond}
+use mathlib.Core.List.{List}
+use Prim.Native.Nat.{ℕ}
+use native.Mathlib.Decide.{ℕ-discrete}
+use borrow.Author.Tests.{ne-eqb}
+use lib.Dec.{eqb}
+use lib.ListN.{getD}
+use Rattle.rules.specs.declared.Side.the-variants.{Wall, Open}
+use Rattle.rules.specs.Page.{undecided, decided, isWall, isOpen}
+use Rattle.rules.specs.Codes.{stateOf, statesIn}
+
+pub wall-state : (v : ℕ) → isWall (stateOf v) ≡ eqb v 1
+wall-state v = go (eqb v 1) (eqb v 2)
+  where
+    go : (a b : Bool) → isWall (cond a (decided Wall) (cond b (decided Open) undecided)) ≡ a
+    go true b = refl
+    go false true = refl
+    go false false = refl
+
+pub open-state : (v : ℕ) → isOpen (stateOf v) ≡ eqb v 2
+open-state v = go (ℕ-discrete v 1) (ℕ-discrete v 2)
+  where
+    go : Dec (v ≡ 1) → Dec (v ≡ 2) → isOpen (stateOf v) ≡ eqb v 2
+    go (yes e) d = rw e
+    go (no n) (yes e) = rw e
+    go (no n) (no m) = rw (ne-eqb v 1 n, ne-eqb v 2 m)
+
+module _ (bs : List ℕ) (b : ℕ) where
+  pub state-wall : isWall (statesIn bs b) ≡ eqb (getD bs b 0) 1
+  unfolding statesIn
+  state-wall = wall-state (getD bs b 0)
+
+  pub state-open : isOpen (statesIn bs b) ≡ eqb (getD bs b 0) 2
+  unfolding statesIn
+  state-open = open-state (getD bs b 0)

@@ -1,0 +1,1 @@
+// Laws of the definitions of crate rules. There is no code here.
