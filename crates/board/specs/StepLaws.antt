@@ -19,7 +19,7 @@ use Rattle.board.specs.declared.Board.{Board}
 use Rattle.board.specs.declared.Outcome.the-variants.{Done, Border, Taken}
 use Rattle.board.specs.Alien.{isAlien}
 use Rattle.board.specs.Board.{returned, pushed, decideOf, undoOf, Typed}
-use Rattle.board.specs.View.{puzzleIn, puzzleOf, literalIn, literalsOf, replyOf}
+use Rattle.board.specs.View.{puzzleOf, literalIn, literalsOf, replyOf}
 use Rattle.board.specs.Cases.{undo-bare, undo-done, decide-done}
 use Rattle.board.specs.NativeLaws.{native-has}
 use Rattle.board.specs.DecideLaws.{decide-keeps, decided-typed, undo-keeps, undone-typed}
@@ -36,7 +36,7 @@ module _ (b : Board) (t : isAlien b ≡ false) where
   -- ---- decide
   module _ (l : Literal) where
     pub decide-reply : replyOf (decideOf b l .outcome) ≡ decideReply (puzzleOf b) (literalsOf b) l
-    unfolding decideOf decideReply puzzleOf puzzleIn flat
+    unfolding decideOf decideReply puzzleOf flat
     decide-reply =
         rw (t, names-decided b (native-has b t) (l .border))
         (go (ltb (l .border) (borderCount (b .height) (b .width))) (eqb (getD (b .borders) (l .border) 0) 0))
@@ -52,7 +52,7 @@ module _ (b : Board) (t : isAlien b ≡ false) where
 
     module _ (T : Typed b) where
       pub decide-after : literalsOf (decideOf b l .board) ≡ decideAfter (puzzleOf b) (literalsOf b) l
-      unfolding decideOf decideAfter puzzleOf puzzleIn flat
+      unfolding decideOf decideAfter puzzleOf flat
       decide-after =
           rw (t, names-decided b (native-has b t) (l .border))
           (go (ltb (l .border) m) (eqb (getD (b .borders) (l .border) 0) 0) refl refl)

@@ -1,6 +1,5 @@
 -- View: the puzzle, the borders and the sequence of literals of a board, as crate rules sees them.
 --
---   puzzleIn h w cs ks   the puzzle of that size with the colours cs and the clues ks
 --   puzzleOf b           the puzzle of a board
 --   statesOf b           its borders
 --   sideIn v             the side that a decided border's place v stands for
@@ -14,22 +13,17 @@ use mathlib.Core.Bool.{cond}
 use mathlib.Core.List.{List}
 use Prim.Native.Nat.{ℕ}
 use lib.Dec.{eqb}
-use lib.IntN.{ℤ}
 use lib.ListN.{getD}
 use Rattle.lists.specs.Table.{table}
 use Rattle.rules.specs.declared.Side.{Side}
 use Rattle.rules.specs.declared.Side.the-variants.{Wall, Open}
 use Rattle.rules.specs.declared.Literal.{Literal}
 use Rattle.rules.specs.Page.{Puzzle, State}
-use Rattle.rules.specs.Flat.{flat}
-use Rattle.rules.specs.Codes.{statesIn, coloursIn, cluesIn}
+use Rattle.rules.specs.Codes.{statesIn, puzzleIn}
 use Rattle.rules.specs.Book.{Reply, refused, done}
 use Rattle.board.specs.declared.Board.{Board}
 use Rattle.board.specs.declared.Outcome.{Outcome}
 use Rattle.board.specs.Board.{numberOf}
-
-unfoldable pub puzzleIn : ℕ → ℕ → List ℕ → List ℤ → Puzzle
-puzzleIn h w cs ks = record { page = flat h w; colour = coloursIn cs; clue = cluesIn ks }
 
 unfoldable pub puzzleOf : Board → Puzzle
 puzzleOf b = puzzleIn (b .height) (b .width) (b .colours) (b .clues)

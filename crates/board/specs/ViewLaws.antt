@@ -20,7 +20,7 @@ use Rattle.rules.specs.declared.Side.the-variants.{Wall, Open}
 use Rattle.rules.specs.declared.Literal.{Literal}
 use Rattle.rules.specs.Page.{State, undecided, decided, isUndecided}
 use Rattle.rules.specs.Flat.{flat, borderCount}
-use Rattle.rules.specs.Codes.{stateOf, codeOf, statesIn, coloursIn, clueOf, cluesIn}
+use Rattle.rules.specs.Codes.{stateOf, codeOf, statesIn, coloursIn, clueOf, cluesIn, puzzleIn}
 use Rattle.rules.specs.Check.{undecidedCount}
 use Rattle.rules.specs.Book.{states, names}
 use Rattle.laws.specs.BookLaws.{states-none}
@@ -28,7 +28,7 @@ use Rattle.board.specs.declared.Board.{Board}
 use Rattle.board.specs.declared.Outcome.the-variants.{Done}
 use Rattle.board.specs.Alien.{stacked}
 use Rattle.board.specs.Board.{freshBoard, returned, decideOf, undoOf}
-use Rattle.board.specs.View.{puzzleIn, puzzleOf, statesOf, sideIn, literalIn, literalsOf}
+use Rattle.board.specs.View.{puzzleOf, statesOf, sideIn, literalIn, literalsOf}
 use Rattle.board.specs.NativeLaws.{Native, free-count}
 use Rattle.board.specs.DecideLaws.{decided-is, undone-is}
 use Rattle.board.specs.SequenceLaws.{names-table, states-all}
@@ -65,7 +65,7 @@ state-code (suc (suc (suc v))) h = absurd (let z : suc (suc (suc v)) ≤ 2 = h i
 -- ---- the puzzle
 -- a fresh board has the puzzle that it was made from
 pub fresh-puzzle : (h w : ℕ) (cs : List ℕ) (ks : List ℤ) → puzzleOf (freshBoard h w cs ks) ≡ puzzleIn h w cs ks
-unfolding puzzleOf puzzleIn coloursIn cluesIn
+unfolding puzzleOf coloursIn cluesIn
 fresh-puzzle h w cs ks =
     λ i.
     record {
@@ -158,7 +158,7 @@ module _ (b : Board) (N : Native b) where
 
   -- ---- the count of undecided borders
   pub undecided-is : undecidedCount (puzzleOf b) (statesOf b) ≡ borderCount (b .height) (b .width) - b .count
-  unfolding undecidedCount puzzleOf puzzleIn statesOf statesIn flat
+  unfolding undecidedCount puzzleOf statesOf statesIn flat
   undecided-is =
       count-cong (borderCount (b .height) (b .width)) (λ x. isUndecided (statesIn (b .borders) x))
       (λ x. eqb (getD (b .borders) x 0) 0) (λ x h. free-zero (getD (b .borders) x 0) (code-small x))

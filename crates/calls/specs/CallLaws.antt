@@ -23,7 +23,7 @@ use Rattle.board.specs.declared.Outcome.{Outcome}
 use Rattle.board.specs.declared.Outcome.the-variants.{Short}
 use Rattle.board.specs.Alien.{isAlien}
 use Rattle.board.specs.Board.{numberOf, decideOf, undoOf}
-use Rattle.board.specs.View.{puzzleIn, puzzleOf, statesOf, literalsOf, replyOf}
+use Rattle.board.specs.View.{puzzleOf, statesOf, literalsOf, replyOf}
 use Rattle.board.specs.NativeLaws.{native-has}
 use Rattle.board.specs.ViewLaws.{states-literals}
 use Rattle.board.specs.StepLaws.{decide-reply, undo-reply}
@@ -65,7 +65,7 @@ found-told m (conflict r) h =
 
 module _ (b : Board) (t : isAlien b ≡ false) where
   pub reason-short : (r : Reason) → check (puzzleOf b) (statesOf b) ≡ conflict r → length r ≤ 16120
-  unfolding puzzleOf puzzleIn
+  unfolding puzzleOf
   reason-short r e =
       let s = native-has b t .size in
       flat-short (b .height) (b .width) (omega arith) _ _ s (statesOf b) r e

@@ -11,16 +11,14 @@ use Prim.Native.Nat.{ℕ, _-_, _*_, _≤_}
 use native.Mathlib.Decide.{decLt}
 use native.Mathlib.Omega.{arith}
 use lib.ListN.{length}
-use Rattle.rules.specs.Codes.{statesIn}
+use Rattle.rules.specs.Codes.{statesIn, puzzleIn}
 use Rattle.rules.specs.Check.{Reason, Verdict, hit, check, verdictOf, undecidedCount}
 use Rattle.board.specs.declared.Board.{Board}
 use Rattle.board.specs.Alien.{isAlien, bordersOf}
 use Rattle.board.specs.View.{puzzleOf, statesOf}
-use Rattle.board.specs.View as view
 use Rattle.board.specs.ConditionLaws.{borders-of}
 use Rattle.board.specs.NativeLaws.{native-has}
 use Rattle.board.specs.ViewLaws.{undecided-is}
-use Rattle.checker.specs.Bridges.{puzzleIn}
 use Rattle.search.specs.Placing.{Drawn}
 use Rattle.hits.specs.declared.Found.the-variants.{Nothing, Reason as Given}
 use Rattle.hits.specs.Found.{foundOf, writtenBy, Answers}
@@ -37,7 +35,7 @@ abbrev freeOn : Board → ℕ
 freeOn b = undecidedCount (puzzleOf b) (statesOf b)
 
 pub same-found : (b : Board) → foundOn b ≡ check (puzzleOf b) (statesOf b)
-unfolding puzzleOf statesOf view.puzzleIn
+unfolding puzzleOf statesOf
 same-found b = refl
 
 module _ (b : Board) (t : isAlien b ≡ false) where
@@ -67,7 +65,7 @@ module _ (b : Board) (t : isAlien b ≡ false) where
   hitOf = hit (puzzleIn (b .height) (b .width) (b .colours) (b .clues)) (statesIn (b .borders))
 
   checked : (o : Option Reason) → hitOf ≡ o → foundOn b ≡ verdictOf (freeOn b) o
-  unfolding check puzzleOf statesOf view.puzzleIn
+  unfolding check puzzleOf statesOf
   checked o e = ap (verdictOf (freeOn b)) e
 
   module _ (m after : List ℕ) where

@@ -7,10 +7,9 @@ use mathlib.Core.Bool.{false}
 use mathlib.Core.List.{List}
 use Prim.Native.Nat.{ℕ}
 use lib.IntN.{ℤ}
-use Rattle.rules.specs.Codes.{statesIn}
+use Rattle.rules.specs.Codes.{statesIn, puzzleIn}
 use Rattle.rules.specs.Check.{Verdict, check}
 use Rattle.board.specs.Alien.{boardOf, isAlien}
-use Rattle.checker.specs.Bridges.{puzzleIn}
 
 pub record KnownBoard (h w : ℕ) (cs : List ℕ) (ks : List ℤ) (bs : List ℕ) (n : ℕ) : Type 0 where
   pub stack : List ℕ

@@ -30,7 +30,7 @@ use Rattle.board.specs.declared.Outcome.the-variants.{Done as Fine, Size, Ragge
 use Rattle.board.specs.declared.Outcome.the-variants.{Alien, Border, Taken, Bare, Short}
 use Rattle.board.specs.Alien.{isAlien}
 use Rattle.board.specs.Board.{numberOf, decideOf, undoOf}
-use Rattle.board.specs.View.{puzzleIn, puzzleOf, statesOf}
+use Rattle.board.specs.View.{puzzleOf, statesOf}
 use Rattle.board.specs.NativeLaws.{native-has}
 use Rattle.calls.specs.declared.Answer.{Answer}
 use Rattle.calls.specs.declared.Answer.the-variants.{Done, Pass, Conflict, Refused}
@@ -71,7 +71,7 @@ ended-range o = go (eqb (numberOf o) 0) refl
     go false e = let h = eqb-false (numberOf o) 0 e in omega arith
 
 pass-range : (b : Board) → isAlien b ≡ false → (n : ℕ) → check (puzzleOf b) (statesOf b) ≡ pass n → n ≤ 1984
-unfolding puzzleOf puzzleIn undecidedCount flat
+unfolding puzzleOf undecidedCount flat
 pass-range b t n e =
     let c = check-count (puzzleOf b) (statesOf b) n e in
     omega (

@@ -1,6 +1,5 @@
 -- Bridges: the arrays of crate groups are what the checker's functions ask for, and hold what the rules mean.
 --
---   puzzleIn h w cs ks         the puzzle that arrays of colours and clues spell
 --   groupsIn kind h w cs bs    its groups of one kind, as `groups_of` gives them
 --   numberOf kind, countOf kind   blockOf, unitOf, potentialOf, and their counts, by kind
 --   faultIn B                  the fault of block B, by these arrays
@@ -14,7 +13,7 @@ use lib.IntN.{ℤ}
 use lib.ListN.{length, getD, List·getD-eq-default}
 use Rattle.rules.specs.Page.{Puzzle, State}
 use Rattle.rules.specs.Flat.{Sized, flat}
-use Rattle.rules.specs.Codes.{statesIn, coloursIn, cluesIn}
+use Rattle.rules.specs.Codes.{statesIn, coloursIn, cluesIn, puzzleIn}
 use Rattle.rules.specs.Rules.{oneColour, joinsBlock, joinsUnit}
 use Rattle.rules.specs.Groups.{entry, numbers, groupCount, members, joinsPotential}
 use Rattle.rules.specs.Groups.{blockOf, blockCount, unitOf, unitCount, potentialOf, potentialCount}
@@ -34,9 +33,6 @@ use Rattle.checker.specs.declared.Fault.{Fault}
 use Rattle.checker.specs.Faults.{faultOn, blockFault}
 use Rattle.checker.specs.Faulty.{firstFaulty}
 use Rattle.checker.specs.Breaches.{firstBreach}
-
-abbrev pub puzzleIn : ℕ → ℕ → List ℕ → List ℤ → Puzzle
-puzzleIn h w cs ks = record { page = flat h w; colour = coloursIn cs; clue = cluesIn ks }
 
 abbrev pub groupsIn : Kind → ℕ → ℕ → List ℕ → List ℕ → Groups
 groupsIn kind h w cs bs = groupsOf (flat h w) (joinsIn kind h w cs bs)

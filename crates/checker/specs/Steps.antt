@@ -12,7 +12,7 @@ use native.Mathlib.Omega.{arith}
 use lib.IntN.{ℤ}
 use Rattle.lists.specs.Lists.{firstHit, range}
 use Rattle.rules.specs.Flat.{Sized, flat}
-use Rattle.rules.specs.Codes.{statesIn, coloursIn, cluesIn}
+use Rattle.rules.specs.Codes.{statesIn, coloursIn, cluesIn, puzzleIn}
 use Rattle.rules.specs.Groups.{entry, blockCount}
 use Rattle.rules.specs.Reasons.{inside, edge}
 use Rattle.rules.specs.Check.{hitIf, insideBlock, edgeOf, blockHit, wallHits}
@@ -26,7 +26,7 @@ use Rattle.checker.specs.Faults.{isClear, faultReason}
 use Rattle.checker.specs.Faulty.{firstFaulty, faulty-hits, clear-none}
 use Rattle.checker.specs.Breaches.{firstBreach, breachReason, breach-hits}
 use Rattle.checker.specs.Written.{faultLiterals, faultUnit, reasonIn, breachLiterals, fault-some, breach-some}
-use Rattle.checker.specs.Bridges.{puzzleIn, groupsIn, id-under, numbered-of, ids-are, faultIn, faulty-is}
+use Rattle.checker.specs.Bridges.{groupsIn, id-under, numbered-of, ids-are, faultIn, faulty-is}
 use Rattle.checker.specs.Bridges.{breach-is}
 use Rattle.checker.specs.Bounds.{fault-under, first-wrong, first-under-all}
 

@@ -14,7 +14,7 @@ use lib.IntN.{ℤ}
 use Rattle.rules.specs.declared.Literal.{Literal}
 use Rattle.rules.specs.Page.{State, Contains}
 use Rattle.rules.specs.Rules.{Solution}
-use Rattle.rules.specs.Codes.{coloursIn, cluesIn}
+use Rattle.rules.specs.Codes.{coloursIn, cluesIn, puzzleIn}
 use Rattle.rules.specs.Check.{Reason, Verdict, pass, conflict}
 use Rattle.rules.specs.Book.{Asked, states, reply, sequence}
 use Rattle.argument.specs.Demand.{BookAnswered, BookRuledOut, BookStoodAt, Passes, BookDemand}
@@ -23,7 +23,7 @@ use Rattle.board.specs.declared.Board.{Board}
 use Rattle.board.specs.declared.Outcome.{Outcome}
 use Rattle.board.specs.Board.{returned}
 use Rattle.board.specs.Accepted.{Accepted, madeBoard}
-use Rattle.board.specs.View.{puzzleIn, puzzleOf, statesOf, literalsOf}
+use Rattle.board.specs.View.{puzzleOf, statesOf, literalsOf}
 use Rattle.board.specs.NativeLaws.{native-has}
 use Rattle.board.specs.FreshLaws.{Made, made-is, made-keeps, made-typed}
 use Rattle.board.specs.ViewLaws.{fresh-puzzle, literals-fresh, states-literals}
@@ -256,7 +256,6 @@ module _ (h w : ℕ) (cs : List ℕ) (ks : List ℤ) (A : Accepted h w cs ks) wh
   start-puzzle = ap puzzleOf (accepted-made .is) ∙ fresh-puzzle h w cs ks
 
   book-holds : (asked : List Asked) → BookDemand (puzzleIn h w cs ks) asked
-  unfolding puzzleIn
   book-holds = let s = accepted-made .size in flat-demand h w (omega arith) (coloursIn cs) (cluesIn ks)
 
   pub demand3 : (calls : List Lent) → Demand3 (madeBoard h w cs ks) (puzzleIn h w cs ks) calls

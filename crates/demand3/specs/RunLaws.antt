@@ -32,7 +32,7 @@ use Rattle.board.specs.declared.Returned.{Returned}
 use Rattle.board.specs.Alien.{isAlien}
 use Rattle.board.specs.Board.{returned, pushed, decideOf, undoOf, Typed}
 use Rattle.board.specs.Accepted.{decidesOf}
-use Rattle.board.specs.View.{puzzleIn, puzzleOf, literalsOf}
+use Rattle.board.specs.View.{puzzleOf, literalsOf}
 use Rattle.board.specs.Cases.{decide-done, undo-bare}
 use Rattle.board.specs.NativeLaws.{native-has}
 use Rattle.board.specs.DecideLaws.{decide-keeps, decided-typed, undo-decide}
@@ -87,7 +87,7 @@ module _ (start : Board) (S : Bare start) where
   -- ---- one call
   borders-are : (b : Board) → puzzleOf b ≡ puzzleOf start
       → puzzleOf start .page .borders ≡ borderCount (b .height) (b .width)
-  unfolding puzzleOf puzzleIn flat
+  unfolding puzzleOf flat
   borders-are b e = ap (λ (Z : Puzzle). Z .page .borders) (sym e)
 
   built-decide : {ls : List Literal} {b : Board} → Built start ls b → (l : Literal)

@@ -16,13 +16,13 @@ use Rattle.rules.specs.Page.{Puzzle, State, undecided}
 use Rattle.rules.specs.Flat.{flat, borderCount}
 use Rattle.rules.specs.Check.{Verdict, check}
 use Rattle.rules.specs.Book.{Asked, ask, states, names, decideReply, decideAfter, replyTo, afterCall, sequenceFrom}
+use Rattle.rules.specs.Codes.{puzzleIn}
 use Rattle.argument.specs.Demand.{Full, SameSides, BookStoodAt, Passes}
 use Rattle.argument.specs.Witness.{open-solves, wall-fails}
 use Rattle.board.specs.declared.Board.{Board}
 use Rattle.board.specs.Alien.{sizeRight, coloursRight, cluesRight}
 use Rattle.board.specs.Board.{freshOf}
 use Rattle.board.specs.Accepted.{Accepted, madeBoard}
-use Rattle.board.specs.View.{puzzleIn}
 use Rattle.demand3.specs.Runs.{Lent, lend}
 use Rattle.demand3.specs.Demand3.{RuledOut, StoodAt}
 use Rattle.demand3.specs.Demand3Laws.{stood-run, start-bare, start-puzzle, demand3}
@@ -66,7 +66,7 @@ side-full d zero h e = let z : _≡_ {A = ℕ} 0 1 = cc in omega arith
 side-full d (suc b) h e = omega arith
 
 book-stood : (d : Side) → BookStoodAt (puzzleIn 1 2 cs ks) (asked d 16384) (setting d) (found d)
-unfolding puzzleIn flat borderCount sequenceFrom replyTo afterCall decideReply decideAfter names any Full SameSides
+unfolding flat borderCount sequenceFrom replyTo afterCall decideReply decideAfter names any Full SameSides
 book-stood d =
     record {
       sequence = first d ∷ [];
@@ -98,7 +98,6 @@ module _ (m : List ℕ) (p : length m ≡ 16384) where
     pub wall-ruled : RuledOut start (deciding Wall m) (setting Wall)
 
   pub witness : RunWitness
-  unfolding puzzleIn
   witness =
       let D = demand3 1 2 cs ks accepted in
       let s = side-stood Open in

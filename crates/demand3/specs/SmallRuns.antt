@@ -19,7 +19,7 @@ use Rattle.lists.specs.Booleans.{and-left, and-right}
 use Rattle.rules.specs.declared.Call.{Call}
 use Rattle.rules.specs.declared.Call.the-variants.{Decide, Undo, Check}
 use Rattle.rules.specs.Page.{wallAt, openAt, _⊕_, opposite}
-use Rattle.rules.specs.Codes.{statesIn, coloursIn, cluesIn}
+use Rattle.rules.specs.Codes.{statesIn, coloursIn, cluesIn, puzzleIn}
 use Rattle.rules.specs.Rules.{oneColour, joinsBlock, joinsUnit}
 use Rattle.rules.specs.Groups.{labels, entry, isFirst, numbers, groupCount, members, joinsPotential}
 use Rattle.rules.specs.Reasons.{gather, insideAt, inside, edgeAt, edge, isFound, trace, look, hunt, path}
@@ -38,7 +38,6 @@ use Rattle.board.specs.declared.Outcome.the-variants.{Done}
 use Rattle.board.specs.Alien.{sizeRight, coloursRight, cluesRight}
 use Rattle.board.specs.Board.{freshOf, Small}
 use Rattle.board.specs.Accepted.{madeBoard}
-use Rattle.board.specs.View.{puzzleIn}
 use Rattle.demand3.specs.Runs.{lend, askedBy, toldBy, runFrom}
 use Rattle.demand3.specs.Demand3Laws.{demand3}
 
@@ -120,7 +119,7 @@ unfolding filter any all orElse flatMap firstHit countBelow _⊕_ opposite state
     cellHit cellHits smallHit bigHit clueHit blockHitOn blockHit wallHit wallHits touches adjacent mates judge laid
     transformsOf placements farWallsAt farWalls unitReason unitHitIn unitHitOn unitHit hit undecidedCount flat cellAt
     rightOf belowOf borderCount hopIf hopAbove hopBelow hopLeft hopRight aroundAt aheadAt flatFirst flatSecond
-    flatPlace flatReadsAt flatReads puzzleIn states names withoutLast decideReply decideAfter replyTo afterCall
+    flatPlace flatReadsAt flatReads states names withoutLast decideReply decideAfter replyTo afterCall
     repliesFrom freshOf sizeRight coloursRight cluesRight allBelow
 small-runs =
     record {

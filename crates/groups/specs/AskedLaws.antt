@@ -5,7 +5,7 @@ use Rattle.rules.specs.Flat.{flat}
 use Rattle.board.specs.declared.Board.{Board}
 use Rattle.board.specs.declared.Outcome.the-variants.{Done, Alien}
 use Rattle.board.specs.Alien.{isAlien}
-use Rattle.board.specs.View.{puzzleIn, puzzleOf, statesOf}
+use Rattle.board.specs.View.{puzzleOf, statesOf}
 use Rattle.groups.specs.declared.Kind.{Kind}
 use Rattle.groups.specs.Kinds.{joinsIn, linkOf}
 use Rattle.groups.specs.KindLaws.{link-in}
@@ -18,11 +18,11 @@ module _ (b : Board) (k : Kind) where
   asked-alien e = rw e
 
   board-link : linkOf k (puzzleOf b) (statesOf b) ≡ joinsIn k (b .height) (b .width) (b .colours) (b .borders)
-  unfolding puzzleOf puzzleIn statesOf
+  unfolding puzzleOf statesOf
   board-link = link-in k (puzzleOf b) (b .height) (b .width) (b .colours) (b .borders) refl refl
 
   pub asked-done : isAlien b ≡ false
       → answered Done (groupsOf (flat (b .height) (b .width))
       (joinsIn k (b .height) (b .width) (b .colours) (b .borders))) ≡ askedOf b k
-  unfolding askedOf puzzleOf puzzleIn
+  unfolding askedOf puzzleOf
   asked-done e = rw (e, board-link)

@@ -9,7 +9,7 @@ use lib.IntN.{ℤ}
 use lib.ListN.{length}
 use Rattle.lists.specs.Lists.{orElse}
 use Rattle.rules.specs.Flat.{Sized, flat}
-use Rattle.rules.specs.Codes.{statesIn}
+use Rattle.rules.specs.Codes.{statesIn, puzzleIn}
 use Rattle.rules.specs.Check.{Reason}
 use Rattle.laws.specs.FlatLaws.{counts}
 use Rattle.reasons.specs.Arrays.{Arrays}
@@ -23,7 +23,7 @@ use Rattle.checker.specs.declared.Breach.{Breach}
 use Rattle.checker.specs.Arrays.{Numbered}
 use Rattle.checker.specs.Faults.{isClear}
 use Rattle.checker.specs.Written.{faultUnit, reasonIn, breachLiterals}
-use Rattle.checker.specs.Bridges.{puzzleIn, groupsIn}
+use Rattle.checker.specs.Bridges.{groupsIn}
 use Rattle.checker.specs.Steps.{faultyIn, breachIn, block-numbered, unit-numbered, one-hit, one-none, two-hit, two-none}
 use Rattle.hits.specs.declared.Found.{Found}
 use Rattle.hits.specs.declared.Found.the-variants.{Nothing, Reason as Given}

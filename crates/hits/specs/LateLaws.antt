@@ -10,14 +10,14 @@ use lib.ListN.{length}
 use Rattle.lists.specs.Lists.{orElse}
 use Rattle.rules.specs.Page.{State, Puzzle, Shape}
 use Rattle.rules.specs.Flat.{Sized, flat}
-use Rattle.rules.specs.Codes.{statesIn, cluesIn}
+use Rattle.rules.specs.Codes.{statesIn, cluesIn, puzzleIn}
 use Rattle.rules.specs.Groups.{unitCount}
 use Rattle.rules.specs.Check.{Reason, unitReason, hit}
 use Rattle.laws.specs.FlatPage.{flat-bordered, flat-ahead, flat-around}
 use Rattle.laws.specs.FlatShapes.{flat-eight}
 use Rattle.argument.specs.Bound.{unit-bound}
 use Rattle.groups.specs.declared.Kind.the-variants.{Units}
-use Rattle.checker.specs.Bridges.{puzzleIn, groupsIn, count-is}
+use Rattle.checker.specs.Bridges.{groupsIn, count-is}
 use Rattle.search.specs.Placing.{puzzle}
 use Rattle.units.specs.Stuck.{fitsUnit, firstFail, stuckHit, potentialIn}
 use Rattle.units.specs.ClueLaws.{stuck-clue}

@@ -24,7 +24,7 @@ use Rattle.argument.specs.FlatDemand.{flat-holds}
 use Rattle.board.specs.declared.Board.{Board}
 use Rattle.board.specs.Alien.{isAlien}
 use Rattle.board.specs.Board.{Typed}
-use Rattle.board.specs.View.{puzzleIn, puzzleOf, statesOf}
+use Rattle.board.specs.View.{puzzleOf, statesOf}
 use Rattle.board.specs.NativeLaws.{native-has}
 use Rattle.image.specs.Image.{twoBytes, putBytes}
 use Rattle.image.specs.ByteLaws.{two-long}
@@ -93,7 +93,7 @@ side-small Open = omega arith
 
 pub literals-small : (b : Board) → isAlien b ≡ false → Typed b → (r : Reason)
     → check (puzzleOf b) (statesOf b) ≡ conflict r → (l : Literal) → l ∈ r → literalCode l < 65536
-unfolding puzzleOf puzzleIn statesOf Contains
+unfolding puzzleOf statesOf Contains
 literals-small b t T r e l m =
     let z = native-has b t .size in
     let k = border-small (b .borders) (l .border) (l .side)

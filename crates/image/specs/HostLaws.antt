@@ -13,7 +13,7 @@ use lib.Dec.{eqb}
 use lib.IntN.{ℤ}
 use lib.ListN.{length, getD, take, replicate}
 use Rattle.board.specs.Accepted.{Accepted, madeBoard}
-use Rattle.board.specs.View.{puzzleIn}
+use Rattle.rules.specs.Codes.{puzzleIn}
 use Rattle.image.specs.Image.{imageOf, imageNumber, imageAfter}
 use Rattle.image.specs.Runs.{Sent, altering, sentImage, Got, got, gotBy, imageRun, imageFrom}
 use Rattle.image.specs.Series.{codeCall, doneOf, imageDone}

@@ -23,10 +23,10 @@ use Rattle.lists.specs.PaddedLaws.{length-padded}
 use Rattle.lists.specs.Stores.{sets-past, sets-over}
 use Rattle.lists.specs.Appends.{flat-append}
 use Rattle.lists.specs.Flats.{length-flat, flat-replicate}
+use Rattle.rules.specs.Codes.{puzzleIn}
 use Rattle.board.specs.declared.Returned.{Returned}
 use Rattle.board.specs.Board.{numberOf, freshBoard, freshOf, Small}
 use Rattle.board.specs.Accepted.{Accepted, madeBoard}
-use Rattle.board.specs.View.{puzzleIn}
 use Rattle.board.specs.DecideLaws.{done-returned}
 use Rattle.board.specs.FreshLaws.{Made, made-is}
 use Rattle.demand3.specs.Demand3Laws.{start-bare}

@@ -16,7 +16,7 @@ use lib.ListN.{length}
 use Rattle.rules.specs.declared.Side.{Side}
 use Rattle.rules.specs.declared.Side.the-variants.{Wall, Open}
 use Rattle.rules.specs.declared.Literal.{Literal}
-use Rattle.rules.specs.Codes.{sideCode}
+use Rattle.rules.specs.Codes.{sideCode, puzzleIn}
 use Rattle.rules.specs.Check.{Verdict, pass, conflict, check}
 use Rattle.board.specs.declared.Board.{Board}
 use Rattle.board.specs.declared.Outcome.{Outcome}
@@ -24,7 +24,7 @@ use Rattle.board.specs.declared.Outcome.the-variants.{Done, Size, Ragged, Colou
 use Rattle.board.specs.declared.Outcome.the-variants.{Alien, Border, Taken, Bare, Short}
 use Rattle.board.specs.Board.{numberOf, decideOf, undoOf}
 use Rattle.board.specs.Accepted.{Accepted, madeBoard}
-use Rattle.board.specs.View.{puzzleIn, puzzleOf, statesOf}
+use Rattle.board.specs.View.{puzzleOf, statesOf}
 use Rattle.board.specs.StepLaws.{Kept, decide-kept, undo-kept}
 use Rattle.calls.specs.Answers.{answerNumber, written, checkAnswer, checkMemory, ended, callOf, callMemory}
 use Rattle.calls.specs.CallLaws.{reason-short}

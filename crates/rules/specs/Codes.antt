@@ -6,6 +6,7 @@
 --   coloursIn cs        the colours that an array of numbers spells
 --   clueOf k            no clue below 0, otherwise the clue k
 --   cluesIn ks          the clues that an array of signed numbers spells
+--   puzzleIn h w cs ks  the puzzle on a flat page that arrays of colours and clues spell
 --   sideCode side       what a literal's number adds for its side
 --   literalCode l       what reason memory holds for the literal l
 --   put m from ls       reason memory m with the literals ls written from the place `from`
@@ -20,7 +21,8 @@ use lib.Seq.{sets}
 use Rattle.rules.specs.declared.Side.{Side}
 use Rattle.rules.specs.declared.Side.the-variants.{Wall, Open}
 use Rattle.rules.specs.declared.Literal.{Literal}
-use Rattle.rules.specs.Page.{State, undecided, decided}
+use Rattle.rules.specs.Page.{Puzzle, State, undecided, decided}
+use Rattle.rules.specs.Flat.{flat}
 
 -- "borders (0 undecided, 1 wall, 2 open)"
 abbrev pub stateOf : ℕ → State
@@ -44,6 +46,9 @@ clueOf (negsuc n) = none
 
 unfoldable pub cluesIn : List ℤ → ℕ → Option ℕ
 cluesIn ks c = clueOf (getD ks c (pos 0))
+
+abbrev pub puzzleIn : ℕ → ℕ → List ℕ → List ℤ → Puzzle
+puzzleIn h w cs ks = record { page = flat h w; colour = coloursIn cs; clue = cluesIn ks }
 
 -- "a literal is 2·border, plus 1 for wall"
 abbrev pub sideCode : Side → ℕ

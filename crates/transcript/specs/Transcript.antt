@@ -7,7 +7,7 @@ use mathlib.Core.List.{List, [], _∷_, map}
 use Prim.Native.Nat.{ℕ}
 use Rattle.rules.specs.Page.{Puzzle}
 use Rattle.rules.specs.Book.{ask, Reply, refused, replies}
-use Rattle.board.specs.View.{puzzleIn}
+use Rattle.rules.specs.Codes.{puzzleIn}
 use Rattle.page.specs.Grammar.{Sheet}
 use Rattle.page.specs.Judge.{Judgement, rejected, accepted, judgementOf, coloursOf, cluesOf}
 use Rattle.print.specs.Answers.{showAnswers}

@@ -20,7 +20,7 @@ use Rattle.rules.specs.Check.{transformsOf}
 use Rattle.board.specs.declared.Board.{Board}
 use Rattle.board.specs.declared.Outcome.the-variants.{Done, Alien, Short}
 use Rattle.board.specs.Alien.{isAlien}
-use Rattle.board.specs.View.{puzzleIn, puzzleOf, statesOf}
+use Rattle.board.specs.View.{puzzleOf, statesOf}
 use Rattle.groups.specs.declared.Groups.{Groups}
 use Rattle.groups.specs.declared.Kind.the-variants.{Units}
 use Rattle.groups.specs.Kinds.{joinsIn}
@@ -118,7 +118,7 @@ module _ (b : Board) (u k : ℕ) (m : List ℤ) where
   -- the transforms ask no clue
   pub board-transforms : transformsOf (puzzle (b .height) (b .width) (b .colours)) (statesIn (b .borders)) u
       ≡ transformsOf (puzzleOf b) (statesOf b) u
-  unfolding transformsOf puzzleOf puzzleIn statesOf joinsUnit oneColour
+  unfolding transformsOf puzzleOf statesOf joinsUnit oneColour
   board-transforms = refl
 
   pub alien-answer : isAlien b ≡ true → transformed Alien 0 nothing ≡ transformOf b u k (length m)
