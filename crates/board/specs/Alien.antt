@@ -16,9 +16,11 @@
 --   zerosFrom l from        the places of l from `from` on are 0
 --   clueZero k              k is 0
 --   zeroCluesFrom ks from   the clues from `from` on are 0
---   cellsIn, cellsRight b   the colours and the clues of the cells are right: of arrays, and of a board
---   decisionsIn, decisionsRight b   the stack has exactly the decided borders, each once
---   unusedIn, unusedZero b  the unused places are 0
+--   cellsIn n cs ks         the colours and the clues of n cells are right
+--   decisionsIn m bs s k    the k entries of the stack s are exactly the decided of m borders, each once
+--   unusedIn n m cs ks bs s k   the places that n cells, m borders and k entries do not use are 0
+--   cellCountOf b, borderCountOf b   how many cells and borders the page of a board has
+--   cellsRight b, decisionsRight b, unusedZero b   the three of a board
 --   boardOf h w cs ks bs st n   the board with these arrays
 --   boardWith b bs st n   the board b with these borders, this stack and this count
 --   isAlien b               decides and undos cannot produce b from a fresh board; crate reach has the proof
@@ -91,28 +93,32 @@ unfoldable pub zeroCluesFrom : List ℤ → ℕ → Bool
 zeroCluesFrom ks from = allBetween from (length ks) (λ i. clueZero (getD ks i (pos 0)))
 
 -- "a bad height, width, colour or clue in one is 5"
-unfoldable pub cellsIn : ℕ → ℕ → List ℕ → List ℤ → Bool
-cellsIn h w cs ks = coloursRight cs (h * w) && cluesRight ks (h * w)
-
-abbrev pub cellsRight : Board → Bool
-cellsRight b = cellsIn (b .height) (b .width) (b .colours) (b .clues)
+unfoldable pub cellsIn : ℕ → List ℕ → List ℤ → Bool
+cellsIn n cs ks = coloursRight cs n && cluesRight ks n
 
 -- "the stack of decided borders"
-unfoldable pub decisionsIn : ℕ → ℕ → List ℕ → List ℕ → ℕ → Bool
-decisionsIn h w bs s n =
-    let m = borderCount h w in
-    leb n m && entriesRight s m n && onceEach s n && bordersRight bs s n m
-
-abbrev pub decisionsRight : Board → Bool
-decisionsRight b = decisionsIn (b .height) (b .width) (b .borders) (b .stack) (b .count)
+unfoldable pub decisionsIn : ℕ → List ℕ → List ℕ → ℕ → Bool
+decisionsIn m bs s k = leb k m && entriesRight s m k && onceEach s k && bordersRight bs s k m
 
 -- "Unused places of a board are 0"
 unfoldable pub unusedIn : ℕ → ℕ → List ℕ → List ℤ → List ℕ → List ℕ → ℕ → Bool
-unusedIn h w cs ks bs s n =
-    zerosFrom cs (h * w) && zeroCluesFrom ks (h * w) && zerosFrom bs (borderCount h w) && zerosFrom s n
+unusedIn n m cs ks bs s k = zerosFrom cs n && zeroCluesFrom ks n && zerosFrom bs m && zerosFrom s k
+
+-- "Cell (y,x) is number y·w+x"; of borders "there are h·(w−1)+(h−1)·w"
+abbrev pub cellCountOf : Board → ℕ
+cellCountOf b = b .height * b .width
+
+abbrev pub borderCountOf : Board → ℕ
+borderCountOf b = borderCount (b .height) (b .width)
+
+abbrev pub cellsRight : Board → Bool
+cellsRight b = cellsIn (cellCountOf b) (b .colours) (b .clues)
+
+abbrev pub decisionsRight : Board → Bool
+decisionsRight b = decisionsIn (borderCountOf b) (b .borders) (b .stack) (b .count)
 
 abbrev pub unusedZero : Board → Bool
-unusedZero b = unusedIn (b .height) (b .width) (b .colours) (b .clues) (b .borders) (b .stack) (b .count)
+unusedZero b = unusedIn (cellCountOf b) (borderCountOf b) (b .colours) (b .clues) (b .borders) (b .stack) (b .count)
 
 abbrev pub boardOf : ℕ → ℕ → List ℕ → List ℤ → List ℕ → List ℕ → ℕ → Board
 boardOf h w cs ks bs st n =

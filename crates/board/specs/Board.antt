@@ -4,11 +4,15 @@
 --   zeroBoard        the all-zero board
 --   freshBoard       the board of a puzzle, every border undecided
 --   returned o b     an outcome with a board
+--   puzzleRefusal n cs ks   how making a board of n cells ends after the test of its size: refused, or done
+--   endedBy b d o    the outcome o with the board d where it is done, with b where it is a refusal
 --   freshOf          what making a board returns
 --   pushed b n v     the board with border n set to v and put on the stack
 --   popped b         the board with the last border taken off the stack and made undecided
+--   decideRefusal m bs n   how a decide of border n ends, where the m borders are bs: refused, or done
 --   decideOf b l     what a decide returns
 --   countAfter o n   the count of a board after a decide with the outcome o, where it was n
+--   undoRefusal n    how an undo ends, where the stack has n borders: refused, or done
 --   undoOf b         what an undo returns
 --   Small ks         the clues fit 32 bits
 --   Typed b          what every value of the code's type Board has
@@ -22,14 +26,13 @@ use lib.ListN.{length, getD, set, replicate}
 use lib.Signed.{leZ}
 use Rattle.lists.specs.Padded.{padded}
 use Rattle.rules.specs.declared.Literal.{Literal}
-use Rattle.rules.specs.Flat.{borderCount}
 use Rattle.rules.specs.Codes.{codeOf}
 use Rattle.board.specs.declared.Board.{Board}
 use Rattle.board.specs.declared.Outcome.{Outcome}
 use Rattle.board.specs.declared.Outcome.the-variants.{Done, Size, Ragged, Colour, Clue}
 use Rattle.board.specs.declared.Outcome.the-variants.{Alien, Border, Taken, Bare, Short}
 use Rattle.board.specs.declared.Returned.{Returned}
-use Rattle.board.specs.Alien.{sizeRight, coloursRight, cluesRight, boardOf, boardWith, isAlien}
+use Rattle.board.specs.Alien.{sizeRight, coloursRight, cluesRight, borderCountOf, boardOf, boardWith, isAlien}
 
 -- "Numbers and words for unfit calls"
 abbrev pub numberOf : Outcome → ℕ
@@ -56,15 +59,22 @@ freshBoard h w cs ks =
 abbrev pub returned : Outcome → Board → Returned
 returned o b = record { outcome = o; board = b }
 
+-- 2: "colours or clues not h·w many"; 3: "a colour not 0 or 1"; 4: "a clue below −1"; where the page has n cells
+unfoldable pub puzzleRefusal : ℕ → List ℕ → List ℤ → Outcome
+puzzleRefusal n cs ks =
+    cond (eqb (length cs) n && eqb (length ks) n)
+    (cond (coloursRight cs n) (cond (cluesRight ks n) Done Clue) Colour)
+    Ragged
+
+-- a call that is done gives the board d, a refused one b
+abbrev pub endedBy : Board → Board → Outcome → Returned
+endedBy b d o = returned o (cond (eqb (numberOf o) 0) d b)
+
 -- "The lowest applicable number is given"; "Making a board when refused returns the all-zero board"
 unfoldable pub freshOf : ℕ → ℕ → List ℕ → List ℤ → Returned
 freshOf h w cs ks =
     cond (sizeRight h w)
-    (cond (eqb (length cs) (h * w) && eqb (length ks) (h * w))
-    (cond (coloursRight cs (h * w))
-    (cond (cluesRight ks (h * w)) (returned Done (freshBoard h w cs ks)) (returned Clue zeroBoard))
-    (returned Colour zeroBoard))
-    (returned Ragged zeroBoard))
+    (endedBy zeroBoard (freshBoard h w cs ks) (puzzleRefusal (h * w) cs ks))
     (returned Size zeroBoard)
 
 -- "Decide sets a border and pushes it"
@@ -77,23 +87,28 @@ popped b =
     boardWith b (set (b .borders) (getD (b .stack) (b .count - 1) 0) 0) (set (b .stack) (b .count - 1) 0)
     (b .count - 1)
 
+-- 6: "number not below the border count"; 7: "border already decided"; on a board that is not alien
+unfoldable pub decideRefusal : ℕ → List ℕ → ℕ → Outcome
+decideRefusal m bs n = cond (ltb n m) (cond (eqb (getD bs n 0) 0) Done Taken) Border
+
 -- "Other refusals return the board given"
 unfoldable pub decideOf : Board → Literal → Returned
 decideOf b l =
     cond (isAlien b)
     (returned Alien b)
-    (cond (ltb (l .border) (borderCount (b .height) (b .width)))
-    (cond (eqb (getD (b .borders) (l .border) 0) 0)
-    (returned Done (pushed b (l .border) (codeOf (l .side))))
-    (returned Taken b))
-    (returned Border b))
+    (endedBy b (pushed b (l .border) (codeOf (l .side)))
+    (decideRefusal (borderCountOf b) (b .borders) (l .border)))
 
 -- one more where the decide is done
 abbrev pub countAfter : Outcome → ℕ → ℕ
 countAfter o n = cond (eqb (numberOf o) 0) (n + 1) n
 
+-- 8: "undo with an empty stack"; on a board that is not alien
+unfoldable pub undoRefusal : ℕ → Outcome
+undoRefusal n = cond (eqb n 0) Bare Done
+
 unfoldable pub undoOf : Board → Returned
-undoOf b = cond (isAlien b) (returned Alien b) (cond (eqb (b .count) 0) (returned Bare b) (returned Done (popped b)))
+undoOf b = cond (isAlien b) (returned Alien b) (endedBy b (popped b) (undoRefusal (b .count)))
 
 abbrev pub Small : List ℤ → Type 0
 Small ks = (i : ℕ) → leZ (getD ks i (pos 0)) (pos 2147483647) ≡ true

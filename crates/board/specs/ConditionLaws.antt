@@ -12,7 +12,7 @@ use lib.Seq.{getD-set-same, getD-set-other}
 use Rattle.lists.specs.Booleans.{and-left, and-right}
 use Rattle.lists.specs.TestLaws.{any-none, any-more, all-at}
 use Rattle.rules.specs.Flat.{Sized, borderCount}
-use Rattle.laws.specs.FlatLaws.{borders-le}
+use Rattle.laws.specs.FlatLaws.{counts, borders-le}
 use Rattle.board.specs.Alien.{sizeRight, cellsOf, bordersOf, stacked, entriesRight, borderRight}
 
 pub sized : {h w : ℕ} → sizeRight h w ≡ true → Sized h w
@@ -38,6 +38,14 @@ cells-of s = rw (size-is s)
 pub borders-of : {h w : ℕ} → Sized h w → bordersOf h w ≡ borderCount h w
 unfolding bordersOf
 borders-of s = rw (size-is s)
+
+pub cells-of-le : (h w : ℕ) → cellsOf h w ≤ 1024
+unfolding cellsOf
+cells-of-le h w = go (sizeRight h w) refl
+  where
+    go : (b : Bool) → sizeRight h w ≡ b → cond b (h * w) 0 ≤ 1024
+    go true e = counts (sized e) .cells
+    go false e = omega arith
 
 pub borders-of-le : (h w : ℕ) → bordersOf h w ≤ 1984
 unfolding bordersOf

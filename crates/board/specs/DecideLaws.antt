@@ -6,25 +6,24 @@ use mathlib.Core.List.{List}
 use Prim.Native.Nat.{ℕ, _+_, _-_, _<_, _≤_}
 use native.Mathlib.Decide.{ℕ-discrete}
 use native.Mathlib.Omega.{arith}
-use borrow.Author.Tests.{ltb-true, ltb-false, eq-eqb, ne-eqb, eqb-true, eqb-false}
-use lib.Dec.{ltb, eqb}
+use borrow.Author.Tests.{eq-eqb, ne-eqb}
+use lib.Dec.{eqb}
 use lib.ListN.{length, getD, set, length-set}
 use lib.Seq.{getD-set-same, getD-set-other, set-set, set-getD}
 use Rattle.lists.specs.TestLaws.{any-cong}
 use Rattle.rules.specs.declared.Side.{Side}
 use Rattle.rules.specs.declared.Side.the-variants.{Wall, Open}
 use Rattle.rules.specs.declared.Literal.{Literal}
-use Rattle.rules.specs.Flat.{borderCount}
 use Rattle.rules.specs.Codes.{codeOf}
 use Rattle.board.specs.declared.Board.{Board}
 use Rattle.board.specs.declared.Outcome.{Outcome}
 use Rattle.board.specs.declared.Outcome.the-variants.{Done, Size, Ragged, Colour, Clue}
 use Rattle.board.specs.declared.Outcome.the-variants.{Alien, Border, Taken, Bare, Short}
 use Rattle.board.specs.declared.Returned.{Returned}
-use Rattle.board.specs.Alien.{stacked, boardWith, isAlien}
-use Rattle.board.specs.Board.{numberOf, returned, pushed, popped, decideOf, undoOf, Typed}
+use Rattle.board.specs.Alien.{stacked, borderCountOf, boardWith, isAlien}
+use Rattle.board.specs.Board.{numberOf, returned, pushed, popped, decideRefusal, decideOf, undoOf, Typed}
 use Rattle.board.specs.ConditionLaws.{stacked-more}
-use Rattle.board.specs.Cases.{decide-alien, decide-border, decide-taken, decide-done}
+use Rattle.board.specs.Cases.{refusal-free, decide-alien, decide-refused, decide-done}
 use Rattle.board.specs.Cases.{undo-alien, undo-bare, undo-done}
 use Rattle.board.specs.NativeLaws.{Native, native-has, native-of, borders-fit, free-unstacked, room}
 
@@ -36,7 +35,7 @@ side-code Open = (omega arith, omega arith)
 -- a decide of l took b to d
 pub record Decided (b : Board) (l : Literal) (d : Board) : Type 0 where
   pub known : isAlien b ≡ false
-  pub below : l .border < borderCount (b .height) (b .width)
+  pub below : l .border < borderCountOf b
   pub free : getD (b .borders) (l .border) 0 ≡ 0
   pub is : d ≡ pushed b (l .border) (codeOf (l .side))
 
@@ -67,28 +66,21 @@ pub one-number : {o p : Outcome} {b d : Board} → returned o b ≡ returned p d
 one-number e = ap (λ (r : Returned). numberOf (r .outcome)) e
 
 pub decided-is : {b : Board} {l : Literal} {d : Board} → decideOf b l ≡ returned Done d → Decided b l d
-decided-is {b} {l} {d} e =
-    go (isAlien b) (ltb (l .border) m) (eqb (getD (b .borders) (l .border) 0) 0) refl refl refl
+decided-is {b} {l} {d} e = go (isAlien b) refl (ℕ-discrete (numberOf o) 0)
   where
-    m : ℕ
-    m = borderCount (b .height) (b .width)
+    o : Outcome
+    o = decideRefusal (borderCountOf b) (b .borders) (l .border)
 
-    go : (x y z : Bool) → isAlien b ≡ x → ltb (l .border) m ≡ y → eqb (getD (b .borders) (l .border) 0) 0 ≡ z
-        → Decided b l d
-    go true y z p q r = absurd (let h : 5 ≡ 0 = one-number (decide-alien b l p ∙ e) in omega arith)
-    go false false z p q r =
-        absurd (let h : 6 ≡ 0 = one-number (decide-border b l p (ltb-false (l .border) m q) ∙ e) in omega arith)
-    go false true false p q r =
-        let s = eqb-false (getD (b .borders) (l .border) 0) 0 r in
-        absurd (let h : 7 ≡ 0 = one-number (decide-taken b l p (ltb-true (l .border) m q) s ∙ e) in omega arith)
-    go false true true p q r =
-        let k = ltb-true (l .border) m q in
-        let f = eqb-true (getD (b .borders) (l .border) 0) 0 r in
+    go : (x : Bool) → isAlien b ≡ x → Dec (numberOf o ≡ 0) → Decided b l d
+    go true p y = absurd (let h : 5 ≡ 0 = one-number (decide-alien b l p ∙ e) in omega arith)
+    go false p (no y) = absurd (y (one-number (decide-refused b l p o refl y ∙ e)))
+    go false p (yes y) =
+        let f = refusal-free (borderCountOf b) (b .borders) (l .border) y in
         record {
           known = p;
-          below = k;
-          free = f;
-          is = ap (λ (y : Returned). y .board) (sym e ∙ sym (decide-done b l p k f));
+          below = f .0;
+          free = f .1;
+          is = ap (λ (r : Returned). r .board) (sym e ∙ sym (decide-done b l p (f .0) (f .1)));
         }
 
 pub undone-is : {b d : Board} → undoOf b ≡ returned Done d → Undone b d
@@ -119,7 +111,7 @@ stacked-set s c n x h =
     (ap (λ y. eqb y x) (getD-set-same s c n 0 h))
 
 -- ---- a decide
-module _ (b : Board) (N : Native b) (T : Typed b) (n v : ℕ) (k : n < borderCount (b .height) (b .width))
+module _ (b : Board) (N : Native b) (T : Typed b) (n v : ℕ) (k : n < borderCountOf b)
     (p : getD (b .borders) n 0 ≡ 0) where
   abbrev s : List ℕ
   s = set (b .stack) (b .count) n
@@ -157,7 +149,7 @@ module _ (b : Board) (N : Native b) (T : Typed b) (n v : ℕ) (k : n < borderCou
       }
     where
       m : ℕ
-      m = borderCount (b .height) (b .width)
+      m = borderCountOf b
 
       entry : (i : ℕ) → i < b .count + 1 → Dec (i ≡ b .count) → getD s i 0 < m
       entry i h (yes d) = let e : getD s i 0 ≡ n = ap (λ j. getD s j 0) d ∙ new-entry in omega arith
@@ -232,7 +224,7 @@ module _ (b : Board) (N : Native b) (T : Typed b) (k : ℕ) (e : b .count ≡ k 
   last : ℕ
   last = getD (b .stack) k 0
 
-  last-below : last < borderCount (b .height) (b .width)
+  last-below : last < borderCountOf b
   unfolding last
   last-below = N .entry k (omega arith)
 
@@ -262,7 +254,7 @@ module _ (b : Board) (N : Native b) (T : Typed b) (k : ℕ) (e : b .count ≡ k 
       }
     where
       m : ℕ
-      m = borderCount (b .height) (b .width)
+      m = borderCountOf b
 
       index : last < length (b .borders)
       index = omega (arith, last-below, borders-fit b N, T .borders)

@@ -8,19 +8,19 @@ use native.Mathlib.Omega.{arith}
 use borrow.Author.Tests.{leb-true}
 use lib.Dec.{leb}
 use lib.IntN.{ℤ, pos}
-use lib.ListN.{length, getD, replicate, length-replicate, List·getD-eq-default}
+use lib.ListN.{getD, replicate, length-replicate, List·getD-eq-default}
 use Rattle.lists.specs.PaddedLaws.{zeros, getD-padded, length-padded}
 use Rattle.lists.specs.TestLaws.{all-at}
 use Rattle.rules.specs.Flat.{Sized}
 use Rattle.laws.specs.FlatLaws.{counts}
 use Rattle.board.specs.declared.Board.{Board}
+use Rattle.board.specs.declared.Outcome.{Outcome}
 use Rattle.board.specs.declared.Outcome.the-variants.{Done}
 use Rattle.board.specs.declared.Returned.{Returned}
 use Rattle.board.specs.Alien.{sizeRight, coloursRight, clueRight, cluesRight, isAlien}
-use Rattle.board.specs.Board.{zeroBoard, freshBoard, returned, freshOf, Small, Typed}
+use Rattle.board.specs.Board.{numberOf, zeroBoard, freshBoard, returned, puzzleRefusal, freshOf, Small, Typed}
 use Rattle.board.specs.ConditionLaws.{sized, stacked-none}
-use Rattle.board.specs.Cases.{fresh-size, fresh-colours, fresh-clues, fresh-colour, fresh-clue, fresh-done}
-use Rattle.board.specs.Cases.{alien-size}
+use Rattle.board.specs.Cases.{Fit, puzzle-free, fresh-size, fresh-refused, fresh-free, alien-size}
 use Rattle.board.specs.NativeLaws.{Native, native-of}
 use Rattle.board.specs.DecideLaws.{one-number}
 
@@ -32,36 +32,23 @@ zero-alien = sym (alien-size zeroBoard refl)
 -- making a board of that puzzle gave d
 pub record Made (h w : ℕ) (cs : List ℕ) (ks : List ℤ) (d : Board) : Type 0 where
   pub size : Sized h w
-  pub colours : length cs ≡ h * w
-  pub clues : length ks ≡ h * w
-  pub colour : coloursRight cs (h * w) ≡ true
-  pub clue : cluesRight ks (h * w) ≡ true
+  pub fit : Fit (h * w) cs ks
   pub is : d ≡ freshBoard h w cs ks
 
 pub made-is : {h w : ℕ} {cs : List ℕ} {ks : List ℤ} {d : Board} → freshOf h w cs ks ≡ returned Done d → Made h w cs ks d
-made-is {h} {w} {cs} {ks} {d} e =
-    go (sizeRight h w) (ℕ-discrete (length cs) (h * w)) (ℕ-discrete (length ks) (h * w)) (coloursRight cs (h * w))
-    (cluesRight ks (h * w)) refl refl refl
+made-is {h} {w} {cs} {ks} {d} e = go (sizeRight h w) refl (ℕ-discrete (numberOf o) 0)
   where
-    go : (s : Bool) → Dec (length cs ≡ h * w) → Dec (length ks ≡ h * w) → (c k : Bool) → sizeRight h w ≡ s
-        → coloursRight cs (h * w) ≡ c → cluesRight ks (h * w) ≡ k → Made h w cs ks d
-    go false y z c k p q r = absurd (let n : 1 ≡ 0 = one-number (fresh-size h w cs ks p ∙ e) in omega arith)
-    go true (no y) z c k p q r =
-        absurd (let n : 2 ≡ 0 = one-number (fresh-colours h w cs ks p (h * w) refl y ∙ e) in omega arith)
-    go true (yes y) (no z) c k p q r =
-        absurd (let n : 2 ≡ 0 = one-number (fresh-clues h w cs ks p (h * w) refl y z ∙ e) in omega arith)
-    go true (yes y) (yes z) false k p q r =
-        absurd (let n : 3 ≡ 0 = one-number (fresh-colour h w cs ks p (h * w) refl y z q ∙ e) in omega arith)
-    go true (yes y) (yes z) true false p q r =
-        absurd (let n : 4 ≡ 0 = one-number (fresh-clue h w cs ks p (h * w) refl y z q r ∙ e) in omega arith)
-    go true (yes y) (yes z) true true p q r =
+    o : Outcome
+    o = puzzleRefusal (h * w) cs ks
+
+    go : (s : Bool) → sizeRight h w ≡ s → Dec (numberOf o ≡ 0) → Made h w cs ks d
+    go false p y = absurd (let n : 1 ≡ 0 = one-number (fresh-size h w cs ks p ∙ e) in omega arith)
+    go true p (no y) = absurd (y (one-number (fresh-refused h w cs ks p o refl y ∙ e)))
+    go true p (yes y) =
         record {
           size = sized p;
-          colours = y;
-          clues = z;
-          colour = q;
-          clue = r;
-          is = ap (λ (t : Returned). t .board) (sym e ∙ sym (fresh-done h w cs ks p (h * w) refl y z q r));
+          fit = puzzle-free (h * w) cs ks y;
+          is = ap (λ (t : Returned). t .board) (sym e ∙ sym (fresh-free h w cs ks p o refl y));
         }
 
 module _ {h w : ℕ} {cs : List ℕ} {ks : List ℤ} {d : Board} (M : Made h w cs ks d) where
@@ -73,18 +60,20 @@ module _ {h w : ℕ} {cs : List ℕ} {ks : List ℤ} {d : Board} (M : Made h w c
         colour =
             λ i l.
             rw (getD-padded 1024 0 cs i)
-            (leb-true (getD cs i 0) 1 (all-at (h * w) (λ j. leb (getD cs j 0) 1) i (M .colour) l));
+            (leb-true (getD cs i 0) 1 (all-at (h * w) (λ j. leb (getD cs j 0) 1) i (M .fit .colour) l));
         clue =
             λ i l.
-            rw (getD-padded 1024 (pos 0) ks i) (all-at (h * w) (λ j. clueRight (getD ks j (pos 0))) i (M .clue) l);
+            rw (getD-padded 1024 (pos 0) ks i) (all-at (h * w) (λ j. clueRight (getD ks j (pos 0))) i (M .fit .clue) l);
         few = omega arith;
         entry = λ i l. absurd (omega arith);
         once = λ i l. absurd (omega arith);
         code = λ x l. rw (zeros 1984 x) (omega arith);
         held = λ x l. rw (zeros 1984 x, stacked-none (replicate 1984 0) x);
-        noColour = λ i l. let c = M .colours in getD-padded 1024 0 cs i ∙ List·getD-eq-default cs 0 (omega arith);
+        noColour = λ i l. let c = M .fit .colours in getD-padded 1024 0 cs i ∙ List·getD-eq-default cs 0 (omega arith);
         noClue =
-            λ i l. let c = M .clues in getD-padded 1024 (pos 0) ks i ∙ List·getD-eq-default ks (pos 0) (omega arith);
+            λ i l.
+            let c = M .fit .clues in
+            getD-padded 1024 (pos 0) ks i ∙ List·getD-eq-default ks (pos 0) (omega arith);
         noBorder = λ x l. zeros 1984 x;
         noEntry = λ i l. zeros 1984 i;
       }
@@ -95,8 +84,8 @@ module _ {h w : ℕ} {cs : List ℕ} {ks : List ℤ} {d : Board} (M : Made h w c
   pub made-typed : Small ks → Typed d
   made-typed s =
       let c = counts (M .size) in
-      let p = M .colours in
-      let q = M .clues in
+      let p = M .fit .colours in
+      let q = M .fit .clues in
       rw (M .is)
       (record {
         colours = length-padded 1024 0 cs (omega arith);

@@ -11,13 +11,12 @@ use Rattle.lists.specs.Table.{table}
 use Rattle.lists.specs.TableLaws.{getD-table, table-cong, table-more}
 use Rattle.rules.specs.declared.Literal.{Literal}
 use Rattle.rules.specs.Page.{State, wallAt}
-use Rattle.rules.specs.Flat.{borderCount}
 use Rattle.rules.specs.Codes.{codeOf, statesIn}
 use Rattle.rules.specs.Book.{states, withLast, withoutLast}
 use Rattle.laws.specs.BookLaws.{without-last}
 use Rattle.board.specs.declared.Board.{Board}
 use Rattle.board.specs.declared.Outcome.the-variants.{Done}
-use Rattle.board.specs.Alien.{stacked, boardOf, isAlien}
+use Rattle.board.specs.Alien.{stacked, borderCountOf, boardOf, isAlien}
 use Rattle.board.specs.Board.{returned, pushed, decideOf, undoOf, Typed}
 use Rattle.board.specs.View.{statesOf, sideIn, literalIn, literalsOf}
 use Rattle.board.specs.NativeLaws.{Native, native-has, borders-fit, free-unstacked}
@@ -31,7 +30,7 @@ literal-same bs cs m n e p =
     ap (literalIn bs) e ∙ (λ i. record { border = n; side = ap sideIn p i })
 
 -- ---- a decide puts its literal last
-module _ (b : Board) (N : Native b) (T : Typed b) (l : Literal) (k : l .border < borderCount (b .height) (b .width))
+module _ (b : Board) (N : Native b) (T : Typed b) (l : Literal) (k : l .border < borderCountOf b)
     (p : getD (b .borders) (l .border) 0 ≡ 0) where
   abbrev pub v : ℕ
   v = codeOf (l .side)

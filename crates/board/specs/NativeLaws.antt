@@ -2,7 +2,7 @@
 use mathlib.Core.Path.{_≡_, refl, ap, sym, _∙_}
 use mathlib.Core.Bool.{Bool, true, false, not, _&&_, _||_, Bool·beq, false≢true}
 use mathlib.Core.List.{List}
-use Prim.Native.Nat.{ℕ, zero, suc, _-_, _*_, _<_, _≤_}
+use Prim.Native.Nat.{ℕ, zero, suc, _-_, _<_, _≤_}
 use native.Mathlib.Numerals.{add-one}
 use native.Mathlib.Decide.{decLt}
 use native.Mathlib.Omega.{arith}
@@ -14,30 +14,33 @@ use Rattle.lists.specs.Count.{countBelow}
 use Rattle.lists.specs.Booleans.{and-left, and-right, beq-eq, eq-beq, T-true}
 use Rattle.lists.specs.TestLaws.{all-at, all-every, between-at, between-every}
 use Rattle.lists.specs.CountLaws.{count-cong, count-none, count-lt, count-more, count-not}
-use Rattle.rules.specs.Flat.{Sized, borderCount}
-use Rattle.laws.specs.FlatLaws.{borders-le}
+use Rattle.rules.specs.Flat.{Sized}
+use Rattle.laws.specs.FlatLaws.{counts, borders-le}
 use Rattle.board.specs.declared.Board.{Board}
 use Rattle.board.specs.Alien.{sizeRight, coloursRight, clueRight, cluesRight, stacked, entriesRight, onceEach}
 use Rattle.board.specs.Alien.{borderRight, bordersRight, zerosFrom, clueZero, zeroCluesFrom, cellsIn}
-use Rattle.board.specs.Alien.{cellsRight, decisionsIn, decisionsRight, unusedIn, unusedZero, isAlien}
+use Rattle.board.specs.Alien.{decisionsIn, unusedIn, cellCountOf, borderCountOf, cellsRight, decisionsRight}
+use Rattle.board.specs.Alien.{unusedZero, isAlien}
+use Rattle.board.specs.Board.{numberOf, decideRefusal}
 use Rattle.board.specs.ConditionLaws.{sized, size-is, stacked-none, stacked-more}
+use Rattle.board.specs.Cases.{refusal-free}
 
 pub record Native (b : Board) : Type 0 where
   pub size : Sized (b .height) (b .width)
-  pub colour : (i : ℕ) → i < b .height * b .width → getD (b .colours) i 0 ≤ 1
-  pub clue : (i : ℕ) → i < b .height * b .width → clueRight (getD (b .clues) i (pos 0)) ≡ true
-  pub few : b .count ≤ borderCount (b .height) (b .width)
+  pub colour : (i : ℕ) → i < cellCountOf b → getD (b .colours) i 0 ≤ 1
+  pub clue : (i : ℕ) → i < cellCountOf b → clueRight (getD (b .clues) i (pos 0)) ≡ true
+  pub few : b .count ≤ borderCountOf b
   -- each entry of the stack is a border, and no earlier entry
-  pub entry : (i : ℕ) → i < b .count → getD (b .stack) i 0 < borderCount (b .height) (b .width)
+  pub entry : (i : ℕ) → i < b .count → getD (b .stack) i 0 < borderCountOf b
   pub once : (i : ℕ) → i < b .count → stacked (b .stack) i (getD (b .stack) i 0) ≡ false
   -- a border is undecided, wall or open, and undecided exactly where it is not on the stack
-  pub code : (x : ℕ) → x < borderCount (b .height) (b .width) → getD (b .borders) x 0 ≤ 2
-  pub held : (x : ℕ) → x < borderCount (b .height) (b .width)
+  pub code : (x : ℕ) → x < borderCountOf b → getD (b .borders) x 0 ≤ 2
+  pub held : (x : ℕ) → x < borderCountOf b
       → eqb (getD (b .borders) x 0) 0 ≡ not (stacked (b .stack) (b .count) x)
   -- unused places, and what is read past the end
-  pub noColour : (i : ℕ) → b .height * b .width ≤ i → getD (b .colours) i 0 ≡ 0
-  pub noClue : (i : ℕ) → b .height * b .width ≤ i → getD (b .clues) i (pos 0) ≡ pos 0
-  pub noBorder : (x : ℕ) → borderCount (b .height) (b .width) ≤ x → getD (b .borders) x 0 ≡ 0
+  pub noColour : (i : ℕ) → cellCountOf b ≤ i → getD (b .colours) i 0 ≡ 0
+  pub noClue : (i : ℕ) → cellCountOf b ≤ i → getD (b .clues) i (pos 0) ≡ pos 0
+  pub noBorder : (x : ℕ) → borderCountOf b ≤ x → getD (b .borders) x 0 ≡ 0
   pub noEntry : (i : ℕ) → b .count ≤ i → getD (b .stack) i 0 ≡ 0
 
 -- ---- places that are 0
@@ -73,10 +76,10 @@ zero-clues-of l from f = between-every from (length l) _ (λ i h k. rw (f i h))
 -- ---- the test's two directions
 module _ (b : Board) where
   cells : ℕ
-  cells = b .height * b .width
+  cells = cellCountOf b
 
   m : ℕ
-  m = borderCount (b .height) (b .width)
+  m = borderCountOf b
 
   has-cells : sizeRight (b .height) (b .width) ≡ true → cellsRight b ≡ true → decisionsRight b ≡ true
       → unusedZero b ≡ true → Native b
@@ -142,9 +145,9 @@ module _ (b : Board) where
     unfolding cellsIn coloursRight cluesRight
     cells-hold =
         rw (
-          all-every (b .height * b .width) (λ i. leb (getD (b .colours) i 0) 1)
+          all-every (cellCountOf b) (λ i. leb (getD (b .colours) i 0) 1)
               (λ i h. le-leb (getD (b .colours) i 0) 1 (N .colour i h)),
-          all-every (b .height * b .width) (λ i. clueRight (getD (b .clues) i (pos 0))) (N .clue),
+          all-every (cellCountOf b) (λ i. clueRight (getD (b .clues) i (pos 0))) (N .clue),
         )
 
     decisions-hold : decisionsRight b ≡ true
@@ -165,9 +168,9 @@ module _ (b : Board) where
     unfolding unusedIn
     unused-hold =
         rw (
-          zeros-of (b .colours) (b .height * b .width) (N .noColour),
-          zero-clues-of (b .clues) (b .height * b .width) (N .noClue),
-          zeros-of (b .borders) (borderCount (b .height) (b .width)) (N .noBorder),
+          zeros-of (b .colours) (cellCountOf b) (N .noColour),
+          zero-clues-of (b .clues) (cellCountOf b) (N .noClue),
+          zeros-of (b .borders) (borderCountOf b) (N .noBorder),
           zeros-of (b .stack) (b .count) (N .noEntry),
         )
 
@@ -177,15 +180,18 @@ module _ (b : Board) where
 
 -- ---- how many borders are on the stack
 module _ (b : Board) (N : Native b) where
-  pub borders-fit : borderCount (b .height) (b .width) ≤ 1984
+  pub cells-fit : cellCountOf b ≤ 1024
+  cells-fit = counts (N .size) .cells
+
+  pub borders-fit : borderCountOf b ≤ 1984
   borders-fit = borders-le (N .size)
 
   -- so many borders are among the first k entries
   stack-counts : (k : ℕ) → k ≤ b .count
-      → countBelow (borderCount (b .height) (b .width)) (λ x. stacked (b .stack) k x) ≡ k
+      → countBelow (borderCountOf b) (λ x. stacked (b .stack) k x) ≡ k
   stack-counts zero h = count-none _ _ (λ i q. stacked-none (b .stack) i)
   stack-counts (suc k) h =
-      let m = borderCount (b .height) (b .width) in
+      let m = borderCountOf b in
       let s = b .stack in
       let a : countBelow m (λ x. stacked s k x) ≡ k = stack-counts k (omega arith) in
       let e : countBelow m (λ x. stacked s (suc k) x) ≡ countBelow m (λ x. stacked s k x || eqb (getD s k 0) x) =
@@ -196,26 +202,34 @@ module _ (b : Board) (N : Native b) where
       omega arith
 
   -- an undecided border is not on the stack
-  pub free-unstacked : (x : ℕ) → x < borderCount (b .height) (b .width) → getD (b .borders) x 0 ≡ 0
+  pub free-unstacked : (x : ℕ) → x < borderCountOf b → getD (b .borders) x 0 ≡ 0
       → stacked (b .stack) (b .count) x ≡ false
   free-unstacked x h p =
       not-true (stacked (b .stack) (b .count) x) (sym (N .held x h) ∙ eq-eqb (getD (b .borders) x 0) 0 p)
 
   -- and leaves room for one more entry
-  pub room : (x : ℕ) → x < borderCount (b .height) (b .width) → getD (b .borders) x 0 ≡ 0
-      → b .count < borderCount (b .height) (b .width)
+  pub room : (x : ℕ) → x < borderCountOf b → getD (b .borders) x 0 ≡ 0
+      → b .count < borderCountOf b
   room x h p =
       omega (
         arith,
         stack-counts (b .count) (omega arith),
-        count-lt (borderCount (b .height) (b .width)) (λ y. stacked (b .stack) (b .count) y) x h (free-unstacked x h p),
+        count-lt (borderCountOf b) (λ y. stacked (b .stack) (b .count) y) x h (free-unstacked x h p),
       )
 
+  -- a decide that is not refused has its places in both arrays
+  pub free-places : (n : ℕ) → numberOf (decideRefusal (borderCountOf b) (b .borders) n) ≡ 0
+      → (n < 1984) × (b .count < 1984)
+  free-places n e =
+      let f = refusal-free (borderCountOf b) (b .borders) n e in
+      let k = borders-fit in
+      (omega (arith, f .0), omega (arith, room n (f .0) (f .1)))
+
   -- the undecided borders are those that are not on the stack
-  pub free-count : countBelow (borderCount (b .height) (b .width)) (λ x. eqb (getD (b .borders) x 0) 0)
-      ≡ borderCount (b .height) (b .width) - b .count
+  pub free-count : countBelow (borderCountOf b) (λ x. eqb (getD (b .borders) x 0) 0)
+      ≡ borderCountOf b - b .count
   free-count =
-      let m = borderCount (b .height) (b .width) in
+      let m = borderCountOf b in
       let a =
       count-cong m (λ x. eqb (getD (b .borders) x 0) 0) (λ x. not (stacked (b .stack) (b .count) x)) (N .held) in
       let d = count-not m (λ x. stacked (b .stack) (b .count) x) in

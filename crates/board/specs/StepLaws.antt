@@ -12,14 +12,15 @@ use lib.ListN.{getD}
 use Rattle.lists.specs.Table.{table}
 use Rattle.lists.specs.TableLaws.{table-more}
 use Rattle.rules.specs.declared.Literal.{Literal}
-use Rattle.rules.specs.Flat.{flat, borderCount}
+use Rattle.rules.specs.Flat.{flat}
 use Rattle.rules.specs.Codes.{codeOf}
 use Rattle.rules.specs.Book.{Reply, refused, done, bareOr, withLast, withoutLast, decideReply, decideAfter}
 use Rattle.board.specs.declared.Board.{Board}
 use Rattle.board.specs.declared.Outcome.the-variants.{Done, Border, Taken}
-use Rattle.board.specs.Alien.{isAlien}
-use Rattle.board.specs.Board.{returned, pushed, decideOf, undoOf, Typed}
+use Rattle.board.specs.Alien.{borderCountOf, isAlien}
+use Rattle.board.specs.Board.{pushed, decideRefusal, endedBy, decideOf, undoOf, Typed}
 use Rattle.board.specs.View.{puzzleOf, literalIn, literalsOf, replyOf}
+use Rattle.rules.specs.Codes.{puzzleIn}
 use Rattle.board.specs.Cases.{undo-bare, undo-done, decide-done}
 use Rattle.board.specs.NativeLaws.{native-has}
 use Rattle.board.specs.DecideLaws.{decide-keeps, decided-typed, undo-keeps, undone-typed}
@@ -36,14 +37,13 @@ module _ (b : Board) (t : isAlien b ≡ false) where
   -- ---- decide
   module _ (l : Literal) where
     pub decide-reply : replyOf (decideOf b l .outcome) ≡ decideReply (puzzleOf b) (literalsOf b) l
-    unfolding decideOf decideReply puzzleOf flat
+    unfolding decideOf decideRefusal decideReply puzzleOf flat
     decide-reply =
         rw (t, names-decided b (native-has b t) (l .border))
-        (go (ltb (l .border) (borderCount (b .height) (b .width))) (eqb (getD (b .borders) (l .border) 0) 0))
+        (go (ltb (l .border) (borderCountOf b)) (eqb (getD (b .borders) (l .border) 0) 0))
       where
         go : (x y : Bool)
-            → replyOf (cond x (cond y (returned Done (pushed b (l .border) (codeOf (l .side)))) (returned Taken b))
-            (returned Border b) .outcome)
+            → replyOf (cond x (cond y Done Taken) Border)
             ≡ cond x (cond (not y) (refused 7) done) (refused 6)
         go true true = refl
         go true false = refl
@@ -52,17 +52,17 @@ module _ (b : Board) (t : isAlien b ≡ false) where
 
     module _ (T : Typed b) where
       pub decide-after : literalsOf (decideOf b l .board) ≡ decideAfter (puzzleOf b) (literalsOf b) l
-      unfolding decideOf decideAfter puzzleOf flat
+      unfolding decideOf decideRefusal decideAfter puzzleOf flat
       decide-after =
           rw (t, names-decided b (native-has b t) (l .border))
           (go (ltb (l .border) m) (eqb (getD (b .borders) (l .border) 0) 0) refl refl)
         where
           m : ℕ
-          m = borderCount (b .height) (b .width)
+          m = borderCountOf b
 
           go : (x y : Bool) → ltb (l .border) m ≡ x → eqb (getD (b .borders) (l .border) 0) 0 ≡ y
-              → literalsOf (cond x (cond y (returned Done (pushed b (l .border) (codeOf (l .side)))) (returned Taken b))
-              (returned Border b) .board)
+              → literalsOf (endedBy b (pushed b (l .border) (codeOf (l .side))) (cond x (cond y Done Taken) Border)
+              .board)
               ≡ cond x (cond (not y) (literalsOf b) (withLast (literalsOf b) l)) (literalsOf b)
           go true true p q =
               pushed-literals b (native-has b t) T l (ltb-true (l .border) m p)
@@ -72,19 +72,18 @@ module _ (b : Board) (t : isAlien b ≡ false) where
           go false false p q = refl
 
       pub decide-kept : Kept b (decideOf b l .board)
-      unfolding decideOf
+      unfolding decideOf decideRefusal
       decide-kept =
           rw t (go (ltb (l .border) m) (eqb (getD (b .borders) (l .border) 0) 0) refl refl)
         where
           m : ℕ
-          m = borderCount (b .height) (b .width)
+          m = borderCountOf b
 
           same : Kept b b
           same = record { known = t; typed = T; puzzle = refl }
 
           go : (x y : Bool) → ltb (l .border) m ≡ x → eqb (getD (b .borders) (l .border) 0) 0 ≡ y
-              → Kept b (cond x (cond y (returned Done (pushed b (l .border) (codeOf (l .side)))) (returned Taken b))
-              (returned Border b) .board)
+              → Kept b (endedBy b (pushed b (l .border) (codeOf (l .side))) (cond x (cond y Done Taken) Border) .board)
           go true true p q =
               let e =
               sym (decide-done b l t (ltb-true (l .border) m p) (eqb-true (getD (b .borders) (l .border) 0) 0 q)) in

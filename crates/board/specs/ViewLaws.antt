@@ -19,14 +19,14 @@ use Rattle.rules.specs.declared.Side.{Side}
 use Rattle.rules.specs.declared.Side.the-variants.{Wall, Open}
 use Rattle.rules.specs.declared.Literal.{Literal}
 use Rattle.rules.specs.Page.{State, undecided, decided, isUndecided}
-use Rattle.rules.specs.Flat.{flat, borderCount}
+use Rattle.rules.specs.Flat.{flat}
 use Rattle.rules.specs.Codes.{stateOf, codeOf, statesIn, coloursIn, clueOf, cluesIn, puzzleIn}
 use Rattle.rules.specs.Check.{undecidedCount}
 use Rattle.rules.specs.Book.{states, names}
 use Rattle.laws.specs.BookLaws.{states-none}
 use Rattle.board.specs.declared.Board.{Board}
 use Rattle.board.specs.declared.Outcome.the-variants.{Done}
-use Rattle.board.specs.Alien.{stacked}
+use Rattle.board.specs.Alien.{stacked, borderCountOf}
 use Rattle.board.specs.Board.{freshBoard, returned, decideOf, undoOf}
 use Rattle.board.specs.View.{puzzleOf, statesOf, sideIn, literalIn, literalsOf}
 use Rattle.board.specs.NativeLaws.{Native, free-count}
@@ -102,23 +102,23 @@ stacked-at s n i h = any-some n _ i h (eq-eqb (getD s i 0) (getD s i 0) refl)
 
 module _ (b : Board) (N : Native b) where
   pub code-small : (x : ℕ) → getD (b .borders) x 0 ≤ 2
-  code-small x = go (decLt x (borderCount (b .height) (b .width)))
+  code-small x = go (decLt x (borderCountOf b))
     where
-      go : Dec (x < borderCount (b .height) (b .width)) → getD (b .borders) x 0 ≤ 2
+      go : Dec (x < borderCountOf b) → getD (b .borders) x 0 ≤ 2
       go (yes h) = N .code x h
       go (no h) = let e = N .noBorder x (omega arith) in omega arith
 
   stacked-is : (x : ℕ) → stacked (b .stack) (b .count) x ≡ not (eqb (getD (b .borders) x 0) 0)
   unfolding stacked
-  stacked-is x = go (decLt x (borderCount (b .height) (b .width)))
+  stacked-is x = go (decLt x (borderCountOf b))
     where
-      far : borderCount (b .height) (b .width) ≤ x → stacked (b .stack) (b .count) x ≡ false
+      far : borderCountOf b ≤ x → stacked (b .stack) (b .count) x ≡ false
       far h =
           any-fails (b .count) _
           (λ i l.
           ne-eqb (getD (b .stack) i 0) x (λ z. let q : getD (b .stack) i 0 ≡ x = z in omega (arith, N .entry i l)))
 
-      go : Dec (x < borderCount (b .height) (b .width))
+      go : Dec (x < borderCountOf b)
           → stacked (b .stack) (b .count) x ≡ not (eqb (getD (b .borders) x 0) 0)
       go (yes h) = sym (ap not (N .held x h) ∙ Bool·not-not (stacked (b .stack) (b .count) x))
       go (no h) = far (omega arith) ∙ sym (ap (λ v. not (eqb v 0)) (N .noBorder x (omega arith)))
@@ -157,9 +157,9 @@ module _ (b : Board) (N : Native b) where
           (not-false (eqb (getD (b .borders) x 0) 0) (sym (names-decided x) ∙ e))))
 
   -- ---- the count of undecided borders
-  pub undecided-is : undecidedCount (puzzleOf b) (statesOf b) ≡ borderCount (b .height) (b .width) - b .count
+  pub undecided-is : undecidedCount (puzzleOf b) (statesOf b) ≡ borderCountOf b - b .count
   unfolding undecidedCount puzzleOf statesOf statesIn flat
   undecided-is =
-      count-cong (borderCount (b .height) (b .width)) (λ x. isUndecided (statesIn (b .borders) x))
+      count-cong (borderCountOf b) (λ x. isUndecided (statesIn (b .borders) x))
       (λ x. eqb (getD (b .borders) x 0) 0) (λ x h. free-zero (getD (b .borders) x 0) (code-small x))
       ∙ free-count b N

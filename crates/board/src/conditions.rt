@@ -4,26 +4,10 @@ ghost use mathlib.Core.Bool.{false};
 ghost use Prim.Native.Nat.{ℕ, _<_, _≤_};
 ghost use lib.Dec.{eqb};
 ghost use lib.ListN.{length, getD, replicate};
-ghost use Rattle.board.specs.Alien.{sizeRight, coloursRight, clueRight, cluesRight, entriesRight, Flags};
+ghost use Rattle.board.specs.Alien.{coloursRight, clueRight, cluesRight, entriesRight, Flags};
 ghost use Rattle.board.specs.Alien.{borderRight, bordersBy, zerosFrom, clueZero, zeroCluesFrom};
 use crate::Board;
 use rules::index;
-
-// Whether height and width are 1 to 32.
-pub fn size_right(h: usize, w: usize) -> bool
-    ensures { λ r. ⌜ r ≡ sizeRight h w ⌝ }
-{
-    if h < 1 {
-        return false;
-    }
-    if h > Board::SIDE_LIMIT {
-        return false;
-    }
-    if w < 1 {
-        return false;
-    }
-    w <= Board::SIDE_LIMIT
-}
 
 // Whether the first n colours are 0 or 1. Here and below there is no exit at the first wrong place: the loop then takes
 // many at a time.

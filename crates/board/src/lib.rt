@@ -3,16 +3,17 @@ ghost use mathlib.Core.Path.{_≡_};
 ghost use Prim.Native.Nat.{_-_, _<_, _≤_};
 ghost use lib.ListN.{getD};
 ghost use Rattle.rules.specs.Codes.{codeOf};
-ghost use Rattle.rules.specs.Flat.{Sized};
 ghost use Rattle.board.specs.Board.{numberOf, zeroBoard, returned, freshOf};
-ghost use Rattle.board.specs.Board.{pushed, popped, decideOf, undoOf, countAfter};
-ghost use Rattle.board.specs.Alien.{cellsOf, bordersOf, cellsIn, decisionsIn, unusedIn, boardOf, isAlien};
+ghost use Rattle.board.specs.Board.{pushed, popped, decideOf, countAfter, undoOf};
+ghost use Rattle.board.specs.Alien.{sizeRight, cellsOf, bordersOf, cellsIn, decisionsIn, unusedIn, boardOf};
+ghost use Rattle.board.specs.Alien.{isAlien};
 use rules::Literal;
 use rules::Side;
 use rules::index;
 
-mod conditions; // conditions.rt: the conditions on sizes, colours, clues, stack entries, borders and unused places
+mod conditions; // conditions.rt: the conditions on colours, clues, stack entries, borders and unused places
 mod padding; // padding.rt: a puzzle's lists as arrays
+pub mod refusals; // refusals.rt: how making a board, a decide and an undo end, by the tests that code shares
 
 pub struct Board {
     pub height: usize,
@@ -72,22 +73,34 @@ pub fn code(s: Side) -> u8
     }
 }
 
+// Whether height and width are 1 to 32.
+pub fn size_right(h: usize, w: usize) -> bool
+    ensures { λ r. ⌜ r ≡ sizeRight h w ⌝ }
+{
+    if h < 1 {
+        return false;
+    }
+    if h > Board::SIDE_LIMIT {
+        return false;
+    }
+    if w < 1 {
+        return false;
+    }
+    w <= Board::SIDE_LIMIT
+}
+
 // How many cells a page of that size has; 0 where it is no page's.
 pub fn cell_count(h: usize, w: usize) -> usize
     ensures { λ r. ⌜ r ≡ cellsOf h w ⌝ }
 {
-    if conditions::size_right(h, w) {
-        h * w
-    } else {
-        0
-    }
+    if size_right(h, w) { h * w } else { 0 }
 }
 
 // How many borders a page of that size has; 0 where it is no page's.
 pub fn border_count(h: usize, w: usize) -> usize
     ensures { λ r. ⌜ r ≡ bordersOf h w ⌝ }
 {
-    if conditions::size_right(h, w) {
+    if size_right(h, w) {
         h * (w - 1) + (h - 1) * w
     } else {
         0
@@ -103,17 +116,15 @@ fn refused(outcome: Outcome) -> Returned
     }
 }
 
-// Whether every cell has a right colour and a right clue.
+// Whether so many cells have a right colour and a right clue.
 fn cells_right<'a>(
-    h: usize,
-    w: usize,
+    cells: usize,
     colours: &'a [u8; Board::CELL_LIMIT],
     clues: &'a [i32; Board::CELL_LIMIT],
 ) -> bool
-    requires { ⌜ Sized h w ⌝ }
-    ensures { λ r. ⌜ r ≡ cellsIn h w (now (colours .entry)) (now (clues .entry)) ⌝ }
+    requires { ⌜ cells ≤ 1024 ⌝ }
+    ensures { λ r. ⌜ r ≡ cellsIn cells (now (colours .entry)) (now (clues .entry)) ⌝ }
 {
-    let cells = cell_count(h, w);
     if conditions::colours_right(colours, cells) {
         conditions::clues_right(clues, cells)
     } else {
@@ -121,18 +132,16 @@ fn cells_right<'a>(
     }
 }
 
-// Whether the stack has each decided border once, and nothing else.
+// Whether the stack has each decided one of so many borders once, and nothing else.
 fn decisions_right<'a>(
-    h: usize,
-    w: usize,
+    total: usize,
     borders: &'a [u8; Board::BORDER_LIMIT],
     stack: &'a [u16; Board::BORDER_LIMIT],
     count: usize,
 ) -> bool
-    requires { ⌜ Sized h w ⌝ }
-    ensures { λ r. ⌜ r ≡ decisionsIn h w (now (borders .entry)) (now (stack .entry)) count ⌝ }
+    requires { ⌜ total ≤ 1984 ⌝ }
+    ensures { λ r. ⌜ r ≡ decisionsIn total (now (borders .entry)) (now (stack .entry)) count ⌝ }
 {
-    let total = border_count(h, w);
     if total < count {
         return false;
     }
@@ -145,22 +154,19 @@ fn decisions_right<'a>(
     false
 }
 
-// Whether every unused place is 0.
+// Whether every place is 0 that the cells, the borders and the stack do not use.
 fn unused_zero<'a>(
-    h: usize,
-    w: usize,
+    cells: usize,
+    total: usize,
     colours: &'a [u8; Board::CELL_LIMIT],
     clues: &'a [i32; Board::CELL_LIMIT],
     borders: &'a [u8; Board::BORDER_LIMIT],
     stack: &'a [u16; Board::BORDER_LIMIT],
     count: usize,
 ) -> bool
-    requires { ⌜ Sized h w ⌝ }
-    ensures { λ r. ⌜ r ≡ unusedIn h w (now (colours .entry)) (now (clues .entry)) (now (borders .entry))
+    ensures { λ r. ⌜ r ≡ unusedIn cells total (now (colours .entry)) (now (clues .entry)) (now (borders .entry))
         (now (stack .entry)) count ⌝ }
 {
-    let cells = cell_count(h, w);
-    let total = border_count(h, w);
     if conditions::zeros_from(colours, cells) {
         if conditions::zero_clues_from(clues, cells) {
             if conditions::zeros_from(borders, total) {
@@ -189,10 +195,12 @@ pub fn is_alien<'a>(
     ensures { λ r. ⌜ r ≡ isAlien (boardOf h w (now (colours .entry)) (now (clues .entry)) (now (borders .entry))
         (now (stack .entry)) count) ⌝ }
 {
-    if conditions::size_right(h, w) {
-        if cells_right(h, w, colours, clues) {
-            if decisions_right(h, w, borders, stack, count) {
-                !unused_zero(h, w, colours, clues, borders, stack, count)
+    if size_right(h, w) {
+        let cells = cell_count(h, w);
+        let total = border_count(h, w);
+        if cells_right(cells, colours, clues) {
+            if decisions_right(total, borders, stack, count) {
+                !unused_zero(cells, total, colours, clues, borders, stack, count)
             } else {
                 true
             }
@@ -225,16 +233,14 @@ pub fn decide_lent<'a>(
         return Outcome::Alien;
     }
     let n = l.border;
-    if border_count(h, w) <= n {
-        return Outcome::Border;
-    }
-    if borders[n] != 0 {
-        return Outcome::Taken;
+    let outcome = refusals::decide_refusal(border_count(h, w), borders, n);
+    if number(outcome) != 0 {
+        return outcome;
     }
     let side = l.side;
     borders[n] = code(side);
     stack[count] = n as u16;
-    Outcome::Done
+    outcome
 }
 
 impl Board {
@@ -263,37 +269,21 @@ impl Board {
     pub fn fresh(height: usize, width: usize, colours: &[u8], clues: &[i32]) -> Returned
         ensures { λ r. ⌜ r ≡ freshOf height width (now (colours .entry)) (now (clues .entry)) ⌝ }
     {
-        if conditions::size_right(height, width) {
-            let cells = cell_count(height, width);
-            if colours.len() != cells {
-                return refused(Outcome::Ragged);
+        if size_right(height, width) {
+            let outcome = refusals::puzzle_refusal(cell_count(height, width), colours, clues);
+            if number(outcome) != 0 {
+                return refused(outcome);
             }
-            if clues.len() != cells {
-                return refused(Outcome::Ragged);
-            }
-            if conditions::colours_right(colours, cells) {
-                if conditions::clues_right(clues, cells) {
-                    let c = padding::padded_colours(colours);
-                    let k = padding::padded_clues(clues);
-                    let board = Board {
-                        height,
-                        width,
-                        colours: c,
-                        clues: k,
-                        borders: [0u8; Board::BORDER_LIMIT],
-                        stack: [0u16; Board::BORDER_LIMIT],
-                        count: 0,
-                    };
-                    Returned {
-                        outcome: Outcome::Done,
-                        board,
-                    }
-                } else {
-                    refused(Outcome::Clue)
-                }
-            } else {
-                refused(Outcome::Colour)
-            }
+            let board = Board {
+                height,
+                width,
+                colours: padding::padded_colours(colours),
+                clues: padding::padded_clues(clues),
+                borders: [0u8; Board::BORDER_LIMIT],
+                stack: [0u16; Board::BORDER_LIMIT],
+                count: 0,
+            };
+            Returned { outcome, board }
         } else {
             refused(Outcome::Size)
         }
@@ -352,21 +342,17 @@ impl Board {
             };
         }
         let n = l.border;
-        if border_count(self.height, self.width) <= n {
+        let total = border_count(self.height, self.width);
+        let outcome = refusals::decide_refusal(total, &self.borders, n);
+        if number(outcome) != 0 {
             return Returned {
-                outcome: Outcome::Border,
-                board: self,
-            };
-        }
-        if self.borders[n] != 0 {
-            return Returned {
-                outcome: Outcome::Taken,
+                outcome,
                 board: self,
             };
         }
         let side = l.side;
         Returned {
-            outcome: Outcome::Done,
+            outcome,
             board: self.push(n, code(side)),
         }
     }
@@ -381,14 +367,15 @@ impl Board {
                 board: self,
             };
         }
-        if self.count == 0 {
+        let outcome = refusals::undo_refusal(self.count);
+        if number(outcome) != 0 {
             return Returned {
-                outcome: Outcome::Bare,
+                outcome,
                 board: self,
             };
         }
         Returned {
-            outcome: Outcome::Done,
+            outcome,
             board: self.pop(),
         }
     }

@@ -1,6 +1,6 @@
 -- The number of an answer tells the answer.
 --
---   outcomeOf v       the refusal with the number v
+--   outcomeOf v       the refusal with the number v; done where none has it
 --   answerFrom v      the answer with the number v
 --   InRange a         the counts that a call can give, and a refusal that is one
 --   check-count       a pass gives the count of undecided borders
@@ -10,13 +10,13 @@
 --   number-once       two answers with one number are equal
 use mathlib.Core.Path.{_≡_, refl, ap, sym, _∙_}
 use mathlib.Core.Bool.{Bool, true, false, cond}
-use mathlib.Core.List.{List, [], _∷_}
+use mathlib.Core.List.{List}
 use mathlib.Core.Option.{Option, some, none}
 use Prim.Native.Nat.{ℕ, _+_, _-_, _<_, _≤_}
 use native.Mathlib.Omega.{arith}
 use borrow.Author.Tests.{eqb-false, ne-eqb, lt-ltb, le-ltb}
 use lib.Dec.{eqb, ltb}
-use lib.ListN.{length, getD}
+use lib.ListN.{length}
 use Rattle.lists.specs.CountLaws.{count-le}
 use Rattle.rules.specs.declared.Call.{Call}
 use Rattle.rules.specs.declared.Call.the-variants.{Decide, Undo, Check}
@@ -39,7 +39,15 @@ use Rattle.calls.specs.CallLaws.{reason-short}
 
 unfoldable pub outcomeOf : ℕ → Outcome
 outcomeOf v =
-    getD (Fine ∷ Size ∷ Ragged ∷ Colour ∷ Clue ∷ Alien ∷ Border ∷ Taken ∷ Bare ∷ Short ∷ []) v Fine
+    cond (eqb v 1) Size
+    (cond (eqb v 2) Ragged
+    (cond (eqb v 3) Colour
+    (cond (eqb v 4) Clue
+    (cond (eqb v 5) Alien
+    (cond (eqb v 6) Border
+    (cond (eqb v 7) Taken
+    (cond (eqb v 8) Bare
+    (cond (eqb v 9) Short Fine))))))))
 
 unfoldable pub answerFrom : ℕ → Answer
 answerFrom v =

@@ -21,7 +21,7 @@ use Rattle.rules.specs.declared.Literal.{Literal}
 use Rattle.rules.specs.declared.Call.{Call}
 use Rattle.rules.specs.declared.Call.the-variants.{Decide, Undo, Check}
 use Rattle.rules.specs.Page.{Puzzle}
-use Rattle.rules.specs.Flat.{flat, borderCount}
+use Rattle.rules.specs.Flat.{flat}
 use Rattle.rules.specs.Codes.{codeOf}
 use Rattle.rules.specs.Book.{Reply, names, withLast, withoutLast, decideAfter, reply, afterCall, after}
 use Rattle.rules.specs.Book.{sequenceFrom, repliesFrom}
@@ -29,8 +29,8 @@ use Rattle.laws.specs.BookLaws.{without-last}
 use Rattle.board.specs.declared.Board.{Board}
 use Rattle.board.specs.declared.Outcome.the-variants.{Done, Border, Taken}
 use Rattle.board.specs.declared.Returned.{Returned}
-use Rattle.board.specs.Alien.{isAlien}
-use Rattle.board.specs.Board.{returned, pushed, decideOf, undoOf, Typed}
+use Rattle.board.specs.Alien.{borderCountOf, isAlien}
+use Rattle.board.specs.Board.{returned, pushed, decideRefusal, endedBy, decideOf, undoOf, Typed}
 use Rattle.board.specs.Accepted.{decidesOf}
 use Rattle.board.specs.View.{puzzleOf, literalsOf}
 use Rattle.board.specs.Cases.{decide-done, undo-bare}
@@ -86,13 +86,13 @@ module _ (start : Board) (S : Bare start) where
 
   -- ---- one call
   borders-are : (b : Board) → puzzleOf b ≡ puzzleOf start
-      → puzzleOf start .page .borders ≡ borderCount (b .height) (b .width)
+      → puzzleOf start .page .borders ≡ borderCountOf b
   unfolding puzzleOf flat
   borders-are b e = ap (λ (Z : Puzzle). Z .page .borders) (sym e)
 
   built-decide : {ls : List Literal} {b : Board} → Built start ls b → (l : Literal)
       → Built start (decideAfter (puzzleOf start) ls l) (decideOf b l .board)
-  unfolding decideOf decideAfter
+  unfolding decideOf decideRefusal decideAfter
   built-decide {ls} {b} B l =
       let f = built-facts B in
       let named : names ls (l .border) ≡ not (eqb (getD (b .borders) (l .border) 0) 0) =
@@ -101,12 +101,11 @@ module _ (start : Board) (S : Bare start) where
       (go (f .known) (ltb (l .border) m) (eqb (getD (b .borders) (l .border) 0) 0) refl refl)
     where
       m : ℕ
-      m = borderCount (b .height) (b .width)
+      m = borderCountOf b
 
       go : isAlien b ≡ false → (x y : Bool) → ltb (l .border) m ≡ x → eqb (getD (b .borders) (l .border) 0) 0 ≡ y
           → Built start (cond x (cond (not y) ls (withLast ls l)) ls)
-          (cond x (cond y (returned Done (pushed b (l .border) (codeOf (l .side)))) (returned Taken b))
-          (returned Border b) .board)
+          (endedBy b (pushed b (l .border) (codeOf (l .side))) (cond x (cond y Done Taken) Border) .board)
       go t true true p q =
           more l (pushed b (l .border) (codeOf (l .side))) B
           (sym (decide-done b l t (ltb-true (l .border) m p) (eqb-true (getD (b .borders) (l .border) 0) 0 q)))

@@ -21,7 +21,7 @@ use Rattle.argument.specs.Demand.{Full, SameSides, BookStoodAt, Passes}
 use Rattle.argument.specs.Witness.{open-solves, wall-fails}
 use Rattle.board.specs.declared.Board.{Board}
 use Rattle.board.specs.Alien.{sizeRight, coloursRight, cluesRight}
-use Rattle.board.specs.Board.{freshOf}
+use Rattle.board.specs.Board.{puzzleRefusal, freshOf}
 use Rattle.board.specs.Accepted.{Accepted, madeBoard}
 use Rattle.demand3.specs.Runs.{Lent, lend}
 use Rattle.demand3.specs.Demand3.{RuledOut, StoodAt}
@@ -39,7 +39,7 @@ abbrev pub start : Board
 start = madeBoard 1 2 cs ks
 
 accepted : Accepted 1 2 cs ks
-unfolding all freshOf sizeRight coloursRight cluesRight allBelow
+unfolding all freshOf puzzleRefusal sizeRight coloursRight cluesRight allBelow
 accepted = record { small = small-clues ks refl; made = refl }
 
 -- the border's side, as a literal and as a setting

@@ -36,7 +36,7 @@ use Rattle.rules.specs.Book.{Asked, ask, Reply, refused, done, answered, states
 use Rattle.rules.specs.Book.{decideAfter, replyTo, afterCall, repliesFrom, replies}
 use Rattle.board.specs.declared.Outcome.the-variants.{Done}
 use Rattle.board.specs.Alien.{sizeRight, coloursRight, cluesRight}
-use Rattle.board.specs.Board.{freshOf, Small}
+use Rattle.board.specs.Board.{puzzleRefusal, freshOf, Small}
 use Rattle.board.specs.Accepted.{madeBoard}
 use Rattle.demand3.specs.Runs.{lend, askedBy, toldBy, runFrom}
 use Rattle.demand3.specs.Demand3Laws.{demand3}
@@ -120,7 +120,7 @@ unfolding filter any all orElse flatMap firstHit countBelow _⊕_ opposite state
     transformsOf placements farWallsAt farWalls unitReason unitHitIn unitHitOn unitHit hit undecidedCount flat cellAt
     rightOf belowOf borderCount hopIf hopAbove hopBelow hopLeft hopRight aroundAt aheadAt flatFirst flatSecond
     flatPlace flatReadsAt flatReads states names withoutLast decideReply decideAfter replyTo afterCall
-    repliesFrom freshOf sizeRight coloursRight cluesRight allBelow
+    repliesFrom freshOf puzzleRefusal sizeRight coloursRight cluesRight allBelow
 small-runs =
     record {
       one-cell-empty = run-answers refl refl refl;

@@ -7,14 +7,14 @@ use native.Mathlib.Omega.{arith}
 use borrow.Author.Tests.{ne-eqb}
 use lib.Dec.{eqb, ltb}
 use lib.ListN.{length, getD}
-use Rattle.rules.specs.Flat.{borderCount}
 use Rattle.rules.specs.Codes.{codeOf}
 use Rattle.board.specs.declared.Board.{Board}
 use Rattle.rules.specs.declared.Literal.{Literal}
 use Rattle.board.specs.declared.Outcome.the-variants.{Done, Alien, Border, Taken, Bare}
 use Rattle.board.specs.declared.Returned.{Returned}
-use Rattle.board.specs.Alien.{isAlien}
-use Rattle.board.specs.Board.{numberOf, returned, pushed, popped, decideOf, undoOf, Typed}
+use Rattle.board.specs.Alien.{borderCountOf, isAlien}
+use Rattle.board.specs.Board.{numberOf, returned, pushed, popped, decideRefusal, endedBy, decideOf, undoRefusal, undoOf}
+use Rattle.board.specs.Board.{Typed}
 use Rattle.board.specs.NativeLaws.{native-has, borders-fit, room}
 use Rattle.board.specs.DecideLaws.{Decided, decided-is, done-returned, Undone, undone-is}
 use Rattle.image.specs.Image.{spelledBoard, imageOf, rightLength, Bytes, sideOf, decideLiteral, ImageCall, decide}
@@ -25,17 +25,16 @@ use Rattle.image.specs.RoundLaws.{image-board, board-typed, long-is}
 -- ---- what a number says of the board
 -- a refused call returns the board given
 pub refused-board : (b : Board) (a : ImageCall) → (numberBy b a ≡ 0 → ⊥) → boardBy b a ≡ b
-unfolding decideOf undoOf
+unfolding decideOf decideRefusal undoOf undoRefusal
 refused-board b (decide n d) h =
-    go (isAlien b) (ltb n (borderCount (b .height) (b .width))) (eqb (getD (b .borders) n 0) 0) h
+    go (isAlien b) (ltb n (borderCountOf b)) (eqb (getD (b .borders) n 0) 0) h
   where
     l : Literal
     l = decideLiteral n d
 
     of : Bool → Bool → Bool → Returned
     of x y z =
-        cond x (returned Alien b)
-        (cond y (cond z (returned Done (pushed b n (codeOf (l .side)))) (returned Taken b)) (returned Border b))
+        cond x (returned Alien b) (endedBy b (pushed b n (codeOf (l .side))) (cond y (cond z Done Taken) Border))
 
     go : (x y z : Bool) → (numberOf (of x y z .outcome) ≡ 0 → ⊥) → of x y z .board ≡ b
     go true y z f = refl
@@ -45,7 +44,7 @@ refused-board b (decide n d) h =
 refused-board b undo h = go (isAlien b) (eqb (b .count) 0) h
   where
     of : Bool → Bool → Returned
-    of x y = cond x (returned Alien b) (cond y (returned Bare b) (returned Done (popped b)))
+    of x y = cond x (returned Alien b) (endedBy b (popped b) (cond y Bare Done))
 
     go : (x y : Bool) → (numberOf (of x y .outcome) ≡ 0 → ⊥) → of x y .board ≡ b
     go true y f = refl

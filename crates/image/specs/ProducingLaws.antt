@@ -12,13 +12,12 @@ use native.Mathlib.Omega.{arith}
 use borrow.Author.Tests.{eqb-false}
 use lib.Dec.{eqb, ltb}
 use lib.ListN.{length, getD}
-use Rattle.rules.specs.Flat.{borderCount}
-use Rattle.rules.specs.Codes.{sideCode, codeOf}
+use Rattle.rules.specs.Codes.{sideCode}
 use Rattle.rules.specs.Check.{Verdict, pass, conflict, check}
 use Rattle.board.specs.declared.Board.{Board}
 use Rattle.board.specs.declared.Returned.{Returned}
-use Rattle.board.specs.Alien.{isAlien}
-use Rattle.board.specs.Board.{numberOf, returned, pushed, popped, decideOf, undoOf}
+use Rattle.board.specs.Alien.{borderCountOf, isAlien}
+use Rattle.board.specs.Board.{numberOf, decideRefusal, decideOf, undoRefusal, undoOf}
 use Rattle.board.specs.declared.Outcome.the-variants.{Done, Alien, Border, Taken, Bare, Short}
 use Rattle.board.specs.View.{puzzleOf, statesOf}
 use Rattle.reach.specs.Produced as board
@@ -27,7 +26,7 @@ use Rattle.reach.specs.Reach.{produced-known, known-produced}
 use Rattle.calls.specs.declared.Answer.the-variants.{Refused}
 use Rattle.calls.specs.Answers.{answerNumber, asAnswer, checkAnswer}
 use Rattle.image.specs.Image.{spelledBoard, imageOf, imageAlien, Bytes, Proper, ImageCall, decide, undo}
-use Rattle.image.specs.Image.{sideOf, rightLength, numberBy, boardBy, imageNumber, imageAfter, places}
+use Rattle.image.specs.Image.{rightLength, numberBy, boardBy, imageNumber, imageAfter, places}
 use Rattle.image.specs.Image.{checkNumber}
 use Rattle.image.specs.Producing.{ImageProduced, begun, called}
 use Rattle.image.specs.RoundLaws.{long-is, known-board, alien-image}
@@ -86,20 +85,17 @@ exactly-by s h n f g =
 
 -- ---- on other images no call answers 5
 call-else : (b : Board) → isAlien b ≡ false → (a : ImageCall) → numberBy b a ≡ 5 → ⊥
-unfolding decideOf undoOf
+unfolding decideOf decideRefusal undoOf undoRefusal
 call-else b k (decide n d) =
-    rw k (go (ltb n (borderCount (b .height) (b .width))) (eqb (getD (b .borders) n 0) 0))
+    rw k (go (ltb n (borderCountOf b)) (eqb (getD (b .borders) n 0) 0))
   where
-    go : (x y : Bool)
-        → numberOf (cond x (cond y (returned Done (pushed b n (codeOf (sideOf d)))) (returned Taken b))
-        (returned Border b) .outcome) ≡ 5
-        → ⊥
+    go : (x y : Bool) → numberOf (cond x (cond y Done Taken) Border) ≡ 5 → ⊥
     go true true e = eqb-false 0 5 refl e
     go true false e = eqb-false 7 5 refl e
     go false y e = eqb-false 6 5 refl e
 call-else b k undo = rw k (go (eqb (b .count) 0))
   where
-    go : (x : Bool) → numberOf (cond x (returned Bare b) (returned Done (popped b)) .outcome) ≡ 5 → ⊥
+    go : (x : Bool) → numberOf (cond x Bare Done) ≡ 5 → ⊥
     go true e = eqb-false 8 5 refl e
     go false e = eqb-false 0 5 refl e
 

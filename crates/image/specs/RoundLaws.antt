@@ -17,7 +17,7 @@ use Rattle.lists.specs.Table.{table}
 use Rattle.lists.specs.TableLaws.{table-is, getD-table, length-table, flat-part, table-part}
 use Rattle.lists.specs.Stores.{drop-split}
 use Rattle.board.specs.declared.Board.{Board}
-use Rattle.board.specs.Alien.{boardOf, isAlien}
+use Rattle.board.specs.Alien.{cellCountOf, boardOf, isAlien}
 use Rattle.board.specs.Board.{Typed}
 use Rattle.board.specs.NativeLaws.{Native, native-has, borders-fit}
 use Rattle.image.specs.Image.{pair, quad, fromBits, spelledBoard, twoBytes, fourBytes, bitsOf, clueBytes, imageOf}
@@ -91,9 +91,9 @@ module _ (b : Board) (T : Typed b) (N : Native b) where
       go (no l) = let z = N .noEntry i (omega arith) in omega arith
 
   clue-right : (i : ℕ) → leZ (negsuc 0) (getD (b .clues) i (pos 0)) ≡ true
-  clue-right i = go (decLt i (b .height * b .width))
+  clue-right i = go (decLt i (cellCountOf b))
     where
-      go : Dec (i < b .height * b .width) → leZ (negsuc 0) (getD (b .clues) i (pos 0)) ≡ true
+      go : Dec (i < cellCountOf b) → leZ (negsuc 0) (getD (b .clues) i (pos 0)) ≡ true
       go (yes l) = N .clue i l
       go (no l) = rw (N .noClue i (omega arith))
 

@@ -1,20 +1,21 @@
 -- Calls on an image that is not alien, by cases from its bytes; and a list of them.
-use mathlib.Core.Path.{_≡_, refl, ap, sym, _∙_}
+use mathlib.Core.Path.{_≡_, refl, ap, ap₂, sym, _∙_}
 use mathlib.Core.Bool.{Bool, true, false, cond}
 use mathlib.Core.List.{List, [], _∷_}
 use Prim.Native.Nat.{ℕ, suc, _+_, _-_, _*_, _<_, _≤_}
 use native.Mathlib.Omega.{arith}
 use borrow.Author.Tests.{eq-eqb, ne-eqb, eqb-false}
-use lib.ListN.{length, getD, drop, drop-of-length-le}
-use lib.Seq.{drop-cons}
-use Rattle.lists.specs.TableLaws.{getD-table}
+use lib.ListN.{length, getD, take, drop, length-drop, drop-of-length-le}
+use lib.Seq.{drop-cons, ext-getD, length-take-le, getD-take, getD-drop}
+use Rattle.lists.specs.Table.{table}
+use Rattle.lists.specs.TableLaws.{length-table, getD-table}
 use Rattle.rules.specs.declared.Literal.{Literal}
-use Rattle.rules.specs.Flat.{borderCount}
 use Rattle.rules.specs.Codes.{codeOf}
+use Rattle.board.specs.declared.Outcome.{Outcome}
 use Rattle.board.specs.declared.Returned.{Returned}
-use Rattle.board.specs.Alien.{bordersOf, isAlien}
-use Rattle.board.specs.Board.{numberOf, decideOf}
-use Rattle.board.specs.Cases.{decide-alien, undo-alien, decide-border, decide-taken, decide-done, undo-bare, undo-done}
+use Rattle.board.specs.Alien.{bordersOf, borderCountOf, isAlien}
+use Rattle.board.specs.Board.{numberOf, decideRefusal, undoRefusal}
+use Rattle.board.specs.Cases.{decide-alien, decide-ends, undo-alien, undo-ends}
 use Rattle.board.specs.ConditionLaws.{borders-of, borders-of-le}
 use Rattle.board.specs.NativeLaws.{native-has}
 use Rattle.image.specs.Image.{pair, spelledBoard, Bytes, Proper, decideLiteral, ImageCall, decide, undo, numberBy}
@@ -42,13 +43,23 @@ module _ (s : List ℕ) (h : Bytes s) (k : imageAlien s ≡ false) where
   by-board : (a : ImageCall) → numberBy (spelledBoard s) a ≡ imageNumber s a
   by-board a = number-is s h long (spelledBoard s) refl a
 
-  borders-are : bordersOf (getD s 0 0) (getD s 1 0) ≡ borderCount (spelledBoard s .height) (spelledBoard s .width)
+  borders-are : bordersOf (getD s 0 0) (getD s 1 0) ≡ borderCountOf (spelledBoard s)
   unfolding spelledBoard
   borders-are = borders-of (native-has (spelledBoard s) (proper .known) .size)
 
-  border-is : (n : ℕ) → n < 1984 → getD (spelledBoard s .borders) n 0 ≡ getD s (5122 + n) 0
+  -- the board's borders, as a part of the image
+  pub part-length : length (take 1984 (drop 5122 s)) ≡ 1984
+  part-length = let e = long in length-take-le 1984 (drop 5122 s) (omega (arith, length-drop 5122 s))
+
+  borders-part : take 1984 (drop 5122 s) ≡ spelledBoard s .borders
   unfolding spelledBoard
-  border-is n l = getD-table 1984 (λ i. getD s (5122 + i) 0) n 0 l
+  borders-part =
+      let f : ℕ → ℕ = λ i. getD s (5122 + i) 0 in
+      let p = part-length in
+      ext-getD 0 (take 1984 (drop 5122 s)) (table 1984 f) (p ∙ sym (length-table 1984 f))
+      (λ i h.
+      let l : i < 1984 = omega arith in
+      getD-take 1984 (drop 5122 s) i 0 l ∙ getD-drop 5122 s i 0 ∙ sym (getD-table 1984 f i 0 l))
 
   count-is : spelledBoard s .count ≡ pair s 7106
   unfolding spelledBoard
@@ -68,55 +79,39 @@ module _ (s : List ℕ) (h : Bytes s) (k : imageAlien s ≡ false) where
   stepped : {a : ImageCall} {t : List ℕ} → imageNumber s a ≡ 0 → t ≡ imageAfter s a → Stepped s a t true
   stepped z e = record { done = sym (eq-eqb _ 0 z); after = e }
 
-  -- a decide, from what the code has: its literal l, and the count m of the page's borders
+  -- a decide, from what the code has: its literal l, the count m of the page's borders, and how its tests end
   module _ (n d : ℕ) (l : Literal) (y : l ≡ decideLiteral n d) (m : ℕ)
       (q : m ≡ bordersOf (getD s 0 0) (getD s 1 0)) where
-    number : {r : Returned} → r ≡ decideOf (spelledBoard s) (decideLiteral n d)
-        → numberOf (r .outcome) ≡ imageNumber s (decide n d)
-    number e = ap (λ (r : Returned). numberOf (r .outcome)) e ∙ by-board (decide n d)
-
     named : l .border ≡ n
     named = ap (λ (j : Literal). j .border) y
 
     pub few : m ≤ 1984
     few = rw q (borders-of-le (getD s 0 0) (getD s 1 0))
 
-    pub decide-far : m ≤ l .border → Stepped s (decide n d) s false
-    decide-far g =
-        let e =
-        number
-        (decide-border (spelledBoard s) (decideLiteral n d) (proper .known) (rw (← borders-are, ← q, ← named) g)) in
-        refused (decide n d) (λ z. let f : 6 ≡ 0 = e ∙ z in omega arith)
+    module _ (o : Outcome) (r : o ≡ decideRefusal m (take 1984 (drop 5122 s)) (l .border)) where
+      decide-number : numberOf o ≡ imageNumber s (decide n d)
+      decide-number =
+          let b = spelledBoard s in
+          ap numberOf
+          (r
+          ∙ ap (λ bs. decideRefusal m bs (l .border)) borders-part
+          ∙ ap₂ (λ (j x : ℕ). decideRefusal j (b .borders) x) (q ∙ borders-are) named
+          ∙ decide-ends b (decideLiteral n d) (proper .known))
+          ∙ by-board (decide n d)
 
-    module _ (g : l .border < m) where
-      free : (v : ℕ) → getD s (5122 + l .border) 0 ≡ v → getD (spelledBoard s .borders) n 0 ≡ v
-      free v e =
-          let c = few in
-          let x = named in
-          border-is n (omega arith) ∙ ap (λ j. getD s (5122 + j) 0) (sym named) ∙ e
-
-      pub decide-held : (getD s (5122 + l .border) 0 ≡ 0 → ⊥) → Stepped s (decide n d) s false
-      decide-held f =
-          let e =
-          number
-          (decide-taken (spelledBoard s) (decideLiteral n d) (proper .known) (rw (← borders-are, ← q, ← named) g)
-          (λ z. f (sym (free (getD s (5122 + l .border) 0) refl) ∙ z))) in
-          refused (decide n d) (λ z. let o : 7 ≡ 0 = e ∙ z in omega arith)
+      pub decide-not : (numberOf o ≡ 0 → ⊥) → Stepped s (decide n d) s false
+      decide-not f = refused (decide n d) (λ z. f (decide-number ∙ z))
 
       -- one that is done
-      module _ (f : getD s (5122 + l .border) 0 ≡ 0) (c : ℕ) (e : c ≡ pair s 7106) where
+      module _ (z : numberOf o ≡ 0) (c : ℕ) (e : c ≡ pair s 7106) where
         decided : imageNumber s (decide n d) ≡ 0
-        decided =
-            sym
-            (number
-            (decide-done (spelledBoard s) (decideLiteral n d) (proper .known) (rw (← borders-are, ← q, ← named) g)
-            (free 0 f)))
+        decided = sym decide-number ∙ z
 
         pub decide-room : (l .border < 1984) × (c < 1984)
         decide-room =
             let r = decide-fits s h long (spelledBoard s) refl n d decided in
-            let x = few in
-            (omega arith, omega (arith, r .1, count-is))
+            let x = named in
+            (omega (arith, r .0), omega (arith, r .1, count-is))
 
         pub decide-step : {v : ℕ} {t : List ℕ} → v ≡ codeOf (l .side)
             → t ≡ written s (l .border) v (c + 1) c (l .border) → Stepped s (decide n d) t true
@@ -125,25 +120,24 @@ module _ (s : List ℕ) (h : Bytes s) (k : imageAlien s ≡ false) where
             (decide-after s h long (spelledBoard s) refl n d decided l v t y x
             (w ∙ ap (λ j. written s (l .border) v (j + 1) j (l .border)) (e ∙ sym count-is)))
 
-  -- an undo, where the image has the count m
-  module _ (m : ℕ) (e : m ≡ pair s 7106) where
-    pub undo-none : m ≡ 0 → Stepped s undo s false
-    undo-none z =
-        let q =
-        ap (λ (r : Returned). numberOf (r .outcome)) (undo-bare (spelledBoard s) (proper .known) (count-is ∙ sym e ∙ z))
-        ∙ by-board undo in
-        refused undo (λ x. let g : 8 ≡ 0 = q ∙ x in omega arith)
+  -- an undo, where the image has the count m, and how its test ends
+  module _ (m : ℕ) (e : m ≡ pair s 7106) (o : Outcome) (r : o ≡ undoRefusal m) where
+    counted : spelledBoard s .count ≡ m
+    counted = count-is ∙ sym e
 
-    module _ (f : m ≡ 0 → ⊥) where
-      counted : spelledBoard s .count ≡ m
-      counted = count-is ∙ sym e
+    undo-number : numberOf o ≡ imageNumber s undo
+    undo-number =
+        ap numberOf (r ∙ ap undoRefusal (sym counted) ∙ undo-ends (spelledBoard s) (proper .known)) ∙ by-board undo
 
+    pub undo-not : (numberOf o ≡ 0 → ⊥) → Stepped s undo s false
+    undo-not f = refused undo (λ z. f (undo-number ∙ z))
+
+    module _ (z : numberOf o ≡ 0) where
       undone : imageNumber s undo ≡ 0
-      undone =
-          sym
-          (ap (λ (r : Returned). numberOf (r .outcome))
-          (undo-done (spelledBoard s) (proper .known) (λ z. f (sym counted ∙ z)))
-          ∙ by-board undo)
+      undone = sym undo-number ∙ z
+
+      pub undo-some : 0 < m
+      undo-some = rw (← counted) (undo-fits s h long (spelledBoard s) refl undone .0)
 
       pub undo-low : m ≤ 1984
       undo-low = rw (← counted) (undo-fits s h long (spelledBoard s) refl undone .1)
@@ -153,6 +147,7 @@ module _ (s : List ℕ) (h : Bytes s) (k : imageAlien s ≡ false) where
         entry : n ≡ getD (spelledBoard s .stack) (spelledBoard s .count - 1) 0
         entry =
             let o = undo-low in
+            let i = undo-some in
             x
             ∙ sym (entry-is (m - 1) (omega arith))
             ∙ ap (λ j. getD (spelledBoard s .stack) (j - 1) 0) (sym counted)

@@ -35,10 +35,8 @@ fn decided(image: &mut [u8], border: u32, side: u32) -> bool
     let l = literal(border, side);
     let n = l.border;
     let s = l.side;
-    if border_count(image) <= n {
-        return false;
-    }
-    if image[BORDERS + n] != 0 {
+    let outcome = board::refusals::decide_refusal(border_count(image), &image[BORDERS..COUNT], n);
+    if board::number(outcome) != 0 {
         return false;
     }
     let at = index(two(image, COUNT));
@@ -52,7 +50,8 @@ fn undone(image: &mut [u8]) -> bool
     ensures { λ r. ⌜ Stepped (now (image .entry)) undo (now (image .exit)) r ⌝ }
 {
     let count = index(two(image, COUNT));
-    if count == 0 {
+    let outcome = board::refusals::undo_refusal(count);
+    if board::number(outcome) != 0 {
         return false;
     }
     let at = count - 1;

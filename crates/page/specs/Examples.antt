@@ -5,11 +5,12 @@ use Prim.Native.Nat.{ℕ}
 use Rattle.lists.specs.Lists.{orElse, all, any}
 use Rattle.rules.specs.declared.Side.the-variants.{Wall, Open}
 use Rattle.rules.specs.declared.Call.the-variants.{Decide, Undo, Check}
+use Rattle.board.specs.Alien.{sizeRight}
 use Rattle.page.specs.Parsers.{strip, also, onto, give, lead, followed, either, both, mapR, andOn, times, many}
 use Rattle.page.specs.Parsers.{rep, digit, mayFollow, numberOn, number, withDigit, digitsOn, digits}
 use Rattle.page.specs.Grammar.{size, row, clue, side, decideCall, call, close, sheet, onPage, sameCell, cluesFit}
 use Rattle.page.specs.Grammar.{Sheet, whole, pageOf}
-use Rattle.page.specs.Judge.{accepted, sizeFits, rowsFit, low, twoColours, cluesLow, judgeSheet, judgeRead}
+use Rattle.page.specs.Judge.{accepted, rowsFit, low, twoColours, cluesLow, judgeSheet, judgeRead}
 use Rattle.page.specs.Judge.{judgementOf}
 
 -- `(page` `(size 1 2)` `(row 01)` `(check)` `(decide 0 1)` `(check)` `(undo)` `(decide 0 0)` `(check)` `)`
@@ -36,5 +37,5 @@ samplePage =
 pub sample-accepted : judgementOf sample ≡ accepted samplePage
 unfolding strip also onto give lead followed either orElse both mapR andOn times many rep digit mayFollow numberOn
     number withDigit digitsOn digits size row clue side decideCall call close sheet onPage sameCell cluesFit whole
-    pageOf all any sizeFits rowsFit low twoColours cluesLow judgeSheet judgeRead judgementOf
+    pageOf all any sizeRight rowsFit low twoColours cluesLow judgeSheet judgeRead judgementOf
 sample-accepted = refl

@@ -1,7 +1,6 @@
 -- The judgement of a page: 01's numbers 10, 1, 2, 3, 11, in this order, or the puzzle and its calls.
 --
 --   Judgement           rejected with a number, or accepted with the page
---   sizeFits h w        height and width are 1 to 32
 --   rowsFit h w rows    there are h rows, each of w digits
 --   low d               the digit d is 0 or 1
 --   twoColours rows     every digit is 0 or 1
@@ -25,16 +24,13 @@ use lib.ListN.{length, set, replicate}
 use lib.Seq.{sets}
 use Rattle.lists.specs.Lists.{all, flatMap}
 use Rattle.lists.specs.Table.{table}
+use Rattle.board.specs.Alien.{sizeRight}
 use Rattle.page.specs.declared.Clue.{Clue}
 use Rattle.page.specs.Grammar.{Sheet, pageOf}
 
 pub data Judgement : Type 0 where
   rejected : ℕ → Judgement
   accepted : Sheet → Judgement
-
--- 1: "h or w outside 1 to 32"
-unfoldable pub sizeFits : ℕ → ℕ → Bool
-sizeFits h w = leb 1 h && (leb h 32 && (leb 1 w && leb w 32))
 
 -- 2: "on a page, rows not h of w digits"
 unfoldable pub rowsFit : ℕ → ℕ → List (List ℕ) → Bool
@@ -51,9 +47,10 @@ twoColours rows = all (λ ds. all low ds) rows
 unfoldable pub cluesLow : ℕ → List Clue → Bool
 cluesLow most cs = all (λ c. leb (c .n) most) cs
 
+-- 1: "h or w outside 1 to 32"
 unfoldable pub judgeSheet : Sheet → Judgement
 judgeSheet p =
-    cond (sizeFits (p .height) (p .width))
+    cond (sizeRight (p .height) (p .width))
     (cond (rowsFit (p .height) (p .width) (p .rows))
     (cond (twoColours (p .rows))
     (cond (cluesLow (p .height * p .width / 2) (p .clues)) (accepted p) (rejected 11))

@@ -6,32 +6,20 @@ use mathlib.Core.Option.{none, some}
 use Prim.Native.Nat.{ℕ, suc, _+_, _-_, _*_, _/_, _<_, _≤_}
 use native.Mathlib.Decide.{ℕ-discrete}
 use native.Mathlib.Omega.{arith}
-use lib.Dec.{leb, eqb}
+use lib.Dec.{eqb}
 use lib.ListN.{length}
-use borrow.Author.Tests.{eq-eqb, ne-eqb, le-leb, lt-leb, leb-true}
+use borrow.Author.Tests.{eq-eqb, ne-eqb, le-leb, lt-leb}
 use Rattle.lists.specs.Lists.{all}
 use Rattle.lists.specs.Tests.{allBelow}
 use Rattle.lists.specs.TableLaws.{length-table}
-use Rattle.lists.specs.Booleans.{and-left, and-right, and-fails}
+use Rattle.lists.specs.Booleans.{and-fails}
 use Rattle.lists.specs.TestLaws.{all-fails, all-every, all-at}
 use Rattle.lists.specs.AnyAll.{all-table}
-use Rattle.rules.specs.Flat.{Sized}
+use Rattle.board.specs.Alien.{sizeRight}
 use Rattle.page.specs.Grammar.{Sheet, pageOf}
 use Rattle.page.specs.Places.{digitAt, digitsIn}
-use Rattle.page.specs.Judge.{rejected, accepted, sizeFits, rowsFit, low, twoColours, cluesLow}
+use Rattle.page.specs.Judge.{rejected, accepted, rowsFit, low, twoColours, cluesLow}
 use Rattle.page.specs.Judge.{judgeSheet, judgeRead, judgementOf}
-
-pub sized : (h w : ℕ) → sizeFits h w ≡ true → Sized h w
-unfolding sizeFits
-sized h w e =
-    let a : leb h 32 && (leb 1 w && leb w 32) ≡ true = and-right (leb 1 h) _ e in
-    let b : leb 1 w && leb w 32 ≡ true = and-right (leb h 32) _ a in
-    record {
-      rows = leb-true 1 h (and-left (leb 1 h) _ e);
-      columns = leb-true 1 w (and-left (leb 1 w) _ b);
-      tall = leb-true h 32 (and-left (leb h 32) _ a);
-      broad = leb-true w 32 (and-right (leb 1 w) _ b);
-    }
 
 pub length-digits : (s : List ℕ) (a e : ℕ) → length (digitsIn s a e) ≡ e - a
 unfolding digitsIn
@@ -103,11 +91,11 @@ module _ (h w : ℕ) {rows : List (List ℕ)} where
 
 -- the judgement
 module _ (p : Sheet) where
-  pub not-sized : sizeFits (p .height) (p .width) ≡ false → judgeSheet p ≡ rejected 1
+  pub not-sized : sizeRight (p .height) (p .width) ≡ false → judgeSheet p ≡ rejected 1
   unfolding judgeSheet
   not-sized e = rw e
 
-  module _ (a : sizeFits (p .height) (p .width) ≡ true) where
+  module _ (a : sizeRight (p .height) (p .width) ≡ true) where
     pub ragged : rowsFit (p .height) (p .width) (p .rows) ≡ false → judgeSheet p ≡ rejected 2
     unfolding judgeSheet
     ragged e = rw (a, e)

@@ -22,11 +22,12 @@ use Rattle.lists.specs.Flats.{length-flat}
 use Rattle.lists.specs.ListLaws.{all-mem}
 use Rattle.lists.specs.Appends.{all-append}
 use Rattle.rules.specs.Flat.{Sized}
+use Rattle.board.specs.Alien.{sizeRight}
+use Rattle.board.specs.ConditionLaws.{sized}
 use Rattle.page.specs.declared.Clue.{Clue}
 use Rattle.page.specs.Grammar.{Sheet, onPage, sameCell, cluesFit}
-use Rattle.page.specs.Judge.{Judgement, rejected, accepted, sizeFits, rowsFit, low, twoColours, cluesLow}
+use Rattle.page.specs.Judge.{Judgement, rejected, accepted, rowsFit, low, twoColours, cluesLow}
 use Rattle.page.specs.Judge.{judgeSheet, coloursOf, clueOn, cluesOf, colourArray, placed, clueArray}
-use Rattle.page.specs.JudgeLaws.{sized}
 
 pub record Makes (p : Sheet) : Type 0 where
   pub size : Sized (p .height) (p .width)
@@ -178,9 +179,9 @@ cond-accepted false v n p e = let z : _≡_ {A = ℕ} 0 1 = cc in absurd (omega 
 pub makes : (p q : Sheet) → judgeSheet p ≡ accepted q → (p ≡ q) × Makes p
 unfolding judgeSheet
 makes p q e =
-    let a = cond-accepted (sizeFits (p .height) (p .width)) _ 1 q e in
+    let a = cond-accepted (sizeRight (p .height) (p .width)) _ 1 q e in
     let b = cond-accepted (rowsFit (p .height) (p .width) (p .rows)) _ 2 q (a .1) in
     let c = cond-accepted (twoColours (p .rows)) _ 3 q (b .1) in
     let d = cond-accepted (cluesLow (p .height * p .width / 2) (p .clues)) _ 11 q (c .1) in
     let k : accepted p ≡ accepted q = d .1 in
-    (cc, record { size = sized (p .height) (p .width) (a .0); rows = b .0; colours = c .0; clues = d .0 })
+    (cc, record { size = sized (a .0); rows = b .0; colours = c .0; clues = d .0 })

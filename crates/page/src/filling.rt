@@ -11,10 +11,11 @@ use crate::ClueRead;
 use crate::Row;
 use crate::fitness;
 use crate::lines;
+use board::Board;
 
 // The colours laid so far, and the next place.
 pub struct Laid {
-    pub cells: [u8; 1024],
+    pub cells: [u8; Board::CELL_LIMIT],
     pub count: usize,
 }
 
@@ -26,7 +27,7 @@ fn with_digits(laid: Laid, s: &[u8], from: usize, to: usize) -> Laid
     let mut p = from;
     while p < to {
         let at = out.count;
-        if 1024 <= at {
+        if Board::CELL_LIMIT <= at {
             return out;
         }
         out.cells[at] = fitness::digit_at(s, p);
@@ -37,11 +38,11 @@ fn with_digits(laid: Laid, s: &[u8], from: usize, to: usize) -> Laid
 }
 
 // The digits of the rows from `at` on, one row after the other, then 0.
-pub fn colours(s: &[u8], at: usize) -> [u8; 1024]
+pub fn colours(s: &[u8], at: usize) -> [u8; Board::CELL_LIMIT]
     ensures { λ r. ⌜ r ≡ colourArray (allFrom row (now (s .entry)) at) ⌝ }
 {
     let mut laid = Laid {
-        cells: [0u8; 1024],
+        cells: [0u8; Board::CELL_LIMIT],
         count: 0,
     };
     let mut p = at;
@@ -56,18 +57,18 @@ pub fn colours(s: &[u8], at: usize) -> [u8; 1024]
 }
 
 // The clues from `at` on, each at the place of its cell, and -1 elsewhere.
-pub fn clues(s: &[u8], at: usize, w: usize) -> [i32; 1024]
+pub fn clues(s: &[u8], at: usize, w: usize) -> [i32; Board::CELL_LIMIT]
     requires { ⌜ w ≤ 32 ⌝ }
     ensures { λ r. ⌜ r ≡ placed w (replicate 1024 (negsuc 0)) (allFrom clue (now (s .entry)) at) ⌝ }
 {
-    let mut out = [-1i32; 1024];
+    let mut out = [-1i32; Board::CELL_LIMIT];
     let mut p = at;
     while p < s.len() {
         let ClueRead::Got(c, next) = lines::clue_at(s, p) else {
             return out;
         };
         let cell = c.y * w + c.x;
-        if cell < 1024 {
+        if cell < Board::CELL_LIMIT {
             out[cell] = c.n as i32;
         }
         p = next;

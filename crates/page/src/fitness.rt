@@ -5,28 +5,12 @@ ghost use Rattle.lists.specs.Lists.{all};
 ghost use Rattle.rules.specs.Flat.{Sized};
 ghost use Rattle.page.specs.Grammar.{row, clue};
 ghost use Rattle.page.specs.Places.{allFrom, digitAt, digitsIn, sheetAt, judgedOf};
-ghost use Rattle.page.specs.Judge.{sizeFits, rowsFit, low, twoColours, cluesLow, judgeSheet};
+ghost use Rattle.page.specs.Judge.{rowsFit, low, twoColours, cluesLow, judgeSheet};
 use crate::ClueRead;
 use crate::Judged;
 use crate::Parts;
 use crate::Row;
 use crate::lines;
-
-// Whether height and width are 1 to 32.
-fn size_fits(h: usize, w: usize) -> bool
-    ensures { λ r. ⌜ r ≡ sizeFits h w ⌝ }
-{
-    if h < 1 {
-        return false;
-    }
-    if 32 < h {
-        return false;
-    }
-    if w < 1 {
-        return false;
-    }
-    w <= 32
-}
 
 // How many places there are from one place up to another.
 fn places(from: usize, to: usize) -> usize
@@ -137,7 +121,7 @@ pub fn judge_parts(s: &[u8], p: Parts) -> Judged
 {
     let h = p.height;
     let w = p.width;
-    if size_fits(h, w) {
+    if board::size_right(h, w) {
         if rows_fit(s, p.rows, h, w) {
             if two_colours(s, p.rows) {
                 if clues_low(s, p.clues, half(h, w)) {

@@ -5,6 +5,7 @@ ghost use Rattle.page.specs.Parsers.{rest};
 ghost use Rattle.page.specs.Grammar.{call};
 ghost use Rattle.page.specs.Judge.{judgementOf, colourArray, clueArray};
 ghost use Rattle.page.specs.Places.{sheetAt, judgedOf, gotCall};
+use board::Board;
 use rules::Call;
 
 mod bytes; // bytes.rt: words, numbers and digits
@@ -95,20 +96,20 @@ pub fn judge(s: &[u8]) -> Judged
 }
 
 // The colours of a page whose parts are p, row by row, then 0.
-pub fn colours(s: &[u8], p: Parts) -> [u8; 1024]
+pub fn colours(s: &[u8], p: Parts) -> [u8; Board::CELL_LIMIT]
     ensures { λ r. ⌜ r ≡ colourArray (sheetAt (now (s .entry)) p .rows) ⌝ }
 {
     filling::colours(s, p.rows)
 }
 
 // The clues of a page whose parts are p, row by row, -1 where there is none.
-pub fn clues(s: &[u8], p: Parts) -> [i32; 1024]
+pub fn clues(s: &[u8], p: Parts) -> [i32; Board::CELL_LIMIT]
     ensures { λ r. ⌜ r ≡ clueArray (p .width) (sheetAt (now (s .entry)) p .clues) ⌝ }
 {
-    if p.width <= 32 {
+    if p.width <= Board::SIDE_LIMIT {
         return filling::clues(s, p.clues, p.width);
     }
-    [-1i32; 1024]
+    [-1i32; Board::CELL_LIMIT]
 }
 
 // The call at a place, and the place of the next. The calls of a page begin at its parts' place `calls`.

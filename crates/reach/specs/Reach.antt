@@ -3,7 +3,7 @@ use mathlib.Core.Path.{_≡_, refl, ap, sym, _∙_}
 use mathlib.Core.Bool.{Bool, true, false, not, false≢true}
 use mathlib.Core.List.{List, [], _∷_, _++_}
 use mathlib.Core.Logic.{_↔_}
-use Prim.Native.Nat.{ℕ, zero, suc, _+_, _*_, _<_, _≤_}
+use Prim.Native.Nat.{ℕ, zero, suc, _+_, _<_, _≤_}
 use native.Mathlib.Decide.{decLt}
 use native.Mathlib.Omega.{arith}
 use borrow.Author.Tests.{le-leb, eqb-true}
@@ -15,19 +15,19 @@ use lib.Seq.{getD-set-same, set-set, set-getD, length-take-le, getD-take}
 use Rattle.lists.specs.TestLaws.{all-every}
 use Rattle.lists.specs.PaddedLaws.{padded-take, replicate-is}
 use Rattle.rules.specs.declared.Literal.{Literal}
-use Rattle.rules.specs.Flat.{borderCount}
 use Rattle.rules.specs.Codes.{codeOf}
 use Rattle.laws.specs.FlatLaws.{counts}
 use Rattle.board.specs.declared.Board.{Board}
 use Rattle.board.specs.declared.Outcome.the-variants.{Done}
-use Rattle.board.specs.Alien.{coloursRight, clueRight, cluesRight, stacked, boardOf, boardWith, isAlien}
+use Rattle.board.specs.Alien.{coloursRight, clueRight, cluesRight, stacked, cellCountOf, borderCountOf}
+use Rattle.board.specs.Alien.{boardOf, boardWith, isAlien}
 use Rattle.board.specs.Board.{freshBoard, returned, pushed, freshOf, decideOf, Small, Typed}
 use Rattle.board.specs.View.{sideIn}
 use Rattle.board.specs.ConditionLaws.{size-is, stacked-none}
 use Rattle.board.specs.Cases.{fresh-done, decide-done}
-use Rattle.board.specs.NativeLaws.{Native, native-has, native-of, borders-fit}
-use Rattle.board.specs.DecideLaws.{poppedAt, popped-native, popped-typed, decide-keeps, undo-keeps, decided-typed}
-use Rattle.board.specs.DecideLaws.{undone-typed}
+use Rattle.board.specs.NativeLaws.{Native, native-has, native-of, cells-fit, borders-fit}
+use Rattle.board.specs.DecideLaws.{poppedAt, popped-native, popped-typed, decide-keeps, undo-keeps}
+use Rattle.board.specs.DecideLaws.{decided-typed, undone-typed}
 use Rattle.board.specs.FreshLaws.{made-is, made-keeps, made-typed}
 use Rattle.board.specs.ViewLaws.{entry-held, code-small}
 use Rattle.reach.specs.Produced.{Produced, made, afterDecide, afterUndo, Move, decide, undo, moveOf, Leads, stop}
@@ -44,7 +44,7 @@ produced-known b (afterUndo c _ p e) =
 -- ---- a board with an empty stack is a fresh one
 module _ (b : Board) (N : Native b) (T : Typed b) (e : b .count ≡ 0) where
   cells : ℕ
-  cells = b .height * b .width
+  cells = cellCountOf b
 
   cs : List ℕ
   cs = take cells (b .colours)
@@ -54,7 +54,7 @@ module _ (b : Board) (N : Native b) (T : Typed b) (e : b .count ≡ 0) where
 
   few : cells ≤ 1024
   unfolding cells
-  few = omega (arith, counts (N .size))
+  few = cells-fit b N
 
   cs-long : length cs ≡ cells
   unfolding cs
@@ -73,9 +73,9 @@ module _ (b : Board) (N : Native b) (T : Typed b) (e : b .count ≡ 0) where
       go (no h) = let l = ks-long in rw (List·getD-eq-default (take cells (b .clues)) (pos 0) {n = i} (omega arith))
 
   border-zero : (x : ℕ) → getD (b .borders) x 0 ≡ 0
-  border-zero x = go (decLt x (borderCount (b .height) (b .width)))
+  border-zero x = go (decLt x (borderCountOf b))
     where
-      go : Dec (x < borderCount (b .height) (b .width)) → getD (b .borders) x 0 ≡ 0
+      go : Dec (x < borderCountOf b) → getD (b .borders) x 0 ≡ 0
       go (yes h) =
           eqb-true (getD (b .borders) x 0) 0
           (N .held x h
@@ -97,7 +97,7 @@ module _ (b : Board) (N : Native b) (T : Typed b) (e : b .count ≡ 0) where
   accepted =
       let f = few in
       sym
-      (fresh-done (b .height) (b .width) cs ks (size-is (N .size)) cells refl cs-long ks-long
+      (fresh-done (b .height) (b .width) cs ks (size-is (N .size)) cs-long ks-long
       (all-every cells (λ i. leb (getD cs i 0) 1)
       (λ i l. rw (getD-take cells (b .colours) i 0 l) (le-leb (getD (b .colours) i 0) 1 (N .colour i l))))
       (all-every cells (λ i. clueRight (getD ks i (pos 0)))

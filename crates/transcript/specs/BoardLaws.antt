@@ -1,6 +1,5 @@
 -- The board of an accepted page: making it is not refused.
 --
---   cells-few           the cells are at most 1,024
 --   Clued most k        the clue k is −1 or more, and at most 2147483647 where most is
 --   page-board          the board that the code makes is the page's
 --   page-accepted       its puzzle is accepted
@@ -20,26 +19,17 @@ use Rattle.lists.specs.TableLaws.{getD-table}
 use Rattle.lists.specs.Booleans.{and-left, and-right}
 use Rattle.lists.specs.TestLaws.{all-every}
 use Rattle.lists.specs.AnyAll.{all-get}
-use Rattle.laws.specs.FlatLaws.{counts}
 use Rattle.board.specs.declared.Returned.{Returned}
-use Rattle.board.specs.Alien.{sizeRight, cellsOf, coloursRight, cluesRight}
+use Rattle.board.specs.Alien.{coloursRight, cluesRight}
 use Rattle.board.specs.Accepted.{Accepted}
 use Rattle.board.specs.Cases.{fresh-done}
-use Rattle.board.specs.ConditionLaws.{sized, size-is, cells-of}
+use Rattle.board.specs.ConditionLaws.{size-is, cells-of}
 use Rattle.page.specs.declared.Clue.{Clue}
 use Rattle.page.specs.Grammar.{Sheet}
 use Rattle.page.specs.Judge.{accepted, judgementOf, low, cluesLow, coloursOf, clueOn, cluesOf}
 use Rattle.page.specs.PageTheorem as pages
 use Rattle.page.specs.PuzzleLaws.{colours-low}
 use Rattle.transcript.specs.Left.{startBoard, boardAt}
-
-pub cells-few : (h w : ℕ) → cellsOf h w ≤ 1024
-unfolding cellsOf
-cells-few h w = go (sizeRight h w) refl
-  where
-    go : (x : Bool) → sizeRight h w ≡ x → cond x (h * w) 0 ≤ 1024
-    go true e = counts (sized e) .cells
-    go false e = omega arith
 
 -- the bounds of a page's clue, where no clue is above most
 pub record Clued (most : ℕ) (k : ℤ) : Type 0 where
@@ -95,7 +85,7 @@ module _ (s : List ℕ) (p : Sheet) (e : judgementOf s ≡ accepted p) where
         made =
             ap (λ (r : Returned). r .outcome)
             (sym (fresh-done (p .height) (p .width) (coloursOf p) (cluesOf p) (size-is (P .makes .size))
-            (p .height * p .width) refl (P .coloursLength) (P .cluesLength) colours-right clues-right));
+            (P .coloursLength) (P .cluesLength) colours-right clues-right));
       }
     where
       go : (i : ℕ) → Dec (i < p .height * p .width) → leZ (getD (cluesOf p) i (pos 0)) (pos 2147483647) ≡ true

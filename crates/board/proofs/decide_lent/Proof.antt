@@ -4,14 +4,13 @@ use mathlib.Core.Path.{_∙_, _≡_, ap, sym}
 use Prim.Native.Nat.{_<_}
 use native.Mathlib.Omega.{arith}
 use borrow.Author.Needs.{needs}
-use Rattle.rules.specs.Flat.{borderCount}
-use Rattle.board.specs.Alien.{boardOf, isAlien}
-use Rattle.board.specs.Board.{pushed, returned}
-use Rattle.board.specs.Cases.{decide-alien, decide-border, decide-done, decide-taken}
-use Rattle.board.specs.ConditionLaws.{borders-of}
-use Rattle.board.specs.NativeLaws.{borders-fit, native-has, room}
+use borrow.Author.Tests.{eq-eqb, ne-eqb}
+use Rattle.board.specs.Alien.{boardOf, borderCountOf, isAlien}
+use Rattle.board.specs.Board.{decideRefusal, numberOf, pushed, returned}
+use Rattle.board.specs.Cases.{decide-alien, decide-free, decide-refused}
+use Rattle.board.specs.ConditionLaws.{borders-of, borders-of-le}
+use Rattle.board.specs.NativeLaws.{free-places, native-has}
 use Rattle.board.specs.declared.Board.{Board}
-use Rattle.board.specs.declared.Outcome.the-variants.{Done}
 use Rattle.board.proofs.decide_lent.Statement.{statement}
 use Rattle.board.proofs.decide_lent.Tie as tie
 
@@ -24,23 +23,27 @@ lent s =
 known : (c : tie.Else1) → isAlien (lent (c .before .before .before .before)) ≡ false
 known c = sym (c .before .is-alien .ensures) ∙ c .if1 .left
 
-total : (c : tie.After-border-count)
-    → let a = c .before .before .before .before .before .args in c .border-count .result ≡ borderCount (a .h) (a .w)
-total c = c .border-count .ensures ∙ borders-of (native-has _ (known (c .before)) .size)
+-- how the tests end
+ends : (c : tie.After-decide-refusal)
+    → let s = c .before .before .before .before .before .before .before .before in
+    c .decide-refusal .result ≡ decideRefusal (borderCountOf (lent s)) (s .args .borders .now) (s .args .l .border)
+ends c =
+    let d = c .before .before .before in
+    let a = d .before .before .before .before .before .args in
+    c .decide-refusal .ensures
+    ∙ ap (λ m. decideRefusal m (a .borders .now) (a .l .border))
+    (d .border-count .ensures ∙ borders-of (native-has _ (known (d .before)) .size))
 
-below : (c : tie.Else2)
-    → let a = c .before .before .before .before .before .before .args in a .l .border < borderCount (a .h) (a .w)
-below c = let e = total (c .before) in let k = c .if2 .left in omega arith
+zero : (c : tie.Else2) → numberOf (c .before .before .decide-refusal .result) ≡ 0
+zero c = sym (c .before .number .ensures) ∙ c .if2 .left
 
--- the border is one of the board's array
-index : (c : tie.Else2) → c .before .before .before .before .before .before .args .l .border < 1984
-index c = omega (arith, below c, borders-fit _ (native-has _ (known (c .before .before))))
-
--- a free border leaves room on the stack
-place : (c : tie.Else3) → c .before .before .before .before .before .before .before .before .args .count < 1984
-place c =
-    let N = native-has _ (known (c .before .before .before .before)) in
-    omega (arith, borders-fit _ N, room _ N _ (below (c .before .before)) (c .if3 .left))
+-- a free border is a place of the array, and leaves one on the stack
+free : (c : tie.Else2)
+    → let a = c .before .before .before .before .before .before .before .before .before .before .args in
+    (a .l .border < 1984) × (a .count < 1984)
+free c =
+    let k = c .before .before in
+    free-places _ (native-has _ (known (k .before .before .before .before))) _ (ap numberOf (sym (ends k)) ∙ zero c)
 
 is-alien-requires : tie.Need-is-alien-requires
 is-alien-requires c κs = search needs
@@ -51,39 +54,45 @@ returns c = decide-alien _ _ (sym (c .before .is-alien .ensures) ∙ c .if1 .tak
 border-count-requires : tie.Need-border-count-requires
 border-count-requires c κs = search needs
 
+decide-refusal-requires : tie.Need-decide-refusal-requires
+decide-refusal-requires c κs =
+    let d = c .before .before in
+    let a = d .before .before .before .before .before .args in
+    let e = d .border-count .ensures in
+    search (needs, borders-of-le (a .h) (a .w))
+
+number-requires : tie.Need-number-requires
+number-requires c κs = search needs
+
 returns-2 : tie.Need-returns-2
 returns-2 c =
-    let e = total (c .before) in
-    let k = c .if2 .taken in
-    decide-border _ _ (known (c .before .before)) (omega arith)
-
-element-copy-out-if3 : tie.Need-element-copy-out-if3
-element-copy-out-if3 c = index c
-
-returns-3 : tie.Need-returns-3
-returns-3 c = decide-taken _ _ (known (c .before .before .before .before)) (below (c .before .before)) (c .if3 .taken)
+    let k = c .before .before in
+    let f : numberOf (k .decide-refusal .result) ≡ 0 → ⊥ = λ z. c .if2 .taken (c .before .number .ensures ∙ z) in
+    rw (ne-eqb (numberOf (k .decide-refusal .result)) 0 f)
+    (decide-refused _ _ (known (k .before .before .before .before)) _ (ends k) f)
 
 code-requires : tie.Need-code-requires
 code-requires c κs = search needs
 
 element-write-borders : tie.Need-element-write-borders
-element-write-borders c = index (c .before .before .before)
+element-write-borders c = free (c .before) .0
 
 cast-stack : tie.Need-cast-stack
-cast-stack c = omega (arith, index (c .before .before .before))
+cast-stack c = omega (arith, free (c .before) .0)
 
 mul-stack : tie.Need-mul-stack
-mul-stack c = omega (arith, place (c .before))
+mul-stack c = omega (arith, free (c .before) .1)
 
 element-write-stack : tie.Need-element-write-stack
-element-write-stack c = place (c .before)
+element-write-stack c = free (c .before) .1
 
-returns-4 : tie.Need-returns-4
-returns-4 c =
-    let s = c .before .before .before .before .before .before .before .before .before in
-    ap (λ v. returned Done (pushed (lent s) (s .args .l .border) v)) (c .code .ensures)
-    ∙ decide-done _ _ (known (c .before .before .before .before .before)) (below (c .before .before .before))
-    (c .before .if3 .left)
+returns-3 : tie.Need-returns-3
+returns-3 c =
+    let k = c .before .before .before in
+    let s = k .before .before .before .before .before .before .before .before in
+    rw (eq-eqb (numberOf (k .decide-refusal .result)) 0 (zero (c .before)))
+    (ap (λ v. returned (k .decide-refusal .result) (pushed (lent s) (s .args .l .border) v)) (c .code .ensures)
+    ∙ decide-free _ _ (known (k .before .before .before .before)) _ (ends k) (zero (c .before)))
 
 pub decide-lent-spec : {M : Type 1} → statement M
 decide-lent-spec =
@@ -92,12 +101,12 @@ decide-lent-spec =
     is-alien-requires
     returns
     border-count-requires
+    decide-refusal-requires
+    number-requires
     returns-2
-    element-copy-out-if3
-    returns-3
     code-requires
     element-write-borders
     cast-stack
     mul-stack
     element-write-stack
-    returns-4)
+    returns-3)

@@ -5,7 +5,7 @@ use Rattle.page.specs.Places.{sheetAt}
 -- `board_of` meets its contract: the arrays are cut to the page's cells.
 use native.Mathlib.Omega.{arith}
 use Rattle.transcript.specs.Left.{boardAt}
-use Rattle.transcript.specs.BoardLaws.{cells-few}
+use Rattle.board.specs.ConditionLaws.{cells-of-le}
 use borrow.Author.Needs.{needs}
 use Rattle.transcript.proofs.board_of.Statement.{statement}
 use Rattle.transcript.proofs.board_of.Tie as tie
@@ -23,25 +23,25 @@ array-share-prefix-colours : tie.Need-array-share-prefix-colours
 array-share-prefix-colours c =
     let d = c .before .before in
     let p = d .before .before .args .p in
-    omega (arith, d .cell-count .ensures, cells-few (p .height) (p .width))
+    omega (arith, d .cell-count .ensures, cells-of-le (p .height) (p .width))
 
 slice-aggregate-fresh : tie.Need-slice-aggregate-fresh
 slice-aggregate-fresh c =
     let d = c .before .before .before in
     let p = d .before .before .args .p in
-    sym (length-take-le _ _ (omega (arith, d .cell-count .ensures, cells-few (p .height) (p .width))))
+    sym (length-take-le _ _ (omega (arith, d .cell-count .ensures, cells-of-le (p .height) (p .width))))
 
 array-share-prefix-clues : tie.Need-array-share-prefix-clues
 array-share-prefix-clues c =
     let d = c .before .before .before in
     let p = d .before .before .args .p in
-    omega (arith, d .cell-count .ensures, cells-few (p .height) (p .width))
+    omega (arith, d .cell-count .ensures, cells-of-le (p .height) (p .width))
 
 slice-aggregate-fresh-2 : tie.Need-slice-aggregate-fresh-2
 slice-aggregate-fresh-2 c =
     let d = c .before .before .before .before in
     let p = d .before .before .args .p in
-    sym (length-take-le _ _ (omega (arith, d .cell-count .ensures, cells-few (p .height) (p .width))))
+    sym (length-take-le _ _ (omega (arith, d .cell-count .ensures, cells-of-le (p .height) (p .width))))
 
 fresh-requires : tie.Need-fresh-requires
 fresh-requires c κs = search needs

@@ -5,15 +5,17 @@ use Prim.Native.Nat.{_-_, _<_}
 use native.Mathlib.Omega.{arith}
 use borrow.Author.Needs.{needs}
 use Rattle.board.specs.Alien.{isAlien}
-use Rattle.board.specs.Board.{returned}
-use Rattle.board.specs.Cases.{undo-alien, undo-bare, undo-done}
+use Rattle.board.specs.Board.{numberOf, returned}
+use Rattle.board.specs.Cases.{refusal-some, undo-alien, undo-free, undo-refused}
 use Rattle.board.specs.NativeLaws.{borders-fit, native-has}
-use Rattle.board.specs.declared.Outcome.the-variants.{Done}
 use Rattle.board.proofs.Board.undo.Statement.{statement}
 use Rattle.board.proofs.Board.undo.Tie as tie
 
 known : (c : tie.Else1) → isAlien (c .before .before .args .self) ≡ false
 known c = sym (c .before .alien .ensures) ∙ c .if1 .left
+
+zero : (c : tie.Else2) → numberOf (c .before .before .undo-refusal .result) ≡ 0
+zero c = sym (c .before .number .ensures) ∙ c .if2 .left
 
 alien-requires : tie.Need-alien-requires
 alien-requires c κs = search needs
@@ -21,20 +23,43 @@ alien-requires c κs = search needs
 returns : tie.Need-returns
 returns c = undo-alien _ (sym (c .before .alien .ensures) ∙ c .if1 .taken)
 
+undo-refusal-requires : tie.Need-undo-refusal-requires
+undo-refusal-requires c κs = search needs
+
+number-requires : tie.Need-number-requires
+number-requires c κs = search needs
+
 returns-2 : tie.Need-returns-2
-returns-2 c = undo-bare _ (known (c .before .before)) (c .if2 .taken)
+returns-2 c =
+    let k = c .before .before in
+    undo-refused _ (known (k .before)) _ (k .undo-refusal .ensures)
+    (λ z. c .if2 .taken (c .before .number .ensures ∙ z))
 
 pop-requires : tie.Need-pop-requires
 pop-requires c κs =
-    let N = native-has _ (known (c .before .before)) in
+    let k = c .before .before in
+    let n = k .before .before .before .args .self .count in
+    let N = native-has _ (known (k .before)) in
     let m = borders-fit _ N in
-    let k = N .few in
-    let j : 0 < c .before .before .before .before .args .self .count = omega arith in
-    (j, omega arith, omega (arith, N .entry (c .before .before .before .before .args .self .count - 1) (omega arith)))
+    let f = N .few in
+    let z = refusal-some n (ap numberOf (sym (k .undo-refusal .ensures)) ∙ zero c) in
+    let j : 0 < n = omega arith in
+    (j, omega arith, omega (arith, N .entry (n - 1) (omega arith)))
 
 returns-3 : tie.Need-returns-3
-returns-3 c = ap (returned Done) (c .pop .ensures)
-    ∙ undo-done _ (known (c .before .before .before)) (c .before .if2 .left)
+returns-3 c =
+    let k = c .before .before .before in
+    ap (returned (k .undo-refusal .result)) (c .pop .ensures)
+    ∙ undo-free _ (known (k .before)) _ (k .undo-refusal .ensures) (zero (c .before))
 
 pub undo-spec : {M : Type 1} → statement M
-undo-spec = tie.close (tie.spec alien-requires returns returns-2 pop-requires returns-3)
+undo-spec =
+    tie.close
+    (tie.spec
+    alien-requires
+    returns
+    undo-refusal-requires
+    number-requires
+    returns-2
+    pop-requires
+    returns-3)

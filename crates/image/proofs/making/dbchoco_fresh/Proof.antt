@@ -56,8 +56,8 @@ cast-put-fresh-2 c =
 put-fresh-requires : tie.Need-put-fresh-requires
 put-fresh-requires c κs =
     let m = puzzle (c .before .before .before) (c .before .before .if1 .left) in
-    let p = m .colours in
-    let q = m .clues in
+    let p = m .fit .colours in
+    let q = m .fit .clues in
     let n = counts (m .size) .cells in
     (c .before .if2 .left, omega arith, omega arith)
 

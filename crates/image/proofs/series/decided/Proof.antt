@@ -1,12 +1,13 @@
--- `decided` meets its contract: the border's number, its place, and then what changes.
-use mathlib.Core.Path.{_≡_, _∙_}
+-- `decided` meets its contract: how the tests end, and then what changes.
+use mathlib.Core.Path.{_≡_, _∙_, sym}
 use mathlib.Core.Bool.{false}
 use mathlib.Core.List.{List}
 use Prim.Native.Nat.{ℕ}
 use native.Mathlib.Omega.{arith}
 use borrow.Author.Needs.{needs}
+use Rattle.board.specs.Board.{numberOf}
 use Rattle.image.specs.Image.{Bytes, imageAlien}
-use Rattle.image.specs.SeriesLaws.{few, decide-far, decide-held, decide-room, decide-step}
+use Rattle.image.specs.SeriesLaws.{part-length, few, decide-not, decide-room, decide-step}
 use Rattle.image.proofs.series.decided.Statement.{statement}
 use Rattle.image.proofs.series.decided.Tie as tie
 
@@ -26,50 +27,52 @@ known c = c .before .before .before .before .pre .1
 bytes : (c : tie.After-border-count) → Bytes (image c)
 bytes c = λ i. omega (arith, c .before .before .before .slice-known .given i)
 
+zero : (c : tie.Else1) → numberOf (c .before .before .decide-refusal .result) ≡ 0
+zero c = sym (c .before .number .ensures) ∙ c .if1 .left
+
 literal-requires : tie.Need-literal-requires
 literal-requires c κs = search needs
 
 border-count-requires : tie.Need-border-count-requires
 border-count-requires c κs = search needs
 
+sub-decide-refusal : tie.Need-sub-decide-refusal
+sub-decide-refusal c = search needs
+
+part-decide-refusal-start : tie.Need-part-decide-refusal-start
+part-decide-refusal-start c = search needs
+
+part-decide-refusal-end : tie.Need-part-decide-refusal-end
+part-decide-refusal-end c = search needs
+
+decide-refusal-requires : tie.Need-decide-refusal-requires
+decide-refusal-requires c κs =
+    let k = c .before .before in
+    let l = k .before .before .literal in
+    omega (
+      arith,
+      part-length (image k) (bytes k) (known k),
+      few (image k) (bytes k) (known k) (border k) (side k) (l .result) (l .ensures) (k .border-count .result)
+          (k .border-count .ensures),
+    )
+
+number-requires : tie.Need-number-requires
+number-requires c κs = search needs
+
 same-length : tie.Need-same-length
 same-length c = search needs
 
 returns : tie.Need-returns
 returns c =
-    let k = c .before in
+    let e = c .before .before in
+    let k = e .before .before .before in
     let l = k .before .before .literal in
-    decide-far (image k) (bytes k) (known k) (border k) (side k) (l .result) (l .ensures)
-    (k .border-count .result) (k .border-count .ensures) (c .if1 .taken)
-
-add-if2 : tie.Need-add-if2
-add-if2 c =
-    let k = c .before in
-    let l = k .before .before .literal in
-    let f = few (image k) (bytes k) (known k) (border k) (side k) (l .result) (l .ensures) (k .border-count .result)
-    (k .border-count .ensures) in
-    search (needs, f)
-
-slice-read-if2 : tie.Need-slice-read-if2
-slice-read-if2 c =
-    let k = c .before .before in
-    let l = k .before .before .literal in
-    let f = few (image k) (bytes k) (known k) (border k) (side k) (l .result) (l .ensures) (k .border-count .result)
-    (k .border-count .ensures) in
-    omega (arith, f, k .before .before .before .before .pre .0, c .before .if1 .left)
-
-same-length-2 : tie.Need-same-length-2
-same-length-2 c = search needs
-
-returns-2 : tie.Need-returns-2
-returns-2 c =
-    let k = c .before .before .before in
-    let l = k .before .before .literal in
-    decide-held (image k) (bytes k) (known k) (border k) (side k) (l .result) (l .ensures)
-    (k .border-count .result) (k .border-count .ensures) (omega (arith, c .before .before .if1 .left)) (c .if2 .taken)
+    decide-not (image k) (bytes k) (known k) (border k) (side k) (l .result) (l .ensures)
+    (k .border-count .result) (k .border-count .ensures) _ (e .decide-refusal .ensures)
+    (λ z. c .if1 .taken (c .before .number .ensures ∙ z))
 
 two-requires : tie.Need-two-requires
-two-requires c κs = omega (arith, c .before .before .before .before .before .before .before .before .pre .0)
+two-requires c κs = search needs
 
 index-requires : tie.Need-index-requires
 index-requires c κs = search needs
@@ -82,28 +85,28 @@ add-rewrite c = search needs
 
 rewrite-requires : tie.Need-rewrite-requires
 rewrite-requires c κs =
-    let k = c .before .before .before .before .before .before .before .before in
+    let f = c .before .before .before .before .before in
+    let e = f .before .before in
+    let k = e .before .before .before in
     let l = k .before .before .literal in
     let r = decide-room (image k) (bytes k) (known k) (border k) (side k) (l .result) (l .ensures)
-    (k .border-count .result) (k .border-count .ensures)
-    (omega (arith, c .before .before .before .before .before .before .before .if1 .left))
-    (c .before .before .before .before .before .if2 .left) _
+    (k .border-count .result) (k .border-count .ensures) _ (e .decide-refusal .ensures) (zero f) _
     (c .before .before .index .ensures ∙ c .before .before .before .two .ensures) in
     (k .before .before .before .before .pre .0, r .0, r .1)
 
-same-length-3 : tie.Need-same-length-3
-same-length-3 c = search needs
+same-length-2 : tie.Need-same-length-2
+same-length-2 c = search needs
 
-returns-3 : tie.Need-returns-3
-returns-3 c =
-    let e = c .before .before .before in
-    let k = e .before .before .before .before .before .before .before .before in
+returns-2 : tie.Need-returns-2
+returns-2 c =
+    let v = c .before .before .before in
+    let f = v .before .before .before .before .before in
+    let e = f .before .before in
+    let k = e .before .before .before in
     let l = k .before .before .literal in
     decide-step (image k) (bytes k) (known k) (border k) (side k) (l .result) (l .ensures)
-    (k .border-count .result) (k .border-count .ensures)
-    (omega (arith, e .before .before .before .before .before .before .before .if1 .left))
-    (e .before .before .before .before .before .if2 .left) _
-    (e .before .before .index .ensures ∙ e .before .before .before .two .ensures) (e .code .ensures)
+    (k .border-count .result) (k .border-count .ensures) _ (e .decide-refusal .ensures) (zero f) _
+    (v .before .before .index .ensures ∙ v .before .before .before .two .ensures) (v .code .ensures)
     (c .before .before .rewrite .ensures)
 
 pub decided-spec : {M : Type 1} → statement M
@@ -112,16 +115,17 @@ decided-spec =
     (tie.spec
     literal-requires
     border-count-requires
+    sub-decide-refusal
+    part-decide-refusal-start
+    part-decide-refusal-end
+    decide-refusal-requires
+    number-requires
     same-length
     returns
-    add-if2
-    slice-read-if2
-    same-length-2
-    returns-2
     two-requires
     index-requires
     code-requires
     add-rewrite
     rewrite-requires
-    same-length-3
-    returns-3)
+    same-length-2
+    returns-2)

@@ -1,12 +1,13 @@
--- `undone` meets its contract: the count, and then the entry before it.
-use mathlib.Core.Path.{_≡_, _∙_}
+-- `undone` meets its contract: the count, how the test ends, and then the entry before it.
+use mathlib.Core.Path.{_≡_, _∙_, sym}
 use mathlib.Core.Bool.{false}
 use mathlib.Core.List.{List}
 use Prim.Native.Nat.{ℕ, _+_, _-_, _*_}
 use native.Mathlib.Omega.{arith}
 use borrow.Author.Needs.{needs}
+use Rattle.board.specs.Board.{numberOf}
 use Rattle.image.specs.Image.{Bytes, pair, imageAlien}
-use Rattle.image.specs.SeriesLaws.{undo-none, undo-low, undo-room, undo-step}
+use Rattle.image.specs.SeriesLaws.{undo-not, undo-some, undo-low, undo-room, undo-step}
 use Rattle.image.proofs.series.undone.Statement.{statement}
 use Rattle.image.proofs.series.undone.Tie as tie
 
@@ -23,9 +24,12 @@ bytes c = λ i. omega (arith, c .before .before .before .slice-known .given i)
 count : (c : tie.After-index) → c .index .result ≡ pair (image c) 7106
 count c = c .index .ensures ∙ c .before .two .ensures
 
+zero : (c : tie.Else1) → numberOf (c .before .before .undo-refusal .result) ≡ 0
+zero c = sym (c .before .number .ensures) ∙ c .if1 .left
+
 -- the entry before it
 entry : (c : tie.After-index2)
-    → let k = c .before .before .before .before in
+    → let k = c .before .before .before .before .before .before in
     c .index2 .result ≡ pair (image k) (7108 + 2 * (k .index .result - 1))
 entry c = c .index2 .ensures ∙ c .before .two2 .ensures
 
@@ -35,16 +39,27 @@ two-requires c κs = search needs
 index-requires : tie.Need-index-requires
 index-requires c κs = search needs
 
+undo-refusal-requires : tie.Need-undo-refusal-requires
+undo-refusal-requires c κs = search needs
+
+number-requires : tie.Need-number-requires
+number-requires c κs = search needs
+
 same-length : tie.Need-same-length
 same-length c = search needs
 
 returns : tie.Need-returns
 returns c =
-    let k = c .before in
-    undo-none (image k) (bytes k) (known k) (k .index .result) (count k) (c .if1 .taken)
+    let u = c .before .before in
+    let k = u .before in
+    undo-not (image k) (bytes k) (known k) (k .index .result) (count k) _ (u .undo-refusal .ensures)
+    (λ z. c .if1 .taken (c .before .number .ensures ∙ z))
 
 sub-at : tie.Need-sub-at
-sub-at c = search needs
+sub-at c =
+    let u = c .before .before in
+    let k = u .before in
+    undo-some (image k) (bytes k) (known k) (k .index .result) (count k) _ (u .undo-refusal .ensures) (zero c)
 
 mul-two : tie.Need-mul-two
 mul-two c = search needs
@@ -54,22 +69,26 @@ add-two c = search needs
 
 two-requires-2 : tie.Need-two-requires-2
 two-requires-2 c κs =
-    let k = c .before .before in
-    let l = undo-low (image k) (bytes k) (known k) (k .index .result) (count k)
-    (c .before .if1 .left) in
-    omega (arith, k .before .before .before .before .pre .0, c .before .if1 .left)
+    let u = c .before .before .before in
+    let k = u .before in
+    let l = undo-low (image k) (bytes k) (known k) (k .index .result) (count k) _ (u .undo-refusal .ensures)
+    (zero (c .before)) in
+    omega (arith, k .before .before .before .before .pre .0, sub-at (c .before))
 
 index-requires-2 : tie.Need-index-requires-2
 index-requires-2 c κs = search needs
 
 rewrite-requires : tie.Need-rewrite-requires
 rewrite-requires c κs =
-    let k = c .before .before .before .before .before in
-    let p = k .before .before .before .before .pre in
-    let f = c .before .before .before .before .if1 .left in
-    let l = undo-low (image k) (bytes k) (known k) (k .index .result) (count k) f in (
-      p .0,
-      undo-room (image k) (bytes k) (known k) (k .index .result) (count k) f _ (entry (c .before)),
+    let f = c .before .before .before .before in
+    let u = f .before .before in
+    let k = u .before in
+    let i = sub-at f in
+    let l = undo-low (image k) (bytes k) (known k) (k .index .result) (count k) _ (u .undo-refusal .ensures)
+    (zero f) in (
+      k .before .before .before .before .pre .0,
+      undo-room (image k) (bytes k) (known k) (k .index .result) (count k) _ (u .undo-refusal .ensures) (zero f) _
+          (entry (c .before)),
       omega arith,
     )
 
@@ -79,9 +98,11 @@ same-length-2 c = search needs
 returns-2 : tie.Need-returns-2
 returns-2 c =
     let e = c .before .before .before .before in
-    let k = e .before .before .before .before in
-    undo-step (image k) (bytes k) (known k) (k .index .result) (count k)
-    (e .before .before .before .if1 .left) _ (entry e) (c .before .before .rewrite .ensures)
+    let f = e .before .before .before in
+    let u = f .before .before in
+    let k = u .before in
+    undo-step (image k) (bytes k) (known k) (k .index .result) (count k) _ (u .undo-refusal .ensures) (zero f) _
+    (entry e) (c .before .before .rewrite .ensures)
 
 pub undone-spec : {M : Type 1} → statement M
 undone-spec =
@@ -89,6 +110,8 @@ undone-spec =
     (tie.spec
     two-requires
     index-requires
+    undo-refusal-requires
+    number-requires
     same-length
     returns
     sub-at

@@ -1,13 +1,14 @@
 -- `judge_parts` meets its contract, test by test.
-use Rattle.page.specs.JudgeLaws.{sized, not-sized, ragged, coloured, misprint, right}
+use Rattle.board.specs.ConditionLaws.{sized}
+use Rattle.page.specs.JudgeLaws.{not-sized, ragged, coloured, misprint, right}
 use Rattle.page.specs.Places.{judgedOf, sheetAt}
 use borrow.Author.Needs.{needs}
 use mathlib.Core.Path.{sym, _∙_}
 use Rattle.page.proofs.fitness.judge_parts.Statement.{statement}
 use Rattle.page.proofs.fitness.judge_parts.Tie as tie
 
-size-fits-requires : tie.Need-size-fits-requires
-size-fits-requires c κs = search needs
+size-right-requires : tie.Need-size-right-requires
+size-right-requires c κs = search needs
 
 rows-fit-requires : tie.Need-rows-fit-requires
 rows-fit-requires c κs = search needs
@@ -16,7 +17,7 @@ two-colours-requires : tie.Need-two-colours-requires
 two-colours-requires c κs = search needs
 
 half-requires : tie.Need-half-requires
-half-requires c κs = sized _ _ (sym (c .before .before .before .before .before .size-fits .ensures)
+half-requires c κs = sized (sym (c .before .before .before .before .before .size-right .ensures)
     ∙ c .before .before .before .before .if1 .taken)
 
 clues-low-requires : tie.Need-clues-low-requires
@@ -26,7 +27,7 @@ returns : tie.Need-returns
 unfolding judgedOf sheetAt
 returns c =
     sym
-    (right _ (sym (c .before .before .before .before .before .before .before .before .size-fits .ensures)
+    (right _ (sym (c .before .before .before .before .before .before .before .before .size-right .ensures)
     ∙ c .before .before .before .before .before .before .before .if1 .taken)
     (sym (c .before .before .before .before .before .before .rows-fit .ensures)
     ∙ c .before .before .before .before .before .if2 .taken)
@@ -37,7 +38,7 @@ returns-2 : tie.Need-returns-2
 unfolding judgedOf sheetAt
 returns-2 c =
     sym
-    (misprint _ (sym (c .before .before .before .before .before .before .before .before .size-fits .ensures)
+    (misprint _ (sym (c .before .before .before .before .before .before .before .before .size-right .ensures)
     ∙ c .before .before .before .before .before .before .before .if1 .taken)
     (sym (c .before .before .before .before .before .before .rows-fit .ensures)
     ∙ c .before .before .before .before .before .if2 .taken)
@@ -48,25 +49,25 @@ returns-3 : tie.Need-returns-3
 unfolding judgedOf sheetAt
 returns-3 c =
     sym
-    (coloured _ (sym (c .before .before .before .before .before .size-fits .ensures)
+    (coloured _ (sym (c .before .before .before .before .before .size-right .ensures)
     ∙ c .before .before .before .before .if1 .taken)
     (sym (c .before .before .before .rows-fit .ensures) ∙ c .before .before .if2 .taken)
     (sym (c .before .two-colours .ensures) ∙ c .if3 .left))
 
 returns-4 : tie.Need-returns-4
 unfolding judgedOf sheetAt
-returns-4 c = sym (ragged _ (sym (c .before .before .before .size-fits .ensures) ∙ c .before .before .if1 .taken)
+returns-4 c = sym (ragged _ (sym (c .before .before .before .size-right .ensures) ∙ c .before .before .if1 .taken)
     (sym (c .before .rows-fit .ensures) ∙ c .if2 .left))
 
 returns-5 : tie.Need-returns-5
 unfolding judgedOf sheetAt
-returns-5 c = sym (not-sized _ (sym (c .before .size-fits .ensures) ∙ c .if1 .left))
+returns-5 c = sym (not-sized _ (sym (c .before .size-right .ensures) ∙ c .if1 .left))
 
 pub judge-parts-spec : {M : Type 1} → statement M
 judge-parts-spec =
     tie.close
     (tie.spec
-    size-fits-requires
+    size-right-requires
     rows-fit-requires
     two-colours-requires
     half-requires

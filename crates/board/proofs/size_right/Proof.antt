@@ -1,8 +1,8 @@
 -- `size_right` meets its contract: each return rewrites with the tests that led to it.
 use borrow.Author.Tests.{le-leb, lt-leb}
 use Rattle.board.specs.Alien.{sizeRight}
-use Rattle.board.proofs.conditions.size_right.Statement.{statement}
-use Rattle.board.proofs.conditions.size_right.Tie as tie
+use Rattle.board.proofs.size_right.Statement.{statement}
+use Rattle.board.proofs.size_right.Tie as tie
 
 returns : tie.Need-returns
 unfolding sizeRight
