@@ -11,6 +11,7 @@ ROOT = Path(__file__).resolve().parent.parent
 HEAD = re.compile(r'^[ \t]*(?:#\[[^\]]*\]\s*)?pub (?:extern "C" )?fn (\w+)', re.M)
 CLAUSE = re.compile(r"(requires|ensures|ghost)(\s+\w+)?$")
 TYPE = re.compile(r"^pub (?:struct|enum) (\w+)[^\n]*\{\n(.*?)^\}", re.M | re.S)
+ALIAS = re.compile(r"^pub type (\w+) = ([^;]*);", re.M)
 CONSTANT = re.compile(r"^[ \t]*(?:pub )?const (\w+)[^;]*;", re.M)
 DECLARATION = re.compile(r"((?:unfoldable |abbrev |pub )*)((?:record |data )?)(\S+)(.*)", re.S)
 
@@ -85,6 +86,8 @@ def code_items(file, text):
     for found in TYPE.finditer(text):
         parts = " ".join(re.sub(r"^\s*(?:pub )?\w+", "", line) for line in found[2].splitlines())
         items.append(Item(file, found[1], "type", lines_of(text, *found.span()), types=code_names(parts)))
+    for found in ALIAS.finditer(text):
+        items.append(Item(file, found[1], "type", lines_of(text, *found.span()), types=code_names(found[2])))
     for found in CONSTANT.finditer(text):
         items.append(Item(file, found[1], "constant", lines_of(text, *found.span())))
     for name, start, head in functions(text):

@@ -5,12 +5,10 @@
 --   Lists cs offs n     a list of the cells of n groups
 --   sizeIn offs g       how many cells group g has, from the places where the groups start
 --   Parted ids offs     numbers of groups, and places where they start
---   Numbered            group g of such arrays, with its cells
 use mathlib.Core.Path.{_≡_}
 use mathlib.Core.List.{List}
 use Prim.Native.Nat.{ℕ, _+_, _-_, _<_, _≤_}
 use lib.ListN.{length, getD}
-use Rattle.reasons.specs.Arrays.{Part}
 
 pub record Listed (from to : ℕ) (cs : List ℕ) : Type 0 where
   pub order : from ≤ to
@@ -29,8 +27,3 @@ pub record Parted (ids offs : List ℕ) : Type 0 where
   pub few : (c : ℕ) → getD ids c 0 < 1024
   pub rises : (c : ℕ) → getD offs (getD ids c 0) 0 ≤ getD offs (getD ids c 0 + 1) 0
   pub first : getD offs 0 0 ≤ getD offs 1 0
-
-pub record Numbered (h w : ℕ) (ids cells offs : List ℕ) (g : ℕ) : Type 0 where
-  pub few : g < 1024
-  pub numbers : length ids ≡ 1024
-  pub is : Part h w ids cells (getD offs g 0) (getD offs (g + 1) 0) g

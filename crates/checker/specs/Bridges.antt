@@ -22,13 +22,16 @@ use Rattle.laws.specs.FlatLaws.{counts}
 use Rattle.laws.specs.GroupLaws.{numbers-length, members-none}
 use Rattle.groups.specs.declared.Kind.{Kind}
 use Rattle.groups.specs.declared.Kind.the-variants.{Blocks, Units, Potential}
-use Rattle.groups.specs.declared.Groups.{Groups}
+use Rattle.groups.specs.Parts.{Groups}
+use Rattle.groups.specs.Grouping.{Filled}
 use Rattle.groups.specs.Kinds.{linkOf, coloured, joinsIn}
 use Rattle.groups.specs.Parts.{groupsOf, partOf}
 use Rattle.groups.specs.NumberLaws.{starts-past}
 use Rattle.groups.specs.PartLaws.{ids-entry, ids-length, ids-lt, count-le, offs-next, offs-le, cells-long, cells-lt}
 use Rattle.groups.specs.PartLaws.{part-members}
-use Rattle.checker.specs.Arrays.{Lists, Parted, Numbered, sizeIn}
+use Rattle.laws.specs.GroupLaws.{members-none}
+use Rattle.reasons.specs.Arrays.{GroupAt}
+use Rattle.checker.specs.Arrays.{Lists, Parted, sizeIn}
 use Rattle.checker.specs.declared.Fault.{Fault}
 use Rattle.checker.specs.Faults.{faultOn, blockFault}
 use Rattle.checker.specs.Faulty.{firstFaulty}
@@ -115,22 +118,22 @@ module _ {h w : ℕ} (z : Sized h w) (link : ℕ → Bool) where
         first = omega (arith, next 0 count-some);
       }
 
-  pub numbered-of : (g : ℕ) → g < groups .count
-      → Numbered h w (groups .ids) (groups .cells) (groups .offs) g
+  pub group-at : {grouping : List ℕ} → Filled groups grouping → (g : ℕ) → g < groups .count → GroupAt h w grouping g
   unfolding partOf
-  numbered-of g l =
+  group-at f g l =
       record {
         few = omega (arith, count-le (flat h w) link some few, few);
-        numbers = ids-length (flat h w) link some few;
+        numbers = rw (f .numbers) (ids-length (flat h w) link some few);
         is =
-            record {
+            rw (f .numbers, f .cells, f .starts)
+            (record {
               long = cells-long (flat h w) link some few;
               order = omega (arith, next g l);
               end = omega (arith, end (g + 1) (omega arith), few);
               group =
                   part-members (flat h w) link some few g
                   ∙ ap (λ (f : ℕ → ℕ). members (flat h w) f g) (sym (ids-entry (flat h w) link some few));
-            };
+            });
       }
 
   -- the cells, and how many, of every number

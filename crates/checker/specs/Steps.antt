@@ -17,16 +17,17 @@ use Rattle.rules.specs.Groups.{entry, blockCount}
 use Rattle.rules.specs.Reasons.{inside, edge}
 use Rattle.rules.specs.Check.{hitIf, insideBlock, edgeOf, blockHit, wallHits}
 use Rattle.groups.specs.declared.Kind.the-variants.{Blocks, Potential}
+use Rattle.groups.specs.Grouping.{Filled}
 use Rattle.groups.specs.Kinds.{joinsIn}
-use Rattle.reasons.specs.Arrays.{insideIn, edgeIn}
+use Rattle.reasons.specs.Arrays.{GroupAt, insideIn, edgeIn}
 use Rattle.checker.specs.declared.Faulty.{Faulty}
 use Rattle.checker.specs.declared.Breach.{Breach}
-use Rattle.checker.specs.Arrays.{Numbered}
 use Rattle.checker.specs.Faults.{isClear, faultReason}
 use Rattle.checker.specs.Faulty.{firstFaulty, faulty-hits, clear-none}
 use Rattle.checker.specs.Breaches.{firstBreach, breachReason, breach-hits}
 use Rattle.checker.specs.Written.{faultLiterals, faultUnit, reasonIn, breachLiterals, fault-some, breach-some}
-use Rattle.checker.specs.Bridges.{groupsIn, id-under, numbered-of, ids-are, faultIn, faulty-is}
+use Rattle.checker.specs.Bridges.{groupsIn, id-under, group-at, ids-are, faultIn, faulty-is}
+use Rattle.rules.specs.Codes.{puzzleIn}
 use Rattle.checker.specs.Bridges.{breach-is}
 use Rattle.checker.specs.Bounds.{fault-under, first-wrong, first-under-all}
 
@@ -34,19 +35,19 @@ module _ {h w : ℕ} (z : Sized h w) (cs : List ℕ) (ks : List ℤ) (bs : List 
   abbrev pub faultyIn : Faulty
   faultyIn = firstFaulty (faultIn z cs ks bs) (groupsIn Blocks h w cs bs .count)
 
-  pub block-numbered : isClear (faultyIn .fault) ≡ false
-      → let g = groupsIn Blocks h w cs bs in Numbered h w (g .ids) (g .cells) (g .offs) (faultyIn .block)
-  block-numbered e =
-      numbered-of z (joinsIn Blocks h w cs bs) (faultyIn .block)
+  pub block-at : {blocks : List ℕ} → Filled (groupsIn Blocks h w cs bs) blocks → isClear (faultyIn .fault) ≡ false
+      → GroupAt h w blocks (faultyIn .block)
+  block-at f e =
+      group-at z (joinsIn Blocks h w cs bs) f (faultyIn .block)
       (first-wrong (faultIn z cs ks bs) (groupsIn Blocks h w cs bs .count) e .block)
 
-  pub unit-numbered : let g = groupsIn Potential h w cs bs in
-      Numbered h w (g .ids) (g .cells) (g .offs) (faultUnit (faultyIn .fault))
+  pub unit-at : {potential : List ℕ} → Filled (groupsIn Potential h w cs bs) potential
+      → GroupAt h w potential (faultUnit (faultyIn .fault))
   unfolding entry
-  unit-numbered =
+  unit-at f =
       let link = joinsIn Potential h w cs bs in
       let some : 0 < groupsIn Potential h w cs bs .count = omega (arith, id-under z link 0) in
-      numbered-of z link (faultUnit (faultyIn .fault))
+      group-at z link f (faultUnit (faultyIn .fault))
       (first-under-all (faultIn z cs ks bs) (groupsIn Potential h w cs bs .count) (groupsIn Blocks h w cs bs .count)
       some
       (λ B.

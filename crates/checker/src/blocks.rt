@@ -10,6 +10,7 @@ ghost use Rattle.rules.specs.Codes.{coloursIn, cluesIn};
 ghost use Rattle.rules.specs.Groups.{entry};
 ghost use Rattle.rules.specs.Check.{clash};
 ghost use Rattle.checker.specs.Censuses.{optionOf};
+ghost use Rattle.groups.specs.Grouping.{numbersIn, cellsIn, startsIn, countIn};
 ghost use Rattle.groups.specs.Parts.{partOf};
 ghost use Rattle.checker.specs.Arrays.{Listed, Lists, Parted, sizeIn};
 ghost use Rattle.checker.specs.Faults.{orFault, isClear, smallFault, bigFault, clueFault, censusFault};
@@ -26,7 +27,11 @@ use crate::Part;
 use crate::censuses::census;
 use crate::censuses::clue_at;
 use crate::censuses::first_clue;
-use rules::index;
+use groups::Grouping;
+use groups::cell_at;
+use groups::count_of;
+use groups::group_of;
+use groups::start_of;
 
 // Whether two cells have clues that differ.
 fn clash(a: Clue, b: Clue) -> bool
@@ -121,23 +126,18 @@ fn census_fault(t: Census, a: usize, b: usize) -> Fault
 }
 
 // How many cells a group has, from the places where the groups start.
-fn size_of(offs: &[u16; 1025], g: usize) -> usize
-    requires { ⌜ (g < 1024) × (getD (now offs) g 0 ≤ getD (now offs) (g + 1) 0) ⌝ }
-    ensures { λ r. ⌜ r ≡ sizeIn (now (offs .entry)) g ⌝ }
+fn size_of(potential: &Grouping, g: usize) -> usize
+    requires { ⌜ (g < 1024) × (getD (startsIn (now potential)) g 0 ≤ getD (startsIn (now potential)) (g + 1) 0) ⌝ }
+    ensures { λ r. ⌜ r ≡ sizeIn (startsIn (now (potential .entry))) g ⌝ }
 {
-    index(offs[g + 1]) - index(offs[g])
+    start_of(potential, g + 1) - start_of(potential, g)
 }
 
-// What is wrong with a block of the one cell c; ids and offs are those of the potential units.
-fn lone_fault<'a>(
-    clues: &'a [i32; 1024],
-    ids: &'a [u16; 1024],
-    offs: &'a [u16; 1025],
-    c: usize,
-) -> Fault
-    requires { ⌜ (c < 1024) × Parted (now ids) (now offs) ⌝ }
-    ensures { λ r. ⌜ r ≡ loneFault (cluesIn (now (clues .entry))) (entry (now (ids .entry)))
-        (sizeIn (now (offs .entry))) c ⌝ }
+// What is wrong with a block of the one cell c.
+fn lone_fault<'a>(clues: &'a [i32; 1024], potential: &'a Grouping, c: usize) -> Fault
+    requires { ⌜ (c < 1024) × Parted (numbersIn (now potential)) (startsIn (now potential)) ⌝ }
+    ensures { λ r. ⌜ r ≡ loneFault (cluesIn (now (clues .entry))) (entry (numbersIn (now (potential .entry))))
+        (sizeIn (startsIn (now (potential .entry)))) c ⌝ }
 {
     let clue = clue_at(clues[c]);
     let Clue::Is(n) = clue else {
@@ -146,8 +146,8 @@ fn lone_fault<'a>(
     if n == 0 {
         return Fault::Inside;
     }
-    let unit = index(ids[c]);
-    if n <= size_of(offs, unit) {
+    let unit = group_of(potential, c);
+    if n <= size_of(potential, unit) {
         return Fault::Clear;
     }
     Fault::Edge(unit)
@@ -165,14 +165,15 @@ fn bit(colour: u8) -> usize
 
 // Whether nothing is wrong with `size` cells of one colour and their potential unit, beside `other` cells of the other
 // colour and the block's clue.
-fn has_room(offs: &[u16; 1025], size: usize, unit: usize, other: usize, clue: Clue) -> bool
-    requires { ⌜ ((size ≡ 0 → ⊥) → (unit < 1024) × (getD (now offs) unit 0 ≤ getD (now offs) (unit + 1) 0)) ⌝ }
-    ensures { λ r. ⌜ (r ≡ true → Room size other clue (sizeIn (now (offs .entry)) unit)) ⌝ }
+fn has_room(potential: &Grouping, size: usize, unit: usize, other: usize, clue: Clue) -> bool
+    requires { ⌜ ((size ≡ 0 → ⊥) → (unit < 1024) × (getD (startsIn (now potential)) unit 0 ≤ getD
+        (startsIn (now potential)) (unit + 1) 0)) ⌝ }
+    ensures { λ r. ⌜ (r ≡ true → Room size other clue (sizeIn (startsIn (now (potential .entry))) unit)) ⌝ }
 {
     if size == 0 {
         return true;
     }
-    let room = size_of(offs, unit);
+    let room = size_of(potential, unit);
     if room < other {
         return false;
     }
@@ -201,26 +202,27 @@ fn settled(f: Fault) -> Look
 fn look<'a>(
     colours: &'a [u8; 1024],
     clues: &'a [i32; 1024],
-    ids: &'a [u16; 1024],
-    offs: &'a [u16; 1025],
-    cells: &'a [u16; 1024],
+    potential: &'a Grouping,
+    blocks: &'a Grouping,
     from: usize,
     to: usize,
 ) -> Look
-    requires { ⌜ Listed from to (now cells) × Parted (now ids) (now offs) ⌝ }
+    requires { ⌜ Listed from to (cellsIn (now blocks))
+        × Parted (numbersIn (now potential)) (startsIn (now potential)) ⌝ }
     ensures { λ r. ⌜ (r .settled ≡ true → r .fault ≡ faultOn (coloursIn (now (colours .entry)))
-        (cluesIn (now (clues .entry))) (entry (now (ids .entry))) (sizeIn (now (offs .entry)))
-        (part (now (cells .entry)) from to))
+        (cluesIn (now (clues .entry))) (entry (numbersIn (now (potential .entry))))
+        (sizeIn (startsIn (now (potential .entry))))
+        (part (cellsIn (now (blocks .entry))) from to))
         × (r .settled ≡ false → scanOn (coloursIn (now (colours .entry))) (cluesIn (now (clues .entry)))
-        (entry (now (ids .entry))) (part (now (cells .entry)) from to) ≡ Fault.Clear) ⌝ }
+        (entry (numbersIn (now (potential .entry)))) (part (cellsIn (now (blocks .entry))) from to) ≡ Fault.Clear) ⌝ }
 {
     let mut own = [1024usize; 2];
     let mut first = Clue::Free;
     let mut ones = 0;
     let mut i = from;
     while i < to {
-        let c = index(cells[i]);
-        let unit = index(ids[c]);
+        let c = cell_at(blocks, i);
+        let unit = group_of(potential, c);
         let one = bit(colours[c]);
         if own[one] != unit {
             if own[one] != 1024 {
@@ -239,8 +241,8 @@ fn look<'a>(
         i += 1;
     }
     let zeros = to - from - ones;
-    if has_room(offs, zeros, own[0], ones, first) {
-        if has_room(offs, ones, own[1], zeros, first) {
+    if has_room(potential, zeros, own[0], ones, first) {
+        if has_room(potential, ones, own[1], zeros, first) {
             return settled(Fault::Clear);
         }
     }
@@ -250,63 +252,65 @@ fn look<'a>(
     }
 }
 
-// What is wrong with the block of the cells from..to; ids and offs are those of the potential units.
+// What is wrong with the block of the cells from..to.
 pub fn block_fault<'a>(
     colours: &'a [u8; 1024],
     clues: &'a [i32; 1024],
-    ids: &'a [u16; 1024],
-    offs: &'a [u16; 1025],
-    cells: &'a [u16; 1024],
+    potential: &'a Grouping,
+    blocks: &'a Grouping,
     from: usize,
     to: usize,
 ) -> Fault
-    requires { ⌜ Listed from to (now cells) × Parted (now ids) (now offs) ⌝ }
+    requires { ⌜ Listed from to (cellsIn (now blocks))
+        × Parted (numbersIn (now potential)) (startsIn (now potential)) ⌝ }
     ensures { λ r. ⌜ r ≡ faultOn (coloursIn (now (colours .entry))) (cluesIn (now (clues .entry)))
-        (entry (now (ids .entry)))
-        (sizeIn (now (offs .entry)))
-        (part (now (cells .entry)) from to) ⌝ }
+        (entry (numbersIn (now (potential .entry))))
+        (sizeIn (startsIn (now (potential .entry))))
+        (part (cellsIn (now (blocks .entry))) from to) ⌝ }
 {
     if to == from + 1 {
-        return lone_fault(clues, ids, offs, index(cells[from]));
+        return lone_fault(clues, potential, cell_at(blocks, from));
     }
-    let seen = look(colours, clues, ids, offs, cells, from, to);
+    let seen = look(colours, clues, potential, blocks, from, to);
     if seen.settled {
         return seen.fault;
     }
-    let t = census(colours, clues, ids, cells, from, to);
+    let t = census(colours, clues, potential, blocks, from, to);
     let zero = t.zero;
     let one = t.one;
-    census_fault(t, size_of(offs, zero.unit), size_of(offs, one.unit))
+    census_fault(
+        t,
+        size_of(potential, zero.unit),
+        size_of(potential, one.unit),
+    )
 }
 
-// The first of `count` blocks with which something is wrong; ids and offs are those of the potential units, cells and
-// starts those of the blocks.
+// The first of the blocks with which something is wrong.
 pub fn first_faulty<'a>(
     colours: &'a [u8; 1024],
     clues: &'a [i32; 1024],
-    ids: &'a [u16; 1024],
-    offs: &'a [u16; 1025],
-    cells: &'a [u16; 1024],
-    starts: &'a [u16; 1025],
-    count: usize,
+    potential: &'a Grouping,
+    blocks: &'a Grouping,
 ) -> Faulty
-    requires { ⌜ Lists (now cells) (now starts) count × Parted (now ids) (now offs) ⌝ }
+    requires { ⌜ Lists (cellsIn (now blocks)) (startsIn (now blocks)) (countIn (now blocks))
+        × Parted (numbersIn (now potential)) (startsIn (now potential)) ⌝ }
     ensures { λ r. ⌜ r ≡ firstFaulty
-        (λ B. faultOn (coloursIn (now (colours .entry))) (cluesIn (now (clues .entry))) (entry (now (ids .entry)))
-        (sizeIn (now (offs .entry)))
-        (partOf (now (cells .entry)) (now (starts .entry)) B))
-        count ⌝ }
+        (λ B. faultOn (coloursIn (now (colours .entry))) (cluesIn (now (clues .entry)))
+        (entry (numbersIn (now (potential .entry))))
+        (sizeIn (startsIn (now (potential .entry))))
+        (partOf (cellsIn (now (blocks .entry))) (startsIn (now (blocks .entry))) B))
+        (countIn (now (blocks .entry))) ⌝ }
 {
+    let count = count_of(blocks);
     let mut b = 0;
     while b < count {
         let fault = block_fault(
             colours,
             clues,
-            ids,
-            offs,
-            cells,
-            index(starts[b]),
-            index(starts[b + 1]),
+            potential,
+            blocks,
+            start_of(blocks, b),
+            start_of(blocks, b + 1),
         );
         if is_clear(fault) {
             b += 1;

@@ -1,17 +1,20 @@
 // What step 1 asks of a block's cells: how many there are of each colour, their potential units, and the first clue.
 ghost use mathlib.Core.Path.{_≡_};
 ghost use mathlib.Core.Bool.{true, _||_};
-ghost use Prim.Native.Nat.{_+_, _<_};
-ghost use Rattle.lists.specs.Parts.{part};
+ghost use Prim.Native.Nat.{_+_, _-_, _<_};
+ghost use Rattle.groups.specs.Grouping.{numbersIn, cellsIn};
 ghost use Rattle.rules.specs.Codes.{clueOf, coloursIn, cluesIn};
 ghost use Rattle.rules.specs.Groups.{entry};
 ghost use Rattle.rules.specs.Check.{isSome};
 ghost use Rattle.checker.specs.Censuses.{clueIn, optionOf, firstClue, nextPart, censusOf};
+ghost use Rattle.lists.specs.Parts.{part};
 ghost use Rattle.checker.specs.Arrays.{Listed};
 use crate::Census;
 use crate::Clue;
 use crate::Part;
-use rules::index;
+use groups::Grouping;
+use groups::cell_at;
+use groups::group_of;
 
 // The clue that a place of a board spells.
 pub fn clue_at(k: i32) -> Clue
@@ -78,15 +81,15 @@ pub fn first_clue(a: Clue, b: Clue) -> Clue
 pub fn census<'a>(
     colours: &'a [u8; 1024],
     clues: &'a [i32; 1024],
-    ids: &'a [u16; 1024],
-    cells: &'a [u16; 1024],
+    potential: &'a Grouping,
+    blocks: &'a Grouping,
     from: usize,
     to: usize,
 ) -> Census
-    requires { ⌜ Listed from to (now cells) ⌝ }
+    requires { ⌜ Listed from to (cellsIn (now blocks)) ⌝ }
     ensures { λ r. ⌜ r ≡ censusOf (coloursIn (now (colours .entry))) (cluesIn (now (clues .entry)))
-        (entry (now (ids .entry)))
-        (part (now (cells .entry)) from to) ⌝ }
+        (entry (numbersIn (now (potential .entry))))
+        (part (cellsIn (now (blocks .entry))) from to) ⌝ }
 {
     let mut zero = Part {
         size: 0,
@@ -101,8 +104,8 @@ pub fn census<'a>(
     let mut first = Clue::Free;
     let mut i = from;
     while i < to {
-        let c = index(cells[i]);
-        let unit = index(ids[c]);
+        let c = cell_at(blocks, i);
+        let unit = group_of(potential, c);
         let clue = clue_at(clues[c]);
         let clued = is_clue(clue);
         first = first_clue(first, clue);

@@ -3,21 +3,25 @@ ghost use mathlib.Core.Path.{_≡_};
 ghost use mathlib.Core.Bool.{true, _&&_};
 ghost use Prim.Native.Nat.{_+_, _*_, _<_, _≤_};
 ghost use lib.Dec.{eqb};
-ghost use Rattle.lists.specs.Count.{bit};
+ghost use Rattle.groups.specs.Grouping.{numbersIn};
 ghost use Rattle.rules.specs.Flat.{Sized, flat};
 ghost use Rattle.rules.specs.Codes.{statesIn};
 ghost use Rattle.rules.specs.Groups.{entry};
 ghost use Rattle.reasons.specs.Arrays.{Arrays, Fits, hopsIn, hopOf};
 ghost use Rattle.checker.specs.Breaches.{noBreach, isBreach, breachOn, breachFrom, firstBreach};
 ghost use Rattle.checker.specs.WallCases.{breachAt};
+ghost use Rattle.lists.specs.Count.{bit};
 ghost use Rattle.checker.specs.Clean.{Apart};
 use crate::Breach;
+use groups::Grouping;
+use groups::group_of;
 use reasons::Neighbour;
 
 // The border to the neighbour n of the cell c is wall, and n is in the block of c. False if there is no neighbour.
-fn is_breach<'a>(borders: &'a [u8; 1984], ids: &'a [u16; 1024], c: usize, n: Neighbour) -> bool
-    requires { ⌜ Arrays (now borders) (now ids) × (c < 1024) × (n .some ≡ true → Fits n) ⌝ }
-    ensures { λ r. ⌜ r ≡ (n .some && isBreach (statesIn (now (borders .entry))) (entry (now (ids .entry))) c
+fn is_breach<'a>(borders: &'a [u8; 1984], blocks: &'a Grouping, c: usize, n: Neighbour) -> bool
+    requires { ⌜ Arrays (now borders) (numbersIn (now blocks)) × (c < 1024) × (n .some ≡ true → Fits n) ⌝ }
+    ensures { λ r. ⌜ r ≡ (n .some && isBreach (statesIn (now (borders .entry)))
+        (entry (numbersIn (now (blocks .entry)))) c
         (hopOf n)) ⌝ }
 {
     if !n.some {
@@ -28,7 +32,7 @@ fn is_breach<'a>(borders: &'a [u8; 1984], ids: &'a [u16; 1024], c: usize, n: Nei
     if borders[border] != 1 {
         return false;
     }
-    ids[c] == ids[to]
+    group_of(blocks, c) == group_of(blocks, to)
 }
 
 // Nothing found.
@@ -44,11 +48,12 @@ fn nothing() -> Breach
 }
 
 // The breach over the border to the neighbour n of the cell c, if there is one.
-fn hop_breach<'a>(borders: &'a [u8; 1984], ids: &'a [u16; 1024], c: usize, n: Neighbour) -> Breach
-    requires { ⌜ Arrays (now borders) (now ids) × (c < 1024) × (n .some ≡ true → Fits n) ⌝ }
-    ensures { λ r. ⌜ r ≡ breachOn (statesIn (now (borders .entry))) (entry (now (ids .entry))) c (hopsIn n) ⌝ }
+fn hop_breach<'a>(borders: &'a [u8; 1984], blocks: &'a Grouping, c: usize, n: Neighbour) -> Breach
+    requires { ⌜ Arrays (now borders) (numbersIn (now blocks)) × (c < 1024) × (n .some ≡ true → Fits n) ⌝ }
+    ensures { λ r. ⌜ r ≡ breachOn (statesIn (now (borders .entry))) (entry (numbersIn (now (blocks .entry)))) c
+        (hopsIn n) ⌝ }
 {
-    if is_breach(borders, ids, c, n) {
+    if is_breach(borders, blocks, c, n) {
         return Breach {
             found: true,
             cell: c,
@@ -64,19 +69,19 @@ fn cell_breach<'a>(
     h: usize,
     w: usize,
     borders: &'a [u8; 1984],
-    ids: &'a [u16; 1024],
+    blocks: &'a Grouping,
     y: usize,
     x: usize,
 ) -> Breach
-    requires { ⌜ Sized h w × Arrays (now borders) (now ids) × (y < h) × (x < w) ⌝ }
-    ensures { λ r. ⌜ r ≡ breachAt h w (now (borders .entry)) (now (ids .entry)) (y * w + x) ⌝ }
+    requires { ⌜ Sized h w × Arrays (now borders) (numbersIn (now blocks)) × (y < h) × (x < w) ⌝ }
+    ensures { λ r. ⌜ r ≡ breachAt h w (now (borders .entry)) (numbersIn (now (blocks .entry))) (y * w + x) ⌝ }
 {
     let c = y * w + x;
-    let below = hop_breach(borders, ids, c, reasons::step(h, w, y, x, 1));
+    let below = hop_breach(borders, blocks, c, reasons::step(h, w, y, x, 1));
     if below.found {
         return below;
     }
-    hop_breach(borders, ids, c, reasons::step(h, w, y, x, 3))
+    hop_breach(borders, blocks, c, reasons::step(h, w, y, x, 3))
 }
 
 // The first breach in the row y.
@@ -84,15 +89,16 @@ fn row_breach<'a>(
     h: usize,
     w: usize,
     borders: &'a [u8; 1984],
-    ids: &'a [u16; 1024],
+    blocks: &'a Grouping,
     y: usize,
 ) -> Breach
-    requires { ⌜ Sized h w × Arrays (now borders) (now ids) × (y < h) ⌝ }
-    ensures { λ r. ⌜ r ≡ breachFrom (breachAt h w (now (borders .entry)) (now (ids .entry))) w (y * w) ⌝ }
+    requires { ⌜ Sized h w × Arrays (now borders) (numbersIn (now blocks)) × (y < h) ⌝ }
+    ensures { λ r. ⌜ r ≡ breachFrom (breachAt h w (now (borders .entry)) (numbersIn (now (blocks .entry)))) w
+        (y * w) ⌝ }
 {
     let mut x = 0;
     while x < w {
-        let hit = cell_breach(h, w, borders, ids, y, x);
+        let hit = cell_breach(h, w, borders, blocks, y, x);
         if hit.found {
             return hit;
         }
@@ -118,36 +124,37 @@ fn hit(state: u8, a: u16, b: u16) -> u16
 // them, those from d on behind them. There is no exit at the first: the loop then takes many at a time.
 fn count_hits<'a>(
     borders: &'a [u8; 1984],
-    ids: &'a [u16; 1024],
+    blocks: &'a Grouping,
     at: usize,
     c: usize,
     d: usize,
     n: usize,
 ) -> u16
-    requires { ⌜ Arrays (now borders) (now ids) × (at + n ≤ 1984) × (c + n ≤ 1024) × (d + n ≤ 1024) ⌝ }
-    ensures { λ r. ⌜ (r ≡ 0 → Apart (statesIn (now (borders .entry))) (entry (now (ids .entry))) at c d n) ⌝ }
+    requires { ⌜ Arrays (now borders) (numbersIn (now blocks)) × (at + n ≤ 1984) × (c + n ≤ 1024) × (d + n ≤ 1024) ⌝ }
+    ensures { λ r. ⌜ (r ≡ 0 → Apart (statesIn (now (borders .entry)))
+        (entry (numbersIn (now (blocks .entry)))) at c d n) ⌝ }
 {
     let mut hits: u16 = 0;
     let mut i = 0;
     while i < n {
-        hits += hit(borders[at + i], ids[c + i], ids[d + i]);
+        hits += hit(borders[at + i], blocks[c + i], blocks[d + i]);
         i += 1;
     }
     hits
 }
 
 // Whether there is no breach: none over the borders below, and none over those on the right of each row.
-fn is_clean<'a>(h: usize, w: usize, borders: &'a [u8; 1984], ids: &'a [u16; 1024]) -> bool
-    requires { ⌜ Sized h w × Arrays (now borders) (now ids) ⌝ }
+fn is_clean<'a>(h: usize, w: usize, borders: &'a [u8; 1984], blocks: &'a Grouping) -> bool
+    requires { ⌜ Sized h w × Arrays (now borders) (numbersIn (now blocks)) ⌝ }
     ensures { λ r. ⌜ (r ≡ true → noBreach ≡ firstBreach (flat h w) (statesIn (now (borders .entry)))
-        (entry (now (ids .entry)))) ⌝ }
+        (entry (numbersIn (now (blocks .entry))))) ⌝ }
 {
-    if count_hits(borders, ids, h * (w - 1), 0, w, (h - 1) * w) != 0 {
+    if count_hits(borders, blocks, h * (w - 1), 0, w, (h - 1) * w) != 0 {
         return false;
     }
     let mut y = 0;
     while y < h {
-        if count_hits(borders, ids, y * (w - 1), y * w, y * w + 1, w - 1) != 0 {
+        if count_hits(borders, blocks, y * (w - 1), y * w, y * w + 1, w - 1) != 0 {
             return false;
         }
         y += 1;
@@ -155,17 +162,18 @@ fn is_clean<'a>(h: usize, w: usize, borders: &'a [u8; 1984], ids: &'a [u16; 1024
     true
 }
 
-// The first breach, row by row; ids are the blocks' numbers.
-pub fn first_breach<'a>(h: usize, w: usize, borders: &'a [u8; 1984], ids: &'a [u16; 1024]) -> Breach
-    requires { ⌜ Sized h w × Arrays (now borders) (now ids) ⌝ }
-    ensures { λ r. ⌜ r ≡ firstBreach (flat h w) (statesIn (now (borders .entry))) (entry (now (ids .entry))) ⌝ }
+// The first breach, row by row.
+pub fn first_breach<'a>(h: usize, w: usize, borders: &'a [u8; 1984], blocks: &'a Grouping) -> Breach
+    requires { ⌜ Sized h w × Arrays (now borders) (numbersIn (now blocks)) ⌝ }
+    ensures { λ r. ⌜ r ≡ firstBreach (flat h w) (statesIn (now (borders .entry)))
+        (entry (numbersIn (now (blocks .entry)))) ⌝ }
 {
-    if is_clean(h, w, borders, ids) {
+    if is_clean(h, w, borders, blocks) {
         return nothing();
     }
     let mut y = 0;
     while y < h {
-        let hit = row_breach(h, w, borders, ids, y);
+        let hit = row_breach(h, w, borders, blocks, y);
         if hit.found {
             return hit;
         }

@@ -4,12 +4,10 @@
 --   Stored n f l m   m is l with the values of f in its first n places
 --   Ranked n f p     p has for each of the first n cells how many cells of its group stand before it, and is a forest
 --   Numbering n count ids     ids numbers n cells below count; where count is n, each by its own place
---   Filled G ids cells offs   the arrays hold the groups G
 use mathlib.Core.Path.{_≡_}
 use mathlib.Core.List.{List}
 use Prim.Native.Nat.{ℕ, _<_, _≤_}
 use lib.ListN.{length, getD}
-use Rattle.groups.specs.declared.Groups.{Groups}
 use Rattle.groups.specs.Forests.{Forest}
 use Rattle.groups.specs.Parts.{sizeOf}
 
@@ -30,8 +28,3 @@ pub record Numbering (n count : ℕ) (ids : List ℕ) : Type 0 where
   pub few : count ≤ n
   pub under : (x : ℕ) → x < n → getD ids x 0 < count
   pub alone : count ≡ n → (x : ℕ) → x < n → getD ids x 0 ≡ x
-
-pub record Filled (G : Groups) (ids cells offs : List ℕ) : Type 0 where
-  pub ids-are : ids ≡ G .ids
-  pub cells-are : cells ≡ G .cells
-  pub offs-are : offs ≡ G .offs

@@ -4,6 +4,8 @@
 --   answered o g     an outcome with groups
 --   askedOf b kind   what asking a board for its groups of one kind returns
 use mathlib.Core.Bool.{cond}
+use mathlib.Core.List.{List}
+use Prim.Native.Nat.{ℕ}
 use lib.ListN.{replicate}
 use Rattle.board.specs.declared.Board.{Board}
 use Rattle.board.specs.declared.Outcome.{Outcome}
@@ -11,15 +13,15 @@ use Rattle.board.specs.declared.Outcome.the-variants.{Done, Alien}
 use Rattle.board.specs.Alien.{isAlien}
 use Rattle.board.specs.View.{puzzleOf, statesOf}
 use Rattle.groups.specs.declared.Kind.{Kind}
-use Rattle.groups.specs.declared.Groups.{Groups}
+use Rattle.groups.specs.Grouping.{laid}
 use Rattle.groups.specs.declared.Answer.{Answer}
 use Rattle.groups.specs.Kinds.{linkOf}
 use Rattle.groups.specs.Parts.{groupsOf}
 
-abbrev pub noGroups : Groups
-noGroups = record { ids = replicate 1024 0; count = 0; cells = replicate 1024 0; offs = replicate 1025 0 }
+abbrev pub noGroups : List ℕ
+noGroups = replicate 3074 0
 
-abbrev pub answered : Outcome → Groups → Answer
+abbrev pub answered : Outcome → List ℕ → Answer
 answered o g = record { outcome = o; groups = g }
 
 -- "Groups or transforms asked of an alien board give 5 and none"
@@ -27,4 +29,4 @@ unfoldable pub askedOf : Board → Kind → Answer
 askedOf b kind =
     cond (isAlien b)
     (answered Alien noGroups)
-    (answered Done (groupsOf (puzzleOf b .page) (linkOf kind (puzzleOf b) (statesOf b))))
+    (answered Done (laid (groupsOf (puzzleOf b .page) (linkOf kind (puzzleOf b) (statesOf b)))))

@@ -11,6 +11,8 @@ pub mod GridLaws
 pub mod TieLaws
 pub mod SortLaws
 pub mod NumberLaws
+pub mod Grouping
+pub mod GroupingLaws
 pub mod PartLaws
 pub mod ResultLaws
 pub mod Asked

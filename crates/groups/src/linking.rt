@@ -11,7 +11,8 @@ ghost use Rattle.rules.specs.Groups.{entry, mergeIf};
 ghost use Rattle.groups.specs.Kinds.{oneColourBy, joinsBy, joinsIn};
 ghost use Rattle.groups.specs.Forests.{Forest, Rep, Linked};
 ghost use Rattle.groups.specs.Ties.{leftAt, aboveAt, flagAt, Flagged, Scanned, joined};
-ghost use Rattle.groups.specs.Arrays.{Blank};
+ghost use Rattle.groups.specs.Grouping.{cellsIn, Vacant};
+use crate::Grouping;
 use crate::Kind;
 use board::Board;
 
@@ -178,13 +179,13 @@ fn later_rows<'a>(
     n: usize,
     lefts: &'a [bool; Board::CELL_LIMIT],
     aboves: &'a [bool; Board::CELL_LIMIT],
-    list: &mut [u16; Board::CELL_LIMIT],
+    grouping: &mut Grouping,
 ) -> usize
-    requires { ⌜ (1 ≤ w) × (w ≤ n) × (n ≤ 1024) × Forest (now p) × Blank 1024 n (now list)
-        × Scanned w w (flagAt (now lefts)) (flagAt (now aboves)) (now p) (now list) 0 ⌝ }
-    ensures { λ r. ⌜ (r ≤ n) × Forest (now (p .exit)) × Blank 1024 n (now (list .exit))
-        × Scanned n w (flagAt (now (lefts .entry))) (flagAt (now (aboves .entry))) (now (p .exit)) (now (list .exit))
-        r ⌝ }
+    requires { ⌜ (1 ≤ w) × (w ≤ n) × (n ≤ 1024) × Forest (now p) × Vacant n (now grouping)
+        × Scanned w w (flagAt (now lefts)) (flagAt (now aboves)) (now p) (cellsIn (now grouping)) 0 ⌝ }
+    ensures { λ r. ⌜ (r ≤ n) × Forest (now (p .exit)) × Vacant n (now (grouping .exit))
+        × Scanned n w (flagAt (now (lefts .entry))) (flagAt (now (aboves .entry))) (now (p .exit))
+        (cellsIn (now (grouping .exit))) r ⌝ }
 {
     let mut k: usize = 0;
     let mut root = p[w - 1];
@@ -193,7 +194,7 @@ fn later_rows<'a>(
         let left = lefts[c];
         let above = aboves[c];
         let over = p[c - w];
-        list[k] = c as u16;
+        grouping[1024 + k] = c as u16;
         k += clash(left, above, root, over);
         root = pick(above, over, pick(left, root, c as u16));
         p[c] = root;
@@ -203,22 +204,24 @@ fn later_rows<'a>(
 }
 
 // The trees of the first k cells of the list and of the cells left of them become one.
-fn settle(p: &mut [u16; Board::CELL_LIMIT], list: &[u16; Board::CELL_LIMIT], k: usize)
-    requires { ⌜ (k ≤ 1024) × ((i : ℕ) → i < k → (1 ≤ getD (now list) i 0) × (getD (now list) i 0 < 1024))
+fn settle(p: &mut [u16; Board::CELL_LIMIT], grouping: &Grouping, k: usize)
+    requires { ⌜ (k ≤ 1024)
+        × ((i : ℕ) → i < k → (1 ≤ getD (cellsIn (now grouping)) i 0) × (getD (cellsIn (now grouping)) i 0 < 1024))
         × Forest (now p) ⌝ }
     ensures { λ r. ⌜ Forest (now (p .exit)) × ((n : ℕ) (L : List ℕ) → n ≤ 1024
-        → ((i : ℕ) → i < k → getD (now (list .entry)) i 0 < n) → Rep n (now (p .entry)) L
-        → Rep n (now (p .exit)) (joined L (entry (now (list .entry))) k)) ⌝ }
+        → ((i : ℕ) → i < k → getD (cellsIn (now (grouping .entry))) i 0 < n) → Rep n (now (p .entry)) L
+        → Rep n (now (p .exit)) (joined L (entry (cellsIn (now (grouping .entry)))) k)) ⌝ }
 {
     let mut i = 0;
     while i < k {
-        let c = list[i] as usize;
+        let c = grouping[1024 + i] as usize;
         join(p, c - 1, c);
         i += 1;
     }
 }
 
-// Each cell's parent, so that cells have one root where they are of one group; `list` is working memory.
+// Each cell's parent, so that cells have one root where they are of one group; the cells of `grouping` are working
+// memory.
 pub fn link<'a>(
     h: usize,
     w: usize,
@@ -226,17 +229,17 @@ pub fn link<'a>(
     borders: &'a [u8; Board::BORDER_LIMIT],
     kind: Kind,
     p: &mut [u16; Board::CELL_LIMIT],
-    list: &mut [u16; Board::CELL_LIMIT],
+    grouping: &mut Grouping,
 )
-    requires { ⌜ Sized h w × Forest (now p) × Blank 1024 (h * w) (now list) ⌝ }
+    requires { ⌜ Sized h w × Forest (now p) × Vacant (h * w) (now grouping) ⌝ }
     ensures { λ r. ⌜ Linked h w (joinsIn kind h w (now (colours .entry)) (now (borders .entry))) (now (p .exit))
-        × Blank 1024 (h * w) (now (list .exit)) ⌝ }
+        × Vacant (h * w) (now (grouping .exit)) ⌝ }
 {
     let mut lefts = [false; Board::CELL_LIMIT];
     let mut aboves = [false; Board::CELL_LIMIT];
     across(kind, h, w, colours, borders, &mut lefts);
     down(kind, h, w, colours, borders, &mut aboves);
     first_row(p, w, &lefts);
-    let k = later_rows(p, w, h * w, &lefts, &aboves, list);
-    settle(p, list, k);
+    let k = later_rows(p, w, h * w, &lefts, &aboves, grouping);
+    settle(p, grouping, k);
 }

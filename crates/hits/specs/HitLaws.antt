@@ -3,7 +3,7 @@ use mathlib.Core.Path.{_≡_, sym, ap, _∙_}
 use mathlib.Core.Bool.{Bool, true, false}
 use mathlib.Core.List.{List}
 use mathlib.Core.Option.{Option, some, none}
-use Prim.Native.Nat.{ℕ, _+_, _*_, _≤_}
+use Prim.Native.Nat.{ℕ, _*_, _≤_}
 use native.Mathlib.Omega.{arith}
 use lib.IntN.{ℤ}
 use lib.ListN.{length}
@@ -11,22 +11,22 @@ use Rattle.lists.specs.Lists.{orElse}
 use Rattle.rules.specs.Flat.{Sized, flat}
 use Rattle.rules.specs.Codes.{statesIn, puzzleIn}
 use Rattle.rules.specs.Check.{Reason}
-use Rattle.laws.specs.FlatLaws.{counts}
-use Rattle.reasons.specs.Arrays.{Arrays}
+use Rattle.reasons.specs.Arrays.{Arrays, GroupAt}
 use Rattle.reasons.specs.Memory.{Wrote}
 use Rattle.groups.specs.declared.Kind.the-variants.{Blocks, Potential}
 use Rattle.groups.specs.Parts.{groupsOf}
-use Rattle.groups.specs.Arrays.{Blank, Filled}
+use Rattle.groups.specs.Grouping.{numbersIn, Filled, Vacant}
 use Rattle.groups.specs.PartLaws.{ids-length, filled-ids, filled-cells, filled-offs}
 use Rattle.checker.specs.declared.Faulty.{Faulty}
 use Rattle.checker.specs.declared.Breach.{Breach}
-use Rattle.checker.specs.Arrays.{Numbered}
 use Rattle.checker.specs.Faults.{isClear}
 use Rattle.checker.specs.Written.{faultUnit, reasonIn, breachLiterals}
 use Rattle.checker.specs.Bridges.{groupsIn}
-use Rattle.checker.specs.Steps.{faultyIn, breachIn, block-numbered, unit-numbered, one-hit, one-none, two-hit, two-none}
+use Rattle.rules.specs.Codes.{puzzleIn}
+use Rattle.checker.specs.Steps.{faultyIn, breachIn, block-at, unit-at, one-hit, one-none, two-hit, two-none}
 use Rattle.hits.specs.declared.Found.{Found}
 use Rattle.hits.specs.declared.Found.the-variants.{Nothing, Reason as Given}
+use Rattle.laws.specs.FlatLaws.{counts}
 use Rattle.hits.specs.Found.{foundOf, writtenBy, blocksHit, wallsHit, Answers}
 
 pub answers-none : {o : Option Reason} (m : List ℕ) → o ≡ none → Answers o m m Nothing
@@ -56,9 +56,8 @@ pub answers-told : {o : Option Reason} {m after : List ℕ} {r : Found} → r �
     → Answers o m after Nothing
 answers-told e t = rw e at t
 
--- arrays that hold the groups of a page: their lengths, and the zeros past the page
-module _ {h w : ℕ} (z : Sized h w) (link : ℕ → Bool) {ids cells offs : List ℕ}
-    (f : Filled (groupsOf (flat h w) link) ids cells offs) where
+-- a grouping that holds the groups of a page: the length of its numbers, and it may be lent again
+module _ {h w : ℕ} (z : Sized h w) (link : ℕ → Bool) {g : List ℕ} (f : Filled (groupsOf (flat h w) link) g) where
   one : 1 ≤ flat h w .cells
   unfolding flat
   one = counts z .some
@@ -67,20 +66,17 @@ module _ {h w : ℕ} (z : Sized h w) (link : ℕ → Bool) {ids cells offs : Lis
   unfolding flat
   few = counts z .cells
 
-  pub arrays-of : {bs : List ℕ} → length bs ≡ 1984 → Arrays bs ids
-  arrays-of l = record { borders = l; numbers = rw (f .ids-are) (ids-length (flat h w) link one few) }
+  pub arrays-of : {bs : List ℕ} → length bs ≡ 1984 → Arrays bs (numbersIn g)
+  arrays-of l = record { borders = l; numbers = rw (f .numbers) (ids-length (flat h w) link one few) }
 
-  pub blank-ids : Blank 1024 (h * w) ids
+  pub vacant-of : Vacant (h * w) g
   unfolding flat
-  blank-ids = rw (f .ids-are) (filled-ids (flat h w) link one few)
-
-  pub blank-cells : Blank 1024 (h * w) cells
-  unfolding flat
-  blank-cells = rw (f .cells-are) (filled-cells (flat h w) link one few)
-
-  pub blank-offs : Blank 1025 (h * w + 1) offs
-  unfolding flat
-  blank-offs = rw (f .offs-are) (filled-offs (flat h w) link one few)
+  vacant-of = record {
+    long = f .long;
+    numbers = rw (f .numbers) (filled-ids (flat h w) link one few);
+    cells = rw (f .cells) (filled-cells (flat h w) link one few);
+    starts = rw (f .starts) (filled-offs (flat h w) link one few);
+  }
 
 -- step 1: r is what first_faulty found
 module _ {h w : ℕ} (z : Sized h w) (cs : List ℕ) (ks : List ℤ) (bs : List ℕ) (r : Faulty)
@@ -100,14 +96,13 @@ module _ {h w : ℕ} (z : Sized h w) (cs : List ℕ) (ks : List ℤ) (bs : List 
       (sym is)
 
   -- the block and the potential unit that a fault names have their parts
-  pub fault-block : isClear (r .fault) ≡ false
-      → Numbered h w (groupsIn Blocks h w cs bs .ids) (groupsIn Blocks h w cs bs .cells)
-      (groupsIn Blocks h w cs bs .offs) (r .block)
-  fault-block e = rw is (block-numbered z cs ks bs (ap (λ (f : Faulty). isClear (f .fault)) (sym is) ∙ e))
+  pub fault-block : {blocks : List ℕ} → Filled (groupsIn Blocks h w cs bs) blocks → isClear (r .fault) ≡ false
+      → GroupAt h w blocks (r .block)
+  fault-block f e = rw is (block-at z cs ks bs f (ap (λ (f : Faulty). isClear (f .fault)) (sym is) ∙ e))
 
-  pub fault-unit : Numbered h w (groupsIn Potential h w cs bs .ids) (groupsIn Potential h w cs bs .cells)
-      (groupsIn Potential h w cs bs .offs) (faultUnit (r .fault))
-  fault-unit = rw is (unit-numbered z cs ks bs)
+  pub fault-unit : {potential : List ℕ} → Filled (groupsIn Potential h w cs bs) potential
+      → GroupAt h w potential (faultUnit (r .fault))
+  fault-unit f = rw is (unit-at z cs ks bs f)
 
 -- step 2: b is what first_breach found
 module _ {h w : ℕ} (z : Sized h w) (cs : List ℕ) (ks : List ℤ) (bs : List ℕ) (b : Breach)

@@ -23,3 +23,5 @@ pub mod PartLaws
 pub mod UpToLaws
 pub mod Stores
 pub mod Pairs
+pub mod Sections
+pub mod SectionLaws

@@ -9,6 +9,7 @@ use borrow.Author.Tests.{eqb-true}
 use lib.Dec.{eqb}
 use lib.ListN.{length, getD, drop, length-take}
 use lib.Seq.{getD-take, getD-drop}
+use Rattle.groups.specs.Grouping.{cellsIn, startsIn}
 use Rattle.lists.specs.Lists.{_∈_, any, all}
 use Rattle.lists.specs.ListLaws.{flat-find}
 use Rattle.lists.specs.Tests.{allBelow}
@@ -25,8 +26,11 @@ use Rattle.reasons.specs.Arrays.{Cells}
 use Rattle.search.specs.declared.Reading.{Reading}
 use Rattle.search.specs.declared.Reading.the-variants.{Ends, Clear, Walled}
 use Rattle.search.specs.JudgeLaws.{after, blocked-never, readAt, readFrom, laid-after}
-use Rattle.search.specs.Placing.{Drawn, Raised, puzzle, bare, spelled, readRaised, readingOf, isClear, fitsOf}
+use Rattle.search.specs.Placing.{Drawn, puzzle, bare, readRaised, readingOf, isClear, fitsOf}
+use Rattle.shapes.specs.Raising.{ysIn, xsIn, Raised, spelled}
 use Rattle.search.specs.SearchLaws.{cells-at}
+use Rattle.lists.specs.AnyAll.{any-flat}
+use Rattle.search.specs.Mates.{mateCount, matesIn}
 use Rattle.search.specs.Searching.{Beside, groupIn, fitsAmong, fitsBeside}
 use Rattle.planes.specs.Bits.{bit}
 use Rattle.planes.specs.Planes.{planeWord, planesOf}
@@ -42,20 +46,20 @@ after-clear Z s (Ends ∷ rs) = refl
 after-clear Z s (Clear ∷ rs) = after-clear Z s rs
 after-clear Z s (Walled b ∷ rs) = blocked-never Z s b rs
 
-module _ (h w : ℕ) (cs : List ℕ) (s : ℕ → State) (ys xs : List ℕ) (o n : ℕ) where
-  fits-clear : fitsOf (puzzle h w cs) s (bare (spelled ys xs n)) o
-      ≡ allBelow n (λ j. isClear (readAt h w cs s ys xs o j))
+module _ (h w : ℕ) (cs : List ℕ) (s : ℕ → State) (ts : List ℕ) (o n : ℕ) where
+  fits-clear : fitsOf (puzzle h w cs) s (bare (spelled ts n)) o
+      ≡ allBelow n (λ j. isClear (readAt h w cs s ts o j))
   unfolding fitsOf readFrom
   fits-clear =
       let e : n - 0 ≡ n = omega arith in
-      ap (isFit (puzzle h w cs) s) (laid-after h w cs s ys xs o n)
-      ∙ (after-clear (puzzle h w cs) s (readFrom h w cs s ys xs o 0 (n - 0))
-      ∙ (ap (λ m. all isClear (readFrom h w cs s ys xs o 0 m)) e
-      ∙ (all-range isClear (readAt h w cs s ys xs o) 0 n
-      ∙ all-cong n (λ j. isClear (readAt h w cs s ys xs o (0 + j))) (λ j. isClear (readAt h w cs s ys xs o j))
-      (λ j l. ap (λ k. isClear (readAt h w cs s ys xs o k)) (omega arith)))))
+      ap (isFit (puzzle h w cs) s) (laid-after h w cs s ts o n)
+      ∙ (after-clear (puzzle h w cs) s (readFrom h w cs s ts o 0 (n - 0))
+      ∙ (ap (λ m. all isClear (readFrom h w cs s ts o 0 m)) e
+      ∙ (all-range isClear (readAt h w cs s ts o) 0 n
+      ∙ all-cong n (λ j. isClear (readAt h w cs s ts o (0 + j))) (λ j. isClear (readAt h w cs s ts o j))
+      (λ j l. ap (λ k. isClear (readAt h w cs s ts o k)) (omega arith)))))
 
-module _ {h w : ℕ} {cs : List ℕ} (d : Drawn h w cs) (bs ys xs : List ℕ) (n : ℕ) (r : Raised ys xs n) where
+module _ {h w : ℕ} {cs : List ℕ} (d : Drawn h w cs) (bs ts : List ℕ) (n : ℕ) (r : Raised ts n) where
   abbrev Z : Puzzle
   Z = puzzle h w cs
 
@@ -67,24 +71,24 @@ module _ {h w : ℕ} {cs : List ℕ} (d : Drawn h w cs) (bs ys xs : List ℕ) (n
 
   -- connection j, laid with its origin at (y,x), is clear
   abbrev clear : ℕ → ℕ → ℕ → Bool
-  clear y x j = spot p (2 * y + getD ys j 0) (getD xs j 0 / 2 + x)
+  clear y x j = spot p (2 * y + getD (ysIn ts) j 0) (getD (xsIn ts) j 0 / 2 + x)
 
   pub spot-clear : (y x j : ℕ) → y < 32 → j < n
-      → clear y x j ≡ isClear (readingOf Z s (readRaised h w (2 * y + getD ys j 0) (2 * x + getD xs j 0)))
+      → clear y x j ≡ isClear (readingOf Z s (readRaised h w (2 * y + getD (ysIn ts) j 0) (2 * x + getD (xsIn ts) j 0)))
   unfolding planesOf
   spot-clear y x j l m =
       let a = r j m in
-      let e : getD xs j 0 / 2 + x ≡ (2 * x + getD xs j 0) / 2 = omega arith in
-      ap₂ bit (getD-table 192 (planeWord h w cs bs) (2 * y + getD ys j 0) 0 (omega (arith, a .row))) e
-      ∙ plane-clear h w cs bs d (2 * y + getD ys j 0) (2 * x + getD xs j 0) (omega (arith, a .odd))
+      let e : getD (xsIn ts) j 0 / 2 + x ≡ (2 * x + getD (xsIn ts) j 0) / 2 = omega arith in
+      ap₂ bit (getD-table 192 (planeWord h w cs bs) (2 * y + getD (ysIn ts) j 0) 0 (omega (arith, a .row))) e
+      ∙ plane-clear h w cs bs d (2 * y + getD (ysIn ts) j 0) (2 * x + getD (xsIn ts) j 0) (omega (arith, a .odd))
 
   cell-fits : (o : ℕ) → o / w < 32
-      → allBelow n (clear (o / w) (o % w)) ≡ fitsOf Z s (bare (spelled ys xs n)) o
+      → allBelow n (clear (o / w) (o % w)) ≡ fitsOf Z s (bare (spelled ts n)) o
   unfolding readAt
   cell-fits o l =
-      all-cong n (clear (o / w) (o % w)) (λ j. isClear (readAt h w cs s ys xs o j))
+      all-cong n (clear (o / w) (o % w)) (λ j. isClear (readAt h w cs s ts o j))
       (λ j m. spot-clear (o / w) (o % w) j l m)
-      ∙ sym (fits-clear h w cs s ys xs o n)
+      ∙ sym (fits-clear h w cs s ts o n)
 
   module _ (os : List ℕ) (page : (c : ℕ) → c ∈ os → c < h * w) {m : List ℕ} (k : Masked w os m) where
     row-of : (c : ℕ) → c ∈ os → c / w < h
@@ -98,7 +102,7 @@ module _ {h w : ℕ} {cs : List ℕ} (d : Drawn h w cs) (bs ys xs : List ℕ) (n
     )
 
     abbrev fit : ℕ → Bool
-    fit = fitsOf Z s (bare (spelled ys xs n))
+    fit = fitsOf Z s (bare (spelled ts n))
 
     sound-at : (y x c : ℕ) → y < 32 → c ∈ os → cellIs w y x c ≡ true → allBelow n (clear y x) ≡ true
         → any fit os ≡ true
@@ -108,10 +112,10 @@ module _ {h w : ℕ} {cs : List ℕ} (d : Drawn h w cs) (bs ys xs : List ℕ) (n
         let g : allBelow n (clear (c / w) (c % w)) ≡ true = rw (t .0, t .1) f in
         holds-any fit i (sym (cell-fits c low) ∙ g)
 
-    sound : maskFits p m h ys xs n ≡ true → any fit os ≡ true
+    sound : maskFits p m h ts n ≡ true → any fit os ≡ true
     unfolding maskFits lineFits
     sound e =
-        let a = any-witness h (λ y. lineFits p y ys xs n (getD m y 0)) e in
+        let a = any-witness h (λ y. lineFits p y ts n (getD m y 0)) e in
         let y = a .0 in
         let tall : y < 32 = omega (arith, a .1, d .sized .tall) in
         let b = any-witness 64 (λ x. bit (getD m y 0) x && allBelow n (clear y x)) (a .2) in
@@ -120,7 +124,7 @@ module _ {h w : ℕ} {cs : List ℕ} (d : Drawn h w cs) (bs ys xs : List ℕ) (n
         (sym (k .each y x tall) ∙ and-left (bit (getD m y 0) x) (allBelow n (clear y x)) (b .2)) in
         sound-at y x (q .0) tall (q .1) (q .2) (and-right (bit (getD m y 0) x) (allBelow n (clear y x)) (b .2))
 
-    complete : any fit os ≡ true → maskFits p m h ys xs n ≡ true
+    complete : any fit os ≡ true → maskFits p m h ts n ≡ true
     unfolding maskFits lineFits
     complete e =
         let q = any-holds fit os e in
@@ -133,12 +137,12 @@ module _ {h w : ℕ} {cs : List ℕ} (d : Drawn h w cs) (bs ys xs : List ℕ) (n
         let narrow : x < 64 = omega (arith, mod-lt c some, d .sized .broad) in
         let here : bit (getD m y 0) x ≡ true = masked-here w c tall (q .1) k in
         let f : allBelow n (clear y x) ≡ true = cell-fits c tall ∙ q .2 in
-        any-some h (λ y. lineFits p y ys xs n (getD m y 0)) y l
+        any-some h (λ y. lineFits p y ts n (getD m y 0)) y l
         (any-some 64 (λ x. bit (getD m y 0) x && allBelow n (clear y x)) x narrow (rw (here, f)))
 
-    pub mask-fits : maskFits (planesOf h w cs bs) m h ys xs n
-        ≡ any (fitsOf (puzzle h w cs) (statesIn bs) (bare (spelled ys xs n))) os
-    mask-fits = same-true (maskFits p m h ys xs n) (any fit os) sound complete
+    pub mask-fits : maskFits (planesOf h w cs bs) m h ts n
+        ≡ any (fitsOf (puzzle h w cs) (statesIn bs) (bare (spelled ts n))) os
+    mask-fits = same-true (maskFits p m h ts n) (any fit os) sound complete
 
 mem-index : (xs : List ℕ) {x : ℕ} → x ∈ xs → (i : ℕ) × (i < length xs) × (getD xs i 0 ≡ x)
 mem-index [] m = absurd (List·Memᴰ·not-nil m)
@@ -155,25 +159,31 @@ mem-part l from to {x} m =
     sym (getD-take (to - from) (drop from l) i 0 h ∙ getD-drop from l i 0) ∙ r .2 in
     (from + i, omega arith, omega arith, e)
 
-module _ {h w : ℕ} {cells offs mates : List ℕ} {from to : ℕ} (b : Beside h w cells offs mates from to) where
+module _ {h w : ℕ} {potential mates : List ℕ} (b : Beside h w potential mates) where
+  abbrev cells : List ℕ
+  cells = cellsIn potential
+
+  abbrev offs : List ℕ
+  offs = startsIn potential
+
   -- the origins are cells of the page
-  pub origins-on : (c : ℕ) → c ∈ originsIn cells offs (part mates from to) → c < h * w
+  pub origins-on : (c : ℕ) → c ∈ originsIn (cellsIn potential) (startsIn potential) (matesIn mates) → c < h * w
   unfolding originsIn groupIn
   origins-on c m =
-      let f = flat-find (groupIn cells offs) (part mates from to) m in
-      let i = mem-part mates from to (f .1) in
+      let f = flat-find (groupIn cells offs) (matesIn mates) m in
+      let i = mem-part mates 0 (mateCount mates) (f .1) in
       let q = f .0 in
-      let g : Cells h w cells (getD offs q 0) (getD offs (q + 1) 0) = rw (i .3) at (b .each (i .0) (i .1) (i .2)) in
+      let g : Cells h w cells (getD offs q 0) (getD offs (q + 1) 0) = rw (i .3) at (b .each (i .0) (i .2)) in
       let j = mem-part cells (getD offs q 0) (getD offs (q + 1) 0) (f .2) in
       rw (j .3) at (cells-at g (j .0) (j .1) (j .2))
 
   -- the planes of a page and the mask of the groups beside a unit answer whether some connections fit there
   pub beside-answers : {cs m : List ℕ} (bs : List ℕ) → Drawn h w cs
-      → Masked w (originsIn cells offs (part mates from to)) m
+      → Masked w (originsIn (cellsIn potential) (startsIn potential) (matesIn mates)) m
       → Answers h (planesOf h w cs bs) m
-      (λ js. fitsBeside (puzzle h w cs) (statesIn bs) (bare js) cells offs (part mates from to))
+      (λ js. fitsBeside (puzzle h w cs) (statesIn bs) (bare js) (cellsIn potential) (startsIn potential)
+      (matesIn mates))
   unfolding fitsBeside fitsAmong originsIn
-  beside-answers {cs} {m} bs d k ys xs n r =
-      mask-fits d bs ys xs n r (originsIn cells offs (part mates from to)) origins-on k
-      ∙ any-flat (fitsOf (puzzle h w cs) (statesIn bs) (bare (spelled ys xs n))) (groupIn cells offs) (part mates from
-      to)
+  beside-answers {cs} {m} bs d k ts n r =
+      mask-fits d bs ts n r (originsIn cells offs (matesIn mates)) origins-on k
+      ∙ any-flat (fitsOf (puzzle h w cs) (statesIn bs) (bare (spelled ts n))) (groupIn cells offs) (matesIn mates)

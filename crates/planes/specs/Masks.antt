@@ -4,9 +4,9 @@
 --   Masked w xs m       the bit x of row y of the mask m says whether a cell of xs is (y,x)
 --   originsIn .. gs     the cells of the groups gs, by the list of cells and the places where the groups start
 --   spot p r c          the bit c of row r of the planes
---   clearWord p y ys xs v j   the origins v of row y at which the first j connections are clear
---   lineFits p y ys xs n v    all n are, at one of them
---   maskFits p m h ys xs n    so it is in one of the h rows of the mask
+--   clearWord p y ts v j   the origins v of row y at which the first j connections are clear
+--   lineFits p y ts n v    all n are, at one of them
+--   maskFits p m h ts n    so it is in one of the h rows of the mask
 --   Sizes h p m         the mask has h rows, and planes and mask their lengths
 --   Span h m top end    the rows of the mask that have an origin lie from top to before end
 --   Answers h p m F     the search over planes and mask answers F of any connections
@@ -20,7 +20,7 @@ use lib.ListN.{length, getD}
 use Rattle.lists.specs.Lists.{any, flatMap}
 use Rattle.lists.specs.Tests.{allBelow, anyBelow}
 use Rattle.rules.specs.Page.{Point}
-use Rattle.search.specs.Placing.{Raised, spelled}
+use Rattle.shapes.specs.Raising.{ysIn, xsIn, Raised, spelled}
 use Rattle.search.specs.Searching.{groupIn}
 use Rattle.planes.specs.Bits.{bit}
 
@@ -38,17 +38,17 @@ abbrev pub spot : List ℕ → ℕ → ℕ → Bool
 spot p r c = bit (getD p r 0) c
 
 -- connections are doubled and raised by 64, as in a placement
-module _ (p : List ℕ) (y : ℕ) (ys xs : List ℕ) where
+module _ (p : List ℕ) (y : ℕ) (ts : List ℕ) where
   unfoldable pub clearWord : ℕ → ℕ → ℕ
   clearWord v zero = v
-  clearWord v (suc j) = bitAnd (clearWord v j) (getD p (2 * y + getD ys j 0) 0 / 2 ^ (getD xs j 0 / 2))
+  clearWord v (suc j) = bitAnd (clearWord v j) (getD p (2 * y + getD (ysIn ts) j 0) 0 / 2 ^ (getD (xsIn ts) j 0 / 2))
 
   unfoldable pub lineFits : ℕ → ℕ → Bool
   lineFits n v =
-      anyBelow 64 (λ x. bit v x && allBelow n (λ j. spot p (2 * y + getD ys j 0) (getD xs j 0 / 2 + x)))
+      anyBelow 64 (λ x. bit v x && allBelow n (λ j. spot p (2 * y + getD (ysIn ts) j 0) (getD (xsIn ts) j 0 / 2 + x)))
 
-unfoldable pub maskFits : List ℕ → List ℕ → ℕ → List ℕ → List ℕ → ℕ → Bool
-maskFits p m h ys xs n = anyBelow h (λ y. lineFits p y ys xs n (getD m y 0))
+unfoldable pub maskFits : List ℕ → List ℕ → ℕ → List ℕ → ℕ → Bool
+maskFits p m h ts n = anyBelow h (λ y. lineFits p y ts n (getD m y 0))
 
 pub record Sizes (h : ℕ) (p m : List ℕ) : Type 0 where
   pub tall : h ≤ 32
@@ -61,4 +61,4 @@ pub record Span (h : ℕ) (m : List ℕ) (top end : ℕ) : Type 0 where
   pub low : (top ≤ h) × (end ≤ h)
 
 abbrev pub Answers : ℕ → List ℕ → List ℕ → (List Point → Bool) → Type 0
-Answers h p m F = (ys xs : List ℕ) (n : ℕ) → Raised ys xs n → maskFits p m h ys xs n ≡ F (spelled ys xs n)
+Answers h p m F = (ts : List ℕ) (n : ℕ) → Raised ts n → maskFits p m h ts n ≡ F (spelled ts n)

@@ -21,6 +21,7 @@ use Rattle.rules.specs.Page.{wallAt}
 use Rattle.laws.specs.FlatLaws.{counts, spot}
 use Rattle.search.specs.Placing.{readRaised}
 use Rattle.search.specs.PlacingLaws.{reads-below, reads-right}
+use Rattle.shapes.specs.Raising.{ysIn, xsIn}
 use Rattle.planes.specs.Bits.{bit}
 use Rattle.planes.specs.DrawLaws.{line-in}
 use Rattle.planes.specs.MaskLaws.{place-in}
@@ -63,26 +64,26 @@ module _ {h w y x : ℕ} (o : On h w y x) where
       (eq-or-not ((y - 64) % 2) 1)
 
 -- one turn of the loop that reads from the end
-module _ (h w : ℕ) (bs ys xs : List ℕ) (y x : ℕ) where
+module _ (h w : ℕ) (bs ts : List ℕ) (y x : ℕ) where
   abbrev border : ℕ → ℕ
-  border j = borderAt h w (2 * y + getD ys j 0) (2 * x + getD xs j 0)
+  border j = borderAt h w (2 * y + getD (ysIn ts) j 0) (2 * x + getD (xsIn ts) j 0)
 
-  pub back-none : {z : ℕ} → z ≡ 0 → backOf h w bs ys xs y x z ≡ Fits
+  pub back-none : {z : ℕ} → z ≡ 0 → backOf h w bs ts y x z ≡ Fits
   unfolding backOf
   back-none e = rw e
 
   pub back-next : (z : ℕ) → 0 < z
-      → (getD bs (borderAt h w (2 * y + getD ys (z - 1) 0) (2 * x + getD xs (z - 1) 0)) 0 ≡ 1 → ⊥)
-      → backOf h w bs ys xs y x z ≡ backOf h w bs ys xs y x (z - 1)
+      → (getD bs (borderAt h w (2 * y + getD (ysIn ts) (z - 1) 0) (2 * x + getD (xsIn ts) (z - 1) 0)) 0 ≡ 1 → ⊥)
+      → backOf h w bs ts y x z ≡ backOf h w bs ts y x (z - 1)
   unfolding backOf wallOf
   back-next zero l e = absurd (omega arith)
   back-next (suc k) l e =
       let d : suc k - 1 ≡ k = omega arith in rw (d, ne-eqb (getD bs (border k) 0) 1 (rw d at e))
 
   pub back-wall : (z : ℕ) → 0 < z
-      → getD bs (borderAt h w (2 * y + getD ys (z - 1) 0) (2 * x + getD xs (z - 1) 0)) 0 ≡ 1
-      → backOf h w bs ys xs y x z
-      ≡ Blocked (borderAt h w (2 * y + getD ys (z - 1) 0) (2 * x + getD xs (z - 1) 0))
+      → getD bs (borderAt h w (2 * y + getD (ysIn ts) (z - 1) 0) (2 * x + getD (xsIn ts) (z - 1) 0)) 0 ≡ 1
+      → backOf h w bs ts y x z
+      ≡ Blocked (borderAt h w (2 * y + getD (ysIn ts) (z - 1) 0) (2 * x + getD (xsIn ts) (z - 1) 0))
   unfolding backOf wallOf
   back-wall zero l e = absurd (omega arith)
   back-wall (suc k) l e =
@@ -107,49 +108,49 @@ module _ {w c : ℕ} (y x : ℕ) {y′ x′ : ℕ} (e : c ≡ y * w + x) where
   next-column q l a b = (rw (a, b) (omega arith), omega arith)
 
 -- the placement there
-module _ (h w : ℕ) (bs rows ys xs : List ℕ) (n : ℕ) where
+module _ (h w : ℕ) (bs rows ts : List ℕ) (n : ℕ) where
   pub placed-some : (y x : ℕ) → bit (getD rows y 0) x ≡ true
-      → placedAt h w bs rows ys xs n y x ≡ backOf h w bs ys xs y x n
+      → placedAt h w bs rows ts n y x ≡ backOf h w bs ts y x n
   unfolding placedAt
   placed-some y x e = rw e
 
-  pub placed-none : (y x : ℕ) → bit (getD rows y 0) x ≡ false → placedAt h w bs rows ys xs n y x ≡ Cannot
+  pub placed-none : (y x : ℕ) → bit (getD rows y 0) x ≡ false → placedAt h w bs rows ts n y x ≡ Cannot
   unfolding placedAt
   placed-none y x e = rw e
 
   back-within : Sized h w → (y x k : ℕ)
-      → ((j : ℕ) → j < k → On h w (2 * y + getD ys j 0) (2 * x + getD xs j 0))
-      → Within (backOf h w bs ys xs y x k)
+      → ((j : ℕ) → j < k → On h w (2 * y + getD (ysIn ts) j 0) (2 * x + getD (xsIn ts) j 0))
+      → Within (backOf h w bs ts y x k)
   unfolding backOf
   back-within s y x zero o = tt
   back-within s y x (suc k) o =
-      go (wallOf h w bs (2 * y + getD ys k 0) (2 * x + getD xs k 0))
+      go (wallOf h w bs (2 * y + getD (ysIn ts) k 0) (2 * x + getD (xsIn ts) k 0))
       (back-within s y x k (λ j l. o j (omega arith))) (border-low (o k (omega arith)) s)
     where
-      go : (b : Bool) → Within (backOf h w bs ys xs y x k)
-          → borderAt h w (2 * y + getD ys k 0) (2 * x + getD xs k 0) < 1984
-          → Within (cond b (Blocked (borderAt h w (2 * y + getD ys k 0) (2 * x + getD xs k 0)))
-          (backOf h w bs ys xs y x k))
+      go : (b : Bool) → Within (backOf h w bs ts y x k)
+          → borderAt h w (2 * y + getD (ysIn ts) k 0) (2 * x + getD (xsIn ts) k 0) < 1984
+          → Within (cond b (Blocked (borderAt h w (2 * y + getD (ysIn ts) k 0) (2 * x + getD (xsIn ts) k 0)))
+          (backOf h w bs ts y x k))
       go true i l = l
       go false i l = i
 
-  pub placed-within : Sized h w → Lain h w rows ys xs n → (y x : ℕ) → y < h → x < w
-      → Within (placedAt h w bs rows ys xs n y x)
+  pub placed-within : Sized h w → Lain h w rows ts n → (y x : ℕ) → y < h → x < w
+      → Within (placedAt h w bs rows ts n y x)
   unfolding placedAt
   placed-within s o y x a b =
       go (bit (getD rows y 0) x) (λ e. back-within s y x n (o .each y x a b e))
     where
-      go : (t : Bool) → (t ≡ true → Within (backOf h w bs ys xs y x n))
-          → Within (cond t (backOf h w bs ys xs y x n) Cannot)
+      go : (t : Bool) → (t ≡ true → Within (backOf h w bs ts y x n))
+          → Within (cond t (backOf h w bs ts y x n) Cannot)
       go true i = i refl
       go false i = tt
 
-  module _ (o : ℕ) {q : Placement} (e : q ≡ placedAt h w bs rows ys xs n (o / w) (o % w)) where
-    pub block-one : {b : ℕ} → q ≡ Blocked b → blockIn h w bs rows ys xs n o ≡ wallAt b ∷ []
+  module _ (o : ℕ) {q : Placement} (e : q ≡ placedAt h w bs rows ts n (o / w) (o % w)) where
+    pub block-one : {b : ℕ} → q ≡ Blocked b → blockIn h w bs rows ts n o ≡ wallAt b ∷ []
     unfolding blockIn
     block-one d = rw (← e, d)
 
-    pub block-none : (q ≡ Fits) ⊎ (q ≡ Cannot) → blockIn h w bs rows ys xs n o ≡ []
+    pub block-none : (q ≡ Fits) ⊎ (q ≡ Cannot) → blockIn h w bs rows ts n o ≡ []
     unfolding blockIn
     block-none (inl d) = rw (← e, d)
     block-none (inr d) = rw (← e, d)

@@ -12,13 +12,13 @@ use native.Mathlib.Nat.{eq-or-lt-of-le, div-lt-iff-lt-mul}
 use native.Mathlib.Omega.{arith}
 use lib.Dec.{eqb}
 use lib.ListN.{getD}
+use Rattle.groups.specs.Grouping.{cellsIn, startsIn}
 use Rattle.lists.specs.Lists.{flatMap, rangeFrom}
 use Rattle.lists.specs.ListLaws.{mem-flat}
 use Rattle.lists.specs.Tests.{allBelow}
 use Rattle.lists.specs.PaddedLaws.{zeros}
 use Rattle.lists.specs.TestLaws.{all-cong, all-at, all-witness}
 use Rattle.lists.specs.Booleans.{and-right}
-use Rattle.lists.specs.Parts.{part}
 use Rattle.lists.specs.Flats.{flat-same}
 use Rattle.lists.specs.Arithmetic.{le-or-lt}
 use Rattle.rules.specs.declared.Placement.{Placement}
@@ -31,8 +31,10 @@ use Rattle.laws.specs.CodeLaws.{wall-state}
 use Rattle.search.specs.declared.Reading.{Reading}
 use Rattle.search.specs.declared.Reading.the-variants.{Ends, Clear, Walled}
 use Rattle.search.specs.JudgeLaws.{after, readAt, readFrom, laid-after}
-use Rattle.search.specs.Placing.{Drawn, Raised, puzzle, bare, spelled, readRaised, readingOf, isClear}
+use Rattle.search.specs.Placing.{Drawn, puzzle, bare, readRaised, readingOf, isClear}
+use Rattle.shapes.specs.Raising.{ysIn, xsIn, Raised, spelled}
 use Rattle.search.specs.PlacingLaws.{off-above, off-left, off-below, off-right}
+use Rattle.search.specs.Mates.{matesIn}
 use Rattle.search.specs.Searching.{Beside, groupIn, blockOf, blocksAmong, blocksBeside}
 use Rattle.planes.specs.Bits.{bit}
 use Rattle.planes.specs.FitLaws.{spot-clear, origins-on}
@@ -171,7 +173,7 @@ on-page h w cs s y x e =
     off : readRaised h w y x ≡ none → On h w y x
     off q = let f = ends q in let z : _≡_ {A = ℕ} 0 1 = cc in absurd (omega arith)
 
-module _ {h w : ℕ} {cs : List ℕ} (d : Drawn h w cs) (bs ys xs : List ℕ) (n : ℕ) (r : Raised ys xs n) where
+module _ {h w : ℕ} {cs : List ℕ} (d : Drawn h w cs) (bs ts : List ℕ) (n : ℕ) (r : Raised ts n) where
   abbrev Z : Puzzle
   Z = puzzle h w cs
 
@@ -180,7 +182,7 @@ module _ {h w : ℕ} {cs : List ℕ} (d : Drawn h w cs) (bs ys xs : List ℕ) (n
 
   -- a connection with its origin at (y,x), on the page and on the page without walls
   abbrev at : (ℕ → State) → ℕ → ℕ → ℕ → Reading
-  at t y x j = readingOf Z t (readRaised h w (2 * y + getD ys j 0) (2 * x + getD xs j 0))
+  at t y x j = readingOf Z t (readRaised h w (2 * y + getD (ysIn ts) j 0) (2 * x + getD (xsIn ts) j 0))
 
   abbrev joined : ℕ → ℕ → Bool
   joined y x = allBelow n (λ j. isClear (at (statesIn noWalls) y x j))
@@ -193,24 +195,25 @@ module _ {h w : ℕ} {cs : List ℕ} (d : Drawn h w cs) (bs ys xs : List ℕ) (n
     joins : (j : ℕ) → j < n → Joins (at s y x j)
     joins j m = joins-both Z s _ (one j m)
 
-    pub on-all : (j : ℕ) → j < n → On h w (2 * y + getD ys j 0) (2 * x + getD xs j 0)
+    pub on-all : (j : ℕ) → j < n → On h w (2 * y + getD (ysIn ts) j 0) (2 * x + getD (xsIn ts) j 0)
     on-all j m = on-page h w cs (statesIn noWalls) _ _ (one j m)
 
     back-from : (k : ℕ) → k ≤ n → ((i : ℕ) → k ≤ i → i < n → at s y x i ≡ Clear)
-        → backOf h w bs ys xs y x k ≡ after Fits (map (at s y x) (rangeFrom 0 n))
+        → backOf h w bs ts y x k ≡ after Fits (map (at s y x) (rangeFrom 0 n))
     unfolding backOf
     back-from zero m c = sym (after-clear (at s y x) Fits 0 n (λ i a b. c i a (omega arith)))
     back-from (suc k) m c =
-        go (wallOf h w bs (2 * y + getD ys k 0) (2 * x + getD xs k 0))
+        go (wallOf h w bs (2 * y + getD (ysIn ts) k 0) (2 * x + getD (xsIn ts) k 0))
         (wall-reads Z bs h w _ _ (reads-border (on-all k (omega arith))) (joins k (omega arith)))
         (back-from k (omega arith))
       where
         go : (b : Bool)
-            → at s y x k ≡ cond b (Walled (borderAt h w (2 * y + getD ys k 0) (2 * x + getD xs k 0))) Clear
+            → at s y x k
+            ≡ cond b (Walled (borderAt h w (2 * y + getD (ysIn ts) k 0) (2 * x + getD (xsIn ts) k 0))) Clear
             → (((i : ℕ) → k ≤ i → i < n → at s y x i ≡ Clear)
-            → backOf h w bs ys xs y x k ≡ after Fits (map (at s y x) (rangeFrom 0 n)))
-            → cond b (Blocked (borderAt h w (2 * y + getD ys k 0) (2 * x + getD xs k 0)))
-            (backOf h w bs ys xs y x k)
+            → backOf h w bs ts y x k ≡ after Fits (map (at s y x) (rangeFrom 0 n)))
+            → cond b (Blocked (borderAt h w (2 * y + getD (ysIn ts) k 0) (2 * x + getD (xsIn ts) k 0)))
+            (backOf h w bs ts y x k)
             ≡ after Fits (map (at s y x) (rangeFrom 0 n))
         go false e ih =
             ih
@@ -225,11 +228,11 @@ module _ {h w : ℕ} {cs : List ℕ} (d : Drawn h w cs) (bs ys xs : List ℕ) (n
             (λ i a b. c i a (omega arith)))
 
   -- a placement, by its readings
-  laid-at : (o : ℕ) → laid Z s (bare (spelled ys xs n)) o ≡ after Fits (map (at s (o / w) (o % w)) (rangeFrom 0 n))
+  laid-at : (o : ℕ) → laid Z s (bare (spelled ts n)) o ≡ after Fits (map (at s (o / w) (o % w)) (rangeFrom 0 n))
   unfolding readFrom readAt
   laid-at o =
       let e : n - 0 ≡ n = omega arith in
-      laid-after h w cs s ys xs o n ∙ ap (λ m. after Fits (map (at s (o / w) (o % w)) (rangeFrom 0 m))) e
+      laid-after h w cs s ts o n ∙ ap (λ m. after Fits (map (at s (o / w) (o % w)) (rangeFrom 0 m))) e
 
   cannot : (y x : ℕ) → joined y x ≡ false → after Fits (map (at s y x) (rangeFrom 0 n)) ≡ Cannot
   cannot y x e =
@@ -237,15 +240,15 @@ module _ {h w : ℕ} {cs : List ℕ} (d : Drawn h w cs) (bs ys xs : List ℕ) (n
       after-ends (at s y x) Fits 0 n (q .0) (omega arith) (omega (arith, q .1)) (ends-both Z s _ (q .2))
 
   -- the origins of a mask at which every connection joins one colour
-  module _ {m rows : List ℕ} (k : Survived (planesOf h w cs noWalls) m h ys xs n rows) where
+  module _ {m rows : List ℕ} (k : Survived (planesOf h w cs noWalls) m h ts n rows) where
     row-bit : (y x : ℕ) → y < h → bit (getD rows y 0) x ≡ bit (getD m y 0) x && joined y x
     row-bit y x l =
         ap (λ (v : ℕ). bit v x) (k .each y l)
-        ∙ (left-bit (planesOf h w cs noWalls) y ys xs (getD m y 0) n x
+        ∙ (left-bit (planesOf h w cs noWalls) y ts (getD m y 0) n x
         ∙ ap (λ (b : Bool). bit (getD m y 0) x && b)
-        (all-cong n _ _ (λ j q. spot-clear d noWalls ys xs n r y x j (omega (arith, d .sized .tall)) q)))
+        (all-cong n _ _ (λ j q. spot-clear d noWalls ts n r y x j (omega (arith, d .sized .tall)) q)))
 
-    pub lain : Lain h w rows ys xs n
+    pub lain : Lain h w rows ts n
     lain =
         record {
           each =
@@ -255,15 +258,15 @@ module _ {h w : ℕ} {cs : List ℕ} (d : Drawn h w cs) (bs ys xs : List ℕ) (n
         }
 
     placed-is : (o : ℕ) → o < h * w → bit (getD m (o / w) 0) (o % w) ≡ true
-        → placedAt h w bs rows ys xs n (o / w) (o % w) ≡ laid Z s (bare (spelled ys xs n)) o
+        → placedAt h w bs rows ts n (o / w) (o % w) ≡ laid Z s (bare (spelled ts n)) o
     unfolding placedAt
     placed-is o l e =
         let a : o / w < h = div-lt-iff-lt-mul {k = w} (omega (arith, d .sized .columns)) .1 l in
         go (bit (getD rows (o / w) 0) (o % w)) (row-bit (o / w) (o % w) a ∙ rw e)
       where
         go : (b : Bool) → b ≡ joined (o / w) (o % w)
-            → cond b (backOf h w bs ys xs (o / w) (o % w) n) Cannot
-            ≡ laid Z s (bare (spelled ys xs n)) o
+            → cond b (backOf h w bs ts (o / w) (o % w) n) Cannot
+            ≡ laid Z s (bare (spelled ts n)) o
         go true q =
             back-from (o / w) (o % w) (place-in o (d .sized) l .0) (sym q) n (omega arith)
             (λ i a b. absurd (omega arith))
@@ -276,19 +279,23 @@ blocker-is Z s Cannot = refl
 blocker-is Z s (Blocked b) = refl
 
 -- the blockers at the origins of the groups beside a unit
-pub blocks-same : {h w : ℕ} {cs : List ℕ} → Drawn h w cs → (bs ys xs : List ℕ) (n : ℕ) → Raised ys xs n
-    → {cells offs mates : List ℕ} {from to : ℕ} → Beside h w cells offs mates from to
-    → {m rows : List ℕ} → Masked w (originsIn cells offs (part mates from to)) m
-    → Survived (planesOf h w cs noWalls) m h ys xs n rows
-    → flatMap (λ Q. flatMap (blockIn h w bs rows ys xs n) (groupIn cells offs Q)) (part mates from to)
-    ≡ blocksBeside (puzzle h w cs) (statesIn bs) (bare (spelled ys xs n)) cells offs (part mates from to)
+pub blocks-same : {h w : ℕ} {cs : List ℕ} → Drawn h w cs → (bs ts : List ℕ) (n : ℕ) → Raised ts n
+    → {potential mates : List ℕ} → Beside h w potential mates
+    → {m rows : List ℕ} → Masked w (originsIn (cellsIn potential) (startsIn potential) (matesIn mates)) m
+    → Survived (planesOf h w cs noWalls) m h ts n rows
+    → flatMap (λ Q. flatMap (blockIn h w bs rows ts n) (groupIn (cellsIn potential) (startsIn potential) Q))
+    (matesIn mates)
+    ≡ blocksBeside (puzzle h w cs) (statesIn bs) (bare (spelled ts n)) (cellsIn potential) (startsIn potential)
+    (matesIn mates)
 unfolding blocksBeside blocksAmong blockOf blockIn originsIn
-blocks-same {h} {w} {cs} d bs ys xs n r {cells} {offs} {mates} {from} {to} b k v =
-    flat-same _ _ (part mates from to)
+blocks-same {h} {w} {cs} d bs ts n r {potential} {mates} b k v =
+    let cells = cellsIn potential in
+    let offs = startsIn potential in
+    flat-same _ _ (matesIn mates)
     (λ Q i.
     flat-same _ _ (groupIn cells offs Q)
     (λ o j.
     let e = mem-flat (groupIn cells offs) i j in
     let l = origins-on b o e in
-    ap blockerOf (placed-is d bs ys xs n r v o l (masked-here w o (place-in o (d .sized) l .0) e k))
-    ∙ blocker-is (puzzle h w cs) (statesIn bs) (laid (puzzle h w cs) (statesIn bs) (bare (spelled ys xs n)) o)))
+    ap blockerOf (placed-is d bs ts n r v o l (masked-here w o (place-in o (d .sized) l .0) e k))
+    ∙ blocker-is (puzzle h w cs) (statesIn bs) (laid (puzzle h w cs) (statesIn bs) (bare (spelled ts n)) o)))

@@ -4,8 +4,8 @@
 --   borderAt h w y x    the border there
 --   wallOf h w bs y x   it is a wall, by the borders bs
 --   noWalls             borders of which none is wall
---   Survived p m h ys xs n rows   rows has the origins of the mask m at which all n connections are clear by p
---   Lain h w rows ys xs n   at the origins in rows every connection is on the page
+--   Survived p m h ts n rows   rows has the origins of the mask m at which all n connections are clear by p
+--   Lain h w rows ts n   at the origins in rows every connection is on the page
 --   Placed h w places   for each cell 32 times its row, and its column
 --   blockerOf p         the blocker of a placement, if it has one
 --   backOf h w bs .. y x n   the placement with its origin at (y,x), n connections read from the last one on: the first
@@ -23,6 +23,7 @@ use Rattle.rules.specs.declared.Placement.{Placement}
 use Rattle.rules.specs.declared.Placement.the-variants.{Fits, Blocked, Cannot}
 use Rattle.rules.specs.Flat.{belowOf, rightOf}
 use Rattle.rules.specs.Page.{wallAt}
+use Rattle.shapes.specs.Raising.{ysIn, xsIn}
 use Rattle.planes.specs.Bits.{bit}
 use Rattle.planes.specs.Masks.{clearWord}
 
@@ -43,13 +44,13 @@ wallOf h w bs y x = eqb (getD bs (borderAt h w y x) 0) 1
 abbrev pub noWalls : List ℕ
 noWalls = replicate 1984 0
 
-pub record Survived (p m : List ℕ) (h : ℕ) (ys xs : List ℕ) (n : ℕ) (rows : List ℕ) : Type 0 where
+pub record Survived (p m : List ℕ) (h : ℕ) (ts : List ℕ) (n : ℕ) (rows : List ℕ) : Type 0 where
   pub size : length rows ≡ 32
-  pub each : (y : ℕ) → y < h → getD rows y 0 ≡ clearWord p y ys xs (getD m y 0) n
+  pub each : (y : ℕ) → y < h → getD rows y 0 ≡ clearWord p y ts (getD m y 0) n
 
-pub record Lain (h w : ℕ) (rows ys xs : List ℕ) (n : ℕ) : Type 0 where
+pub record Lain (h w : ℕ) (rows ts : List ℕ) (n : ℕ) : Type 0 where
   pub each : (y x : ℕ) → y < h → x < w → bit (getD rows y 0) x ≡ true → (j : ℕ) → j < n
-      → On h w (2 * y + getD ys j 0) (2 * x + getD xs j 0)
+      → On h w (2 * y + getD (ysIn ts) j 0) (2 * x + getD (xsIn ts) j 0)
 
 pub record Placed (h w : ℕ) (places : List ℕ) : Type 0 where
   pub size : length places ≡ 1024
@@ -62,15 +63,15 @@ blockerOf (Blocked b) = wallAt b ∷ []
 
 module _ (h w : ℕ) (bs : List ℕ) where
   -- "the last wall is the blocker"
-  unfoldable pub backOf : List ℕ → List ℕ → ℕ → ℕ → ℕ → Placement
-  backOf ys xs y x zero = Fits
-  backOf ys xs y x (suc j) =
-      cond (wallOf h w bs (2 * y + getD ys j 0) (2 * x + getD xs j 0))
-      (Blocked (borderAt h w (2 * y + getD ys j 0) (2 * x + getD xs j 0))) (backOf ys xs y x j)
+  unfoldable pub backOf : List ℕ → ℕ → ℕ → ℕ → Placement
+  backOf ts y x zero = Fits
+  backOf ts y x (suc j) =
+      cond (wallOf h w bs (2 * y + getD (ysIn ts) j 0) (2 * x + getD (xsIn ts) j 0))
+      (Blocked (borderAt h w (2 * y + getD (ysIn ts) j 0) (2 * x + getD (xsIn ts) j 0))) (backOf ts y x j)
 
-  module _ (rows ys xs : List ℕ) (n : ℕ) where
+  module _ (rows ts : List ℕ) (n : ℕ) where
     unfoldable pub placedAt : ℕ → ℕ → Placement
-    placedAt y x = cond (bit (getD rows y 0) x) (backOf ys xs y x n) Cannot
+    placedAt y x = cond (bit (getD rows y 0) x) (backOf ts y x n) Cannot
 
     unfoldable pub blockIn : ℕ → List Literal
     blockIn o = blockerOf (placedAt (o / w) (o % w))

@@ -12,28 +12,29 @@ use lib.Dec.{eqb}
 use lib.ListN.{getD}
 use Rattle.lists.specs.Tests.{allBelow}
 use Rattle.lists.specs.TestLaws.{any-cong}
+use Rattle.shapes.specs.Raising.{ysIn, xsIn}
 use Rattle.planes.specs.Bits.{bit}
 use Rattle.planes.specs.BitLaws.{bit-and, bit-shr, some-bit}
 use Rattle.planes.specs.Masks.{spot, clearWord, lineFits}
 
-module _ (p : List ℕ) (y : ℕ) (ys xs : List ℕ) (v : ℕ) where
+module _ (p : List ℕ) (y : ℕ) (ts : List ℕ) (v : ℕ) where
   abbrev left : ℕ → ℕ
-  left j = clearWord p y ys xs v j
+  left j = clearWord p y ts v j
 
   -- connection j, as it is laid over the row
   abbrev mask : ℕ → ℕ
-  mask j = getD p (2 * y + getD ys j 0) 0 / 2 ^ (getD xs j 0 / 2)
+  mask j = getD p (2 * y + getD (ysIn ts) j 0) 0 / 2 ^ (getD (xsIn ts) j 0 / 2)
 
   -- connection j is clear at column x
   abbrev clear : ℕ → ℕ → Bool
-  clear x j = spot p (2 * y + getD ys j 0) (getD xs j 0 / 2 + x)
+  clear x j = spot p (2 * y + getD (ysIn ts) j 0) (getD (xsIn ts) j 0 / 2 + x)
 
-  pub clear-none : v ≡ clearWord p y ys xs v 0
+  pub clear-none : v ≡ clearWord p y ts v 0
   unfolding clearWord
   clear-none = refl
 
-  pub clear-more : (j : ℕ) {acc : ℕ} → acc ≡ clearWord p y ys xs v j
-      → bitAnd acc (getD p (2 * y + getD ys j 0) 0 / 2 ^ (getD xs j 0 / 2)) ≡ clearWord p y ys xs v (j + 1)
+  pub clear-more : (j : ℕ) {acc : ℕ} → acc ≡ clearWord p y ts v j
+      → bitAnd acc (getD p (2 * y + getD (ysIn ts) j 0) 0 / 2 ^ (getD (xsIn ts) j 0 / 2)) ≡ clearWord p y ts v (j + 1)
   unfolding clearWord
   clear-more j e = rw (add-one, e)
 
@@ -58,22 +59,22 @@ module _ (p : List ℕ) (y : ℕ) (ys xs : List ℕ) (v : ℕ) where
   left-bit (suc n) x =
       bit-and (left n) (mask n) x
       ∙ (ap₂ (λ (a b : Bool). a && b) (left-bit n x)
-      (bit-shr (getD p (2 * y + getD ys n 0) 0) (getD xs n 0 / 2) x)
+      (bit-shr (getD p (2 * y + getD (ysIn ts) n 0) 0) (getD (xsIn ts) n 0 / 2) x)
       ∙ and-assoc (bit v x) (allBelow n (clear x)) (clear x n))
 
-  pub fits-word : (n : ℕ) → v < 18446744073709551616 → lineFits p y ys xs n v ≡ not (eqb (left n) 0)
+  pub fits-word : (n : ℕ) → v < 18446744073709551616 → lineFits p y ts n v ≡ not (eqb (left n) 0)
   unfolding lineFits
   fits-word n h =
       any-cong 64 (λ x. bit v x && allBelow n (clear x)) (bit (left n)) (λ x l. sym (left-bit n x))
       ∙ some-bit 64 (left n) (lt-of-le-of-lt (left-le n) h)
 
   -- the exit in the loop
-  pub left-none : (n j : ℕ) {acc : ℕ} → acc ≡ clearWord p y ys xs v j → j ≤ n → acc ≡ 0
-      → 0 ≡ clearWord p y ys xs v n
+  pub left-none : (n j : ℕ) {acc : ℕ} → acc ≡ clearWord p y ts v j → j ≤ n → acc ≡ 0
+      → 0 ≡ clearWord p y ts v n
   left-none n j e l z = sym (stays j n l (sym e ∙ z))
 
 -- a row without origins
-pub fits-empty : (p : List ℕ) (y : ℕ) (ys xs : List ℕ) (n : ℕ) {v : ℕ} → v ≡ 0 → lineFits p y ys xs n v ≡ false
-fits-empty p y ys xs n {v} e =
-    fits-word p y ys xs v n (omega arith)
-    ∙ rw (← left-none p y ys xs v n 0 (clear-none p y ys xs v) (omega arith) e)
+pub fits-empty : (p : List ℕ) (y : ℕ) (ts : List ℕ) (n : ℕ) {v : ℕ} → v ≡ 0 → lineFits p y ts n v ≡ false
+fits-empty p y ts n {v} e =
+    fits-word p y ts v n (omega arith)
+    ∙ rw (← left-none p y ts v n 0 (clear-none p y ts v) (omega arith) e)

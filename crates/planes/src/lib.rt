@@ -6,13 +6,21 @@ ghost use Prim.Native.Nat.{ℕ, _+_, _-_, _*_, _/_, _%_, _<_, _≤_, _^_};
 ghost use lib.Bits.{bitAnd};
 ghost use lib.ListN.{getD, length, replicate};
 ghost use Rattle.lists.specs.Parts.{part};
+ghost use Rattle.groups.specs.Grouping.{cellsIn, startsIn};
 ghost use Rattle.rules.specs.Flat.{Sized};
 ghost use Rattle.reasons.specs.Arrays.{Cells};
-ghost use Rattle.search.specs.Placing.{Raised};
+ghost use Rattle.shapes.specs.Raising.{Raised};
+ghost use Rattle.search.specs.Mates.{matesIn};
 ghost use Rattle.search.specs.Searching.{Beside};
 ghost use Rattle.planes.specs.Bits.{flag};
 ghost use Rattle.planes.specs.Planes.{clearAt, clearRow, lineWord, planesOf};
 ghost use Rattle.planes.specs.Masks.{Masked, Sizes, Span, originsIn, clearWord, lineFits, maskFits};
+use groups::Grouping;
+use groups::cell_at;
+use groups::start_of;
+use rules::index;
+use search::mates::Mates;
+use shapes::turned::Turned;
 
 pub mod survivors; // survivors.rt: the origins at which a transform lies on one colour, and the blockers there
 
@@ -115,45 +123,50 @@ fn flag(h: usize, w: usize, c: usize, mask: &mut [u64; 33])
 fn flag_group<'a>(
     h: usize,
     w: usize,
-    cells: &'a [u16; 1024],
+    potential: &'a Grouping,
     from: usize,
     to: usize,
     mask: &mut [u64; 33],
 )
-    requires { ⌜ Sized h w × Cells h w (now cells) from to × (length (now mask) ≡ 33) ⌝ }
+    requires { ⌜ Sized h w × Cells h w (cellsIn (now potential)) from to × (length (now mask) ≡ 33) ⌝ }
     ensures { λ r. ⌜ (length (now (mask .exit)) ≡ 33)
         × ((xs : List ℕ) → Masked w xs (now (mask .entry))
-        → Masked w (xs ++ part (now (cells .entry)) from to) (now (mask .exit))) ⌝ }
+        → Masked w (xs ++ part (cellsIn (now (potential .entry))) from to) (now (mask .exit))) ⌝ }
 {
     let mut i = from;
     while i < to {
-        flag(h, w, cells[i] as usize, mask);
+        flag(h, w, cell_at(potential, i), mask);
         i += 1;
     }
 }
 
-// Draws the mask of the origins: the cells of the groups that the list of mates has from the place `from` to the place
-// `to`. The rows are followed by the number `name`.
+// Draws the mask of the origins: the cells of the groups in the list of mates. The rows are followed by the number
+// `name`.
 pub fn draw_mask<'a>(
     h: usize,
     w: usize,
-    cells: &'a [u16; 1024],
-    offs: &'a [u16; 1025],
-    mates: &'a [u16; 1024],
-    from: usize,
-    to: usize,
+    potential: &'a Grouping,
+    mates: &'a Mates,
     name: u64,
     mask: &mut [u64; 33],
 )
-    requires { ⌜ Sized h w × Beside h w (now cells) (now offs) (now mates) from to × (length (now mask) ≡ 33) ⌝ }
-    ensures { λ r. ⌜ Masked w (originsIn (now (cells .entry)) (now (offs .entry)) (part (now (mates .entry)) from to))
-        (now (mask .exit)) × (getD (now (mask .exit)) 32 0 ≡ name) ⌝ }
+    requires { ⌜ Sized h w × Beside h w (now potential) (now mates) × (length (now mask) ≡ 33) ⌝ }
+    ensures { λ r. ⌜ Masked w (originsIn (cellsIn (now (potential .entry))) (startsIn (now (potential .entry)))
+        (matesIn (now (mates .entry)))) (now (mask .exit)) × (getD (now (mask .exit)) 32 0 ≡ name) ⌝ }
 {
+    let count = index(mates[1024]);
     clear_mask(mask);
-    let mut i = from;
-    while i < to {
+    let mut i = 0;
+    while i < count {
         let q = mates[i] as usize;
-        flag_group(h, w, cells, offs[q] as usize, offs[q + 1] as usize, mask);
+        flag_group(
+            h,
+            w,
+            potential,
+            start_of(potential, q),
+            start_of(potential, q + 1),
+            mask,
+        );
         i += 1;
     }
     mask[32] = name;
@@ -167,18 +180,11 @@ fn step(planes: &[u64; 192], acc: u64, y: usize, down: u8, across: u8) -> u64
     acc & (planes[2 * y + down as usize] >> (across / 2))
 }
 
-// The origins `word` of row y at which all n connections of a transform are clear. They stand in ys and xs, raised by
-// 64.
-fn line_left<'a>(
-    planes: &'a [u64; 192],
-    word: u64,
-    y: usize,
-    ys: &'a [u8; 2048],
-    xs: &'a [u8; 2048],
-    n: usize,
-) -> u64
-    requires { ⌜ (length (now planes) ≡ 192) × (y < 32) × Raised (now ys) (now xs) n ⌝ }
-    ensures { λ r. ⌜ r ≡ clearWord (now (planes .entry)) y (now (ys .entry)) (now (xs .entry)) word n ⌝ }
+// The origins `word` of row y at which all n connections of a transform are clear. They stand in `turned`, raised
+// by 64.
+fn line_left<'a>(planes: &'a [u64; 192], word: u64, y: usize, turned: &'a Turned, n: usize) -> u64
+    requires { ⌜ (length (now planes) ≡ 192) × (y < 32) × Raised (now turned) n ⌝ }
+    ensures { λ r. ⌜ r ≡ clearWord (now (planes .entry)) y (now (turned .entry)) word n ⌝ }
 {
     let mut acc = word;
     let mut j = 0;
@@ -186,25 +192,18 @@ fn line_left<'a>(
         if acc == 0 {
             return 0;
         }
-        acc = step(planes, acc, y, ys[j], xs[j]);
+        acc = step(planes, acc, y, turned[j], turned[2048 + j]);
         j += 1;
     }
     acc
 }
 
 // Whether a transform fits at one of the origins `word` of row y.
-fn line_fits<'a>(
-    planes: &'a [u64; 192],
-    word: u64,
-    y: usize,
-    ys: &'a [u8; 2048],
-    xs: &'a [u8; 2048],
-    n: usize,
-) -> bool
-    requires { ⌜ (length (now planes) ≡ 192) × (y < 32) × Raised (now ys) (now xs) n ⌝ }
-    ensures { λ r. ⌜ r ≡ lineFits (now (planes .entry)) y (now (ys .entry)) (now (xs .entry)) n word ⌝ }
+fn line_fits<'a>(planes: &'a [u64; 192], word: u64, y: usize, turned: &'a Turned, n: usize) -> bool
+    requires { ⌜ (length (now planes) ≡ 192) × (y < 32) × Raised (now turned) n ⌝ }
+    ensures { λ r. ⌜ r ≡ lineFits (now (planes .entry)) y (now (turned .entry)) n word ⌝ }
 {
-    line_left(planes, word, y, ys, xs, n) != 0
+    line_left(planes, word, y, turned, n) != 0
 }
 
 // The first of the mask's h rows that has an origin; h if none has.
@@ -244,16 +243,15 @@ pub fn mask_fits<'a>(
     h: usize,
     top: usize,
     end: usize,
-    ys: &'a [u8; 2048],
-    xs: &'a [u8; 2048],
+    turned: &'a Turned,
     n: usize,
 ) -> bool
-    requires { ⌜ Sizes h (now planes) (now mask) × Span h (now mask) top end × Raised (now ys) (now xs) n ⌝ }
-    ensures { λ r. ⌜ r ≡ maskFits (now (planes .entry)) (now (mask .entry)) h (now (ys .entry)) (now (xs .entry)) n ⌝ }
+    requires { ⌜ Sizes h (now planes) (now mask) × Span h (now mask) top end × Raised (now turned) n ⌝ }
+    ensures { λ r. ⌜ r ≡ maskFits (now (planes .entry)) (now (mask .entry)) h (now (turned .entry)) n ⌝ }
 {
     let mut y = top;
     while y < end {
-        if line_fits(planes, mask[y], y, ys, xs, n) {
+        if line_fits(planes, mask[y], y, turned, n) {
             return true;
         }
         y += 1;

@@ -3,12 +3,14 @@
 ghost use mathlib.Core.Path.{_≡_};
 ghost use Prim.Native.Nat.{ℕ, _+_, _*_, _/_, _%_, _<_, _≤_};
 ghost use lib.ListN.{getD, length, replicate};
+ghost use Rattle.groups.specs.Grouping.{cellsIn, startsIn};
 ghost use Rattle.lists.specs.Lists.{flatMap};
 ghost use Rattle.lists.specs.Parts.{part};
 ghost use Rattle.rules.specs.Flat.{Sized};
 ghost use Rattle.reasons.specs.Arrays.{Cells};
 ghost use Rattle.reasons.specs.Memory.{Wrote};
-ghost use Rattle.search.specs.Placing.{Raised};
+ghost use Rattle.shapes.specs.Raising.{ysIn, xsIn, Raised};
+ghost use Rattle.search.specs.Mates.{matesIn};
 ghost use Rattle.search.specs.Searching.{Beside, groupIn};
 ghost use Rattle.planes.specs.Bits.{bit};
 ghost use Rattle.planes.specs.Masks.{Sizes};
@@ -17,10 +19,16 @@ ghost use Rattle.planes.specs.Survivors.{On, Survived, Lain, Placed, noW
 ghost use Rattle.planes.specs.Survivors.{borderAt, backOf, placedAt, blockIn};
 use crate::draw_planes;
 use crate::line_left;
+use groups::Grouping;
+use groups::cell_at;
+use groups::start_of;
 use reasons::append;
 use rules::Literal;
 use rules::Placement;
 use rules::Side;
+use rules::index;
+use search::mates::Mates;
+use shapes::turned::Turned;
 
 // Draws the planes of a page's colours into memory that is 0: a border is clear if it joins one colour.
 pub fn draw_colours(h: usize, w: usize, colours: &[u8; 1024], planes: &mut [u64; 192])
@@ -51,24 +59,23 @@ pub fn draw_places(h: usize, w: usize, places: &mut [u16; 1024])
     }
 }
 
-// Writes for each of the page's rows the origins of the mask at which all n connections are clear. They stand in ys and
-// xs, raised by 64.
+// Writes for each of the page's rows the origins of the mask at which all n connections are clear. They stand in
+// `turned`, raised by 64.
 pub fn survivors<'a>(
     planes: &'a [u64; 192],
     mask: &'a [u64; 33],
     h: usize,
-    ys: &'a [u8; 2048],
-    xs: &'a [u8; 2048],
+    turned: &'a Turned,
     n: usize,
     rows: &mut [u64; 32],
 )
-    requires { ⌜ Sizes h (now planes) (now mask) × Raised (now ys) (now xs) n × (length (now rows) ≡ 32) ⌝ }
-    ensures { λ r. ⌜ Survived (now (planes .entry)) (now (mask .entry)) h (now (ys .entry)) (now (xs .entry)) n
+    requires { ⌜ Sizes h (now planes) (now mask) × Raised (now turned) n × (length (now rows) ≡ 32) ⌝ }
+    ensures { λ r. ⌜ Survived (now (planes .entry)) (now (mask .entry)) h (now (turned .entry)) n
         (now (rows .exit)) ⌝ }
 {
     let mut y = 0;
     while y < h {
-        rows[y] = line_left(planes, mask[y], y, ys, xs, n);
+        rows[y] = line_left(planes, mask[y], y, turned, n);
         y += 1;
     }
 }
@@ -99,20 +106,24 @@ fn laid_back<'a>(
     h: usize,
     w: usize,
     borders: &'a [u8; 1984],
-    ys: &'a [u8; 2048],
-    xs: &'a [u8; 2048],
+    turned: &'a Turned,
     n: usize,
     y: usize,
     x: usize,
 ) -> Placement
-    requires { ⌜ Sized h w × Raised (now ys) (now xs) n × (y < 32) × (x < 32)
-        × ((j : ℕ) → j < n → On h w (2 * y + getD (now ys) j 0) (2 * x + getD (now xs) j 0)) ⌝ }
-    ensures { λ r. ⌜ r ≡ backOf h w (now (borders .entry)) (now (ys .entry)) (now (xs .entry)) y x n ⌝ }
+    requires { ⌜ Sized h w × Raised (now turned) n × (y < 32) × (x < 32)
+        × ((j : ℕ) → j < n → On h w (2 * y + getD (ysIn (now turned)) j 0) (2 * x + getD (xsIn (now turned)) j 0)) ⌝ }
+    ensures { λ r. ⌜ r ≡ backOf h w (now (borders .entry)) (now (turned .entry)) y x n ⌝ }
 {
     let mut j = n;
     while j > 0 {
         j -= 1;
-        let border = border_at(h, w, 2 * y + ys[j] as usize, 2 * x + xs[j] as usize);
+        let border = border_at(
+            h,
+            w,
+            2 * y + turned[j] as usize,
+            2 * x + turned[2048 + j] as usize,
+        );
         if borders[border] == 1 {
             return Placement::Blocked(border);
         }
@@ -126,19 +137,18 @@ fn placed<'a>(
     w: usize,
     borders: &'a [u8; 1984],
     rows: &'a [u64; 32],
-    ys: &'a [u8; 2048],
-    xs: &'a [u8; 2048],
+    turned: &'a Turned,
     n: usize,
     y: usize,
     x: usize,
 ) -> Placement
-    requires { ⌜ Sized h w × Raised (now ys) (now xs) n × Lain h w (now rows) (now ys) (now xs) n × (y < h)
+    requires { ⌜ Sized h w × Raised (now turned) n × Lain h w (now rows) (now turned) n × (y < h)
         × (x < w) ⌝ }
-    ensures { λ r. ⌜ r ≡ placedAt h w (now (borders .entry)) (now (rows .entry)) (now (ys .entry)) (now (xs .entry)) n y
+    ensures { λ r. ⌜ r ≡ placedAt h w (now (borders .entry)) (now (rows .entry)) (now (turned .entry)) n y
         x ⌝ }
 {
     if has(rows[y], x) {
-        return laid_back(h, w, borders, ys, xs, n, y, x);
+        return laid_back(h, w, borders, turned, n, y, x);
     }
     Placement::Cannot
 }
@@ -152,20 +162,19 @@ fn block_at<'a>(
     borders: &'a [u8; 1984],
     places: &'a [u16; 1024],
     rows: &'a [u64; 32],
-    ys: &'a [u8; 2048],
-    xs: &'a [u8; 2048],
+    turned: &'a Turned,
     n: usize,
     o: usize,
 ) -> usize
-    requires { ⌜ Sized h w × Raised (now ys) (now xs) n × Lain h w (now rows) (now ys) (now xs) n
+    requires { ⌜ Sized h w × Raised (now turned) n × Lain h w (now rows) (now turned) n
         × Placed h w (now places) × (o < h * w)
-        × (at + length (blockIn h w (now borders) (now rows) (now ys) (now xs) n o) ≤ length (now memory)) ⌝ }
+        × (at + length (blockIn h w (now borders) (now rows) (now turned) n o) ≤ length (now memory)) ⌝ }
     ensures { λ r. ⌜ Wrote (now (memory .entry)) at
-        (blockIn h w (now (borders .entry)) (now (rows .entry)) (now (ys .entry)) (now (xs .entry)) n o)
+        (blockIn h w (now (borders .entry)) (now (rows .entry)) (now (turned .entry)) n o)
         (now (memory .exit)) r ⌝ }
 {
     let place = places[o] as usize;
-    let Placement::Blocked(border) = placed(h, w, borders, rows, ys, xs, n, place / 32, place % 32)
+    let Placement::Blocked(border) = placed(h, w, borders, rows, turned, n, place / 32, place % 32)
     else {
         return at;
     };
@@ -188,20 +197,19 @@ fn block_group<'a>(
     borders: &'a [u8; 1984],
     places: &'a [u16; 1024],
     rows: &'a [u64; 32],
-    ys: &'a [u8; 2048],
-    xs: &'a [u8; 2048],
+    turned: &'a Turned,
     n: usize,
-    cells: &'a [u16; 1024],
+    potential: &'a Grouping,
     from: usize,
     to: usize,
 ) -> usize
-    requires { ⌜ Sized h w × Raised (now ys) (now xs) n × Lain h w (now rows) (now ys) (now xs) n
-        × Placed h w (now places) × Cells h w (now cells) from to
-        × (start + length (flatMap (blockIn h w (now borders) (now rows) (now ys) (now xs) n)
-        (part (now cells) from to)) ≤ length (now memory)) ⌝ }
+    requires { ⌜ Sized h w × Raised (now turned) n × Lain h w (now rows) (now turned) n
+        × Placed h w (now places) × Cells h w (cellsIn (now potential)) from to
+        × (start + length (flatMap (blockIn h w (now borders) (now rows) (now turned) n)
+        (part (cellsIn (now potential)) from to)) ≤ length (now memory)) ⌝ }
     ensures { λ r. ⌜ Wrote (now (memory .entry)) start
-        (flatMap (blockIn h w (now (borders .entry)) (now (rows .entry)) (now (ys .entry)) (now (xs .entry)) n)
-        (part (now (cells .entry)) from to)) (now (memory .exit)) r ⌝ }
+        (flatMap (blockIn h w (now (borders .entry)) (now (rows .entry)) (now (turned .entry)) n)
+        (part (cellsIn (now (potential .entry))) from to)) (now (memory .exit)) r ⌝ }
 {
     let mut at = start;
     let mut i = from;
@@ -214,18 +222,17 @@ fn block_group<'a>(
             borders,
             places,
             rows,
-            ys,
-            xs,
+            turned,
             n,
-            cells[i] as usize,
+            cell_at(potential, i),
         );
         i += 1;
     }
     at
 }
 
-// Writes the blockers of the placements at the cells of the groups that the list of mates has from the place `from` to
-// the place `to`; gives the next place. `places` says where the page's cells are, and `rows` has the survivors.
+// Writes the blockers of the placements at the cells of the groups in the list of mates; gives the next place. `places`
+// says where the page's cells are, and `rows` has the survivors.
 pub fn block_mates<'a>(
     memory: &mut [u16],
     start: usize,
@@ -234,27 +241,25 @@ pub fn block_mates<'a>(
     borders: &'a [u8; 1984],
     places: &'a [u16; 1024],
     rows: &'a [u64; 32],
-    ys: &'a [u8; 2048],
-    xs: &'a [u8; 2048],
+    turned: &'a Turned,
     n: usize,
-    cells: &'a [u16; 1024],
-    offs: &'a [u16; 1025],
-    mates: &'a [u16; 1024],
-    from: usize,
-    to: usize,
+    potential: &'a Grouping,
+    mates: &'a Mates,
 ) -> usize
-    requires { ⌜ Sized h w × Raised (now ys) (now xs) n × Lain h w (now rows) (now ys) (now xs) n
-        × Placed h w (now places) × Beside h w (now cells) (now offs) (now mates) from to
-        × (start + length (flatMap (λ Q. flatMap (blockIn h w (now borders) (now rows) (now ys) (now xs) n)
-        (groupIn (now cells) (now offs) Q)) (part (now mates) from to)) ≤ length (now memory)) ⌝ }
+    requires { ⌜ Sized h w × Raised (now turned) n × Lain h w (now rows) (now turned) n × Placed h w (now places)
+        × Beside h w (now potential) (now mates)
+        × (start + length (flatMap (λ Q. flatMap (blockIn h w (now borders) (now rows) (now turned) n)
+        (groupIn (cellsIn (now potential)) (startsIn (now potential)) Q)) (matesIn (now mates)))
+        ≤ length (now memory)) ⌝ }
     ensures { λ r. ⌜ Wrote (now (memory .entry)) start
-        (flatMap (λ Q. flatMap (blockIn h w (now (borders .entry)) (now (rows .entry)) (now (ys .entry))
-        (now (xs .entry)) n) (groupIn (now (cells .entry)) (now (offs .entry)) Q))
-        (part (now (mates .entry)) from to)) (now (memory .exit)) r ⌝ }
+        (flatMap (λ Q. flatMap (blockIn h w (now (borders .entry)) (now (rows .entry)) (now (turned .entry)) n)
+        (groupIn (cellsIn (now (potential .entry))) (startsIn (now (potential .entry))) Q))
+        (matesIn (now (mates .entry)))) (now (memory .exit)) r ⌝ }
 {
+    let count = index(mates[1024]);
     let mut at = start;
-    let mut i = from;
-    while i < to {
+    let mut i = 0;
+    while i < count {
         let q = mates[i] as usize;
         at = block_group(
             memory,
@@ -264,12 +269,11 @@ pub fn block_mates<'a>(
             borders,
             places,
             rows,
-            ys,
-            xs,
+            turned,
             n,
-            cells,
-            offs[q] as usize,
-            offs[q + 1] as usize,
+            potential,
+            start_of(potential, q),
+            start_of(potential, q + 1),
         );
         i += 1;
     }

@@ -4,14 +4,18 @@ ghost use mathlib.Core.List.{[], _∷_};
 ghost use Prim.Native.Nat.{_+_, _*_, _<_, _≤_};
 ghost use lib.ListN.{length};
 ghost use Rattle.lists.specs.Parts.{part};
+ghost use Rattle.groups.specs.Grouping.{numbersIn, cellsIn};
 ghost use Rattle.rules.specs.Flat.{Sized};
 ghost use Rattle.rules.specs.Codes.{literalCode};
 ghost use Rattle.reasons.specs.Memory.{Wrote};
-ghost use Rattle.reasons.specs.Arrays.{Arrays, Cells, Part, Stepped, scanOf, insideIn, edgeIn, groupReason};
+ghost use Rattle.reasons.specs.Arrays.{Arrays, Cells, GroupAt, Stepped};
+ghost use Rattle.reasons.specs.Arrays.{scanOf, insideIn, edgeIn, groupReason};
 use crate::scans::scan_cell;
+use groups::Grouping;
+use groups::cell_at;
+use groups::start_of;
 use rules::Literal;
 use rules::Side;
-use rules::index;
 
 pub mod paths; // paths.rt: Path, by a search over open borders, and the reason of a wall
 pub mod scans; // scans.rt: what a scan keeps of one cell
@@ -87,9 +91,9 @@ pub fn step(h: usize, w: usize, y: usize, x: usize, d: usize) -> Neighbour
     beside(h, w, y * w + x, y, x, d)
 }
 
-// Writes what a scan of the cells `cells[from..to]` keeps, from the place `start`; gives the next place. Open borders:
-// below and right, to flagged groups. Walls: above, below, left, right, to neighbours of the same colour (of the other,
-// if `same` is false) in groups that are not flagged.
+// Writes what a scan of the cells `from` to `to` of the list of cells keeps, from the place `start`; gives the next
+// place. Open borders: below and right, to flagged groups. Walls: above, below, left, right, to neighbours of the same
+// colour (of the other, if `same` is false) in groups that are not flagged.
 // Step 3's last walls are those to the other colour, with the potential units adjacent to P flagged.
 pub fn scan<'a>(
     memory: &mut [u16],
@@ -98,26 +102,26 @@ pub fn scan<'a>(
     w: usize,
     colours: &'a [u8; 1024],
     borders: &'a [u8; 1984],
-    ids: &'a [u16; 1024],
-    cells: &'a [u16; 1024],
+    grouping: &'a Grouping,
     from: usize,
     to: usize,
     side: Side,
     same: bool,
     flagged: &'a [u8; 1024],
 ) -> usize
-    requires { ⌜ Sized h w × Arrays (now borders) (now ids) × (length (now colours) ≡ 1024)
-        × (length (now flagged) ≡ 1024) × Cells h w (now cells) from to × (start + length (scanOf h w (now colours)
-        (now borders) (now ids) side same (now flagged) (part (now cells) from to)) ≤ length (now memory)) ⌝ }
+    requires { ⌜ Sized h w × Arrays (now borders) (numbersIn (now grouping)) × (length (now colours) ≡ 1024)
+        × (length (now flagged) ≡ 1024) × Cells h w (cellsIn (now grouping)) from to
+        × (start + length (scanOf h w (now colours) (now borders) (numbersIn (now grouping)) side same (now flagged)
+        (part (cellsIn (now grouping)) from to)) ≤ length (now memory)) ⌝ }
     ensures { λ r. ⌜ Wrote (now (memory .entry)) start (scanOf h w (now (colours .entry)) (now (borders .entry))
-        (now (ids .entry)) side same (now (flagged .entry)) (part (now (cells .entry)) from to))
-        (now (memory .exit)) r ⌝ }
+        (numbersIn (now (grouping .entry))) side same (now (flagged .entry))
+        (part (cellsIn (now (grouping .entry))) from to)) (now (memory .exit)) r ⌝ }
 {
     let count = to - from;
     let mut at = start;
     let mut i = 0;
     while i < count {
-        let c = index(cells[from + i]);
+        let c = cell_at(grouping, from + i);
         at = scan_cell(
             memory,
             at,
@@ -125,7 +129,7 @@ pub fn scan<'a>(
             w,
             colours,
             borders,
-            ids,
+            grouping,
             side,
             same,
             flagged,
@@ -136,8 +140,7 @@ pub fn scan<'a>(
     at
 }
 
-// Inside (open borders) or Edge (walls) of the group g, whose cells are `cells[from..to]`, from the place `start`;
-// gives the next place.
+// Inside (open borders) or Edge (walls) of the group g, from the place `start`; gives the next place.
 fn group_reason<'a>(
     memory: &mut [u16],
     start: usize,
@@ -145,21 +148,21 @@ fn group_reason<'a>(
     w: usize,
     colours: &'a [u8; 1024],
     borders: &'a [u8; 1984],
-    ids: &'a [u16; 1024],
-    cells: &'a [u16; 1024],
-    from: usize,
-    to: usize,
+    grouping: &'a Grouping,
     side: Side,
     g: usize,
 ) -> usize
-    requires { ⌜ Sized h w × Arrays (now borders) (now ids) × (length (now colours) ≡ 1024) × (g < 1024)
-        × Part h w (now ids) (now cells) from to g × (start + length (groupReason h w (now colours) (now borders)
-        (now ids) side g) ≤ length (now memory)) ⌝ }
+    requires { ⌜ Sized h w × (length (now borders) ≡ 1984) × (length (now colours) ≡ 1024)
+        × GroupAt h w (now grouping) g
+        × (start + length (groupReason h w (now colours) (now borders) (numbersIn (now grouping)) side g)
+        ≤ length (now memory)) ⌝ }
     ensures { λ r. ⌜ Wrote (now (memory .entry)) start (groupReason h w (now (colours .entry)) (now (borders .entry))
-        (now (ids .entry)) side g) (now (memory .exit)) r ⌝ }
+        (numbersIn (now (grouping .entry))) side g) (now (memory .exit)) r ⌝ }
 {
     let mut flagged = [0u8; 1024];
     flagged[g] = 1;
+    let from = start_of(grouping, g);
+    let to = start_of(grouping, g + 1);
     scan(
         memory,
         start,
@@ -167,8 +170,7 @@ fn group_reason<'a>(
         w,
         colours,
         borders,
-        ids,
-        cells,
+        grouping,
         from,
         to,
         side,
@@ -177,7 +179,7 @@ fn group_reason<'a>(
     )
 }
 
-// Edge of the group g, whose cells are `cells[from..to]`, from the place `start`; gives the next place.
+// Edge of the group g, from the place `start`; gives the next place.
 pub fn edge<'a>(
     memory: &mut [u16],
     start: usize,
@@ -185,17 +187,15 @@ pub fn edge<'a>(
     w: usize,
     colours: &'a [u8; 1024],
     borders: &'a [u8; 1984],
-    ids: &'a [u16; 1024],
-    cells: &'a [u16; 1024],
-    from: usize,
-    to: usize,
+    grouping: &'a Grouping,
     g: usize,
 ) -> usize
-    requires { ⌜ Sized h w × Arrays (now borders) (now ids) × (length (now colours) ≡ 1024) × (g < 1024)
-        × Part h w (now ids) (now cells) from to g × (start + length (edgeIn h w (now colours) (now borders)
-        (now ids) g) ≤ length (now memory)) ⌝ }
+    requires { ⌜ Sized h w × (length (now borders) ≡ 1984) × (length (now colours) ≡ 1024)
+        × GroupAt h w (now grouping) g
+        × (start + length (edgeIn h w (now colours) (now borders) (numbersIn (now grouping)) g)
+        ≤ length (now memory)) ⌝ }
     ensures { λ r. ⌜ Wrote (now (memory .entry)) start (edgeIn h w (now (colours .entry)) (now (borders .entry))
-        (now (ids .entry)) g) (now (memory .exit)) r ⌝ }
+        (numbersIn (now (grouping .entry))) g) (now (memory .exit)) r ⌝ }
 {
     group_reason(
         memory,
@@ -204,32 +204,26 @@ pub fn edge<'a>(
         w,
         colours,
         borders,
-        ids,
-        cells,
-        from,
-        to,
+        grouping,
         Side::Wall,
         g,
     )
 }
 
-// Inside of the group g, whose cells are `cells[from..to]`, from the place `start`; gives the next place.
+// Inside of the group g, from the place `start`; gives the next place.
 pub fn inside<'a>(
     memory: &mut [u16],
     start: usize,
     h: usize,
     w: usize,
     borders: &'a [u8; 1984],
-    ids: &'a [u16; 1024],
-    cells: &'a [u16; 1024],
-    from: usize,
-    to: usize,
+    grouping: &'a Grouping,
     g: usize,
 ) -> usize
-    requires { ⌜ Sized h w × Arrays (now borders) (now ids) × (g < 1024) × Part h w (now ids) (now cells) from to g
-        × (start + length (insideIn h w (now borders) (now ids) g) ≤ length (now memory)) ⌝ }
-    ensures { λ r. ⌜ Wrote (now (memory .entry)) start (insideIn h w (now (borders .entry)) (now (ids .entry)) g)
-        (now (memory .exit)) r ⌝ }
+    requires { ⌜ Sized h w × (length (now borders) ≡ 1984) × GroupAt h w (now grouping) g
+        × (start + length (insideIn h w (now borders) (numbersIn (now grouping)) g) ≤ length (now memory)) ⌝ }
+    ensures { λ r. ⌜ Wrote (now (memory .entry)) start (insideIn h w (now (borders .entry))
+        (numbersIn (now (grouping .entry))) g) (now (memory .exit)) r ⌝ }
 {
     // Inside asks no colours
     let colours = [0u8; 1024];
@@ -240,10 +234,7 @@ pub fn inside<'a>(
         w,
         &colours,
         borders,
-        ids,
-        cells,
-        from,
-        to,
+        grouping,
         Side::Open,
         g,
     )

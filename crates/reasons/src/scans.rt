@@ -5,6 +5,7 @@ ghost use mathlib.Core.List.{[]};
 ghost use Prim.Native.Nat.{_+_, _*_, _<_, _≤_};
 ghost use lib.ListN.{length};
 ghost use Rattle.lists.specs.Lists.{keep};
+ghost use Rattle.groups.specs.Grouping.{numbersIn};
 ghost use Rattle.rules.specs.Flat.{Sized};
 ghost use Rattle.rules.specs.Codes.{statesIn, coloursIn};
 ghost use Rattle.rules.specs.Groups.{entry};
@@ -15,9 +16,10 @@ ghost use Rattle.reasons.specs.Arrays.{Arrays, Fits, hopOf, hopsIn, isFl
 use crate::Neighbour;
 use crate::append;
 use crate::beside;
+use groups::Grouping;
+use groups::group_of;
 use rules::Literal;
 use rules::Side;
-use rules::index;
 
 // Writes a literal at the place `at`, where `kept`; otherwise nothing is written. Gives the next place.
 fn append_if(memory: &mut [u16], at: usize, kept: bool, literal: Literal) -> usize
@@ -55,12 +57,14 @@ fn is_flagged(flagged: &[u8; 1024], group: usize) -> bool
 // The border to the neighbour n is open, and its group is flagged. False if there is no neighbour.
 fn open_kept<'a>(
     borders: &'a [u8; 1984],
-    ids: &'a [u16; 1024],
+    grouping: &'a Grouping,
     flagged: &'a [u8; 1024],
     n: Neighbour,
 ) -> bool
-    requires { ⌜ Arrays (now borders) (now ids) × (length (now flagged) ≡ 1024) × (n .some ≡ true → Fits n) ⌝ }
-    ensures { λ r. ⌜ r ≡ (n .some && openKept (statesIn (now (borders .entry))) (entry (now (ids .entry)))
+    requires { ⌜ Arrays (now borders) (numbersIn (now grouping)) × (length (now flagged) ≡ 1024)
+        × (n .some ≡ true → Fits n) ⌝ }
+    ensures { λ r. ⌜ r ≡ (n .some && openKept (statesIn (now (borders .entry)))
+        (entry (numbersIn (now (grouping .entry))))
         (isFlagged (now (flagged .entry))) (hopOf n)) ⌝ }
 {
     if !n.some {
@@ -69,7 +73,7 @@ fn open_kept<'a>(
     let border = n.border;
     let to = n.to;
     if borders[border] == 2 {
-        return is_flagged(flagged, index(ids[to]));
+        return is_flagged(flagged, group_of(grouping, to));
     }
     false
 }
@@ -79,16 +83,17 @@ fn open_kept<'a>(
 fn wall_kept<'a>(
     colours: &'a [u8; 1024],
     borders: &'a [u8; 1984],
-    ids: &'a [u16; 1024],
+    grouping: &'a Grouping,
     same: bool,
     flagged: &'a [u8; 1024],
     c: usize,
     n: Neighbour,
 ) -> bool
-    requires { ⌜ Arrays (now borders) (now ids) × (length (now colours) ≡ 1024) × (length (now flagged) ≡ 1024)
+    requires { ⌜ Arrays (now borders) (numbersIn (now grouping)) × (length (now colours) ≡ 1024)
+        × (length (now flagged) ≡ 1024)
         × (c < 1024) × (n .some ≡ true → Fits n) ⌝ }
     ensures { λ r. ⌜ r ≡ (n .some && wallKept (coloursIn (now (colours .entry))) (statesIn (now (borders .entry)))
-        (entry (now (ids .entry))) same (isFlagged (now (flagged .entry))) c (hopOf n)) ⌝ }
+        (entry (numbersIn (now (grouping .entry)))) same (isFlagged (now (flagged .entry))) c (hopOf n)) ⌝ }
 {
     if !n.some {
         return false;
@@ -101,7 +106,7 @@ fn wall_kept<'a>(
     if one_colour(colours, c, to) != same {
         return false;
     }
-    !is_flagged(flagged, index(ids[to]))
+    !is_flagged(flagged, group_of(grouping, to))
 }
 
 // Writes the border to the neighbour n, if it is open and the group of n is flagged.
@@ -109,17 +114,20 @@ fn open_hop<'a>(
     memory: &mut [u16],
     from: usize,
     borders: &'a [u8; 1984],
-    ids: &'a [u16; 1024],
+    grouping: &'a Grouping,
     flagged: &'a [u8; 1024],
     n: Neighbour,
 ) -> usize
-    requires { ⌜ Arrays (now borders) (now ids) × (length (now flagged) ≡ 1024) × (n .some ≡ true → Fits n)
-        × (from + length (gather Open (openKept (statesIn (now borders)) (entry (now ids)) (isFlagged (now flagged)))
+    requires { ⌜ Arrays (now borders) (numbersIn (now grouping)) × (length (now flagged) ≡ 1024)
+        × (n .some ≡ true → Fits n)
+        × (from + length (gather Open (openKept (statesIn (now borders)) (entry (numbersIn (now grouping)))
+        (isFlagged (now flagged)))
         (hopsIn n)) ≤ length (now memory)) ⌝ }
     ensures { λ r. ⌜ Wrote (now (memory .entry)) from (gather Open (openKept (statesIn (now (borders .entry)))
-        (entry (now (ids .entry))) (isFlagged (now (flagged .entry)))) (hopsIn n)) (now (memory .exit)) r ⌝ }
+        (entry (numbersIn (now (grouping .entry)))) (isFlagged (now (flagged .entry)))) (hopsIn n))
+        (now (memory .exit)) r ⌝ }
 {
-    let kept = open_kept(borders, ids, flagged, n);
+    let kept = open_kept(borders, grouping, flagged, n);
     append_if(
         memory,
         from,
@@ -137,21 +145,23 @@ fn wall_hop<'a>(
     from: usize,
     colours: &'a [u8; 1024],
     borders: &'a [u8; 1984],
-    ids: &'a [u16; 1024],
+    grouping: &'a Grouping,
     same: bool,
     flagged: &'a [u8; 1024],
     c: usize,
     n: Neighbour,
 ) -> usize
-    requires { ⌜ Arrays (now borders) (now ids) × (length (now colours) ≡ 1024) × (length (now flagged) ≡ 1024)
+    requires { ⌜ Arrays (now borders) (numbersIn (now grouping)) × (length (now colours) ≡ 1024)
+        × (length (now flagged) ≡ 1024)
         × (c < 1024) × (n .some ≡ true → Fits n) × (from + length (gather Wall (wallKept (coloursIn (now colours))
-        (statesIn (now borders)) (entry (now ids)) same (isFlagged (now flagged)) c) (hopsIn n))
+        (statesIn (now borders)) (entry (numbersIn (now grouping))) same (isFlagged (now flagged)) c) (hopsIn n))
         ≤ length (now memory)) ⌝ }
     ensures { λ r. ⌜ Wrote (now (memory .entry)) from (gather Wall (wallKept (coloursIn (now (colours .entry)))
-        (statesIn (now (borders .entry))) (entry (now (ids .entry))) same (isFlagged (now (flagged .entry))) c)
+        (statesIn (now (borders .entry))) (entry (numbersIn (now (grouping .entry)))) same
+        (isFlagged (now (flagged .entry))) c)
         (hopsIn n)) (now (memory .exit)) r ⌝ }
 {
-    let kept = wall_kept(colours, borders, ids, same, flagged, c, n);
+    let kept = wall_kept(colours, borders, grouping, same, flagged, c, n);
     append_if(
         memory,
         from,
@@ -170,13 +180,16 @@ fn open_cell<'a>(
     h: usize,
     w: usize,
     borders: &'a [u8; 1984],
-    ids: &'a [u16; 1024],
+    grouping: &'a Grouping,
     flagged: &'a [u8; 1024],
     c: usize,
 ) -> usize
-    requires { ⌜ Sized h w × Arrays (now borders) (now ids) × (length (now flagged) ≡ 1024) × (c < h * w)
-        × (from + length (scanAt h w [] (now borders) (now ids) Open true (now flagged) c) ≤ length (now memory)) ⌝ }
-    ensures { λ r. ⌜ Wrote (now (memory .entry)) from (scanAt h w [] (now (borders .entry)) (now (ids .entry)) Open
+    requires { ⌜ Sized h w × Arrays (now borders) (numbersIn (now grouping)) × (length (now flagged) ≡ 1024)
+        × (c < h * w)
+        × (from + length (scanAt h w [] (now borders) (numbersIn (now grouping)) Open true (now flagged) c)
+        ≤ length (now memory)) ⌝ }
+    ensures { λ r. ⌜ Wrote (now (memory .entry)) from (scanAt h w [] (now (borders .entry))
+        (numbersIn (now (grouping .entry))) Open
         true (now (flagged .entry)) c) (now (memory .exit)) r ⌝ }
 {
     // a call for each direction and no loop, so that each is compiled for its direction
@@ -184,8 +197,8 @@ fn open_cell<'a>(
     let x = c % w;
     let below = beside(h, w, c, y, x, 1);
     let right = beside(h, w, c, y, x, 3);
-    let at = open_hop(memory, from, borders, ids, flagged, below);
-    open_hop(memory, at, borders, ids, flagged, right)
+    let at = open_hop(memory, from, borders, grouping, flagged, below);
+    open_hop(memory, at, borders, grouping, flagged, right)
 }
 
 // Writes the walls of the cell c that the scan keeps: above, below, left, right.
@@ -196,16 +209,16 @@ fn wall_cell<'a>(
     w: usize,
     colours: &'a [u8; 1024],
     borders: &'a [u8; 1984],
-    ids: &'a [u16; 1024],
+    grouping: &'a Grouping,
     same: bool,
     flagged: &'a [u8; 1024],
     c: usize,
 ) -> usize
-    requires { ⌜ Sized h w × Arrays (now borders) (now ids) × (length (now colours) ≡ 1024)
+    requires { ⌜ Sized h w × Arrays (now borders) (numbersIn (now grouping)) × (length (now colours) ≡ 1024)
         × (length (now flagged) ≡ 1024) × (c < h * w) × (from + length (scanAt h w (now colours) (now borders)
-        (now ids) Wall same (now flagged) c) ≤ length (now memory)) ⌝ }
+        (numbersIn (now grouping)) Wall same (now flagged) c) ≤ length (now memory)) ⌝ }
     ensures { λ r. ⌜ Wrote (now (memory .entry)) from (scanAt h w (now (colours .entry)) (now (borders .entry))
-        (now (ids .entry)) Wall same (now (flagged .entry)) c) (now (memory .exit)) r ⌝ }
+        (numbersIn (now (grouping .entry))) Wall same (now (flagged .entry)) c) (now (memory .exit)) r ⌝ }
 {
     let y = c / w;
     let x = c % w;
@@ -213,10 +226,50 @@ fn wall_cell<'a>(
     let below = beside(h, w, c, y, x, 1);
     let left = beside(h, w, c, y, x, 2);
     let right = beside(h, w, c, y, x, 3);
-    let next = wall_hop(memory, from, colours, borders, ids, same, flagged, c, above);
-    let then = wall_hop(memory, next, colours, borders, ids, same, flagged, c, below);
-    let last = wall_hop(memory, then, colours, borders, ids, same, flagged, c, left);
-    wall_hop(memory, last, colours, borders, ids, same, flagged, c, right)
+    let next = wall_hop(
+        memory,
+        from,
+        colours,
+        borders,
+        grouping,
+        same,
+        flagged,
+        c,
+        above,
+    );
+    let then = wall_hop(
+        memory,
+        next,
+        colours,
+        borders,
+        grouping,
+        same,
+        flagged,
+        c,
+        below,
+    );
+    let last = wall_hop(
+        memory,
+        then,
+        colours,
+        borders,
+        grouping,
+        same,
+        flagged,
+        c,
+        left,
+    );
+    wall_hop(
+        memory,
+        last,
+        colours,
+        borders,
+        grouping,
+        same,
+        flagged,
+        c,
+        right,
+    )
 }
 
 // Writes the borders that the scan keeps of one cell.
@@ -227,20 +280,31 @@ pub fn scan_cell<'a>(
     w: usize,
     colours: &'a [u8; 1024],
     borders: &'a [u8; 1984],
-    ids: &'a [u16; 1024],
+    grouping: &'a Grouping,
     side: Side,
     same: bool,
     flagged: &'a [u8; 1024],
     c: usize,
 ) -> usize
-    requires { ⌜ Sized h w × Arrays (now borders) (now ids) × (length (now colours) ≡ 1024)
+    requires { ⌜ Sized h w × Arrays (now borders) (numbersIn (now grouping)) × (length (now colours) ≡ 1024)
         × (length (now flagged) ≡ 1024) × (c < h * w) × (from + length (scanAt h w (now colours) (now borders)
-        (now ids) side same (now flagged) c) ≤ length (now memory)) ⌝ }
+        (numbersIn (now grouping)) side same (now flagged) c) ≤ length (now memory)) ⌝ }
     ensures { λ r. ⌜ Wrote (now (memory .entry)) from (scanAt h w (now (colours .entry)) (now (borders .entry))
-        (now (ids .entry)) side same (now (flagged .entry)) c) (now (memory .exit)) r ⌝ }
+        (numbersIn (now (grouping .entry))) side same (now (flagged .entry)) c) (now (memory .exit)) r ⌝ }
 {
     match side {
-        Side::Wall => wall_cell(memory, from, h, w, colours, borders, ids, same, flagged, c),
-        Side::Open => open_cell(memory, from, h, w, borders, ids, flagged, c),
+        Side::Wall => wall_cell(
+            memory,
+            from,
+            h,
+            w,
+            colours,
+            borders,
+            grouping,
+            same,
+            flagged,
+            c,
+        ),
+        Side::Open => open_cell(memory, from, h, w, borders, grouping, flagged, c),
     }
 }

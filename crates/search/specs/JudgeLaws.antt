@@ -17,7 +17,8 @@ use Rattle.rules.specs.Flat.{flat, flatPlace, flatReads}
 use Rattle.rules.specs.Check.{judge, byLastWall, laid, isFit}
 use Rattle.search.specs.declared.Reading.{Reading}
 use Rattle.search.specs.declared.Reading.the-variants.{Ends, Clear, Walled}
-use Rattle.search.specs.Placing.{puzzle, raised, pointAt, spelled, bare, readRaised, readingOf}
+use Rattle.shapes.specs.Raising.{ysIn, xsIn, raised, raisedSpot, spelled}
+use Rattle.search.specs.Placing.{puzzle, bare, readRaised, readingOf}
 
 -- what readings make of a placement
 unfoldable pub after : Placement → List Reading → Placement
@@ -63,9 +64,10 @@ module _ (h w o y x : ℕ) where
       )
 
 -- the readings of a transform's connections
-module _ (h w : ℕ) (cs : List ℕ) (s : ℕ → State) (ys xs : List ℕ) (o : ℕ) where
+module _ (h w : ℕ) (cs : List ℕ) (s : ℕ → State) (t : List ℕ) (o : ℕ) where
   unfoldable pub readAt : ℕ → Reading
-  readAt i = readingOf (puzzle h w cs) s (readRaised h w (2 * (o / w) + getD ys i 0) (2 * (o % w) + getD xs i 0))
+  readAt i =
+      readingOf (puzzle h w cs) s (readRaised h w (2 * (o / w) + getD (ysIn t) i 0) (2 * (o % w) + getD (xsIn t) i 0))
 
   -- those of the last m connections, from i on
   unfoldable pub readFrom : ℕ → ℕ → List Reading
@@ -75,19 +77,19 @@ module _ (h w : ℕ) (cs : List ℕ) (s : ℕ → State) (ys xs : List ℕ) (o :
   abbrev shifted : Point → Option ℕ
   shifted d = flat h w .reads (flat h w .place o ⊕ flat h w .place o ⊕ d)
 
-  read-one : (i : ℕ) → readingOf (puzzle h w cs) s (shifted (pointAt ys xs i)) ≡ readAt i
-  unfolding readAt pointAt readRaised flat
+  read-one : (i : ℕ) → readingOf (puzzle h w cs) s (shifted (raisedSpot t i)) ≡ readAt i
+  unfolding readAt raisedSpot readRaised flat
   read-one i =
       ap (λ (p : Point). readingOf (puzzle h w cs) s (flatReads h w p))
-      (place-raised h w o (getD ys i 0) (getD xs i 0))
+      (place-raised h w o (getD (ysIn t) i 0) (getD (xsIn t) i 0))
 
   reads-from : (i m : ℕ)
-      → map (readingOf (puzzle h w cs) s) (map shifted (map (pointAt ys xs) (rangeFrom i m))) ≡ readFrom i m
+      → map (readingOf (puzzle h w cs) s) (map shifted (map (raisedSpot t) (rangeFrom i m))) ≡ readFrom i m
   unfolding readFrom
   reads-from i zero = refl
   reads-from i (suc m) = ap₂ (λ (r : Reading) (rs : List Reading). r ∷ rs) (read-one i) (reads-from (suc i) m)
 
-  pub laid-after : (n : ℕ) → laid (puzzle h w cs) s (bare (spelled ys xs n)) o ≡ after Fits (readFrom 0 (n - 0))
+  pub laid-after : (n : ℕ) → laid (puzzle h w cs) s (bare (spelled t n)) o ≡ after Fits (readFrom 0 (n - 0))
   unfolding laid spelled
   laid-after n =
       let e : n - 0 ≡ n = omega arith in

@@ -8,5 +8,3 @@ pub mod MateLaws
 pub mod TouchLaws
 pub mod GatherLaws
 pub mod SampleLaws
-pub mod Raising
-pub mod RaiseLaws

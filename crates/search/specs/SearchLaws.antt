@@ -5,6 +5,7 @@ use Prim.Native.Nat.{ℕ, _+_, _-_, _*_, _≤_, _<_}
 use native.Mathlib.Omega.{arith}
 use lib.ListN.{length, getD, drop, length-drop}
 use lib.Seq.{getD-take, length-take-le}
+use Rattle.groups.specs.Grouping.{cellsIn, startsIn}
 use Rattle.lists.specs.Lists.{_∈_, any, flatMap}
 use Rattle.lists.specs.ListLaws.{filter-mem, getD-mem}
 use Rattle.lists.specs.Flats.{flat-map, flat-flat, flat-same}
@@ -17,7 +18,7 @@ use Rattle.rules.specs.Groups.{members, potentialOf}
 use Rattle.rules.specs.Check.{laid, isFit, blockers, mates}
 use Rattle.reasons.specs.Arrays.{Cells}
 use Rattle.search.specs.Placing.{puzzle, fitsOf}
-use Rattle.search.specs.Mates.{Grouped, Known, Leading}
+use Rattle.search.specs.Mates.{Gathered, Grouped, Known, mateCount}
 use Rattle.search.specs.Searching.{Beside, groupIn, fitsAmong, fitsBeside, blockOf, blocksAmong, blocksBeside}
 
 module _ {h w : ℕ} {cells : List ℕ} {from to : ℕ} (p : Cells h w cells from to) where
@@ -29,8 +30,7 @@ module _ {h w : ℕ} {cells : List ℕ} {from to : ℕ} (p : Cells h w cells fro
       let e : from + (i - from) ≡ i = omega arith in
       rw e at (p .each (i - from) (omega arith))
 
-pub mates-reach : {h w : ℕ} {cells offs mates : List ℕ} {from to : ℕ} → Beside h w cells offs mates from to
-    → to ≤ length mates
+pub mates-reach : {h w : ℕ} {potential mates : List ℕ} → Beside h w potential mates → mateCount mates ≤ length mates
 mates-reach p = omega (arith, p .end, p .long)
 
 -- the placements of one transform at the cells of some potential units, and the mates of p among them
@@ -69,13 +69,14 @@ pub mates-low : {h w : ℕ} {cs bs cells offs : List ℕ} {count : ℕ} → Grou
 unfolding mates
 mates-low g p q m = rw (g .all) (range-lt _ (filter-mem _ _ m))
 
-module _ {h w : ℕ} {cs bs ids cells offs : List ℕ} {count : ℕ} (g : Grouped h w cs bs cells offs count)
-    (k : Known h w cs bs ids) where
+module _ {h w : ℕ} {cs bs ids : List ℕ} (potential : List ℕ) {count : ℕ}
+    (g : Grouped h w cs bs (cellsIn potential) (startsIn potential) count) (k : Known h w cs bs ids) where
   -- the mates of p stand from the start of a list
-  module _ {list : List ℕ} (p : ℕ) {n : ℕ} (l : Leading (mates (puzzle h w cs) (statesIn bs) p) list n) where
-    pub entry-low : (i : ℕ) → i < n → getD list i 0 < count
+  module _ {list : List ℕ} (p : ℕ) (l : Gathered (mates (puzzle h w cs) (statesIn bs) p) list) where
+    pub entry-low : (i : ℕ) → i < mateCount list → getD list i 0 < count
     entry-low i b =
         let f = mates (puzzle h w cs) (statesIn bs) p in
+        let n = mateCount list in
         let m : length f ≡ n - 0 =
         sym (ap length (l .first))
         ∙ length-take-le (n - 0) (drop 0 list) (omega (arith, length-drop 0 list, l .long, l .few)) in
@@ -83,13 +84,12 @@ module _ {h w : ℕ} {cs bs ids cells offs : List ℕ} {count : ℕ} (g : Groupe
         rw (← l .first, getD-take (n - 0) (drop 0 list) i 0 (omega arith)) in
         rw v at (mates-low g p _ (getD-mem f i 0 (omega arith)))
 
-    pub beside-leading : Beside h w cells offs list 0 n
-    beside-leading =
+    pub beside-gathered : Beside h w potential list
+    beside-gathered =
         let c : count ≤ 1024 = rw (g .all) (k .few) in
         record {
           long = l .long;
-          order = omega arith;
           end = l .few;
-          low = λ i a b. omega (arith, entry-low i b);
-          each = λ i a b. g .each (getD list i 0) (entry-low i b);
+          low = λ i b. omega (arith, entry-low i b);
+          each = λ i b. g .each (getD list i 0) (entry-low i b);
         }

@@ -1,7 +1,7 @@
 -- Searching: where a transform is laid, and what that gives.
 --
 --   groupIn cells offs Q   the cells of group Q, by the list of cells and the places where the groups start
---   Beside              a part of the list of mates; each of its entries is a group of the page
+--   Beside h w potential m   each unit in the list of mates m is a group of the page
 --   fitsAmong t xs      the transform t fits at one of the cells xs
 --   blockOf t o         the blocker of the placement of t with its origin at cell o, if it has one
 --   blocksAmong t xs    the blockers of its placements at the cells xs, in order
@@ -12,24 +12,25 @@ use mathlib.Core.Path.{_≡_}
 use mathlib.Core.List.{List}
 use Prim.Native.Nat.{ℕ, _+_, _≤_, _<_}
 use lib.ListN.{length, getD}
+use Rattle.groups.specs.Grouping.{cellsIn, startIn}
 use Rattle.lists.specs.Lists.{any, flatMap}
 use Rattle.lists.specs.Parts.{part}
 use Rattle.rules.specs.declared.Literal.{Literal}
 use Rattle.rules.specs.Page.{Puzzle, Shape, State}
 use Rattle.rules.specs.Check.{laid, blockers}
 use Rattle.reasons.specs.Arrays.{Cells}
+use Rattle.search.specs.Mates.{mateCount}
 use Rattle.search.specs.Placing.{fitsOf}
 
 unfoldable pub groupIn : List ℕ → List ℕ → ℕ → List ℕ
 groupIn cells offs Q = part cells (getD offs Q 0) (getD offs (Q + 1) 0)
 
-pub record Beside (h w : ℕ) (cells offs mates : List ℕ) (from to : ℕ) : Type 0 where
-  pub long : length mates ≡ 1024
-  pub order : from ≤ to
-  pub end : to ≤ 1024
-  pub low : (i : ℕ) → from ≤ i → i < to → getD mates i 0 < 1024
-  pub each : (i : ℕ) → from ≤ i → i < to
-      → Cells h w cells (getD offs (getD mates i 0) 0) (getD offs (getD mates i 0 + 1) 0)
+pub record Beside (h w : ℕ) (potential mates : List ℕ) : Type 0 where
+  pub long : length mates ≡ 1025
+  pub end : mateCount mates ≤ 1024
+  pub low : (i : ℕ) → i < mateCount mates → getD mates i 0 < 1024
+  pub each : (i : ℕ) → i < mateCount mates
+      → Cells h w (cellsIn potential) (startIn potential (getD mates i 0)) (startIn potential (getD mates i 0 + 1))
 
 module _ (Z : Puzzle) (s : ℕ → State) (t : Shape) where
   unfoldable pub fitsAmong : List ℕ → Bool

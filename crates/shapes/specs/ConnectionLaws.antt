@@ -10,6 +10,7 @@ use lib.Arith.{digits-div, digits-mod}
 use lib.Dec.{eqb, ltb}
 use lib.IntN.{pos, natAbs}
 use lib.ListN.{getD}
+use Rattle.groups.specs.Grouping.{numbersIn}
 use Rattle.lists.specs.Appends.{filter-append}
 use Rattle.lists.specs.Lists.{keep, filter}
 use Rattle.lists.specs.Table.{table}
@@ -19,7 +20,8 @@ use Rattle.rules.specs.Flat.{flat, flatPlace, cellAt, hopIf, hopBelow, hopRight
 use Rattle.rules.specs.Groups.{entry, members}
 use Rattle.rules.specs.Shapes.{connectionsAt}
 use Rattle.laws.specs.PointLaws.{point-eq}
-use Rattle.shapes.specs.Spots.{placeAt, spotAt, spots, places, UnitAt}
+use Rattle.shapes.specs.Outlines.{rowsIn, columnsIn, cellCount}
+use Rattle.shapes.specs.Spots.{placeAt, spots, cellSpot, places, UnitAt}
 use Rattle.shapes.specs.Joints.{jointIf}
 
 -- one neighbour
@@ -99,9 +101,10 @@ unfolding flatPlace
 cells-back h w [] = refl
 cells-back h w (c ∷ cs) = ap₂ (λ x xs. x ∷ xs) (div-add-mod' c w) (cells-back h w cs)
 
-pub unit-cells : {h w : ℕ} {ids : List ℕ} {g : ℕ} {R C : List ℕ} {n : ℕ} → UnitAt h w ids g R C n
-    → members (flat h w) (entry ids) g ≡ table n (λ i. getD R i 0 * w + getD C i 0)
+pub unit-cells : {h w : ℕ} {units : List ℕ} {g : ℕ} {o : List ℕ} → UnitAt h w units g o
+    → members (flat h w) (entry (numbersIn units)) g
+    ≡ table (cellCount o) (λ i. getD (rowsIn o) i 0 * w + getD (columnsIn o) i 0)
 unfolding places spots flat
-unit-cells {h} {w} {ids} {g} {R} {C} {n} u =
-    sym (cells-back h w (members (flat h w) (entry ids) g))
-    ∙ (ap (map (cellOf w)) (sym (u .here)) ∙ map-table (cellOf w) n (spotAt R C))
+unit-cells {h} {w} {units} {g} {o} u =
+    sym (cells-back h w (members (flat h w) (entry (numbersIn units)) g))
+    ∙ (ap (map (cellOf w)) (sym (u .here)) ∙ map-table (cellOf w) (cellCount o) (cellSpot o))

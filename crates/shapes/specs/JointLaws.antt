@@ -19,7 +19,11 @@ use Rattle.shapes.specs.Rows.{turnAt}
 use Rattle.shapes.specs.PartLaws.{mem-spots}
 use Rattle.rules.specs.Turns.{apply, read}
 use Rattle.lists.specs.ListLaws.{flat-find, filter-mem}
+use Rattle.groups.specs.Grouping.{numbersIn}
 use Rattle.lists.specs.Lists.{flatMap, _∈_, range}
+use Rattle.lists.specs.Sections.{Only}
+use Rattle.lists.specs.SectionLaws.{section-at, section-length, section-set, section-low, section-high, front-at}
+use Rattle.lists.specs.SectionLaws.{only-none, only-set, only-before, only-past, only-then}
 use Rattle.lists.specs.Table.{table}
 use Rattle.lists.specs.Ranges.{range-lt}
 use Rattle.lists.specs.TableLaws.{flat-table}
@@ -27,62 +31,88 @@ use Rattle.rules.specs.Page.{Point}
 use Rattle.rules.specs.Groups.{entry, members}
 use Rattle.rules.specs.Flat.{Sized, flat}
 use Rattle.rules.specs.Shapes.{connectionsAt}
-use Rattle.laws.specs.FlatLaws.{counts, spot}
-use Rattle.shapes.specs.Spots.{spotAt, placeAt, spots, joints, UnitAt}
+use Rattle.shapes.specs.Outlines.{rowsIn, columnsIn, downIn, acrossIn, cellCount, jointCount}
+use Rattle.shapes.specs.Spots.{placeAt, spots, jointSpot, joints, UnitAt}
 use Rattle.shapes.specs.SpotLaws.{spots-more, spots-cong, length-spots}
 use Rattle.shapes.specs.ConnectionLaws.{connections-at, unit-cells}
+use Rattle.laws.specs.FlatLaws.{counts, spot}
 use Rattle.shapes.specs.Joints.{jointIf, Room, Grown, Joining, Joined, JointIn}
 
-pub grown-none : (D A : List ℕ) (k : ℕ) → Room D A k → Grown D A k [] D A k
-grown-none D A k r = record { downs = r .downs; acrosses = r .acrosses; here = sym (append-nil (spots D A k)) }
+pub grown-none : (o : List ℕ) (k : ℕ) → Grown o k [] o k
+grown-none o k = record { only = only-none 2048 6144 o; here = sym (append-nil (spots (downIn o) (acrossIn o) k)) }
 
-pub grown-one : (D A : List ℕ) (k y x : ℕ) → Room D A k → Grown D A k (placeAt y x ∷ []) (set D k y) (set A k x) (k + 1)
-grown-one D A k y x r =
+-- the outline with connection k stored
+abbrev pub noted : List ℕ → ℕ → ℕ → ℕ → List ℕ
+noted o k y x = set (set o (2048 + k) y) (4096 + k) x
+
+module _ (o : List ℕ) (k y x : ℕ) (r : Room o k) where
+  abbrev D : List ℕ
+  D = downIn o
+
+  abbrev A : List ℕ
+  A = acrossIn o
+
+  downs : downIn (noted o k y x) ≡ set D k y
+  downs =
+      section-high 2048 2048 (set o (2048 + k) y) (4096 + k) x (omega arith)
+      ∙ section-set 2048 2048 o k y (r .space)
+
+  acrosses : acrossIn (noted o k y x) ≡ set A k x
+  acrosses =
+      section-set 4096 2048 (set o (2048 + k) y) k x (r .space)
+      ∙ ap (λ (l : List ℕ). set l k x) (section-low 4096 2048 o (2048 + k) y (omega (arith, r .space)))
+
+  pub grown-one : Grown o k (placeAt y x ∷ []) (noted o k y x) (k + 1)
+  grown-one =
+      record {
+        only =
+            only-set (only-set (only-none 2048 6144 o) (2048 + k) y (omega arith) (omega (arith, r .space))) (4096 + k)
+            x (omega arith) (omega (arith, r .space));
+        here =
+            rw (downs, acrosses)
+            (spots-more (set D k y) (set A k x) k
+            ∙ ap₂ (λ l p. l ++ (p ∷ []))
+            (spots-cong (set D k y) (set A k x) D A k
+            (λ i l. ap₂ placeAt (getD-set-other D k i y 0 (λ e. omega arith))
+            (getD-set-other A k i x 0 (λ e. omega arith))))
+            (ap₂ placeAt
+            (getD-set-same D k y 0 (omega (arith, r .space, section-length 2048 2048 o (omega (arith, r .long)))))
+            (getD-set-same A k x 0 (omega (arith, r .space, section-length 4096 2048 o (omega (arith, r .long)))))));
+      }
+
+pub grown-then : {o o′ o″ : List ℕ} {k l r : ℕ} (js ks : List Point) → Grown o k js o′ l
+    → Grown o′ l ks o″ r → Grown o k (js ++ ks) o″ r
+grown-then {o} {k = k} js ks a b =
     record {
-      downs = simp length-set (r .downs);
-      acrosses = simp length-set (r .acrosses);
-      here =
-          spots-more (set D k y) (set A k x) k
-          ∙ ap₂ (λ l p. l ++ (p ∷ []))
-          (spots-cong (set D k y) (set A k x) D A k
-          (λ i l. ap₂ placeAt (getD-set-other D k i y 0 (λ e. omega arith))
-          (getD-set-other A k i x 0 (λ e. omega arith))))
-          (ap₂ placeAt (getD-set-same D k y 0 (omega (arith, r .downs, r .space)))
-          (getD-set-same A k x 0 (omega (arith, r .acrosses, r .space))));
+      only = only-then (a .only) (b .only);
+      here = b .here ∙ (ap (λ l. l ++ ks) (a .here) ∙ append-assoc (spots (downIn o) (acrossIn o) k) js ks);
     }
 
-pub grown-then : {D A D′ A′ D″ A″ : List ℕ} {k l r : ℕ} (js ks : List Point) → Grown D A k js D′ A′ l
-    → Grown D′ A′ l ks D″ A″ r → Grown D A k (js ++ ks) D″ A″ r
-grown-then {D} {A} {k = k} js ks a b =
-    record {
-      downs = b .downs;
-      acrosses = b .acrosses;
-      here = b .here ∙ (ap (λ l. l ++ ks) (a .here) ∙ append-assoc (spots D A k) js ks);
-    }
-
-pub grown-count : {D A D′ A′ : List ℕ} {k r : ℕ} {js : List Point} → Grown D A k js D′ A′ r → r ≡ k + length js
-grown-count {D} {A} {D′} {A′} {k} {r} {js} a =
-    sym (length-spots D′ A′ r)
-    ∙ (ap length (a .here) ∙ (length-append (spots D A k) js ∙ ap (λ n. n + length js) (length-spots D A k)))
+pub grown-count : {o o′ : List ℕ} {k r : ℕ} {js : List Point} → Grown o k js o′ r → r ≡ k + length js
+grown-count {o} {o′} {k} {r} {js} a =
+    let before = spots (downIn o) (acrossIn o) k in
+    sym (length-spots (downIn o′) (acrossIn o′) r)
+    ∙ (ap length (a .here)
+    ∙ (length-append before js ∙ ap (λ n. n + length js) (length-spots (downIn o) (acrossIn o) k)))
 
 pub joint-one : (b : Bool) (y x : ℕ) → length (jointIf b y x) ≤ 1
 joint-one true y x = omega arith
 joint-one false y x = omega arith
 
 -- the tests of the code, one law for each answer
-module _ (D A : List ℕ) (k : ℕ) (on : Bool) (ids : List ℕ) (to g y x : ℕ) (room : Room D A k) where
-  pub join-yes : {m : ℕ} → on ≡ true → m ≡ getD ids to 0 → m ≡ g
-      → Grown D A k (jointIf (on && eqb (entry ids to) g) y x) (set D k y) (set A k x) (k + 1)
+module _ (o : List ℕ) (k : ℕ) (on : Bool) (ids : List ℕ) (to g y x : ℕ) where
+  pub join-yes : {m : ℕ} → Room o k → on ≡ true → m ≡ getD ids to 0 → m ≡ g
+      → Grown o k (jointIf (on && eqb (entry ids to) g) y x) (noted o k y x) (k + 1)
   unfolding entry
-  join-yes {m} a b c = rw (a, eq-eqb (getD ids to 0) g (sym b ∙ c)) (grown-one D A k y x room)
+  join-yes {m} r a b c = rw (a, eq-eqb (getD ids to 0) g (sym b ∙ c)) (grown-one o k y x r)
 
   pub join-no : {m : ℕ} → on ≡ true → m ≡ getD ids to 0 → (m ≡ g → ⊥)
-      → Grown D A k (jointIf (on && eqb (entry ids to) g) y x) D A k
+      → Grown o k (jointIf (on && eqb (entry ids to) g) y x) o k
   unfolding entry
-  join-no {m} a b c = rw (a, ne-eqb (getD ids to 0) g (λ e. c (b ∙ e))) (grown-none D A k room)
+  join-no {m} a b c = rw (a, ne-eqb (getD ids to 0) g (λ e. c (b ∙ e))) (grown-none o k)
 
-  pub join-off : on ≡ false → Grown D A k (jointIf (on && eqb (entry ids to) g) y x) D A k
-  join-off a = rw a (grown-none D A k room)
+  pub join-off : on ≡ false → Grown o k (jointIf (on && eqb (entry ids to) g) y x) o k
+  join-off a = rw a (grown-none o k)
 
 -- a cell and its neighbours below and right are among the 1,024 numbers
 pub cell-room : {h w y x : ℕ} → Sized h w → y < h → x < w
@@ -95,20 +125,19 @@ cell-room {h} {w} {y} {x} s a b =
       λ t. let l : x + 1 < w = ltb-true (x + 1) w t in omega (arith, p .beside l),
     )
 
-pub joints-are : {D A D′ A′ D″ A″ : List ℕ} {k l r : ℕ} (h w : ℕ) (number : ℕ → ℕ) (g y x : ℕ) → x < w
-    → Grown D A k (jointIf (ltb (y + 1) h && eqb (number (y * w + x + w)) g) (2 * y + 1) (2 * x)) D′ A′ l
-    → Grown D′ A′ l (jointIf (ltb (x + 1) w && eqb (number (y * w + x + 1)) g) (2 * y) (2 * x + 1)) D″ A″ r
-    → Grown D A k (connectionsAt (flat h w) number g (y * w + x)) D″ A″ r
-joints-are {D} {A} {D″ = D″} {A″ = A″} {k = k} {r = r} h w number g y x b p q =
-    subst (λ (js : List Point). Grown D A k js D″ A″ r) (sym (connections-at h w number g (y * w + x) y x refl b))
+pub joints-are : {o o′ o″ : List ℕ} {k l r : ℕ} (h w : ℕ) (number : ℕ → ℕ) (g y x : ℕ) → x < w
+    → Grown o k (jointIf (ltb (y + 1) h && eqb (number (y * w + x + w)) g) (2 * y + 1) (2 * x)) o′ l
+    → Grown o′ l (jointIf (ltb (x + 1) w && eqb (number (y * w + x + 1)) g) (2 * y) (2 * x + 1)) o″ r
+    → Grown o k (connectionsAt (flat h w) number g (y * w + x)) o″ r
+joints-are {o} {o″ = o″} {k = k} {r = r} h w number g y x b p q =
+    subst (λ (js : List Point). Grown o k js o″ r) (sym (connections-at h w number g (y * w + x) y x refl b))
     (grown-then (jointIf (ltb (y + 1) h && eqb (number (y * w + x + w)) g) (2 * y + 1) (2 * x))
     (jointIf (ltb (x + 1) w && eqb (number (y * w + x + 1)) g) (2 * y) (2 * x + 1)) p q)
 
 -- the loop over the cells
-pub joining-none : (h w : ℕ) (number : ℕ → ℕ) (g : ℕ) (R C D A : List ℕ) → length D ≡ 2048 → length A ≡ 2048
-    → Joining h w number g R C D A 0 0
+pub joining-none : (h w : ℕ) (number : ℕ → ℕ) (g : ℕ) (o : List ℕ) → Joining h w number g o o 0 0
 unfolding spots table flatMap
-joining-none h w number g R C D A a b = record { downs = a; acrosses = b; few = omega arith; here = refl }
+joining-none h w number g o = record { only = only-none 2048 6144 o; few = omega arith; here = refl }
 
 few-joints : (h w : ℕ) (number : ℕ → ℕ) (g y x : ℕ) → x < w
     → length (connectionsAt (flat h w) number g (y * w + x)) ≤ 2
@@ -121,34 +150,75 @@ few-joints h w number g y x l =
     )
     (omega (arith, joint-one a (2 * y + 1) (2 * x), joint-one b (2 * y) (2 * x + 1)))
 
-pub joining-more : {D A D′ A′ : List ℕ} {k l : ℕ} (h w : ℕ) (number : ℕ → ℕ) (g : ℕ) (R C : List ℕ) (i : ℕ) {y x : ℕ}
-    → Joining h w number g R C D A k i → y ≡ getD R i 0 → x ≡ getD C i 0 → x < w
-    → Grown D A k (connectionsAt (flat h w) number g (y * w + x)) D′ A′ l → Joining h w number g R C D′ A′ l (i + 1)
-joining-more {D} {A} {D′} {A′} {k} {l} h w number g R C i {y} {x} j d e b n =
-    let c : y * w + x ≡ getD R i 0 * w + getD C i 0 = ap₂ (λ s t. s * w + t) d e in
+pub joining-more : {o₀ o o′ : List ℕ} {k l : ℕ} (h w : ℕ) (number : ℕ → ℕ) (g i : ℕ) {y x : ℕ}
+    → Joining h w number g o₀ o k i → y ≡ getD (rowsIn o₀) i 0 → x ≡ getD (columnsIn o₀) i 0 → x < w
+    → Grown o k (connectionsAt (flat h w) number g (y * w + x)) o′ l → Joining h w number g o₀ o′ l (i + 1)
+joining-more {o₀} {o} {o′} {k} {l} h w number g i {y} {x} j d e b n =
+    let c : y * w + x ≡ getD (rowsIn o₀) i 0 * w + getD (columnsIn o₀) i 0 = ap₂ (λ s t. s * w + t) d e in
     record {
-      downs = n .downs;
-      acrosses = n .acrosses;
+      only = only-then (j .only) (n .only);
       few = omega (arith, grown-count n, few-joints h w number g y x b, j .few);
       here =
           n .here
           ∙ (ap₂ (λ ps m. ps ++ connectionsAt (flat h w) number g m) (j .here) c
-          ∙ sym (flat-table (connectionsAt (flat h w) number g) i (λ j. getD R j 0 * w + getD C j 0)));
+          ∙ sym (flat-table (connectionsAt (flat h w) number g) i
+          (λ j. getD (rowsIn o₀) j 0 * w + getD (columnsIn o₀) j 0)));
     }
 
-pub joining-all : {ids R C D A : List ℕ} {h w g n k i : ℕ} → UnitAt h w ids g R C n → i ≤ n → n ≤ i
-    → Joining h w (entry ids) g R C D A k i → Joined h w (entry ids) g D A k
+-- a cell's row and column are read from the outline while its connections are written
+module _ {o₀ o : List ℕ} (only : Only 2048 6144 o₀ o) (i : ℕ) (h : i < 1024) where
+  pub row-read : getD o i 0 ≡ getD (rowsIn o₀) i 0
+  row-read = front-at 1024 o i h ∙ ap (λ (l : List ℕ). getD l i 0) (only-before only 0 1024 (omega arith))
+
+  pub column-read : getD o (1024 + i) 0 ≡ getD (columnsIn o₀) i 0
+  column-read = section-at 1024 1024 o i h ∙ ap (λ (l : List ℕ). getD l i 0) (only-before only 1024 1024 (omega arith))
+
+-- the unit's cells stay as they were while its connections are written, and their count
+module _ {h w g : ℕ} {units o₀ o : List ℕ} (u : UnitAt h w units g o₀) (only : Only 2048 6144 o₀ o) (k : ℕ) where
+  abbrev ended : List ℕ
+  ended = set o 6145 k
+
+  rows-stay : rowsIn ended ≡ rowsIn o₀
+  rows-stay = section-high 0 1024 o 6145 k (omega arith) ∙ only-before only 0 1024 (omega arith)
+
+  columns-stay : columnsIn ended ≡ columnsIn o₀
+  columns-stay = section-high 1024 1024 o 6145 k (omega arith) ∙ only-before only 1024 1024 (omega arith)
+
+  count-stays : cellCount ended ≡ cellCount o₀
+  count-stays = getD-set-other o 6145 6144 k 0 (λ e. omega arith) ∙ only-past only 6144 (omega arith)
+
+  pub unit-stays : UnitAt h w units g (set o 6145 k)
+  unit-stays =
+      record {
+        sized = u .sized;
+        long = u .long;
+        spotted =
+            record {
+              long = length-set o 6145 k ∙ (only .long ∙ u .spotted .long);
+              some = rw count-stays (u .spotted .some);
+              most = rw count-stays (u .spotted .most);
+              down = rw (rows-stay, count-stays) (u .spotted .down);
+              across = rw (columns-stay, count-stays) (u .spotted .across);
+            };
+        here = rw (rows-stay, columns-stay, count-stays) (u .here);
+      }
+
+pub joining-all : {units o₀ o : List ℕ} {h w g k i : ℕ} → UnitAt h w units g o₀ → i ≤ cellCount o₀ → cellCount o₀ ≤ i
+    → Joining h w (entry (numbersIn units)) g o₀ o k i → Joined h w units g (set o 6145 k)
 unfolding joints
-joining-all {ids} {R} {C} {D} {A} {h} {w} {g} {n} {k} {i} u a b j =
-    let e : i ≡ n = omega arith in
+joining-all {units} {o₀} {o} {h} {w} {g} {k} {i} u a b j =
+    let e : i ≡ cellCount o₀ = omega arith in
+    let n : jointCount (set o 6145 k) ≡ k =
+    getD-set-same o 6145 k 0 (omega (arith, j .only .long, u .spotted .long)) in
+    let number = entry (numbersIn units) in
     record {
-      few = omega (arith, j .few, u .spotted .most);
-      downs = j .downs;
-      acrosses = j .acrosses;
+      few = rw n (omega (arith, j .few, u .spotted .most));
       here =
-          j .here
-          ∙ (ap (λ m. flatMap (connectionsAt (flat h w) (entry ids) g) (table m (λ j. getD R j 0 * w + getD C j 0))) e
-          ∙ ap (flatMap (connectionsAt (flat h w) (entry ids) g)) (sym (unit-cells u)));
+          rw (n, section-high 2048 2048 o 6145 k (omega arith), section-high 4096 2048 o 6145 k (omega arith))
+          (j .here
+          ∙ (ap (λ m. flatMap (connectionsAt (flat h w) number g)
+          (table m (λ j. getD (rowsIn o₀) j 0 * w + getD (columnsIn o₀) j 0))) e
+          ∙ ap (flatMap (connectionsAt (flat h w) number g)) (sym (unit-cells u))));
     }
 
 -- the image of a doubled place is small
@@ -189,22 +259,17 @@ near-joint h w number g y x Y X a b c m =
     go (inr n) = let e = joint-mem q (2 * y) (2 * x + 1) Y X n in
         (omega (arith, e .0), omega (arith, e .1), omega (arith, e .0, e .1))
 
-pub joint-in : {h w g k : ℕ} {number : ℕ → ℕ} {D A : List ℕ} (j : ℕ) → Sized h w → Joined h w number g D A k → j < k
-    → JointIn D A j
+pub joint-in : {h w g : ℕ} {units o : List ℕ} (j : ℕ) → Sized h w → Joined h w units g o → j < jointCount o
+    → JointIn o j
 unfolding joints members flat
-joint-in {h} {w} {g} {k} {number} {D} {A} j s n l =
+joint-in {h} {w} {g} {units} {o} j s n l =
+    let number = entry (numbersIn units) in
     let e = flat-find (connectionsAt (flat h w) number g) (members (flat h w) number g)
-    (subst (λ (ps : List Point). spotAt D A j ∈ ps) (n .here) (mem-spots D A k j l)) in
+    (subst (λ (ps : List Point). jointSpot o j ∈ ps) (n .here)
+    (mem-spots (downIn o) (acrossIn o) (jointCount o) j l)) in
     let c = e .0 in
     let i : c < h * w = range-lt (h * w) (filter-mem (λ x. eqb (number x) g) (range (h * w)) (e .1)) in
     let y : c / w < h = div-lt-iff-lt-mul {k = w} (omega (arith, s .columns)) .1 i in
-    let b = near-joint h w number g (c / w) (c % w) (getD D j 0) (getD A j 0) (omega (arith, s .tall))
-    (mod-lt c (omega (arith, s .columns))) (s .broad) (rw (div-add-mod' c w) (e .2)) in
-    record {
-      inside = omega (arith, n .few);
-      downs = n .downs;
-      acrosses = n .acrosses;
-      down = b .0;
-      across = b .1;
-      odd = b .2;
-    }
+    let b = near-joint h w number g (c / w) (c % w) (getD (downIn o) j 0) (getD (acrossIn o) j 0)
+    (omega (arith, s .tall)) (mod-lt c (omega (arith, s .columns))) (s .broad) (rw (div-add-mod' c w) (e .2)) in
+    record { inside = omega (arith, n .few); down = b .0; across = b .1; odd = b .2 }

@@ -2,9 +2,12 @@ pub mod Order
 pub mod Rows
 pub mod Pairs
 pub mod Listing
+pub mod Outlines
 pub mod Spots
 pub mod Parts
 pub mod Joints
+pub mod Raising
+pub mod Images
 pub mod OrderLaws
 pub mod PairLaws
 pub mod RowLaws
@@ -15,3 +18,5 @@ pub mod PartLaws
 pub mod JointLaws
 pub mod ConnectionLaws
 pub mod TableLaws
+pub mod RaiseLaws
+pub mod ImageLaws

@@ -19,8 +19,9 @@ use Rattle.rules.specs.Shapes.{before}
 use Rattle.shapes.specs.PairLaws.{read-small, mag-neg, mag-sum}
 use Rattle.shapes.specs.declared.Pair.{Pair}
 use Rattle.shapes.specs.Pairs.{pointOf, SmallPair}
+use Rattle.shapes.specs.Outlines.{rowsIn, columnsIn, cellCount}
 use Rattle.shapes.specs.Rows.{turnAt}
-use Rattle.shapes.specs.Spots.{placeAt, spotAt, spots, leastImage, firstOf}
+use Rattle.shapes.specs.Spots.{placeAt, spotAt, spots, cellSpots, leastImage, firstOf}
 use Rattle.shapes.specs.Spots.{Near, SpotIn, Spotted}
 use Rattle.shapes.specs.Order.{least}
 
@@ -104,15 +105,16 @@ near-image r y x a b =
       column = read-small (t .columns) (placeAt y x) 32 (omega arith) a b;
     }
 
-pub near-least : (r : ℕ) (R C : List ℕ) (n : ℕ) → Spotted R C n → Near (leastImage r (spots R C n))
+near-spots : (r : ℕ) (R C : List ℕ) (n : ℕ) → 1 ≤ n → ((i : ℕ) → i < n → getD R i 0 < 32)
+    → ((i : ℕ) → i < n → getD C i 0 < 32) → Near (leastImage r (spots R C n))
 unfolding leastImage spots
-near-least r R C n s = go (spots R C n) (λ p m. m) (rw (length-spots R C n) (s .some))
+near-spots r R C n some down across = go (spots R C n) (λ p m. m) (rw (length-spots R C n) some)
   where
     near : (p : Point) → p ∈ spots R C n → Near (apply (turnAt r) p)
     near p m =
         let e = table-find n (spotAt R C) m in
         subst (λ (q : Point). Near (apply (turnAt r) q)) (sym (e .2))
-        (near-image r (getD R (e .0) 0) (getD C (e .0) 0) (s .down (e .0) (e .1)) (s .across (e .0) (e .1)))
+        (near-image r (getD R (e .0) 0) (getD C (e .0) 0) (down (e .0) (e .1)) (across (e .0) (e .1)))
 
     go : (ps : List Point) → ((p : Point) → p ∈ ps → p ∈ spots R C n) → 1 ≤ length ps → Near (leastImage r ps)
     go [] f l = absurd (omega arith)
@@ -121,15 +123,11 @@ near-least r R C n s = go (spots R C n) (λ p m. m) (rw (length-spots R C n) (s 
         (λ q m. let e = map-find (apply (turnAt r)) ps m in
         subst Near (sym (e .2)) (near (e .0) (f (e .0) (List·Memᴰ·tail (e .1)))))
 
-pub spot-in : {R C : List ℕ} {n i : ℕ} → Spotted R C n → i < n → SpotIn R C i
-spot-in {R} {C} {n} {i} s l =
-    record {
-      inside = omega (arith, s .most);
-      rows = s .rows;
-      columns = s .columns;
-      down = s .down i l;
-      across = s .across i l;
-    }
+pub near-least : (r : ℕ) (o : List ℕ) → Spotted o → Near (leastImage r (cellSpots o))
+near-least r o s = near-spots r (rowsIn o) (columnsIn o) (cellCount o) (s .some) (s .down) (s .across)
+
+pub spot-in : {o : List ℕ} {i : ℕ} → Spotted o → i < cellCount o → SpotIn o i
+spot-in {o} {i} s l = record { inside = omega (arith, s .most); down = s .down i l; across = s .across i l }
 
 -- one image more is compared
 pub earlier-more : (r : ℕ) (R C : List ℕ) (i : ℕ) (p q e : Pair) → 1 ≤ i

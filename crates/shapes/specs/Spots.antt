@@ -1,8 +1,10 @@
--- A unit as the code reads it: the rows and columns of its cells, in two lists of numbers.
+-- A unit as the code reads it: the rows and columns of its cells, in an outline.
 --
 --   placeAt y x         the place (y,x) of a flat page
 --   spotAt R C i        the place whose row is R's entry i and whose column is C's
 --   spots R C n         the first n of these places
+--   cellSpot o i, cellSpots o   the place of the outline's cell i, and those of all its cells
+--   jointSpot o j, jointSpots o   the doubled place of its connection j, and those of all its connections
 --   leastImage r ps     the first in order of the places ps turned by row r
 --   firstOf ps          the first of the places ps; the origin if there is none
 --   onto r ps           the shift that lays the least image on the first of ps
@@ -10,11 +12,11 @@
 --   hasCellIn h w number g l y x   the same of signed coordinates, in the layer l
 --   hasCell h w number g p   p is a cell of the page, and of group g
 --   places, joints      a group's places, and its connections, both where they stand on the page
---   within h w number g R C n r v   the images of the places by row r, shifted by v, are cells of group g
+--   within h w number g o r v   the images of the outline's cells by row r, shifted by v, are cells of group g
 --   Near p              the place is on the largest page or a turn of it
---   SpotIn R C i        the place of entry i is on the largest page
---   Spotted R C n       n places, at least one, each on the largest page
---   UnitAt h w ids g R C n   these are the places of group g by the list of numbers ids
+--   SpotIn o i          the place of the outline's cell i is on the largest page
+--   Spotted o           the outline has cells, at least one, each on the largest page
+--   UnitAt h w units g o   they are the cells of group g of the grouping units
 use mathlib.Core.Bool.{Bool, false, _&&_}
 use mathlib.Core.List.{List, [], _∷_, map}
 use mathlib.Core.Path.{_≡_}
@@ -23,6 +25,7 @@ use lib.Dec.{eqb, ltb}
 use lib.IntN.{ℤ, pos, negsuc}
 use lib.ListN.{length, getD}
 use lib.Signed.{mag}
+use Rattle.groups.specs.Grouping.{numbersIn}
 use Rattle.lists.specs.Lists.{flatMap}
 use Rattle.lists.specs.Table.{table}
 use Rattle.lists.specs.Tests.{allBelow}
@@ -32,6 +35,7 @@ use Rattle.rules.specs.Groups.{entry, members}
 use Rattle.rules.specs.Turns.{apply}
 use Rattle.rules.specs.Shapes.{connectionsAt}
 use Rattle.laws.specs.PointLaws.{origin}
+use Rattle.shapes.specs.Outlines.{rowsIn, columnsIn, downIn, acrossIn, cellCount, jointCount}
 use Rattle.shapes.specs.Rows.{turnAt}
 use Rattle.shapes.specs.Order.{least}
 
@@ -43,6 +47,18 @@ spotAt R C i = placeAt (getD R i 0) (getD C i 0)
 
 unfoldable pub spots : List ℕ → List ℕ → ℕ → List Point
 spots R C n = table n (spotAt R C)
+
+abbrev pub cellSpot : List ℕ → ℕ → Point
+cellSpot o i = spotAt (rowsIn o) (columnsIn o) i
+
+abbrev pub cellSpots : List ℕ → List Point
+cellSpots o = spots (rowsIn o) (columnsIn o) (cellCount o)
+
+abbrev pub jointSpot : List ℕ → ℕ → Point
+jointSpot o j = spotAt (downIn o) (acrossIn o) j
+
+abbrev pub jointSpots : List ℕ → List Point
+jointSpots o = spots (downIn o) (acrossIn o) (jointCount o)
 
 -- "first at (0,0)": the image that becomes the first cell
 unfoldable pub leastImage : ℕ → List Point → Point
@@ -78,31 +94,29 @@ module _ (h w : ℕ) (number : ℕ → ℕ) (g : ℕ) where
   joints = flatMap (connectionsAt (flat h w) number g) (members (flat h w) number g)
 
 -- every image, shifted by v, is a cell of the group
-unfoldable pub within : ℕ → ℕ → (ℕ → ℕ) → ℕ → List ℕ → List ℕ → ℕ → ℕ → Point → Bool
-within h w number g R C n r v = allBelow n (λ i. hasCell h w number g (apply (turnAt r) (spotAt R C i) ⊕ v))
+unfoldable pub within : ℕ → ℕ → (ℕ → ℕ) → ℕ → List ℕ → ℕ → Point → Bool
+within h w number g o r v =
+    allBelow (cellCount o) (λ i. hasCell h w number g (apply (turnAt r) (cellSpot o i) ⊕ v))
 
 pub record Near (p : Point) : Type 0 where
   pub layer : mag (p .layer) < 33
   pub row : mag (p .row) < 33
   pub column : mag (p .column) < 33
 
-pub record SpotIn (R C : List ℕ) (i : ℕ) : Type 0 where
+pub record SpotIn (o : List ℕ) (i : ℕ) : Type 0 where
   pub inside : i < 1024
-  pub rows : length R ≡ 1024
-  pub columns : length C ≡ 1024
-  pub down : getD R i 0 < 32
-  pub across : getD C i 0 < 32
+  pub down : getD (rowsIn o) i 0 < 32
+  pub across : getD (columnsIn o) i 0 < 32
 
-pub record Spotted (R C : List ℕ) (n : ℕ) : Type 0 where
-  pub some : 1 ≤ n
-  pub most : n ≤ 1024
-  pub rows : length R ≡ 1024
-  pub columns : length C ≡ 1024
-  pub down : (i : ℕ) → i < n → getD R i 0 < 32
-  pub across : (i : ℕ) → i < n → getD C i 0 < 32
+pub record Spotted (o : List ℕ) : Type 0 where
+  pub long : length o ≡ 6146
+  pub some : 1 ≤ cellCount o
+  pub most : cellCount o ≤ 1024
+  pub down : (i : ℕ) → i < cellCount o → getD (rowsIn o) i 0 < 32
+  pub across : (i : ℕ) → i < cellCount o → getD (columnsIn o) i 0 < 32
 
-pub record UnitAt (h w : ℕ) (ids : List ℕ) (g : ℕ) (R C : List ℕ) (n : ℕ) : Type 0 where
+pub record UnitAt (h w : ℕ) (units : List ℕ) (g : ℕ) (o : List ℕ) : Type 0 where
   pub sized : Sized h w
-  pub long : length ids ≡ 1024
-  pub spotted : Spotted R C n
-  pub here : spots R C n ≡ places h w (entry ids) g
+  pub long : length (numbersIn units) ≡ 1024
+  pub spotted : Spotted o
+  pub here : cellSpots o ≡ places h w (entry (numbersIn units)) g

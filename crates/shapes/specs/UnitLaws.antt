@@ -11,7 +11,9 @@ use lib.Dec.{T, eqb, ltb, ltb→lt, lt→ltb}
 use lib.IntN.{ℤ, pos, negsuc, natAbs}
 use lib.Signed.{nonNeg}
 use lib.ListN.{length}
-use Rattle.lists.specs.Lists.{_∈_, keep, filter, any, all, range}
+use Rattle.laws.specs.SameLaws.{samePoint→eq, samePoint-refl}
+use Rattle.groups.specs.Grouping.{numbersIn}
+use Rattle.lists.specs.Lists.{_∈_, keep, filter, any, all, range, rangeFrom}
 use Rattle.lists.specs.ListLaws.{mem-map, map-find, any-mem, any-find, mem-filter, filter-mem, filter-test}
 use Rattle.lists.specs.Tests.{allBelow}
 use Rattle.lists.specs.Ranges.{mem-range, range-lt}
@@ -32,7 +34,8 @@ use Rattle.laws.specs.FlatShapes.{members-ascend}
 use Rattle.shapes.specs.RowLaws.{transforms-rows}
 use Rattle.shapes.specs.FixLaws.{fixes-within, image-normal}
 use Rattle.shapes.specs.Rows.{turnAt, image, fixes, rowsOf}
-use Rattle.shapes.specs.Spots.{placeAt, leastImage, onto, spotAt, spots, cellIn, hasCell, hasCellIn, within}
+use Rattle.shapes.specs.Outlines.{rowsIn, columnsIn, cellCount}
+use Rattle.shapes.specs.Spots.{placeAt, leastImage, onto, cellSpot, cellSpots, cellIn, hasCell, hasCellIn, within}
 use Rattle.shapes.specs.Spots.{places, joints}
 use Rattle.shapes.specs.Spots.{UnitAt}
 use Rattle.shapes.specs.SpotLaws.{first-spot, length-spots, all-spots}
@@ -210,29 +213,33 @@ non-neg (pos y) e = tt
 non-neg (negsuc y) e = absurd (true≢false e)
 
 -- the loop that tests every image
-module _ (h w : ℕ) (ids : List ℕ) (g : ℕ) (R C : List ℕ) (n r : ℕ) (v : Point) where
-  pub within-fails : (i : ℕ) → i < n → hasCell h w (entry ids) g (apply (turnAt r) (spotAt R C i) ⊕ v) ≡ false
-      → within h w (entry ids) g R C n r v ≡ false
+module _ (h w : ℕ) (ids : List ℕ) (g : ℕ) (o : List ℕ) (r : ℕ) (v : Point) where
+  pub within-fails : (i : ℕ) → i < cellCount o → hasCell h w (entry ids) g (apply (turnAt r) (cellSpot o i) ⊕ v) ≡ false
+      → within h w (entry ids) g o r v ≡ false
   unfolding within
-  within-fails i l e = all-fails n _ i l e
+  within-fails i l e = all-fails (cellCount o) _ i l e
 
-  pub within-all : allBelow n (λ i. hasCell h w (entry ids) g (apply (turnAt r) (spotAt R C i) ⊕ v)) ≡ true
-      → within h w (entry ids) g R C n r v ≡ true
+  pub within-all : allBelow (cellCount o) (λ i. hasCell h w (entry ids) g (apply (turnAt r) (cellSpot o i) ⊕ v)) ≡ true
+      → within h w (entry ids) g o r v ≡ true
   unfolding within
   within-all e = e
 
 -- laid on the first cell: the row leaves the shape
-pub within-fixes : (h w : ℕ) (ids : List ℕ) (g : ℕ) (R C : List ℕ) (n r : ℕ) (v : Point) → UnitAt h w ids g R C n
-    → v ≡ opposite (leastImage r (spots R C n)) ⊕ spotAt R C 0
-    → within h w (entry ids) g R C n r v ≡ fixes (shapeOf (flat h w) (entry ids) g) r
+pub within-fixes : (h w : ℕ) (units : List ℕ) (g : ℕ) (o : List ℕ) (r : ℕ) (v : Point) → UnitAt h w units g o
+    → v ≡ opposite (leastImage r (cellSpots o)) ⊕ cellSpot o 0
+    → within h w (entry (numbersIn units)) g o r v ≡ fixes (shapeOf (flat h w) (entry (numbersIn units)) g) r
 unfolding within onto
-within-fixes h w ids g R C n r v u e =
+within-fixes h w units g o r v u e =
     let s = u .spotted in
-    let P = spots R C n in
+    let number = entry (numbersIn units) in
+    let R = rowsIn o in
+    let C = columnsIn o in
+    let n = cellCount o in
+    let P = cellSpots o in
     let k : v ≡ onto r P = e ∙ ap (λ p. opposite (leastImage r P) ⊕ p) (sym (first-spot R C n (s .some))) in
-    sym (fixes-cells h w (entry ids) g (u .sized .columns) P (u .here) (rw (length-spots R C n) (s .some)) r
-    ∙ (all-spots (λ q. hasCell h w (entry ids) g (apply (turnAt r) q ⊕ onto r P)) R C n
-    ∙ ap (λ z. allBelow n (λ i. hasCell h w (entry ids) g (apply (turnAt r) (spotAt R C i) ⊕ z))) (sym k)))
+    sym (fixes-cells h w number g (u .sized .columns) P (u .here) (rw (length-spots R C n) (s .some)) r
+    ∙ (all-spots (λ q. hasCell h w number g (apply (turnAt r) q ⊕ onto r P)) R C n
+    ∙ ap (λ z. allBelow n (λ i. hasCell h w number g (apply (turnAt r) (cellSpot o i) ⊕ z))) (sym k)))
 
 pub landed : {b t : Bool} (h w : ℕ) (number : ℕ → ℕ) (g : ℕ) (p q v : Point) → b ≡ hasCell h w number g (p ⊕ v) → p ≡ q
     → b ≡ t → hasCell h w number g (q ⊕ v) ≡ t

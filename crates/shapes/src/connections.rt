@@ -4,93 +4,87 @@ ghost use mathlib.Core.Bool.{true, _&&_};
 ghost use Prim.Native.Nat.{_+_, _-_, _*_, _<_};
 ghost use lib.Dec.{eqb};
 ghost use lib.ListN.{length};
-ghost use Rattle.lists.specs.Parts.{part};
+ghost use Rattle.groups.specs.Grouping.{numbersIn, startIn, groupCells};
 ghost use Rattle.rules.specs.Page.{_⊕_, opposite};
 ghost use Rattle.rules.specs.Flat.{Sized, flat};
 ghost use Rattle.rules.specs.Groups.{entry};
 ghost use Rattle.rules.specs.Turns.{apply};
 ghost use Rattle.rules.specs.Shapes.{connectionsAt};
 ghost use Rattle.shapes.specs.Rows.{turnAt};
+ghost use Rattle.shapes.specs.Outlines.{cellCount};
 ghost use Rattle.shapes.specs.Parts.{Part, Placed};
 ghost use Rattle.shapes.specs.Joints.{jointIf, Room, Grown, Joined, JointIn};
 ghost use Rattle.shapes.specs.Pairs.{pointOf, SmallPair};
-ghost use Rattle.shapes.specs.Spots.{spotAt};
-ghost use Rattle.shapes.specs.Spots.{UnitAt};
+ghost use Rattle.shapes.specs.Spots.{jointSpot, UnitAt};
+use crate::Outline;
 use crate::Pair;
 use crate::apply;
 use crate::signed;
+use groups::Grouping;
+use groups::group_of;
+use groups::start_of;
 use rules::index;
 
-// Writes the rows and columns of the cells `from` to `to` of a list, from the start of the memory.
-// Gives their number.
-pub fn places(
-    cells: &[u16; 1024],
-    from: usize,
-    to: usize,
-    w: usize,
-    rows: &mut [u16; 1024],
-    columns: &mut [u16; 1024],
-) -> usize
-    requires { ⌜ Part (now cells) from to w × (length (now rows) ≡ 1024) × (length (now columns) ≡ 1024) ⌝ }
-    ensures { λ r. ⌜ (r ≡ to - from)
-        × Placed w (part (now (cells .entry)) from to) r (now (rows .exit)) (now (columns .exit)) ⌝ }
+// Writes the rows and columns of the cells of unit `g` into an outline, and how many there are.
+pub fn places(units: &Grouping, g: usize, w: usize, outline: &mut Outline)
+    requires { ⌜ Part (now units) g w × (length (now outline) ≡ 6146) ⌝ }
+    ensures { λ r. ⌜ Placed w (groupCells (now (units .entry)) g) (now (outline .exit))
+        × (cellCount (now (outline .exit)) ≡ startIn (now (units .entry)) (g + 1) - startIn (now (units .entry)) g) ⌝ }
 {
     let width = w as u16;
-    let n = to - from;
+    let from = start_of(units, g);
+    let n = start_of(units, g + 1) - from;
     let mut i: usize = 0;
     while i < n {
-        let c = cells[from + i];
-        rows[i] = c / width;
-        columns[i] = c % width;
+        let c = units[1024 + (from + i)];
+        outline[i] = c / width;
+        outline[1024 + i] = c % width;
         i += 1;
     }
-    n
+    outline[6144] = n as u16;
 }
 
-// Writes the doubled place (y,x) at place `k` of the memory, if `on` and cell `to` is of unit `g`.
-// Gives the next place.
+// Writes the doubled place (y,x) as connection `k` of the outline, if `on` and cell `to` is of unit `g`. Gives the next
+// number.
 fn join(
-    ids: &[u16; 1024],
+    units: &Grouping,
     g: usize,
     on: bool,
     to: usize,
     y: u16,
     x: u16,
-    down: &mut [u16; 2048],
-    across: &mut [u16; 2048],
+    outline: &mut Outline,
     k: usize,
 ) -> usize
-    requires { ⌜ (length (now ids) ≡ 1024) × (on ≡ true → to < 1024) × Room (now down) (now across) k ⌝ }
-    ensures { λ r. ⌜ Grown (now (down .entry)) (now (across .entry)) k
-        (jointIf (on && eqb (entry (now (ids .entry)) to) g) y x)
-        (now (down .exit)) (now (across .exit)) r ⌝ }
+    requires { ⌜ (length (numbersIn (now units)) ≡ 1024) × (on ≡ true → to < 1024) × Room (now outline) k ⌝ }
+    ensures { λ r. ⌜ Grown (now (outline .entry)) k
+        (jointIf (on && eqb (entry (numbersIn (now (units .entry))) to) g) y x) (now (outline .exit)) r ⌝ }
 {
     if on {
-        if index(ids[to]) == g {
-            down[k] = y;
-            across[k] = x;
+        if group_of(units, to) == g {
+            outline[2048 + k] = y;
+            outline[4096 + k] = x;
             return k + 1;
         }
     }
     k
 }
 
-// Writes the connections of the cell (y,x) of unit `g`, below then right, from place `k`; gives the next place.
+// Writes the connections of the cell (y,x) of unit `g`, below then right, from number `k` on; gives the next number.
 fn joints_at(
-    ids: &[u16; 1024],
+    units: &Grouping,
     h: usize,
     w: usize,
     g: usize,
     y: usize,
     x: usize,
-    down: &mut [u16; 2048],
-    across: &mut [u16; 2048],
+    outline: &mut Outline,
     k: usize,
 ) -> usize
-    requires { ⌜ Sized h w × (length (now ids) ≡ 1024) × (y < h) × (x < w) × Room (now down) (now across) (k + 1) ⌝ }
-    ensures { λ r. ⌜ Grown (now (down .entry)) (now (across .entry)) k
-        (connectionsAt (flat h w) (entry (now (ids .entry))) g (y * w + x))
-        (now (down .exit)) (now (across .exit)) r ⌝ }
+    requires { ⌜ Sized h w × (length (numbersIn (now units)) ≡ 1024) × (y < h) × (x < w)
+        × Room (now outline) (k + 1) ⌝ }
+    ensures { λ r. ⌜ Grown (now (outline .entry)) k
+        (connectionsAt (flat h w) (entry (numbersIn (now (units .entry)))) g (y * w + x)) (now (outline .exit)) r ⌝ }
 {
     let c = y * w + x;
     let row = 2 * y;
@@ -98,63 +92,51 @@ fn joints_at(
     let below = y + 1 < h;
     let right = x + 1 < w;
     let next = join(
-        ids,
+        units,
         g,
         below,
         c + w,
         (row + 1) as u16,
         column as u16,
-        &mut *down,
-        &mut *across,
+        &mut *outline,
         k,
     );
     join(
-        ids,
+        units,
         g,
         right,
         c + 1,
         row as u16,
         (column + 1) as u16,
-        &mut *down,
-        &mut *across,
+        &mut *outline,
         next,
     )
 }
 
-// Writes the connections of unit `g`, cell by cell, below then right, as doubled places of the page.
-// Gives their number.
-pub fn joints<'a>(
-    ids: &'a [u16; 1024],
-    h: usize,
-    w: usize,
-    g: usize,
-    rows: &'a [u16; 1024],
-    columns: &'a [u16; 1024],
-    n: usize,
-    down: &mut [u16; 2048],
-    across: &mut [u16; 2048],
-) -> usize
-    requires { ⌜ UnitAt h w (now ids) g (now rows) (now columns) n × (length (now down) ≡ 2048)
-        × (length (now across) ≡ 2048) ⌝ }
-    ensures { λ r. ⌜ Joined h w (entry (now (ids .entry))) g (now (down .exit)) (now (across .exit)) r ⌝ }
+// Writes the connections of unit `g` into the outline of its cells, cell by cell, below then right, as doubled places
+// of the page, and how many there are.
+pub fn joints(units: &Grouping, h: usize, w: usize, g: usize, outline: &mut Outline)
+    requires { ⌜ UnitAt h w (now units) g (now outline) ⌝ }
+    ensures { λ r. ⌜ UnitAt h w (now (units .entry)) g (now (outline .exit))
+        × Joined h w (now (units .entry)) g (now (outline .exit)) ⌝ }
 {
+    let n = index(outline[6144]);
     let mut k: usize = 0;
     let mut i: usize = 0;
     while i < n {
         k = joints_at(
-            ids,
+            units,
             h,
             w,
             g,
-            index(rows[i]),
-            index(columns[i]),
-            &mut *down,
-            &mut *across,
+            index(outline[i]),
+            index(outline[1024 + i]),
+            &mut *outline,
             k,
         );
         i += 1;
     }
-    k
+    outline[6145] = k as u16;
 }
 
 // The place `p` shifted back by twice `m`.
@@ -169,16 +151,13 @@ fn back_twice(p: Pair, m: Pair) -> Pair
 }
 
 // Connection `j` of the unit's image by a row whose first cell is the image `m`.
-pub fn joint<'a>(
-    row: usize,
-    down: &'a [u16; 2048],
-    across: &'a [u16; 2048],
-    j: usize,
-    m: Pair,
-) -> Pair
-    requires { ⌜ (row < 8) × JointIn (now down) (now across) j × SmallPair m ⌝ }
-    ensures { λ r. ⌜ pointOf r ≡ apply (turnAt row) (spotAt (now (down .entry)) (now (across .entry)) j)
+pub fn joint(row: usize, outline: &Outline, j: usize, m: Pair) -> Pair
+    requires { ⌜ (row < 8) × JointIn (now outline) j × SmallPair m ⌝ }
+    ensures { λ r. ⌜ pointOf r ≡ apply (turnAt row) (jointSpot (now (outline .entry)) j)
         ⊕ (opposite (pointOf m) ⊕ opposite (pointOf m)) ⌝ }
 {
-    back_twice(apply(row, signed(down[j]), signed(across[j])), m)
+    back_twice(
+        apply(row, signed(outline[2048 + j]), signed(outline[4096 + j])),
+        m,
+    )
 }

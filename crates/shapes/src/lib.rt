@@ -4,6 +4,7 @@ ghost use mathlib.Core.Bool.{true, cond};
 ghost use Prim.Native.Nat.{_+_, _-_, _*_, _<_};
 ghost use lib.ListN.{length, getD};
 ghost use lib.IntN.{pos};
+ghost use Rattle.groups.specs.Grouping.{numbersIn};
 ghost use Rattle.rules.specs.Page.{_⊕_, opposite};
 ghost use Rattle.rules.specs.Flat.{Sized, flat};
 ghost use Rattle.rules.specs.Groups.{entry};
@@ -12,11 +13,20 @@ ghost use Rattle.rules.specs.Shapes.{before, shapeOf};
 ghost use Rattle.shapes.specs.Rows.{turnAt, fixes, flipListed, rowsBy, rowsOf};
 ghost use Rattle.shapes.specs.Listing.{listing};
 ghost use Rattle.shapes.specs.Pairs.{pointAt, pointOf, Small, SmallPair, BothSigns, turnBy, signsOf};
-ghost use Rattle.shapes.specs.Spots.{placeAt, spots, leastImage, cellIn, hasCell, within};
+ghost use Rattle.shapes.specs.Outlines.{rowsIn, columnsIn, cellCount, jointCount};
+ghost use Rattle.shapes.specs.Spots.{placeAt, cellSpots, leastImage, cellIn, hasCell, within};
 ghost use Rattle.shapes.specs.Spots.{SpotIn, Spotted, UnitAt};
+use groups::Grouping;
+use groups::group_of;
 use rules::index;
 
 pub mod connections; // connections.rt: a unit's cells and connections, and those of its images
+pub mod turned; // turned.rt: the connections of a unit's image, raised
+
+// A unit's outline in one array: from 0 the rows of its cells, from 1,024 their columns, from 2,048 how far down its
+// connections stand, doubled, from 4,096 how far across, then how many cells there are, and in the last place how many
+// connections.
+pub type Outline = [u16; 6146];
 
 // A place on a flat page, down and across.
 pub struct Pair {
@@ -148,33 +158,49 @@ fn earlier(p: Pair, q: Pair) -> Pair
     if before(p.y, p.x, q.y, q.x) { p } else { q }
 }
 
-// The image of the unit's cell `i` by the row `s` of the table.
-fn moved<'a>(s: Signs, rows: &'a [u16; 1024], columns: &'a [u16; 1024], i: usize) -> Pair
-    requires { ⌜ BothSigns s × SpotIn (now rows) (now columns) i ⌝ }
-    ensures { λ r. ⌜ r ≡ turnBy s (pos (getD (now (rows .entry)) i 0)) (pos (getD (now (columns .entry)) i 0)) ⌝ }
+// How many cells the outline has.
+pub fn cell_count(outline: &Outline) -> usize
+    ensures { λ r. ⌜ r ≡ cellCount (now (outline .entry)) ⌝ }
 {
-    turn(s, signed(rows[i]), signed(columns[i]))
+    index(outline[6144])
 }
 
-// The first in order of the images of the unit's `n` cells by a row of the table.
-pub fn least<'a>(row: usize, rows: &'a [u16; 1024], columns: &'a [u16; 1024], n: usize) -> Pair
-    requires { ⌜ (row < 8) × Spotted (now rows) (now columns) n ⌝ }
-    ensures { λ r. ⌜ pointOf r ≡ leastImage row (spots (now (rows .entry)) (now (columns .entry)) n) ⌝ }
+// How many connections it has.
+pub fn joint_count(outline: &Outline) -> usize
+    ensures { λ r. ⌜ r ≡ jointCount (now (outline .entry)) ⌝ }
 {
+    index(outline[6145])
+}
+
+// The image of the outline's cell `i` by the row `s` of the table.
+fn moved(s: Signs, outline: &Outline, i: usize) -> Pair
+    requires { ⌜ BothSigns s × SpotIn (now outline) i ⌝ }
+    ensures { λ r. ⌜ r ≡ turnBy s (pos (getD (rowsIn (now (outline .entry))) i 0))
+        (pos (getD (columnsIn (now (outline .entry))) i 0)) ⌝ }
+{
+    turn(s, signed(outline[i]), signed(outline[1024 + i]))
+}
+
+// The first in order of the images of the outline's cells by a row of the table.
+pub fn least(row: usize, outline: &Outline) -> Pair
+    requires { ⌜ (row < 8) × Spotted (now outline) ⌝ }
+    ensures { λ r. ⌜ pointOf r ≡ leastImage row (cellSpots (now (outline .entry))) ⌝ }
+{
+    let n = cell_count(outline);
     let s = signs_at(row);
-    let mut best = moved(s, rows, columns, 0);
+    let mut best = moved(s, outline, 0);
     let mut i: usize = 1;
     while i < n {
-        best = earlier(moved(s, rows, columns, i), best);
+        best = earlier(moved(s, outline, i), best);
         i += 1;
     }
     best
 }
 
 // Whether (y,x) is a cell of the page and of unit `g`.
-fn cell_in(ids: &[u16; 1024], h: usize, w: usize, g: usize, y: usize, x: usize) -> bool
-    requires { ⌜ Sized h w × (length (now ids) ≡ 1024) ⌝ }
-    ensures { λ r. ⌜ r ≡ cellIn h w (entry (now (ids .entry))) g y x ⌝ }
+fn cell_in(units: &Grouping, h: usize, w: usize, g: usize, y: usize, x: usize) -> bool
+    requires { ⌜ Sized h w × (length (numbersIn (now units)) ≡ 1024) ⌝ }
+    ensures { λ r. ⌜ r ≡ cellIn h w (entry (numbersIn (now (units .entry)))) g y x ⌝ }
 {
     if h <= y {
         return false;
@@ -182,13 +208,13 @@ fn cell_in(ids: &[u16; 1024], h: usize, w: usize, g: usize, y: usize, x: usize) 
     if w <= x {
         return false;
     }
-    index(ids[y * w + x]) == g
+    group_of(units, y * w + x) == g
 }
 
 // The same of signed coordinates.
-pub fn has_cell(ids: &[u16; 1024], h: usize, w: usize, g: usize, y: i32, x: i32) -> bool
-    requires { ⌜ Sized h w × (length (now ids) ≡ 1024) ⌝ }
-    ensures { λ r. ⌜ r ≡ hasCell h w (entry (now (ids .entry))) g (pointAt y x) ⌝ }
+pub fn has_cell(units: &Grouping, h: usize, w: usize, g: usize, y: i32, x: i32) -> bool
+    requires { ⌜ Sized h w × (length (numbersIn (now units)) ≡ 1024) ⌝ }
+    ensures { λ r. ⌜ r ≡ hasCell h w (entry (numbersIn (now (units .entry)))) g (pointAt y x) ⌝ }
 {
     if y < 0 {
         return false;
@@ -196,15 +222,15 @@ pub fn has_cell(ids: &[u16; 1024], h: usize, w: usize, g: usize, y: i32, x: i32)
     if x < 0 {
         return false;
     }
-    cell_in(ids, h, w, g, y as usize, x as usize)
+    cell_in(units, h, w, g, y as usize, x as usize)
 }
 
 // The same of the place `p` shifted by `v`.
-fn lands(ids: &[u16; 1024], h: usize, w: usize, g: usize, p: Pair, v: Pair) -> bool
-    requires { ⌜ Sized h w × (length (now ids) ≡ 1024) × SmallPair p × SmallPair v ⌝ }
-    ensures { λ r. ⌜ r ≡ hasCell h w (entry (now (ids .entry))) g (pointOf p ⊕ pointOf v) ⌝ }
+fn lands(units: &Grouping, h: usize, w: usize, g: usize, p: Pair, v: Pair) -> bool
+    requires { ⌜ Sized h w × (length (numbersIn (now units)) ≡ 1024) × SmallPair p × SmallPair v ⌝ }
+    ensures { λ r. ⌜ r ≡ hasCell h w (entry (numbersIn (now (units .entry)))) g (pointOf p ⊕ pointOf v) ⌝ }
 {
-    has_cell(ids, h, w, g, p.y + v.y, p.x + v.x)
+    has_cell(units, h, w, g, p.y + v.y, p.x + v.x)
 }
 
 // The shift that lays the place `m` on (y,x).
@@ -218,27 +244,26 @@ fn shift(m: Pair, y: u16, x: u16) -> Pair
     }
 }
 
-// Whether every image of the unit's cells by a row, shifted by `v`, is a cell of unit `g`.
+// Whether every image of the outline's cells by a row, shifted by `v`, is a cell of unit `g`.
 fn within<'a>(
-    ids: &'a [u16; 1024],
+    units: &'a Grouping,
     h: usize,
     w: usize,
     g: usize,
-    rows: &'a [u16; 1024],
-    columns: &'a [u16; 1024],
-    n: usize,
+    outline: &'a Outline,
     row: usize,
     v: Pair,
 ) -> bool
-    requires { ⌜ (row < 8) × SmallPair v × UnitAt h w (now ids) g (now rows) (now columns) n ⌝ }
-    ensures { λ r. ⌜ r ≡ within h w (entry (now (ids .entry))) g (now (rows .entry)) (now (columns .entry)) n row
+    requires { ⌜ (row < 8) × SmallPair v × UnitAt h w (now units) g (now outline) ⌝ }
+    ensures { λ r. ⌜ r ≡ within h w (entry (numbersIn (now (units .entry)))) g (now (outline .entry)) row
         (pointOf v) ⌝ }
 {
+    let n = cell_count(outline);
     let s = signs_at(row);
     let mut i: usize = 0;
     while i < n {
-        let p = moved(s, rows, columns, i);
-        if lands(ids, h, w, g, p, v) {
+        let p = moved(s, outline, i);
+        if lands(units, h, w, g, p, v) {
             i += 1;
         } else {
             return false;
@@ -249,46 +274,36 @@ fn within<'a>(
 
 // Whether a row leaves the shape of unit `g` as it is: every image, laid on the first cell, is a cell of it.
 pub fn fixes<'a>(
-    ids: &'a [u16; 1024],
+    units: &'a Grouping,
     h: usize,
     w: usize,
     g: usize,
-    rows: &'a [u16; 1024],
-    columns: &'a [u16; 1024],
-    n: usize,
+    outline: &'a Outline,
     row: usize,
 ) -> bool
-    requires { ⌜ (row < 8) × UnitAt h w (now ids) g (now rows) (now columns) n ⌝ }
-    ensures { λ r. ⌜ r ≡ fixes (shapeOf (flat h w) (entry (now (ids .entry))) g) row ⌝ }
+    requires { ⌜ (row < 8) × UnitAt h w (now units) g (now outline) ⌝ }
+    ensures { λ r. ⌜ r ≡ fixes (shapeOf (flat h w) (entry (numbersIn (now (units .entry)))) g) row ⌝ }
 {
-    let m = least(row, rows, columns, n);
-    let v = shift(m, rows[0], columns[0]);
-    within(ids, h, w, g, rows, columns, n, row, v)
+    let m = least(row, outline);
+    let v = shift(m, outline[0], outline[1024]);
+    within(units, h, w, g, outline, row, v)
 }
 
 // Whether one of the four reflections leaves the shape of unit `g` as it is: then no flip is listed.
-fn flip_listed<'a>(
-    ids: &'a [u16; 1024],
-    h: usize,
-    w: usize,
-    g: usize,
-    rows: &'a [u16; 1024],
-    columns: &'a [u16; 1024],
-    n: usize,
-) -> bool
-    requires { ⌜ UnitAt h w (now ids) g (now rows) (now columns) n ⌝ }
-    ensures { λ r. ⌜ r ≡ flipListed (shapeOf (flat h w) (entry (now (ids .entry))) g) ⌝ }
+fn flip_listed<'a>(units: &'a Grouping, h: usize, w: usize, g: usize, outline: &'a Outline) -> bool
+    requires { ⌜ UnitAt h w (now units) g (now outline) ⌝ }
+    ensures { λ r. ⌜ r ≡ flipListed (shapeOf (flat h w) (entry (numbersIn (now (units .entry)))) g) ⌝ }
 {
-    if fixes(ids, h, w, g, rows, columns, n, 4) {
+    if fixes(units, h, w, g, outline, 4) {
         return true;
     }
-    if fixes(ids, h, w, g, rows, columns, n, 5) {
+    if fixes(units, h, w, g, outline, 5) {
         return true;
     }
-    if fixes(ids, h, w, g, rows, columns, n, 6) {
+    if fixes(units, h, w, g, outline, 6) {
         return true;
     }
-    fixes(ids, h, w, g, rows, columns, n, 7)
+    fixes(units, h, w, g, outline, 7)
 }
 
 // The listed rows of the table, in order; the places beyond the count are 0.
@@ -339,20 +354,18 @@ fn rows_by(half: bool, quarter: bool, listed: bool) -> Listed
 
 // The rows by which the transforms of unit `g` are listed.
 pub fn list_rows<'a>(
-    ids: &'a [u16; 1024],
+    units: &'a Grouping,
     h: usize,
     w: usize,
     g: usize,
-    rows: &'a [u16; 1024],
-    columns: &'a [u16; 1024],
-    n: usize,
+    outline: &'a Outline,
 ) -> Listed
-    requires { ⌜ UnitAt h w (now ids) g (now rows) (now columns) n ⌝ }
-    ensures { λ r. ⌜ r ≡ listing (rowsOf (shapeOf (flat h w) (entry (now (ids .entry))) g)) ⌝ }
+    requires { ⌜ UnitAt h w (now units) g (now outline) ⌝ }
+    ensures { λ r. ⌜ r ≡ listing (rowsOf (shapeOf (flat h w) (entry (numbersIn (now (units .entry)))) g)) ⌝ }
 {
-    let flipped = flip_listed(ids, h, w, g, rows, columns, n);
-    if fixes(ids, h, w, g, rows, columns, n, 1) {
-        return rows_by(true, fixes(ids, h, w, g, rows, columns, n, 3), flipped);
+    let flipped = flip_listed(units, h, w, g, outline);
+    if fixes(units, h, w, g, outline, 1) {
+        return rows_by(true, fixes(units, h, w, g, outline, 3), flipped);
     }
     rows_by(false, false, flipped)
 }

@@ -2,7 +2,7 @@
 use mathlib.Core.Path.{_≡_, refl, sym, ap, ap₂, _∙_}
 use mathlib.Core.Bool.{true, false}
 use mathlib.Core.List.{List, [], map}
-use Prim.Native.Nat.{ℕ, _+_, _-_, _<_, _≤_}
+use Prim.Native.Nat.{ℕ, _-_, _<_, _≤_}
 use native.Mathlib.Omega.{arith}
 use borrow.Author.Tests.{lt-ltb, le-ltb}
 use lib.IntN.{ℤ}
@@ -21,17 +21,17 @@ use Rattle.board.specs.declared.Board.{Board}
 use Rattle.board.specs.declared.Outcome.the-variants.{Done, Alien, Short}
 use Rattle.board.specs.Alien.{isAlien}
 use Rattle.board.specs.View.{puzzleOf, statesOf}
-use Rattle.groups.specs.declared.Groups.{Groups}
 use Rattle.groups.specs.declared.Kind.the-variants.{Units}
 use Rattle.groups.specs.Kinds.{joinsIn}
 use Rattle.groups.specs.Parts.{groupsOf}
+use Rattle.groups.specs.Grouping.{numbersIn, countIn, Filled}
 use Rattle.search.specs.Placing.{puzzle}
 use Rattle.shapes.specs.declared.Listed.{Listed}
 use Rattle.shapes.specs.Listing.{listing}
 use Rattle.shapes.specs.Rows.{image, rowsOf}
 use Rattle.shapes.specs.UnitLaws.{transforms-flat}
 use Rattle.units.specs.Fitting.{UnitIn}
-use Rattle.units.specs.ReadyLaws.{own-part, own-count, own-few, own-transforms}
+use Rattle.units.specs.ReadyLaws.{own-part, own-count, own-transforms}
 use Rattle.transforms.specs.Transforms.{nothing, kth, numbersOf, words, room}
 use Rattle.transforms.specs.Transforms.{transformed, kthAnswer, kthMemory, transformOf, memoryAfter}
 
@@ -93,25 +93,21 @@ module _ (h w : ℕ) (ids : List ℕ) (g : ℕ) (index : 1 ≤ w) {t : Listed}
     listed-memory m e = e ∙ ap (λ s. sets m 0 (words s)) (sym kth-image)
 
 -- the units of a page
-module _ {h w : ℕ} (z : Sized h w) (cs bs : List ℕ) {units : Groups}
-    (all : units ≡ groupsOf (flat h w) (joinsIn Units h w cs bs)) (u : ℕ) where
+module _ {h w : ℕ} (z : Sized h w) (cs bs : List ℕ) {units : List ℕ}
+    (all : Filled (groupsOf (flat h w) (joinsIn Units h w cs bs)) units) (u : ℕ) where
   -- "A unit number that no unit has gives no transforms"
-  pub no-unit : units .count ≤ u → transformsOf (puzzle h w cs) (statesIn bs) u ≡ []
+  pub no-unit : countIn units ≤ u → transformsOf (puzzle h w cs) (statesIn bs) u ≡ []
   unfolding transformsOf
   no-unit l =
-      rw (le-ltb u (unitCount (puzzle h w cs) (statesIn bs))
-      (rw (ap (λ (g : Groups). g .count) all ∙ own-count z cs bs) at l))
+      rw (le-ltb u (unitCount (puzzle h w cs) (statesIn bs)) (rw (all .count ∙ own-count z cs bs) at l))
 
-  pub unit-transforms : u < units .count
-      → transformsOf (puzzle h w cs) (statesIn bs) u ≡ flatTransforms (shapeOf (flat h w) (entry (units .ids)) u)
-  unit-transforms l = rw all (own-transforms z cs bs u (rw all at l))
+  module _ (l : u < countIn units) where
+    pub unit-transforms : transformsOf (puzzle h w cs) (statesIn bs) u
+        ≡ flatTransforms (shapeOf (flat h w) (entry (numbersIn units)) u)
+    unit-transforms = rw (all .numbers) (own-transforms z cs bs u (rw (all .count) at l))
 
-  pub unit-part-in : u < units .count
-      → UnitIn h w (units .ids) u (units .cells) (getD (units .offs) u 0) (getD (units .offs) (u + 1) 0)
-  unit-part-in l = rw all (own-part z (joinsIn Units h w cs bs) u (rw all at l))
-
-  pub units-few : units .count ≤ 1024
-  units-few = rw all (own-few z cs bs)
+    pub unit-part-in : UnitIn h w units u
+    unit-part-in = own-part z (joinsIn Units h w cs bs) all u (rw (all .count) at l)
 
 -- a board's answer
 module _ (b : Board) (u k : ℕ) (m : List ℤ) where

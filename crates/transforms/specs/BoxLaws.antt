@@ -21,6 +21,7 @@ use Rattle.lists.specs.UpToLaws.{up-filter}
 use Rattle.rules.specs.Page.{Point, _⊕_, opposite}
 use Rattle.rules.specs.Flat.{flatPlace}
 use Rattle.rules.specs.Groups.{entry}
+use Rattle.groups.specs.Grouping.{numbersIn}
 use Rattle.rules.specs.Turns.{apply, compose, keep, plus, layerward}
 use Rattle.rules.specs.Shapes.{sort, shiftBy, samePoint}
 use Rattle.laws.specs.SameLaws.{samePoint→eq, samePoint-refl}
@@ -35,7 +36,8 @@ use Rattle.shapes.specs.Pairs.{pointAt, pointOf, Sign, BothSigns, turnBy}
 use Rattle.shapes.specs.PairLaws.{one-times, minus-times}
 use Rattle.shapes.specs.FixLaws.{row-inj}
 use Rattle.shapes.specs.Rows.{turnAt}
-use Rattle.shapes.specs.Spots.{hasCell, spotAt, spots, Near, UnitAt}
+use Rattle.shapes.specs.Outlines.{rowsIn, columnsIn, cellCount}
+use Rattle.shapes.specs.Spots.{hasCell, spots, cellSpot, cellSpots, Near, UnitAt}
 use Rattle.shapes.specs.SpotLaws.{near-image}
 use Rattle.shapes.specs.UnitLaws.{among-places, places-ascend}
 use Rattle.transforms.specs.Box.{undone, reversed, corner, boxAt, boxSize, ofImage, cellAt, sweep}
@@ -115,15 +117,18 @@ in-box p e n =
       point-eq (sym e) (rw (digits-div (a .0) (b .1)) (a .2)) (rw (digits-mod (a .0) (b .1)) (b .2)),
     )
 
-module _ {h w : ℕ} {ids : List ℕ} {g : ℕ} {R C : List ℕ} {n : ℕ} (u : UnitAt h w ids g R C n) (r : ℕ) where
+module _ {h w : ℕ} {units : List ℕ} {g : ℕ} {o : List ℕ} (u : UnitAt h w units g o) (r : ℕ) where
+  abbrev number : ℕ → ℕ
+  number = entry (numbersIn units)
+
   abbrev there : ℕ → Bool
-  there i = ofImage h w (entry ids) g r (boxAt i)
+  there i = ofImage h w number g r (boxAt i)
 
   abbrev found : List Point
   found = map boxAt (filter there (range boxSize))
 
   abbrev P : List Point
-  P = spots R C n
+  P = cellSpots o
 
   abbrev turn : Point → Point
   turn = apply (turnAt r)
@@ -139,11 +144,11 @@ module _ {h w : ℕ} {ids : List ℕ} {g : ℕ} {R C : List ℕ} {n : ℕ} (u : 
   images-sorted =
       sort-ascends (map turn P)
       (distinct-map turn (row-inj r) P
-      (ascending-distinct P (subst Ascending (sym (u .here)) (places-ascend h w (entry ids) g (u .sized .columns)))))
+      (ascending-distinct P (subst Ascending (sym (u .here)) (places-ascend h w number g (u .sized .columns)))))
 
   -- a cell of the unit, on the page and among its places
-  own : (z : Point) → any (samePoint z) P ≡ hasCell h w (entry ids) g z
-  own z = ap (any (samePoint z)) (u .here) ∙ among-places h w (entry ids) g (u .sized .columns) z
+  own : (z : Point) → any (samePoint z) P ≡ hasCell h w number g z
+  own z = ap (any (samePoint z)) (u .here) ∙ among-places h w number g (u .sized .columns) z
 
   found-image : (z : Point) → z ∈ found → z ∈ sort (map turn P)
   unfolding ofImage
@@ -159,24 +164,26 @@ module _ {h w : ℕ} {ids : List ℕ} {g : ℕ} {R C : List ℕ} {n : ℕ} (u : 
   unfolding ofImage spots
   image-found z m =
       let q = map-find turn P (sort-mem (map turn P) m) in
-      let j = table-find n (spotAt R C) (q .1) in
+      let j = table-find (cellCount o) (cellSpot o) (q .1) in
       let s = u .spotted in
-      let e : z ≡ turn (spotAt R C (j .0)) = q .2 ∙ ap turn (j .2) in
-      let b = in-box (turn (spotAt R C (j .0))) (same-layer r (spotAt R C (j .0)))
-      (near-image r (getD R (j .0) 0) (getD C (j .0) 0) (s .down (j .0) (j .1)) (s .across (j .0) (j .1))) in
+      let e : z ≡ turn (cellSpot o (j .0)) = q .2 ∙ ap turn (j .2) in
+      let b = in-box (turn (cellSpot o (j .0))) (same-layer r (cellSpot o (j .0)))
+      (near-image r (getD (rowsIn o) (j .0) 0) (getD (columnsIn o) (j .0) 0) (s .down (j .0) (j .1))
+      (s .across (j .0) (j .1))) in
       let back : apply (turnAt (undone r)) (boxAt (b .0)) ≡ q .0 =
       ap (apply (turnAt (undone r))) (b .2 ∙ ap turn (sym (j .2))) ∙ undo-turn r (q .0) in
-      let has : T (hasCell h w (entry ids) g (q .0)) =
+      let has : T (hasCell h w number g (q .0)) =
       subst T (own (q .0)) (any-mem (samePoint (q .0)) P (q .1) (samePoint-refl (q .0))) in
       Memᴰ·cast (e ∙ sym (b .2))
       (mem-map boxAt (mem-filter there (range boxSize) (mem-range boxSize (b .1))
-      (subst (λ (p : Point). T (hasCell h w (entry ids) g p)) (sym back) has)))
+      (subst (λ (p : Point). T (hasCell h w number g p)) (sym back) has)))
 
   found-is : found ≡ sort (map turn P)
   found-is = ascending-same found (sort (map turn P)) found-sorted images-sorted found-image image-found
 
   -- what the loop gathers
-  pub sweep-is : (m : Point) → sweep h w (entry ids) g r m boxSize ≡ shiftBy (opposite m) (sort (map turn P))
+  pub sweep-is : (m : Point) → sweep h w (entry (numbersIn units)) g r m boxSize
+      ≡ shiftBy (opposite m) (sort (map turn P))
   unfolding sweep cellAt shiftBy
   sweep-is m =
       up-filter (λ j. boxAt j ⊕ opposite m) there boxSize

@@ -16,16 +16,18 @@ use Rattle.lists.specs.UpToLaws.{up-none, up-more, up-fits}
 use Rattle.rules.specs.Page.{Point, _⊕_, opposite, Shape}
 use Rattle.rules.specs.Flat.{flat}
 use Rattle.rules.specs.Groups.{entry}
+use Rattle.groups.specs.Grouping.{numbersIn}
 use Rattle.rules.specs.Turns.{apply}
 use Rattle.rules.specs.Shapes.{sort, shiftBy, shapeOf}
 use Rattle.laws.specs.SortLaws.{length-sort, length-shift}
 use Rattle.shapes.specs.Rows.{turnAt, image}
-use Rattle.shapes.specs.Spots.{spotAt, spots, leastImage, UnitAt}
+use Rattle.shapes.specs.Outlines.{rowsIn, columnsIn, downIn, acrossIn, cellCount, jointCount}
+use Rattle.shapes.specs.Spots.{spotAt, spots, cellSpots, jointSpots, leastImage, UnitAt}
 use Rattle.shapes.specs.SpotLaws.{length-spots, spots-more}
 use Rattle.shapes.specs.UnitLaws.{image-places}
 use Rattle.shapes.specs.Joints.{Joined}
-use Rattle.units.specs.Images.{imageJoints}
-use Rattle.units.specs.ImageLaws.{image-is}
+use Rattle.shapes.specs.Images.{imageJoints}
+use Rattle.shapes.specs.ImageLaws.{image-is}
 use Rattle.transforms.specs.Transforms.{numbersOf, words, Wrote}
 use Rattle.transforms.specs.Box.{boxAt, boxSize, ofImage, cellAt, sweep, movedBack}
 use Rattle.transforms.specs.BoxLaws.{sweep-is}
@@ -138,40 +140,42 @@ module _ (r : ℕ) (m : Point) (D A : List ℕ) where
   moved-room j k h x e = omega (arith, x .place, wrote-length x, moved-length j)
 
 -- the image of a unit
-module _ {h w : ℕ} {ids : List ℕ} {g : ℕ} {R C : List ℕ} {n : ℕ} (u : UnitAt h w ids g R C n) (r : ℕ) where
+module _ {h w : ℕ} {units : List ℕ} {g : ℕ} {o : List ℕ} (u : UnitAt h w units g o) (r : ℕ) where
   abbrev shape : Shape
-  shape = shapeOf (flat h w) (entry ids) g
+  shape = shapeOf (flat h w) (entry (numbersIn units)) g
 
-  cells-are : image r shape .cells
-      ≡ shiftBy (opposite (leastImage r (spots R C n))) (sort (map (apply (turnAt r)) (spots R C n)))
+  abbrev images : List Point
+  images = map (apply (turnAt r)) (cellSpots o)
+
+  spot-count : length (cellSpots o) ≡ cellCount o
+  spot-count = length-spots (rowsIn o) (columnsIn o) (cellCount o)
+
+  cells-are : image r shape .cells ≡ shiftBy (opposite (leastImage r (cellSpots o))) (sort images)
   cells-are =
-      image-places h w (entry ids) g (u .sized .columns) (spots R C n) (u .here)
-      (rw (length-spots R C n) (u .spotted .some)) r
+      image-places h w (entry (numbersIn units)) g (u .sized .columns) (cellSpots o) (u .here)
+      (rw spot-count (u .spotted .some)) r
 
-  pub cell-count : length (image r shape .cells) ≡ n
+  pub cell-count : length (image r shape .cells) ≡ cellCount o
   cell-count =
       ap length cells-are
-      ∙ (length-shift (opposite (leastImage r (spots R C n))) (sort (map (apply (turnAt r)) (spots R C n)))
-      ∙ (length-sort (map (apply (turnAt r)) (spots R C n))
-      ∙ (length-map (spots R C n) (apply (turnAt r)) ∙ length-spots R C n)))
+      ∙ (length-shift (opposite (leastImage r (cellSpots o))) (sort images)
+      ∙ (length-sort images ∙ (length-map (cellSpots o) (apply (turnAt r)) ∙ spot-count)))
 
-  module _ {m : Point} (e : m ≡ leastImage r (spots R C n)) where
-    pub swept : sweep h w (entry ids) g r m boxSize ≡ image r shape .cells
-    swept =
-        sweep-is u r m
-        ∙ (ap (λ p. shiftBy (opposite p) (sort (map (apply (turnAt r)) (spots R C n)))) e ∙ sym cells-are)
+  module _ {m : Point} (e : m ≡ leastImage r (cellSpots o)) where
+    pub swept : sweep h w (entry (numbersIn units)) g r m boxSize ≡ image r shape .cells
+    swept = sweep-is u r m ∙ (ap (λ p. shiftBy (opposite p) (sort images)) e ∙ sym cells-are)
 
-    module _ {D A : List ℕ} {k : ℕ} (j : Joined h w (entry ids) g D A k) where
-      pub moved : movedBack r m (spots D A k) ≡ image r shape .connections
+    module _ (j : Joined h w units g o) where
+      pub moved : movedBack r m (jointSpots o) ≡ image r shape .connections
       unfolding movedBack imageJoints
-      moved = ap (λ p. movedBack r p (spots D A k)) e ∙ sym (image-is u j r)
+      moved = ap (λ p. movedBack r p (jointSpots o)) e ∙ sym (image-is u j r)
 
-      pub joint-count : length (image r shape .connections) ≡ k
-      joint-count = ap length (sym moved) ∙ moved-length r m D A k
+      pub joint-count : length (image r shape .connections) ≡ jointCount o
+      joint-count = ap length (sym moved) ∙ moved-length r m (downIn o) (acrossIn o) (jointCount o)
 
       -- both parts
-      pub written : {l l′ l″ : List ℤ} {a b : ℕ} → Wrote l 0 (sweep h w (entry ids) g r m boxSize) l′ a
-          → Wrote l′ a (movedBack r m (spots D A k)) l″ b → l″ ≡ sets l 0 (words (image r shape))
+      pub written : {l l′ l″ : List ℤ} {a b : ℕ} → Wrote l 0 (sweep h w (entry (numbersIn units)) g r m boxSize) l′ a
+          → Wrote l′ a (movedBack r m (jointSpots o)) l″ b → l″ ≡ sets l 0 (words (image r shape))
       unfolding words
       written {l} x y =
           wrote-more x y .memory ∙ ap₂ (λ ps qs. sets l 0 (numbersOf (ps ++ qs))) swept moved

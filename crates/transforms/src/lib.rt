@@ -10,29 +10,34 @@ ghost use Rattle.rules.specs.Codes.{statesIn};
 ghost use Rattle.rules.specs.Groups.{entry};
 ghost use Rattle.rules.specs.Turns.{apply};
 ghost use Rattle.rules.specs.Check.{transformsOf};
+ghost use Rattle.groups.specs.Grouping.{numbersIn};
 ghost use Rattle.rules.specs.Shapes.{shapeOf, flatTransforms};
 ghost use Rattle.search.specs.Placing.{puzzle};
 ghost use Rattle.shapes.specs.Joints.{Joined};
 ghost use Rattle.shapes.specs.Pairs.{pointAt, pointOf, Small, SmallPair};
 ghost use Rattle.shapes.specs.Listing.{listing};
 ghost use Rattle.shapes.specs.Rows.{turnAt, image, rowsOf};
-ghost use Rattle.shapes.specs.Spots.{spots, UnitAt};
-ghost use Rattle.units.specs.Images.{Jointed};
+ghost use Rattle.shapes.specs.Outlines.{jointCount};
+ghost use Rattle.shapes.specs.Images.{Jointed};
+ghost use Rattle.shapes.specs.Spots.{jointSpots, UnitAt};
 ghost use Rattle.transforms.specs.Transforms.{nothing, words, transformed, kthAnswer, kthMemory, Wrote};
 ghost use Rattle.transforms.specs.Transforms.{transformOf, memoryAfter};
 ghost use Rattle.transforms.specs.Box.{boxAt, reversed, ofImage, cellAt, sweep, movedBack};
 use board::Board;
 use board::Outcome;
+use groups::Grouping;
 use groups::Kind;
-use groups::groups_of;
-use rules::index;
+use groups::count_of;
 use shapes::Listed;
+use shapes::Outline;
 use shapes::Pair;
 use shapes::Signs;
+use shapes::cell_count;
 use shapes::connections::joint;
 use shapes::connections::joints;
 use shapes::connections::places;
 use shapes::has_cell;
+use shapes::joint_count;
 use shapes::least;
 use shapes::list_rows;
 use shapes::signs_at;
@@ -111,26 +116,19 @@ fn apply_back(row: usize, y: i32, x: i32) -> Pair
 }
 
 // Whether the place `p` is a cell of the image of unit `g` by a row: whether the way back leads to a cell of the unit.
-fn of_image(
-    ids: &[u16; Board::CELL_LIMIT],
-    h: usize,
-    w: usize,
-    g: usize,
-    row: usize,
-    p: Pair,
-) -> bool
-    requires { ⌜ (row < 8) × Sized h w × (length (now ids) ≡ 1024) × SmallPair p ⌝ }
-    ensures { λ r. ⌜ r ≡ ofImage h w (entry (now (ids .entry))) g row (pointOf p) ⌝ }
+fn of_image(units: &Grouping, h: usize, w: usize, g: usize, row: usize, p: Pair) -> bool
+    requires { ⌜ (row < 8) × Sized h w × (length (numbersIn (now units)) ≡ 1024) × SmallPair p ⌝ }
+    ensures { λ r. ⌜ r ≡ ofImage h w (entry (numbersIn (now (units .entry)))) g row (pointOf p) ⌝ }
 {
     let q = apply_back(row, p.y, p.x);
-    has_cell(ids, h, w, g, q.y, q.x)
+    has_cell(units, h, w, g, q.y, q.x)
 }
 
 // Writes place `i` of the box, shifted back by `m`, if it is a cell of the unit's image. Gives the next number's place.
 fn put_cell(
     memory: &mut [i32],
     at: usize,
-    ids: &[u16; Board::CELL_LIMIT],
+    units: &Grouping,
     h: usize,
     w: usize,
     g: usize,
@@ -138,13 +136,13 @@ fn put_cell(
     m: Pair,
     i: usize,
 ) -> usize
-    requires { ⌜ (row < 8) × Sized h w × (length (now ids) ≡ 1024) × SmallPair m × (i < 4356)
-        × (at + 2 * length (cellAt h w (entry (now ids)) g row (pointOf m) i) ≤ length (now memory)) ⌝ }
-    ensures { λ r. ⌜ Wrote (now (memory .entry)) at (cellAt h w (entry (now (ids .entry))) g row (pointOf m) i)
-        (now (memory .exit)) r ⌝ }
+    requires { ⌜ (row < 8) × Sized h w × (length (numbersIn (now units)) ≡ 1024) × SmallPair m × (i < 4356)
+        × (at + 2 * length (cellAt h w (entry (numbersIn (now units))) g row (pointOf m) i) ≤ length (now memory)) ⌝ }
+    ensures { λ r. ⌜ Wrote (now (memory .entry)) at
+        (cellAt h w (entry (numbersIn (now (units .entry)))) g row (pointOf m) i) (now (memory .exit)) r ⌝ }
 {
     let p = box_place(i);
-    if of_image(ids, h, w, g, row, p) {
+    if of_image(units, h, w, g, row, p) {
         return put(memory, at, back(p, m));
     }
     at
@@ -154,76 +152,64 @@ fn put_cell(
 // Gives the next number's place.
 fn put_cells(
     memory: &mut [i32],
-    ids: &[u16; Board::CELL_LIMIT],
+    units: &Grouping,
     h: usize,
     w: usize,
     g: usize,
     row: usize,
     m: Pair,
 ) -> usize
-    requires { ⌜ (row < 8) × Sized h w × (length (now ids) ≡ 1024) × SmallPair m
-        × (2 * length (sweep h w (entry (now ids)) g row (pointOf m) 4356) ≤ length (now memory)) ⌝ }
-    ensures { λ r. ⌜ Wrote (now (memory .entry)) 0 (sweep h w (entry (now (ids .entry))) g row (pointOf m) 4356)
-        (now (memory .exit)) r ⌝ }
+    requires { ⌜ (row < 8) × Sized h w × (length (numbersIn (now units)) ≡ 1024) × SmallPair m
+        × (2 * length (sweep h w (entry (numbersIn (now units))) g row (pointOf m) 4356) ≤ length (now memory)) ⌝ }
+    ensures { λ r. ⌜ Wrote (now (memory .entry)) 0
+        (sweep h w (entry (numbersIn (now (units .entry)))) g row (pointOf m) 4356) (now (memory .exit)) r ⌝ }
 {
     let mut at: usize = 0;
     let mut i: usize = 0;
     while i < BOX {
-        at = put_cell(&mut *memory, at, ids, h, w, g, row, m, i);
+        at = put_cell(&mut *memory, at, units, h, w, g, row, m, i);
         i += 1;
     }
     at
 }
 
-// Writes the unit's `k` connections, turned by a row and shifted back by twice `m`, from the number `start` on.
+// Writes the outline's connections, turned by a row and shifted back by twice `m`, from the number `start` on.
 // Gives the next number's place.
-fn put_joints<'a>(
-    memory: &mut [i32],
-    start: usize,
-    row: usize,
-    down: &'a [u16; 2048],
-    across: &'a [u16; 2048],
-    k: usize,
-    m: Pair,
-) -> usize
-    requires { ⌜ (row < 8) × Jointed (now down) (now across) k × SmallPair m
-        × (start + 2 * k ≤ length (now memory)) ⌝ }
+fn put_joints(memory: &mut [i32], start: usize, row: usize, outline: &Outline, m: Pair) -> usize
+    requires { ⌜ (row < 8) × Jointed (now outline) × SmallPair m
+        × (start + 2 * jointCount (now outline) ≤ length (now memory)) ⌝ }
     ensures { λ r. ⌜ Wrote (now (memory .entry)) start
-        (movedBack row (pointOf m) (spots (now (down .entry)) (now (across .entry)) k)) (now (memory .exit)) r ⌝ }
+        (movedBack row (pointOf m) (jointSpots (now (outline .entry)))) (now (memory .exit)) r ⌝ }
 {
+    let k = joint_count(outline);
     let mut at = start;
     let mut j: usize = 0;
     while j < k {
-        let p = joint(row, down, across, j, m);
+        let p = joint(row, outline, j, m);
         at = put(&mut *memory, at, p);
         j += 1;
     }
     at
 }
 
-// Writes the image of unit `g` by a row: its `n` cells, then its `k` connections.
+// Writes the image of unit `g`, whose outline is given, by a row: its cells, then its connections.
 fn put_image<'a>(
     memory: &mut [i32],
-    ids: &'a [u16; Board::CELL_LIMIT],
+    units: &'a Grouping,
     h: usize,
     w: usize,
     g: usize,
-    rows: &'a [u16; Board::CELL_LIMIT],
-    columns: &'a [u16; Board::CELL_LIMIT],
-    n: usize,
-    down: &'a [u16; 2048],
-    across: &'a [u16; 2048],
-    k: usize,
+    outline: &'a Outline,
     row: usize,
 )
-    requires { ⌜ (row < 8) × UnitAt h w (now ids) g (now rows) (now columns) n
-        × Joined h w (entry (now ids)) g (now down) (now across) k × (6144 ≤ length (now memory)) ⌝ }
+    requires { ⌜ (row < 8) × UnitAt h w (now units) g (now outline) × Joined h w (now units) g (now outline)
+        × (6144 ≤ length (now memory)) ⌝ }
     ensures { λ r. ⌜ now (memory .exit) ≡ sets (now (memory .entry)) 0
-        (words (image row (shapeOf (flat h w) (entry (now (ids .entry))) g))) ⌝ }
+        (words (image row (shapeOf (flat h w) (entry (numbersIn (now (units .entry)))) g))) ⌝ }
 {
-    let m = least(row, rows, columns, n);
-    let at = put_cells(&mut *memory, ids, h, w, g, row, m);
-    put_joints(&mut *memory, at, row, down, across, k, m);
+    let m = least(row, outline);
+    let at = put_cells(&mut *memory, units, h, w, g, row, m);
+    put_joints(&mut *memory, at, row, outline, m);
 }
 
 // No transform.
@@ -238,51 +224,34 @@ fn none(outcome: Outcome, listed: usize) -> Transformed
     }
 }
 
-// Writes transform `k` of unit `g`, whose `n` cells stand in rows and columns, and whose listed rows are given.
+// Writes transform `k` of unit `g`, whose outline and whose listed rows are given.
 fn put_listed<'a>(
     memory: &mut [i32],
-    ids: &'a [u16; Board::CELL_LIMIT],
+    units: &'a Grouping,
     h: usize,
     w: usize,
     g: usize,
-    rows: &'a [u16; Board::CELL_LIMIT],
-    columns: &'a [u16; Board::CELL_LIMIT],
-    n: usize,
+    outline: &'a Outline,
     listed: Listed,
     k: usize,
 ) -> Transformed
-    requires { ⌜ UnitAt h w (now ids) g (now rows) (now columns) n
-        × (listed ≡ listing (rowsOf (shapeOf (flat h w) (entry (now ids)) g))) × (6144 ≤ length (now memory)) ⌝ }
-    ensures { λ r. ⌜ (r ≡ kthAnswer (flatTransforms (shapeOf (flat h w) (entry (now (ids .entry))) g)) k)
-        × (now (memory .exit) ≡ kthMemory (flatTransforms (shapeOf (flat h w) (entry (now (ids .entry))) g)) k
-        (now (memory .entry))) ⌝ }
+    requires { ⌜ UnitAt h w (now units) g (now outline) × Joined h w (now units) g (now outline)
+        × (listed ≡ listing (rowsOf (shapeOf (flat h w) (entry (numbersIn (now units))) g)))
+        × (6144 ≤ length (now memory)) ⌝ }
+    ensures { λ r. ⌜ (r ≡ kthAnswer (flatTransforms (shapeOf (flat h w) (entry (numbersIn (now (units .entry)))) g)) k)
+        × (now (memory .exit) ≡ kthMemory (flatTransforms (shapeOf (flat h w)
+        (entry (numbersIn (now (units .entry)))) g)) k (now (memory .entry))) ⌝ }
 {
     if listed.count <= k {
         return none(Outcome::Done, listed.count);
     }
-    let mut down = [0u16; 2048];
-    let mut across = [0u16; 2048];
-    let j = joints(ids, h, w, g, rows, columns, n, &mut down, &mut across);
     let row = listed.rows[k];
-    put_image(
-        memory,
-        ids,
-        h,
-        w,
-        g,
-        rows,
-        columns,
-        n,
-        &down,
-        &across,
-        j,
-        row as usize,
-    );
+    put_image(memory, units, h, w, g, outline, row as usize);
     Transformed {
         outcome: Outcome::Done,
         listed: listed.count,
-        cells: n,
-        connections: j,
+        cells: cell_count(outline),
+        connections: joint_count(outline),
     }
 }
 
@@ -302,18 +271,25 @@ fn put_transform<'a>(
         × (now (memory .exit) ≡ kthMemory (transformsOf (puzzle h w (now (colours .entry)))
         (statesIn (now (borders .entry))) u) k (now (memory .entry))) ⌝ }
 {
-    let units = groups_of(h, w, colours, borders, Kind::Units);
-    if units.count <= u {
+    let mut units = [0u16; 3074];
+    let mut parents = [0u16; Board::CELL_LIMIT];
+    groups::fill(
+        h,
+        w,
+        colours,
+        borders,
+        Kind::Units,
+        &mut units,
+        &mut parents,
+    );
+    if count_of(&units) <= u {
         return none(Outcome::Done, 0);
     }
-    let first = index(units.offs[u]);
-    let last = index(units.offs[u + 1]);
-    let mut rows = [0u16; Board::CELL_LIMIT];
-    let mut columns = [0u16; Board::CELL_LIMIT];
-    let n = places(&units.cells, first, last, w, &mut rows, &mut columns);
-    let ids = units.ids;
-    let listed = list_rows(&ids, h, w, u, &rows, &columns, n);
-    put_listed(memory, &ids, h, w, u, &rows, &columns, n, listed, k)
+    let mut outline = [0u16; 6146];
+    places(&units, u, w, &mut outline);
+    joints(&units, h, w, u, &mut outline);
+    let listed = list_rows(&units, h, w, u, &outline);
+    put_listed(memory, &units, h, w, u, &outline, listed, k)
 }
 
 // Transform `k` of unit `u` of a board, counted from 0, written from the start of the memory. Refused, and none, where

@@ -2,7 +2,7 @@
 use mathlib.Core.Path.{_≡_, refl, ap, _∙_}
 use mathlib.Core.List.{List}
 use mathlib.Core.Option.{Option}
-use Prim.Native.Nat.{ℕ, _+_, _<_, _≤_}
+use Prim.Native.Nat.{ℕ, _<_, _≤_}
 use native.Mathlib.Omega.{arith}
 use lib.ListN.{length, getD}
 use Rattle.rules.specs.Page.{Puzzle, State}
@@ -15,8 +15,9 @@ use Rattle.rules.specs.Check.{mates, unitReason}
 use Rattle.reasons.specs.Memory.{Wrote}
 use Rattle.groups.specs.declared.Kind.the-variants.{Potential}
 use Rattle.groups.specs.Kinds.{joinsIn}
+use Rattle.groups.specs.Grouping.{numbersIn, cellsIn, startIn}
 use Rattle.groups.specs.PartLaws.{ids-length}
-use Rattle.search.specs.Mates.{Leading}
+use Rattle.search.specs.Mates.{Gathered}
 use Rattle.search.specs.Placing.{puzzle}
 use Rattle.shapes.specs.declared.Listed.{Listed as RowList}
 use Rattle.shapes.specs.Listing.{listing}
@@ -35,8 +36,7 @@ module _ (h w : ℕ) (cs : List ℕ) (c : ℕ → Option ℕ) (s : ℕ → State
   unfolding potentialIn joinsUnit joinsPotential oneColour
   potential-clue u = refl
 
-module _ {h w : ℕ} {cs bs ids cells offs pids pcells poffs : List ℕ} {u : ℕ}
-    (q : Asked h w cs bs ids cells offs pids pcells poffs u) where
+module _ {h w : ℕ} {cs bs us ps : List ℕ} {u : ℕ} (q : Asked h w cs bs us ps u) where
   abbrev Z : Puzzle
   Z = puzzle h w cs
 
@@ -47,23 +47,23 @@ module _ {h w : ℕ} {cs bs ids cells offs pids pcells poffs : List ℕ} {u : �
   unit-low = omega (arith, q .low, unit-few (q .ready))
 
   -- its part of the list of units
-  pub own-part : UnitIn h w ids u cells (getD offs u 0) (getD offs (u + 1) 0)
+  pub own-part : UnitIn h w us u
   own-part = unit-in (q .ready) u (q .low)
 
   abbrev pub home : ℕ
-  home = getD pids (getD cells (getD offs u 0) 0) 0
+  home = getD (numbersIn ps) (getD (cellsIn us) (startIn us u) 0) 0
 
-  pub at-home : {p : ℕ} → p ≡ home → Home h w cs bs pids pcells poffs p
+  pub at-home : {p : ℕ} → p ≡ home → Home h w cs bs ps p
   at-home e = rw e (home-of (q .ready) u (q .low))
 
-  potential-long : length pids ≡ 1024
+  potential-long : length (numbersIn ps) ≡ 1024
   potential-long =
       let z = q .ready .drawn .sized in
       let link = joinsIn Potential h w cs bs in
-      rw (q .ready .potential-ids) (ids-length (flat h w) link (some z link) (few z link))
+      rw (q .ready .potential .numbers) (ids-length (flat h w) link (some z link) (few z link))
 
-  pub arranged : {list : List ℕ} {count p : ℕ} → p ≡ home → Leading (mates Z s p) list count
-      → Arranged h w cs bs ids cells offs pids pcells poffs list count u p
+  pub arranged : {list : List ℕ} {p : ℕ} → p ≡ home → Gathered (mates Z s p) list
+      → Arranged h w cs bs us ps list u p
   unfolding entry
   arranged e l =
       let k = at-home e in
@@ -71,10 +71,11 @@ module _ {h w : ℕ} {cs bs ids cells offs pids pcells poffs : List ℕ} {u : �
         drawn = q .ready .drawn;
         colours = q .colours;
         borders = q .borders;
-        lengths = (own-part .numbers, potential-long);
+        numbers = potential-long;
         unit =
             record {
               few = unit-low;
+              numbers = own-part .numbers;
               is =
                   record {
                     long = own-part .long;
@@ -90,9 +91,8 @@ module _ {h w : ℕ} {cs bs ids cells offs pids pcells poffs : List ℕ} {u : �
         mates = l;
       }
 
-  pub imaged : {R C D A : List ℕ} {n k : ℕ} {t : RowList} → UnitAt h w ids u R C n
-      → Joined h w (entry ids) u D A k → t ≡ listing (rowsOf (shapeOf (flat h w) (entry ids) u))
-      → Imaged h w cs bs ids R C n D A k t u
+  pub imaged : {o : List ℕ} {t : RowList} → UnitAt h w us u o → Joined h w us u o
+      → t ≡ listing (rowsOf (shapeOf (flat h w) (entry (numbersIn us)) u)) → Imaged h w cs bs us o t u
   imaged a j e = record { cells = a; connections = j; rows = e; transforms = transforms-are (q .ready) u (q .low) }
 
   pub home-in : home ≡ potentialIn Z s u

@@ -1,6 +1,4 @@
 -- What the arrays give is the reason of the unit: its blockers, its Inside, and the walls of its potential unit.
---
---   partAt cells offs p   the cells of the potential unit p, from the arrays
 use mathlib.Core.Path.{_≡_, refl, sym, ap, _∙_}
 use mathlib.Core.List.{List, _++_, map}
 use mathlib.Core.Option.{Option, none}
@@ -9,7 +7,6 @@ use native.Mathlib.Omega.{arith}
 use lib.ListN.{length, getD, List·getD-append}
 use Rattle.lists.specs.Lists.{flatMap}
 use Rattle.lists.specs.Flats.{flat-map, flat-flat, flat-same}
-use Rattle.lists.specs.Parts.{part}
 use Rattle.lists.specs.UpToLaws.{flat-up, up-same}
 use Rattle.rules.specs.declared.Literal.{Literal}
 use Rattle.rules.specs.Page.{Puzzle, Point, Shape, State}
@@ -19,31 +16,43 @@ use Rattle.rules.specs.Shapes.{shapeOf}
 use Rattle.rules.specs.Groups.{entry, members, unitOf, potentialOf, potentialCount}
 use Rattle.rules.specs.Check.{laid, blockers, placements, transformsOf, insideUnit, edgeOf, mates, farWalls, unitReason}
 use Rattle.rules.specs.Check.{adjacent as isAdjacent}
-use Rattle.laws.specs.FlatReasons.{flat-members-same, flat-inside-same, flat-edge-same}
-use Rattle.reasons.specs.Arrays.{Cells, insideIn, edgeIn, isFlagged}
+use Rattle.reasons.specs.Arrays.{Cells, GroupAt, insideIn, edgeIn, isFlagged}
 use Rattle.reasons.specs.FarLaws.{far-walls}
 use Rattle.reasons.specs.Memory.{Wrote}
 use Rattle.reasons.specs.MemoryLaws.{wrote-more}
+use Rattle.laws.specs.GroupLaws.{members-same}
+use Rattle.laws.specs.ReasonLaws.{inside-same, edge-same}
+use Rattle.groups.specs.Grouping.{numbersIn, cellsIn, startsIn, startIn, groupCells}
+use Rattle.search.specs.Mates.{matesIn}
 use Rattle.search.specs.Placing.{puzzle, bare}
 use Rattle.search.specs.Searching.{Beside, blockOf, blocksAmong, blocksBeside}
-use Rattle.search.specs.SearchLaws.{placed-blocks, mates-low, entry-low, beside-leading}
+use Rattle.search.specs.SearchLaws.{placed-blocks, mates-low, entry-low, beside-gathered}
 use Rattle.shapes.specs.declared.Listed.{Listed as RowList}
 use Rattle.shapes.specs.Listing.{listing}
 use Rattle.shapes.specs.Rows.{image, rowsOf}
-use Rattle.shapes.specs.Spots.{spots}
+use Rattle.shapes.specs.Spots.{cellSpots, jointSpots}
 use Rattle.shapes.specs.UnitLaws.{transforms-flat}
-use Rattle.units.specs.ImageLaws.{image-is}
-use Rattle.unitreason.specs.Writing.{Numbered, Mated, flagsOf, edgesIn, farIn, wallsIn, clued, Arranged}
+use Rattle.shapes.specs.ImageLaws.{image-is}
+use Rattle.unitreason.specs.Writing.{Mated, flagsOf, edgesIn, farIn, wallsIn, clued, Arranged}
 use Rattle.unitreason.specs.Writing.{blocksBy, blocksListed, Imaged}
 use Rattle.unitreason.specs.FlagLaws.{flagged-is}
 use Rattle.reasons.specs.MemoryLaws.{room-first, room-second, room-third}
+use Rattle.laws.specs.FlatReasons.{flat-edge-same, flat-inside-same, flat-members-same}
 use Rattle.unitreason.specs.ClueLaws.{reason-clue}
 
-abbrev pub partAt : List ℕ → List ℕ → ℕ → List ℕ
-partAt cells offs p = part cells (getD offs p 0) (getD offs (p + 1) 0)
+module _ {h w : ℕ} {cs bs us ps list : List ℕ} {u p : ℕ} (a : Arranged h w cs bs us ps list u p) where
+  abbrev ids : List ℕ
+  ids = numbersIn us
 
-module _ {h w : ℕ} {cs bs ids cells offs pids pcells poffs list : List ℕ} {count u p : ℕ}
-    (a : Arranged h w cs bs ids cells offs pids pcells poffs list count u p) where
+  abbrev pids : List ℕ
+  pids = numbersIn ps
+
+  abbrev pcells : List ℕ
+  pcells = cellsIn ps
+
+  abbrev poffs : List ℕ
+  poffs = startsIn ps
+
   abbrev Z : Puzzle
   Z = puzzle h w cs
 
@@ -66,20 +75,21 @@ module _ {h w : ℕ} {cs bs ids cells offs pids pcells poffs list : List ℕ} {c
   unfolding insideIn insideUnit
   inside-is = flat-inside-same (a .drawn .sized) (entry ids) (unitOf Z s) unit-same u s
 
-  mates-are : part list 0 count ≡ mates Z s p
+  mates-are : matesIn list ≡ mates Z s p
   mates-are = a .mates .first
 
-  cells-are : partAt pcells poffs p ≡ members (flat h w) (potentialOf Z s) p
+  cells-are : groupCells ps p ≡ members (flat h w) (potentialOf Z s) p
   cells-are = a .grouped .group p (a .one)
 
   pub count-few : potentialCount Z s ≤ 1024
   count-few = a .known .few
 
-  numbered : (q : ℕ) → q < potentialCount Z s → Numbered h w pids pcells poffs q
+  numbered : (q : ℕ) → q < potentialCount Z s → GroupAt h w ps q
   numbered q l =
       let e = a .grouped .each q l in
       record {
         few = omega (arith, count-few);
+        numbers = a .numbers;
         is =
             record {
               long = e .long;
@@ -91,20 +101,20 @@ module _ {h w : ℕ} {cs bs ids cells offs pids pcells poffs list : List ℕ} {c
             };
       }
 
-  pub own : Numbered h w pids pcells poffs p
+  pub own : GroupAt h w ps p
   own = numbered p (a .one)
 
-  pub own-cells : Cells h w pcells (getD poffs p 0) (getD poffs (p + 1) 0)
+  pub own-cells : Cells h w pcells (startIn ps p) (startIn ps (p + 1))
   own-cells = a .grouped .each p (a .one)
 
-  pub beside : Beside h w pcells poffs list 0 count
-  beside = beside-leading (a .grouped) (a .known) p (a .mates)
+  pub beside : Beside h w ps list
+  beside = beside-gathered ps (a .grouped) (a .known) p (a .mates)
 
-  pub mated : Mated h w pids pcells poffs list 0 count
+  pub mated : Mated h w ps list
   mated =
       record {
-        low = record { long = beside .long; order = beside .order; end = beside .end; each = beside .low };
-        each = λ i x y. numbered (getD list i 0) (entry-low (a .grouped) (a .known) p (a .mates) i y);
+        low = record { long = beside .long; end = beside .end; each = beside .low };
+        each = λ i y. numbered (getD list i 0) (entry-low ps (a .grouped) (a .known) p (a .mates) i y);
       }
 
   -- the flags of the mates
@@ -115,39 +125,39 @@ module _ {h w : ℕ} {cs bs ids cells offs pids pcells poffs list : List ℕ} {c
       flagged-is (isAdjacent Z s p) (potentialCount Z s) (getD pids x 0) (a .known .few)
       (a .known .below x l)
 
-  far-is : farIn h w cs bs pids (part list 0 count) (partAt pcells poffs p) ≡ farWalls Z s p
+  far-is : farIn h w cs bs pids (matesIn list) (groupCells ps p) ≡ farWalls Z s p
   unfolding farIn
   far-is =
       rw (mates-are, cells-are)
       (sym (far-walls (a .drawn .sized) cs bs pids (λ c. none) p (flagsOf (mates Z s p)) number-same flag))
 
-  edges-are : edgesIn h w cs bs pids (part list 0 count) ≡ flatMap (edgeOf Z s) (mates Z s p)
+  edges-are : edgesIn h w cs bs pids (matesIn list) ≡ flatMap (edgeOf Z s) (mates Z s p)
   unfolding edgesIn
   edges-are =
-      flat-same (edgeIn h w cs bs pids) (edgeOf Z s) (part list 0 count) (λ q m. edge-is q)
+      flat-same (edgeIn h w cs bs pids) (edgeOf Z s) (matesIn list) (λ q m. edge-is q)
       ∙ ap (flatMap (edgeOf Z s)) mates-are
 
-  walls-are : wallsIn h w cs bs pids p (part list 0 count) (partAt pcells poffs p)
+  walls-are : wallsIn h w cs bs pids p (matesIn list) (groupCells ps p)
       ≡ edgeOf Z s p ++ (flatMap (edgeOf Z s) (mates Z s p) ++ farWalls Z s p)
   unfolding wallsIn
   walls-are = rw (edge-is p, edges-are, far-is)
 
-  module _ {R C D A : List ℕ} {n k : ℕ} {t : RowList} (b : Imaged h w cs bs ids R C n D A k t u) where
+  module _ {o : List ℕ} {t : RowList} (b : Imaged h w cs bs us o t u) where
     abbrev shape : Shape
     shape = shapeOf (flat h w) (entry ids) u
 
     -- a placement looks at the connections only
     abbrev blocksOf : List Point → List Literal
-    blocksOf js = blocksBeside Z s (bare js) pcells poffs (part list 0 count)
+    blocksOf js = blocksBeside Z s (bare js) pcells poffs (matesIn list)
 
     abbrev blocksRow : ℕ → List Literal
-    blocksRow r = blocksBy Z s pcells poffs (part list 0 count) (spots R C n) (spots D A k) r
+    blocksRow r = blocksBy Z s pcells poffs (matesIn list) (cellSpots o) (jointSpots o) r
 
     abbrev joints : Shape → List Point
     joints x = x .connections
 
     by-joints : (x : Shape)
-        → blocksBeside Z s x pcells poffs (part list 0 count) ≡ blocksOf (joints x)
+        → blocksBeside Z s x pcells poffs (matesIn list) ≡ blocksOf (joints x)
     unfolding blocksBeside blocksAmong blockOf laid
     by-joints x = refl
 
@@ -166,7 +176,7 @@ module _ {h w : ℕ} {cs bs ids cells offs pids pcells poffs list : List ℕ} {c
 
     -- the listed rows, as the code reads them
     rows-are : flatMap blocksRow (rowsOf shape)
-        ≡ blocksListed Z s pcells poffs (part list 0 count) (spots R C n) (spots D A k)
+        ≡ blocksListed Z s pcells poffs (matesIn list) (cellSpots o) (jointSpots o)
         (listing (rowsOf shape))
     unfolding blocksListed
     rows-are =
@@ -175,7 +185,7 @@ module _ {h w : ℕ} {cs bs ids cells offs pids pcells poffs list : List ℕ} {c
         (λ i h. ap blocksRow (sym (List·getD-append (rowsOf shape) _ 0 i h)))
 
     blocks-are : flatMap (blockers Z s) (placements Z s u p)
-        ≡ blocksListed Z s pcells poffs (part list 0 count) (spots R C n) (spots D A k) t
+        ≡ blocksListed Z s pcells poffs (matesIn list) (cellSpots o) (jointSpots o) t
     unfolding placements
     blocks-are =
         flat-flat (blockers Z s)
@@ -187,17 +197,17 @@ module _ {h w : ℕ} {cs bs ids cells offs pids pcells poffs list : List ℕ} {c
         ∙ flat-map (λ x. blocksOf (joints x)) (λ r. image r shape) (rowsOf shape)
         ∙ flat-same _ blocksRow (rowsOf shape) (λ r m. row-is r)
         ∙ rows-are
-        ∙ ap (blocksListed Z s pcells poffs (part list 0 count) (spots R C n) (spots D A k))
+        ∙ ap (blocksListed Z s pcells poffs (matesIn list) (cellSpots o) (jointSpots o))
         (sym (b .rows))
 
     abbrev inner : List Literal
     inner = insideIn h w bs ids u
 
     abbrev walls : List Literal
-    walls = wallsIn h w cs bs pids p (part list 0 count) (partAt pcells poffs p)
+    walls = wallsIn h w cs bs pids p (matesIn list) (groupCells ps p)
 
     abbrev blocked : List Literal
-    blocked = blocksListed Z s pcells poffs (part list 0 count) (spots R C n) (spots D A k) t
+    blocked = blocksListed Z s pcells poffs (matesIn list) (cellSpots o) (jointSpots o) t
 
     reason-is : unitReason Z s u p ≡ blocked ++ (inner ++ walls)
     unfolding unitReason
@@ -207,8 +217,8 @@ module _ {h w : ℕ} {cs bs ids cells offs pids pcells poffs list : List ℕ} {c
     room : (m : ℕ) → length (unitReason Z s u p) ≤ m → 0 + length (blocked ++ (inner ++ walls)) ≤ m
     room m l = omega (arith, ap length reason-is)
 
-    pub room-blocks : (m : ℕ) → length (unitReason Z s u p) ≤ m → 0 + length blocked ≤ m
-    room-blocks m l = room-first blocked inner walls 0 m (room m l)
+    pub room-blocks : (m : ℕ) → length (unitReason Z s u p) ≤ m → length blocked ≤ m
+    room-blocks m l = omega (arith, room-first blocked inner walls 0 m (room m l))
 
     module _ {m m′ : List ℕ} {j : ℕ} (l : length (unitReason Z s u p) ≤ length m) (x : Wrote m 0 blocked m′ j) where
       pub room-inside : j + length inner ≤ length m′

@@ -1,18 +1,17 @@
 -- Writing: what the code that writes the reason of a unit is measured by.
 --
---   Numbered             a group's cells stand in the list of cells from where it starts to where the next one does
---   Low mates from to    a part of the list of mates; each of its entries is below 1024
---   Mated                each of its entries is the number of such a group
---   flagsOf xs           for each number below 1024 1 if it is one of xs, otherwise 0
+--   Low mates            a list of mates, of which each is below 1024
+--   Mated .. mates       each of them is the number of a group
+--   flag, flagsOf xs     1 for yes, 0 for no; for each number below 1024 whether it is one of xs
 --   edgesIn gs           Edge of each of the groups gs, over the arrays
 --   farIn gs xs          the walls from the cells xs to other-coloured cells whose potential unit is not one of gs
 --   wallsIn              Edge(P), Edge of each adjacent unit, then the walls to units that are not adjacent
 --   clued h w cs k       the puzzle with the colours that an array spells, and any clues k
---   Arranged             the arrays of the units and the potential units, and the list of P's mates
+--   Arranged .. us ps    the groupings of the units and the potential units, and the list of P's mates
 --   blocksBy r           the blockers of the placements of the unit's image by row r of the table
 --   blocksListed l       those of its images by the listed rows
---   Imaged               the places, the connections and the listed rows of unit U
---   Asked                what a caller gives for unit U: the groups of the page
+--   Imaged .. o l        the outline and the listed rows of unit U
+--   Asked .. us ps       what a caller gives for unit U: the groupings of the page
 use mathlib.Core.Path.{_≡_}
 use mathlib.Core.Bool.{false}
 use mathlib.Core.List.{List, _++_}
@@ -32,34 +31,27 @@ use Rattle.rules.specs.Codes.{statesIn, coloursIn}
 use Rattle.rules.specs.Groups.{entry, unitOf, potentialCount}
 use Rattle.rules.specs.Shapes.{shapeOf, flatTransforms}
 use Rattle.rules.specs.Check.{mates, transformsOf}
-use Rattle.reasons.specs.Arrays.{Part, edgeIn, scanOf}
-use Rattle.groups.specs.declared.Kind.the-variants.{Units}
-use Rattle.groups.specs.Kinds.{joinsIn}
-use Rattle.groups.specs.Parts.{groupsOf}
+use Rattle.reasons.specs.Arrays.{GroupAt, edgeIn, scanOf}
+use Rattle.groups.specs.Grouping.{numbersIn, cellsIn, startsIn, countIn}
 use Rattle.search.specs.Placing.{Drawn, puzzle, bare}
-use Rattle.search.specs.Mates.{Known, Grouped, Leading}
+use Rattle.search.specs.Mates.{mateCount, Gathered, Known, Grouped}
 use Rattle.search.specs.Searching.{blocksBeside}
 use Rattle.shapes.specs.declared.Listed.{Listed as RowList}
 use Rattle.shapes.specs.Listing.{listing}
 use Rattle.shapes.specs.Rows.{rowsOf}
 use Rattle.shapes.specs.Spots.{UnitAt}
 use Rattle.shapes.specs.Joints.{Joined}
-use Rattle.units.specs.Images.{imageJoints}
+use Rattle.shapes.specs.Images.{imageJoints}
 use Rattle.units.specs.Stuck.{Sorted}
 
-pub record Numbered (h w : ℕ) (ids cells offs : List ℕ) (g : ℕ) : Type 0 where
-  pub few : g < 1024
-  pub is : Part h w ids cells (getD offs g 0) (getD offs (g + 1) 0) g
+pub record Low (mates : List ℕ) : Type 0 where
+  pub long : length mates ≡ 1025
+  pub end : mateCount mates ≤ 1024
+  pub each : (i : ℕ) → i < mateCount mates → getD mates i 0 < 1024
 
-pub record Low (mates : List ℕ) (from to : ℕ) : Type 0 where
-  pub long : length mates ≡ 1024
-  pub order : from ≤ to
-  pub end : to ≤ 1024
-  pub each : (i : ℕ) → from ≤ i → i < to → getD mates i 0 < 1024
-
-pub record Mated (h w : ℕ) (ids cells offs mates : List ℕ) (from to : ℕ) : Type 0 where
-  pub low : Low mates from to
-  pub each : (i : ℕ) → from ≤ i → i < to → Numbered h w ids cells offs (getD mates i 0)
+pub record Mated (h w : ℕ) (potential mates : List ℕ) : Type 0 where
+  pub low : Low mates
+  pub each : (i : ℕ) → i < mateCount mates → GroupAt h w potential (getD mates i 0)
 
 unfoldable pub flagsOf : List ℕ → List ℕ
 flagsOf xs = table 1024 (λ q. bit (any (eqb q) xs))
@@ -81,19 +73,19 @@ module _ (h w : ℕ) (cs bs ids : List ℕ) where
 abbrev pub clued : ℕ → ℕ → List ℕ → (ℕ → Option ℕ) → Puzzle
 clued h w cs k = record { page = flat h w; colour = coloursIn cs; clue = k }
 
-pub record Arranged (h w : ℕ) (cs bs ids cells offs pids pcells poffs list : List ℕ) (count u p : ℕ) : Type 0 where
+pub record Arranged (h w : ℕ) (cs bs us ps list : List ℕ) (u p : ℕ) : Type 0 where
   pub drawn : Drawn h w cs
   pub colours : length cs ≡ 1024
   pub borders : length bs ≡ 1984
-  pub lengths : (length ids ≡ 1024) × (length pids ≡ 1024)
   -- the unit U
-  pub unit : Numbered h w ids cells offs u
-  pub number : (c : ℕ) → c < h * w → getD ids c 0 ≡ unitOf (puzzle h w cs) (statesIn bs) c
+  pub unit : GroupAt h w us u
+  pub number : (c : ℕ) → c < h * w → getD (numbersIn us) c 0 ≡ unitOf (puzzle h w cs) (statesIn bs) c
   -- the potential units, among them P
-  pub known : Known h w cs bs pids
-  pub grouped : Grouped h w cs bs pcells poffs (potentialCount (puzzle h w cs) (statesIn bs))
+  pub numbers : length (numbersIn ps) ≡ 1024
+  pub known : Known h w cs bs (numbersIn ps)
+  pub grouped : Grouped h w cs bs (cellsIn ps) (startsIn ps) (potentialCount (puzzle h w cs) (statesIn bs))
   pub one : p < potentialCount (puzzle h w cs) (statesIn bs)
-  pub mates : Leading (mates (puzzle h w cs) (statesIn bs) p) list count
+  pub mates : Gathered (mates (puzzle h w cs) (statesIn bs) p) list
 
 module _ (Z : Puzzle) (s : ℕ → State) (cells offs mates : List ℕ) where
   -- places, connections, row
@@ -103,14 +95,15 @@ module _ (Z : Puzzle) (s : ℕ → State) (cells offs mates : List ℕ) where
   unfoldable pub blocksListed : List Point → List Point → RowList → List Literal
   blocksListed ps js l = upTo (λ j. blocksBy ps js (getD (l .rows) j 0)) (l .count)
 
-pub record Imaged (h w : ℕ) (cs bs ids R C : List ℕ) (n : ℕ) (D A : List ℕ) (k : ℕ) (l : RowList) (u : ℕ) : Type 0 where
-  pub cells : UnitAt h w ids u R C n
-  pub connections : Joined h w (entry ids) u D A k
-  pub rows : l ≡ listing (rowsOf (shapeOf (flat h w) (entry ids) u))
-  pub transforms : transformsOf (puzzle h w cs) (statesIn bs) u ≡ flatTransforms (shapeOf (flat h w) (entry ids) u)
+pub record Imaged (h w : ℕ) (cs bs us o : List ℕ) (l : RowList) (u : ℕ) : Type 0 where
+  pub cells : UnitAt h w us u o
+  pub connections : Joined h w us u o
+  pub rows : l ≡ listing (rowsOf (shapeOf (flat h w) (entry (numbersIn us)) u))
+  pub transforms : transformsOf (puzzle h w cs) (statesIn bs) u
+      ≡ flatTransforms (shapeOf (flat h w) (entry (numbersIn us)) u)
 
-pub record Asked (h w : ℕ) (cs bs ids cells offs pids pcells poffs : List ℕ) (u : ℕ) : Type 0 where
-  pub ready : Sorted h w cs bs ids cells offs pids pcells poffs
+pub record Asked (h w : ℕ) (cs bs us ps : List ℕ) (u : ℕ) : Type 0 where
+  pub ready : Sorted h w cs bs us ps
   pub colours : length cs ≡ 1024
   pub borders : length bs ≡ 1984
-  pub low : u < groupsOf (flat h w) (joinsIn Units h w cs bs) .count
+  pub low : u < countIn us

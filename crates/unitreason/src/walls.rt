@@ -1,20 +1,23 @@
 // The walls in the reason of a unit: those of its potential unit, of the adjacent ones, and to the others.
 ghost use mathlib.Core.Path.{_≡_};
 ghost use Prim.Native.Nat.{_+_, _≤_};
-ghost use lib.ListN.{length, getD};
-ghost use Rattle.lists.specs.Parts.{part};
+ghost use lib.ListN.{length};
 ghost use Rattle.rules.specs.Flat.{Sized};
-ghost use Rattle.reasons.specs.Arrays.{Arrays, Cells};
+ghost use Rattle.groups.specs.Grouping.{numbersIn, cellsIn, startIn, groupCells};
+ghost use Rattle.reasons.specs.Arrays.{Cells, GroupAt};
 ghost use Rattle.reasons.specs.Memory.{Wrote};
-ghost use Rattle.unitreason.specs.Writing.{Numbered, Low, Mated, flagsOf, edgesIn, farIn, wallsIn};
+ghost use Rattle.search.specs.Mates.{matesIn};
+ghost use Rattle.unitreason.specs.Writing.{Low, Mated, flagsOf, edgesIn, farIn, wallsIn};
 use board::Board;
+use groups::Grouping;
+use groups::start_of;
 use reasons::edge;
 use reasons::scan;
 use rules::Side;
 use rules::index;
+use search::mates::Mates;
 
-// Writes Edge of each of the groups that the list of mates has from the place `from` to the place `to`; gives the next
-// place.
+// Writes Edge of each of the groups in the list of mates; gives the next place.
 fn edges_of<'a>(
     memory: &mut [u16],
     start: usize,
@@ -22,53 +25,37 @@ fn edges_of<'a>(
     w: usize,
     colours: &'a [u8; Board::CELL_LIMIT],
     borders: &'a [u8; Board::BORDER_LIMIT],
-    ids: &'a [u16; Board::CELL_LIMIT],
-    cells: &'a [u16; Board::CELL_LIMIT],
-    offs: &'a [u16; 1025],
-    mates: &'a [u16; Board::CELL_LIMIT],
-    from: usize,
-    to: usize,
+    potential: &'a Grouping,
+    mates: &'a Mates,
 ) -> usize
-    requires { ⌜ Sized h w × Arrays (now borders) (now ids) × (length (now colours) ≡ 1024)
-        × Mated h w (now ids) (now cells) (now offs) (now mates) from to
-        × (start + length (edgesIn h w (now colours) (now borders) (now ids) (part (now mates) from to)) ≤ length
-        (now memory)) ⌝ }
+    requires { ⌜ Sized h w × (length (now borders) ≡ 1984) × (length (now colours) ≡ 1024)
+        × Mated h w (now potential) (now mates)
+        × (start + length (edgesIn h w (now colours) (now borders) (numbersIn (now potential)) (matesIn (now mates)))
+        ≤ length (now memory)) ⌝ }
     ensures { λ r. ⌜ Wrote (now (memory .entry)) start
-        (edgesIn h w (now (colours .entry)) (now (borders .entry)) (now (ids .entry))
-        (part (now (mates .entry)) from to)) (now (memory .exit)) r ⌝ }
+        (edgesIn h w (now (colours .entry)) (now (borders .entry)) (numbersIn (now (potential .entry)))
+        (matesIn (now (mates .entry)))) (now (memory .exit)) r ⌝ }
 {
+    let count = index(mates[1024]);
     let mut at = start;
-    let mut i = from;
-    while i < to {
+    let mut i = 0;
+    while i < count {
         let q = index(mates[i]);
-        let first = index(offs[q]);
-        let last = index(offs[q + 1]);
-        at = edge(
-            memory,
-            at,
-            h,
-            w,
-            colours,
-            borders,
-            ids,
-            cells,
-            first,
-            last,
-            q,
-        );
+        at = edge(memory, at, h, w, colours, borders, potential, q);
         i += 1;
     }
     at
 }
 
-// 1 at the number of each group that the list of mates has from the place `from` to the place `to`, 0 elsewhere.
-fn flags_of(mates: &[u16; Board::CELL_LIMIT], from: usize, to: usize) -> [u8; Board::CELL_LIMIT]
-    requires { ⌜ Low (now mates) from to ⌝ }
-    ensures { λ r. ⌜ r ≡ flagsOf (part (now (mates .entry)) from to) ⌝ }
+// 1 at the number of each group in the list of mates, 0 elsewhere.
+fn flags_of(mates: &Mates) -> [u8; Board::CELL_LIMIT]
+    requires { ⌜ Low (now mates) ⌝ }
+    ensures { λ r. ⌜ r ≡ flagsOf (matesIn (now (mates .entry))) ⌝ }
 {
     let mut flagged = [0u8; Board::CELL_LIMIT];
-    let mut i = from;
-    while i < to {
+    let count = index(mates[1024]);
+    let mut i = 0;
+    while i < count {
         let q = index(mates[i]);
         flagged[q] = 1;
         i += 1;
@@ -76,8 +63,8 @@ fn flags_of(mates: &[u16; Board::CELL_LIMIT], from: usize, to: usize) -> [u8; Bo
     flagged
 }
 
-// Writes the walls from the cells `cells[first..last]` to cells of the other colour in groups that the list of mates
-// has not from the place `from` to the place `to`; gives the next place.
+// Writes the walls from the cells of the potential unit p to cells of the other colour in groups that are not in the
+// list of mates; gives the next place.
 fn far_walls<'a>(
     memory: &mut [u16],
     start: usize,
@@ -85,23 +72,22 @@ fn far_walls<'a>(
     w: usize,
     colours: &'a [u8; Board::CELL_LIMIT],
     borders: &'a [u8; Board::BORDER_LIMIT],
-    ids: &'a [u16; Board::CELL_LIMIT],
-    cells: &'a [u16; Board::CELL_LIMIT],
-    first: usize,
-    last: usize,
-    mates: &'a [u16; Board::CELL_LIMIT],
-    from: usize,
-    to: usize,
+    potential: &'a Grouping,
+    p: usize,
+    mates: &'a Mates,
 ) -> usize
-    requires { ⌜ Sized h w × Arrays (now borders) (now ids) × (length (now colours) ≡ 1024)
-        × Cells h w (now cells) first last × Low (now mates) from to
-        × (start + length (farIn h w (now colours) (now borders) (now ids) (part (now mates) from to)
-        (part (now cells) first last)) ≤ length (now memory)) ⌝ }
+    requires { ⌜ Sized h w × (length (now borders) ≡ 1984) × (length (now colours) ≡ 1024)
+        × GroupAt h w (now potential) p × Cells h w (cellsIn (now potential)) (startIn (now potential) p)
+        (startIn (now potential) (p + 1)) × Low (now mates)
+        × (start + length (farIn h w (now colours) (now borders) (numbersIn (now potential)) (matesIn (now mates))
+        (groupCells (now potential) p)) ≤ length (now memory)) ⌝ }
     ensures { λ r. ⌜ Wrote (now (memory .entry)) start
-        (farIn h w (now (colours .entry)) (now (borders .entry)) (now (ids .entry))
-        (part (now (mates .entry)) from to) (part (now (cells .entry)) first last)) (now (memory .exit)) r ⌝ }
+        (farIn h w (now (colours .entry)) (now (borders .entry)) (numbersIn (now (potential .entry)))
+        (matesIn (now (mates .entry))) (groupCells (now (potential .entry)) p)) (now (memory .exit)) r ⌝ }
 {
-    let flagged = flags_of(mates, from, to);
+    let flagged = flags_of(mates);
+    let from = start_of(potential, p);
+    let to = start_of(potential, p + 1);
     scan(
         memory,
         start,
@@ -109,10 +95,9 @@ fn far_walls<'a>(
         w,
         colours,
         borders,
-        ids,
-        cells,
-        first,
-        last,
+        potential,
+        from,
+        to,
         Side::Wall,
         false,
         &flagged,
@@ -128,67 +113,20 @@ pub fn walls_of<'a>(
     w: usize,
     colours: &'a [u8; Board::CELL_LIMIT],
     borders: &'a [u8; Board::BORDER_LIMIT],
-    ids: &'a [u16; Board::CELL_LIMIT],
-    cells: &'a [u16; Board::CELL_LIMIT],
-    offs: &'a [u16; 1025],
-    mates: &'a [u16; Board::CELL_LIMIT],
-    from: usize,
-    to: usize,
+    potential: &'a Grouping,
     p: usize,
+    mates: &'a Mates,
 ) -> usize
-    requires { ⌜ Sized h w × Arrays (now borders) (now ids) × (length (now colours) ≡ 1024)
-        × Mated h w (now ids) (now cells) (now offs) (now mates) from to
-        × Numbered h w (now ids) (now cells) (now offs) p
-        × Cells h w (now cells) (getD (now offs) p 0) (getD (now offs) (p + 1) 0)
-        × (start + length (wallsIn h w (now colours) (now borders) (now ids) p (part (now mates) from to)
-        (part (now cells) (getD (now offs) p 0) (getD (now offs) (p + 1) 0))) ≤ length (now memory)) ⌝ }
+    requires { ⌜ Sized h w × (length (now borders) ≡ 1984) × (length (now colours) ≡ 1024)
+        × Mated h w (now potential) (now mates) × GroupAt h w (now potential) p
+        × Cells h w (cellsIn (now potential)) (startIn (now potential) p) (startIn (now potential) (p + 1))
+        × (start + length (wallsIn h w (now colours) (now borders) (numbersIn (now potential)) p
+        (matesIn (now mates)) (groupCells (now potential) p)) ≤ length (now memory)) ⌝ }
     ensures { λ r. ⌜ Wrote (now (memory .entry)) start
-        (wallsIn h w (now (colours .entry)) (now (borders .entry)) (now (ids .entry)) p
-        (part (now (mates .entry)) from to) (part (now (cells .entry)) (getD (now (offs .entry)) p 0)
-        (getD (now (offs .entry)) (p + 1) 0))) (now (memory .exit)) r ⌝ }
+        (wallsIn h w (now (colours .entry)) (now (borders .entry)) (numbersIn (now (potential .entry))) p
+        (matesIn (now (mates .entry))) (groupCells (now (potential .entry)) p)) (now (memory .exit)) r ⌝ }
 {
-    let first = index(offs[p]);
-    let last = index(offs[p + 1]);
-    let own = edge(
-        memory,
-        start,
-        h,
-        w,
-        colours,
-        borders,
-        ids,
-        cells,
-        first,
-        last,
-        p,
-    );
-    let all = edges_of(
-        memory,
-        own,
-        h,
-        w,
-        colours,
-        borders,
-        ids,
-        cells,
-        offs,
-        mates,
-        from,
-        to,
-    );
-    far_walls(
-        memory,
-        all,
-        h,
-        w,
-        colours,
-        borders,
-        ids,
-        cells,
-        first,
-        last,
-        mates,
-        from,
-        to,
-    )
+    let own = edge(memory, start, h, w, colours, borders, potential, p);
+    let all = edges_of(memory, own, h, w, colours, borders, potential, mates);
+    far_walls(memory, all, h, w, colours, borders, potential, p, mates)
 }

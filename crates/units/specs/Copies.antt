@@ -16,7 +16,8 @@ use Rattle.lists.specs.Parts.{part}
 use Rattle.rules.specs.Page.{State, Point, _⊕_}
 use Rattle.rules.specs.Flat.{flat}
 use Rattle.rules.specs.Shapes.{connectionsAt}
-use Rattle.search.specs.Placing.{puzzle, raised, readingOf, isClear}
+use Rattle.search.specs.Placing.{puzzle, readingOf, isClear}
+use Rattle.shapes.specs.Raising.{raised}
 
 pub record Shift (y x : ℕ) : Type 0 where
   pub down : y < 128

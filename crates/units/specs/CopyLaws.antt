@@ -24,6 +24,7 @@ use Rattle.lists.specs.PartLaws.{part-next, part-split}
 use Rattle.lists.specs.Arithmetic.{le-or-lt}
 use Rattle.lists.specs.AnyAll.{holds-any, all-same, all-map, all-flat}
 use Rattle.rules.specs.Page.{State, Point, Puzzle, Shape, _⊕_, opposite}
+use Rattle.groups.specs.Grouping.{numbersIn, cellsIn, startsIn}
 use Rattle.rules.specs.Flat.{Sized, flat, flatPlace, flatReads}
 use Rattle.rules.specs.Groups.{entry}
 use Rattle.rules.specs.Shapes.{shiftBy, normal, connectionsAt, shapeOf}
@@ -32,12 +33,13 @@ use Rattle.laws.specs.GroupLaws.{members-lt}
 use Rattle.laws.specs.FlatLaws.{row-of}
 use Rattle.reasons.specs.Arrays.{Cells}
 use Rattle.search.specs.JudgeLaws.{place-raised}
-use Rattle.search.specs.Placing.{puzzle, raised, readRaised, readingOf, isClear, fitsOf}
+use Rattle.search.specs.Placing.{puzzle, readRaised, readingOf, isClear, fitsOf}
+use Rattle.shapes.specs.Raising.{raised}
 use Rattle.search.specs.Searching.{groupIn, fitsAmong, fitsBeside}
 use Rattle.shapes.specs.ConnectionLaws.{connections-at}
 use Rattle.shapes.specs.Joints.{jointIf}
 use Rattle.shapes.specs.Spots.{placeAt}
-use Rattle.units.specs.ImageLaws.{lower-raise}
+use Rattle.shapes.specs.ImageLaws.{lower-raise}
 use Rattle.units.specs.SameCells.{fits-clear}
 use Rattle.units.specs.Fitting.{UnitIn, fitsTurned}
 use Rattle.units.specs.FitLaws.{turned-own}
@@ -87,7 +89,19 @@ module _ (h w : ℕ) (cs : List ℕ) (s : ℕ → State) (y x : ℕ) where
     pub cell-no : {a : Bool} → a ≡ below → a ≡ false → false ≡ cellClear h w cs s number g y x c
     cell-no {a} d t = sym (cell-is ∙ ap (λ a. a && right) (sym d ∙ t))
 
-module _ {h w g first last : ℕ} {ids units : List ℕ} (z : Sized h w) (u : UnitIn h w ids g units first last) where
+module _ {h w g : ℕ} {us : List ℕ} (z : Sized h w) (u : UnitIn h w us g) where
+  abbrev ids : List ℕ
+  ids = numbersIn us
+
+  abbrev units : List ℕ
+  units = cellsIn us
+
+  abbrev first : ℕ
+  first = getD (startsIn us) g 0
+
+  abbrev last : ℕ
+  last = getD (startsIn us) (g + 1) 0
+
   pub unit-low : (i : ℕ) → first ≤ i → i < last → getD units i 0 < h * w
   unfolding flat
   unit-low i a b =

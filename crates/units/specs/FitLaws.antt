@@ -2,7 +2,7 @@
 use mathlib.Core.Path.{_≡_, refl, sym, ap, _∙_, subst}
 use mathlib.Core.Bool.{Bool, true, false, cond}
 use mathlib.Core.List.{List, [], _∷_, _++_, Memᴰ·append-left, List·Memᴰ·head}
-use Prim.Native.Nat.{ℕ, _-_, _≤_, _<_}
+use Prim.Native.Nat.{ℕ, _+_, _-_, _≤_, _<_}
 use native.Mathlib.Omega.{arith}
 use lib.Dec.{T, ltb, ltb→lt}
 use lib.ListN.{length, getD, replicate}
@@ -11,10 +11,10 @@ use Rattle.lists.specs.ListLaws.{all-mem, getD-mem}
 use Rattle.lists.specs.Padded.{padded}
 use Rattle.lists.specs.Tests.{anyBelow}
 use Rattle.lists.specs.TestLaws.{any-some, any-witness}
-use Rattle.lists.specs.Parts.{part}
 use Rattle.lists.specs.Booleans.{same-true}
 use Rattle.lists.specs.AnyAll.{any-holds, holds-any, any-same, any-never, any-map}
 use Rattle.rules.specs.Page.{State, Puzzle, Shape}
+use Rattle.groups.specs.Grouping.{numbersIn}
 use Rattle.rules.specs.Flat.{Sized, flat}
 use Rattle.rules.specs.Groups.{entry}
 use Rattle.rules.specs.Check.{laid}
@@ -27,12 +27,14 @@ use Rattle.shapes.specs.Listing.{listing}
 use Rattle.shapes.specs.Rows.{image, fixes, flipListed, rowsBy, rowsOf}
 use Rattle.shapes.specs.Parts.{Part, Placed}
 use Rattle.shapes.specs.PartLaws.{unit-at}
-use Rattle.shapes.specs.Spots.{spots, places, UnitAt}
+use Rattle.groups.specs.Grouping.{startIn, groupCells}
+use Rattle.shapes.specs.Outlines.{rowsIn, columnsIn, cellCount}
+use Rattle.shapes.specs.Spots.{cellSpots, jointSpots, places, UnitAt}
 use Rattle.shapes.specs.SpotLaws.{length-spots}
 use Rattle.shapes.specs.Joints.{Joined}
 use Rattle.shapes.specs.UnitLaws.{transforms-flat}
-use Rattle.units.specs.Images.{imageJoints}
-use Rattle.units.specs.ImageLaws.{image-is}
+use Rattle.shapes.specs.Images.{imageJoints}
+use Rattle.shapes.specs.ImageLaws.{image-is}
 use Rattle.units.specs.SameCells.{same-connections, row-listed, beside-same}
 use Rattle.units.specs.Fitting.{UnitIn, Rows, fitsTurned, fitsRows}
 
@@ -104,13 +106,15 @@ rows-listed t e = subst Rows (sym e) (facts (fixes t 1) (fixes t 3) (flipListed 
         }
 
 module _ (Z : Puzzle) (s : ℕ → State) (cells offs : List ℕ) where
-  module _ (gs : List ℕ) {h w g n k : ℕ} {ids R C D A : List ℕ} (u : UnitAt h w ids g R C n)
-      (j : Joined h w (entry ids) g D A k) where
+  module _ (gs : List ℕ) {h w g : ℕ} {us o : List ℕ} (u : UnitAt h w us g o) (j : Joined h w us g o) where
+    abbrev ids : List ℕ
+    ids = numbersIn us
+
     abbrev shape : Shape
     shape = shapeOf (flat h w) (entry ids) g
 
     abbrev fit : ℕ → Bool
-    fit r = fitsBeside Z s (bare (imageJoints r (spots R C n) (spots D A k))) cells offs gs
+    fit r = fitsBeside Z s (bare (imageJoints r (cellSpots o) (jointSpots o))) cells offs gs
 
     -- a placement looks at the connections only
     turned-listed : fitsTurned Z s cells offs gs shape ≡ any fit (rowsOf shape)
@@ -122,7 +126,7 @@ module _ (Z : Puzzle) (s : ℕ → State) (cells offs : List ℕ) where
         (rowsOf shape) (λ r m. ap (λ js. fitsBeside Z s (bare js) cells offs gs) (image-is u j r)))
 
     full : 1 ≤ length (places h w (entry ids) g)
-    full = omega (arith, u .spotted .some, length-spots R C n, ap length (u .here))
+    full = omega (arith, u .spotted .some, length-spots (rowsIn o) (columnsIn o) (cellCount o), ap length (u .here))
 
     same-fit : (r q : ℕ) → r < 8 → q < 8 → image r shape .cells ≡ image q shape .cells → fit r ≡ fit q
     same-fit r q a b e =
@@ -132,7 +136,7 @@ module _ (Z : Puzzle) (s : ℕ → State) (cells offs : List ℕ) where
         (same q r b a (sym e)) cells offs gs)
 
     -- a row that is not listed gives the cells of one that is
-    pub rows-turned : fitsRows Z s cells offs gs (spots R C n) (spots D A k)
+    pub rows-turned : fitsRows Z s cells offs gs (cellSpots o) (jointSpots o)
         ≡ fitsTurned Z s cells offs gs (shapeOf (flat h w) (entry ids) g)
     unfolding fitsRows
     rows-turned =
@@ -162,14 +166,20 @@ module _ (Z : Puzzle) (s : ℕ → State) (cells offs : List ℕ) where
   turned-own t gs e = holds-any (λ u. fitsBeside Z s u cells offs gs) (own-listed t) e
 
 -- what the unit's part gives to its places
-module _ {h w : ℕ} {ids : List ℕ} {g : ℕ} {cells : List ℕ} {first last : ℕ} (z : Sized h w)
-    (u : UnitIn h w ids g cells first last) where
-  pub unit-part : Part cells first last w
+module _ {h w : ℕ} {us : List ℕ} {g : ℕ} (z : Sized h w) (u : UnitIn h w us g) where
+  pub unit-part : Part us g w
   unit-part =
-      record { long = u .long; order = omega (arith, u .some); inside = u .end; some = z .columns; broad = z .broad }
+      record {
+        group = u .low;
+        long = u .long;
+        order = omega (arith, u .some);
+        inside = u .end;
+        some = z .columns;
+        broad = z .broad;
+      }
 
-  pub unit-placed : {n : ℕ} {R C : List ℕ} → n ≡ last - first → Placed w (part cells first last) n R C
-      → UnitAt h w ids g R C n
-  unit-placed {n} {R} {C} e p =
-      unit-at h w ids g (part cells first last) R C n z (u .numbers) (u .group) p (omega (arith, u .some))
-      (omega (arith, u .some, u .end))
+  pub unit-placed : {o : List ℕ} → Placed w (groupCells us g) o → cellCount o ≡ startIn us (g + 1) - startIn us g
+      → UnitAt h w us g o
+  unit-placed {o} p e =
+      unit-at h w us g (groupCells us g) o z (u .numbers) (u .group) p (omega (arith, u .some, e))
+      (omega (arith, u .some, u .end, e))

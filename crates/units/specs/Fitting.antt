@@ -1,14 +1,14 @@
 -- Whether a unit fits beside its potential unit.
 --
---   Lent R C D A Y X    the lengths of the lent memory: rows and columns, doubled places, raised doubled places
---   UnitIn h w ids g cells first last   the places first to last of the list are the cells of unit g, at least one
+--   Lent o t            the lengths of the memory that is lent for an outline and for the connections of an image
+--   UnitIn h w us g     the grouping has a unit g: its part of the list is its cells, at least one
 --   Rows r              a list of at most eight rows of the table, at least one
 --   fitsTurned          one of the shape's listed transforms fits at a cell of one of the groups
 --   fitsRows            the image by one of the eight rows does, of the connections js of the cells ps
 use mathlib.Core.Path.{_≡_}
 use mathlib.Core.Bool.{Bool}
 use mathlib.Core.List.{List}
-use Prim.Native.Nat.{ℕ, _<_, _≤_}
+use Prim.Native.Nat.{ℕ, _+_, _<_, _≤_}
 use lib.ListN.{length, getD}
 use Rattle.lists.specs.Lists.{any}
 use Rattle.lists.specs.Tests.{anyBelow}
@@ -17,25 +17,24 @@ use Rattle.rules.specs.Page.{State, Point, Puzzle, Shape}
 use Rattle.rules.specs.Flat.{flat}
 use Rattle.rules.specs.Groups.{entry, members}
 use Rattle.rules.specs.Shapes.{flatTransforms}
+use Rattle.groups.specs.Grouping.{numbersIn, cellsIn, startsIn}
 use Rattle.search.specs.Placing.{bare}
 use Rattle.search.specs.Searching.{fitsBeside}
 use Rattle.shapes.specs.declared.Listed.{Listed}
-use Rattle.units.specs.Images.{imageJoints}
+use Rattle.shapes.specs.Images.{imageJoints}
 
-pub record Lent (R C D A Y X : List ℕ) : Type 0 where
-  pub rows : length R ≡ 1024
-  pub columns : length C ≡ 1024
-  pub downs : length D ≡ 2048
-  pub acrosses : length A ≡ 2048
-  pub ys : length Y ≡ 2048
-  pub xs : length X ≡ 2048
+pub record Lent (o t : List ℕ) : Type 0 where
+  pub outline : length o ≡ 6146
+  pub turned : length t ≡ 4096
 
-pub record UnitIn (h w : ℕ) (ids : List ℕ) (g : ℕ) (cells : List ℕ) (first last : ℕ) : Type 0 where
-  pub numbers : length ids ≡ 1024
-  pub long : length cells ≡ 1024
-  pub some : first < last
-  pub end : last ≤ 1024
-  pub group : part cells first last ≡ members (flat h w) (entry ids) g
+pub record UnitIn (h w : ℕ) (us : List ℕ) (g : ℕ) : Type 0 where
+  pub low : g < 1024
+  pub numbers : length (numbersIn us) ≡ 1024
+  pub long : length (cellsIn us) ≡ 1024
+  pub some : getD (startsIn us) g 0 < getD (startsIn us) (g + 1) 0
+  pub end : getD (startsIn us) (g + 1) 0 ≤ 1024
+  pub group : part (cellsIn us) (getD (startsIn us) g 0) (getD (startsIn us) (g + 1) 0)
+      ≡ members (flat h w) (entry (numbersIn us)) g
 
 pub record Rows (r : Listed) : Type 0 where
   pub long : length (r .rows) ≡ 8

@@ -1,10 +1,10 @@
 -- Laws of the memory of the search: adjacent units, planes and mask.
 use mathlib.Core.Path.{_≡_, refl, sym, _∙_}
-use mathlib.Core.List.{List}
+use mathlib.Core.List.{List, [], _∷_, _++_}
 use Prim.Native.Nat.{ℕ, zero, suc, _+_, _-_, _<_, _≤_}
 use native.Mathlib.Omega.{arith}
 use lib.ListN.{length, getD, set, replicate, length-append, length-set, length-replicate}
-use lib.Seq.{getD-set-same, getD-set-other, take-append-le, take-length}
+use lib.Seq.{getD-set-same, getD-set-other, getD-append-add, take-append-le, take-length}
 use Rattle.planes.specs.DrawLaws.{planes-long}
 use Rattle.lists.specs.Lists.{_∈_, range}
 use Rattle.lists.specs.Padded.{padded}
@@ -15,11 +15,12 @@ use Rattle.lists.specs.Arithmetic.{if-same}
 use Rattle.rules.specs.Check.{adjacent, mates}
 use Rattle.rules.specs.Codes.{statesIn}
 use Rattle.rules.specs.Groups.{potentialCount}
+use Rattle.groups.specs.Grouping.{cellsIn, startsIn}
 use Rattle.reasons.specs.Arrays.{Cells}
-use Rattle.search.specs.Mates.{OneOf, Leading}
+use Rattle.search.specs.Mates.{OneOf, Gathered}
 use Rattle.search.specs.Placing.{puzzle, bare}
 use Rattle.search.specs.Searching.{fitsBeside}
-use Rattle.search.specs.SearchLaws.{mates-low, beside-leading}
+use Rattle.search.specs.SearchLaws.{mates-low, beside-gathered}
 use Rattle.planes.specs.Planes.{planesOf}
 use Rattle.planes.specs.Masks.{Sizes, Answers}
 use Rattle.planes.specs.FitLaws.{beside-answers}
@@ -57,18 +58,18 @@ adjoined-more {n = n} k {q} m =
     record { each = λ p l. if-same p n (λ e. rw e (q, m)) (λ d. k .each p (omega arith)) }
 
 -- a potential unit that the arrays have
-module _ {h w : ℕ} {cs bs ids cells offs : List ℕ} {p : ℕ} (k : Home h w cs bs ids cells offs p) where
+module _ {h w : ℕ} {cs bs ps : List ℕ} {p : ℕ} (k : Home h w cs bs ps p) where
   pub home-few : p < 1024
   home-few = omega (arith, k .low, k .known .few)
 
-  pub home-cells : Cells h w cells (getD offs p 0) (getD offs (p + 1) 0)
+  pub home-cells : Cells h w (cellsIn ps) (getD (startsIn ps) p 0) (getD (startsIn ps) (p + 1) 0)
   home-cells = k .grouped .each p (k .low)
 
   pub mate-few : {q : ℕ} → q ∈ mates (puzzle h w cs) (statesIn bs) p → q < 1024
   mate-few {q} m = omega (arith, mates-low (k .grouped) p q m, k .known .few)
 
   pub mate-cells : {q : ℕ} → q ∈ mates (puzzle h w cs) (statesIn bs) p
-      → Cells h w cells (getD offs q 0) (getD offs (q + 1) 0)
+      → Cells h w (cellsIn ps) (getD (startsIn ps) q 0) (getD (startsIn ps) (q + 1) 0)
   mate-cells {q} m = k .grouped .each q (mates-low (k .grouped) p q m)
 
   pub mate-kept : {q : ℕ} → q ∈ mates (puzzle h w cs) (statesIn bs) p → OneOf (mates (puzzle h w cs) (statesIn bs) p) q
@@ -86,25 +87,35 @@ module _ {h w : ℕ} {cs bs ids cells offs : List ℕ} {p : ℕ} (k : Home h w c
         k .known .few,
       )
 
-  mates-lead : let xs = mates (puzzle h w cs) (statesIn bs) p in Leading xs (padded 1024 0 xs) (length xs)
-  mates-lead =
+  abbrev mates-list : List ℕ
+  mates-list = let xs = mates (puzzle h w cs) (statesIn bs) p in padded 1024 0 xs ++ (length xs ∷ [])
+
+  mates-gathered : Gathered (mates (puzzle h w cs) (statesIn bs) p) mates-list
+  mates-gathered =
       let xs = mates (puzzle h w cs) (statesIn bs) p in
-      let zs = replicate {A = ℕ} (1024 - length xs) 0 in
+      let n = length xs in
+      let zs = replicate {A = ℕ} (1024 - n) 0 in
+      let long : length (xs ++ zs) ≡ 1024 =
+      omega (arith, mates-few, length-append xs zs, length-replicate {A = ℕ} (1024 - n) 0) in
+      let count : getD mates-list 1024 0 ≡ n = let e : length (xs ++ zs) + 0 ≡ 1024 = omega arith in
+      rw e at (getD-append-add (xs ++ zs) (n ∷ []) 0 0) in
+      let most = mates-few in
       record {
-        long = omega (arith, mates-few, length-append xs zs, length-replicate {A = ℕ} (1024 - length xs) 0);
-        few = mates-few;
+        long = omega (arith, length-append (xs ++ zs) (n ∷ []));
+        few = omega arith;
         first =
-            let z : length xs - 0 ≡ length xs = omega arith in
-            rw z (take-append-le (length xs) xs zs (omega arith) ∙ take-length xs);
+            let z : n - 0 ≡ n = omega arith in
+            rw (count, z)
+            (take-append-le n (xs ++ zs) (n ∷ []) (omega arith)
+            ∙ (take-append-le n xs zs (omega arith) ∙ take-length xs));
       }
 
-module _ (h w : ℕ) (cs bs cells offs : List ℕ) where
-  pub held-start : Held h w cs bs cells offs (replicate 192 0) (replicate 33 0) (replicate 1024 0)
+module _ (h w : ℕ) (cs bs ps : List ℕ) where
+  pub held-start : Held h w cs bs ps (replicate 192 0) (replicate 33 0)
   held-start =
       record {
         long = length-replicate 192 zero;
         size = length-replicate 33 zero;
-        room = length-replicate 1024 zero;
         none = λ e. refl;
         some = λ q e. absurd (never q e);
       }
@@ -112,34 +123,34 @@ module _ (h w : ℕ) (cs bs cells offs : List ℕ) where
       never : (q : ℕ) → _≡_ {A = ℕ} (getD (replicate 33 0) 32 0) (q + 1) → ⊥
       never q e = let z : _≡_ {A = ℕ} 0 (q + 1) = e in omega arith
 
-module _ {h w : ℕ} {cs bs cells offs p m list : List ℕ} where
+module _ {h w : ℕ} {cs bs ps p m : List ℕ} where
   -- planes that are drawn stay
-  pub held-planes : Held h w cs bs cells offs p m list → (getD m 32 0 ≡ 0 → ⊥) → p ≡ planesOf h w cs bs
+  pub held-planes : Held h w cs bs ps p m → (getD m 32 0 ≡ 0 → ⊥) → p ≡ planesOf h w cs bs
   held-planes k e = k .some (getD m 32 0 - 1) (last (getD m 32 0) e) .planes
     where
       last : (n : ℕ) → (n ≡ 0 → ⊥) → n ≡ n - 1 + 1
       last zero f = absurd (f refl)
       last (suc n) f = omega arith
 
-module _ {h w : ℕ} {cs bs cells offs p m : List ℕ} {q : ℕ} (k : HeldOf h w cs bs cells offs q p m) where
-  pub held-of : {list : List ℕ} → length list ≡ 1024 → Held h w cs bs cells offs p m list
-  held-of l =
+module _ {h w : ℕ} {cs bs ps p m : List ℕ} {q : ℕ} (k : HeldOf h w cs bs ps q p m) where
+  pub held-of : Held h w cs bs ps p m
+  held-of =
       record {
         long = planes-long h w cs bs (k .planes);
         size = k .mask .size;
-        room = l;
         none = λ e. let z : _≡_ {A = ℕ} 0 1 = omega (arith, k .name) in absurd (omega arith);
         some = λ r e. let d : q ≡ r = omega (arith, k .name) in rw d at k;
       }
 
-  module _ {ids : List ℕ} (a : Home h w cs bs ids cells offs q) where
+  module _ (a : Home h w cs bs ps q) where
     pub held-sizes : Sizes h p m
     held-sizes =
         record { tall = a .drawn .sized .tall; planes = planes-long h w cs bs (k .planes); mask = k .mask .size }
 
     pub held-answers : Answers h p m
-        (λ js. fitsBeside (puzzle h w cs) (statesIn bs) (bare js) cells offs (mates (puzzle h w cs) (statesIn bs) q))
+        (λ js. fitsBeside (puzzle h w cs) (statesIn bs) (bare js) (cellsIn ps) (startsIn ps)
+        (mates (puzzle h w cs) (statesIn bs) q))
     held-answers =
-        let l = mates-lead a in
-        let b = beside-leading (a .grouped) (a .known) q l in
+        let l = mates-gathered a in
+        let b = beside-gathered ps (a .grouped) (a .known) q l in
         rw (k .planes, ← l .first) (beside-answers b bs (a .drawn) (rw (l .first) (k .mask)))

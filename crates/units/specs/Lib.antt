@@ -1,6 +1,4 @@
 pub mod SameCells
-pub mod Images
-pub mod ImageLaws
 pub mod Fitting
 pub mod FitLaws
 pub mod Copies

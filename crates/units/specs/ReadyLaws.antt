@@ -23,9 +23,9 @@ use Rattle.laws.specs.FlatPage.{flat-bordered}
 use Rattle.laws.specs.GroupLaws.{members-some}
 use Rattle.reasons.specs.Arrays.{Cells}
 use Rattle.groups.specs.declared.Kind.the-variants.{Units, Potential}
-use Rattle.groups.specs.declared.Groups.{Groups}
 use Rattle.groups.specs.Kinds.{linkOf, coloured, joinsIn}
-use Rattle.groups.specs.Parts.{groupsOf, partOf}
+use Rattle.groups.specs.Parts.{Groups, groupsOf, partOf}
+use Rattle.groups.specs.Grouping.{numbersIn, cellsIn, startsIn, countIn, Filled}
 use Rattle.groups.specs.PartLaws.{ids-entry, ids-length, ids-lt, count-le, offs-next, offs-le, cells-long}
 use Rattle.groups.specs.PartLaws.{cells-lt, part-members, cell-at}
 use Rattle.search.specs.Placing.{puzzle}
@@ -82,15 +82,18 @@ module _ {h w : ℕ} (z : Sized h w) (link : ℕ → Bool) where
       }
 
   -- a group's part of the list of cells
-  pub own-part : (g : ℕ) → g < L .count
-      → UnitIn h w (L .ids) g (L .cells) (getD (L .offs) g 0) (getD (L .offs) (g + 1) 0)
-  own-part g l =
+  pub own-part : {us : List ℕ} → Filled L us → (g : ℕ) → g < L .count → UnitIn h w us g
+  unfolding flat
+  own-part f g l =
       record {
-        numbers = ids-length (flat h w) link some few;
-        long = cells-long (flat h w) link some few;
-        some = rises g l;
-        end = omega (arith, ends g l, counts z .cells);
-        group = group g ∙ ap (λ f. members (flat h w) f g) (sym (ids-entry (flat h w) link some few));
+        low = omega (arith, l, count-le (flat h w) link some few, counts z .cells);
+        numbers = rw (f .numbers) (ids-length (flat h w) link some few);
+        long = rw (f .cells) (cells-long (flat h w) link some few);
+        some = rw (f .starts) (rises g l);
+        end = rw (f .starts) (omega (arith, ends g l, counts z .cells));
+        group =
+            rw (f .numbers, f .cells, f .starts)
+            (group g ∙ ap (λ f. members (flat h w) f g) (sym (ids-entry (flat h w) link some few)));
       }
 
   head-at : (g : ℕ) → g < L .count → getD (L .cells) (getD (L .offs) g 0) 0 ≡ headOf (members (flat h w) number g)
@@ -149,8 +152,22 @@ module _ {h w : ℕ} (z : Sized h w) (cs bs : List ℕ) where
       (ap (λ f. flatTransforms (shapeOf (flat h w) f u)) (sym own-numbers))
 
 -- the arrays together
-module _ {h w : ℕ} {cs bs ids cells offs pids pcells poffs : List ℕ}
-    (r : Sorted h w cs bs ids cells offs pids pcells poffs) where
+module _ {h w : ℕ} {cs bs us ps : List ℕ} (r : Sorted h w cs bs us ps) where
+  abbrev ids : List ℕ
+  ids = numbersIn us
+
+  abbrev cells : List ℕ
+  cells = cellsIn us
+
+  abbrev offs : List ℕ
+  offs = startsIn us
+
+  abbrev pcells : List ℕ
+  pcells = cellsIn ps
+
+  abbrev poffs : List ℕ
+  poffs = startsIn ps
+
   abbrev Z : Puzzle
   Z = puzzle h w cs
 
@@ -167,19 +184,19 @@ module _ {h w : ℕ} {cs bs ids cells offs pids pcells poffs : List ℕ}
   possible = joinsIn Potential h w cs bs
 
   pub units-are : entry ids ≡ unitOf Z s
-  units-are = ap entry (r .units-ids) ∙ own-numbers size cs bs
+  units-are = ap entry (r .units .numbers) ∙ own-numbers size cs bs
 
-  pub unit-few : groupsOf (flat h w) own .count ≤ 1024
-  unit-few = own-few size cs bs
+  pub unit-few : countIn us ≤ 1024
+  unit-few = rw (r .units .count) (own-few size cs bs)
 
-  potential-known : Known h w cs bs pids
-  potential-known = rw (r .potential-ids) (known-of size cs bs)
+  potential-known : Known h w cs bs (numbersIn ps)
+  potential-known = rw (r .potential .numbers) (known-of size cs bs)
 
-  potential-grouped : Grouped h w cs bs pcells poffs (groupsOf (flat h w) possible .count)
-  potential-grouped = rw (r .potential-cells, r .potential-offs) (grouped-of size cs bs)
+  potential-grouped : Grouped h w cs bs pcells poffs (countIn ps)
+  potential-grouped = rw (r .potential .cells, r .potential .starts, r .potential .count) (grouped-of size cs bs)
 
   -- each of the potential units is in the arrays
-  pub home-at : (p : ℕ) → p < groupsOf (flat h w) possible .count → Home h w cs bs pids pcells poffs p
+  pub home-at : (p : ℕ) → p < countIn ps → Home h w cs bs ps p
   home-at p l =
       record {
         drawn = r .drawn;
@@ -189,7 +206,7 @@ module _ {h w : ℕ} {cs bs ids cells offs pids pcells poffs : List ℕ}
       }
 
   -- a potential unit has a first cell
-  potential-first : (q : ℕ) → q < groupsOf (flat h w) possible .count
+  potential-first : (q : ℕ) → q < countIn ps
       → getD pcells (getD poffs q 0) 0 ∈ groupIn pcells poffs q
   unfolding groupIn
   potential-first q l =
@@ -198,36 +215,39 @@ module _ {h w : ℕ} {cs bs ids cells offs pids pcells poffs : List ℕ}
       (List·Memᴰ·head refl)
     where
       potential-rises : getD poffs q 0 < getD poffs (q + 1) 0
-      potential-rises = rw (r .potential-offs) (rises size possible q l)
+      potential-rises = rw (r .potential .starts) (rises size possible q (rw (r .potential .count) at l))
 
-  module _ (u : ℕ) (l : u < groupsOf (flat h w) own .count) where
-    pub unit-in : UnitIn h w ids u cells (getD offs u 0) (getD offs (u + 1) 0)
-    unit-in = rw (r .units-ids, r .units-cells, r .units-offs) (own-part size own u l)
+  module _ (u : ℕ) (l : u < countIn us) where
+    mine-low : u < groupsOf (flat h w) own .count
+    mine-low = rw (r .units .count) at l
+
+    pub unit-in : UnitIn h w us u
+    unit-in = own-part size own (r .units) u mine-low
 
     pub head-low : getD cells (getD offs u 0) 0 < h * w
     unfolding flat
     head-low =
-        rw (r .units-cells, r .units-offs)
+        rw (r .units .cells, r .units .starts)
         (cells-lt (flat h w) own (some size own) (few size own) (getD (groupsOf (flat h w) own .offs) u 0)
-        (omega (arith, rises size own u l, ends size own u l)))
+        (omega (arith, rises size own u mine-low, ends size own u mine-low)))
 
     -- the unit's potential unit
     abbrev home : ℕ
-    home = getD pids (getD cells (getD offs u 0) 0) 0
+    home = getD (numbersIn ps) (getD cells (getD offs u 0) 0) 0
 
     pub home-is : home ≡ potentialOf Z s (getD cells (getD offs u 0) 0)
     home-is = potential-known .number (getD cells (getD offs u 0) 0) head-low
 
-    home-count : home < groupsOf (flat h w) possible .count
+    home-count : home < countIn ps
     home-count = rw (potential-grouped .all) (potential-known .below (getD cells (getD offs u 0) 0) head-low)
 
-    pub home-of : Home h w cs bs pids pcells poffs home
+    pub home-of : Home h w cs bs ps home
     home-of = home-at home home-count
 
     pub transforms-are : transformsOf Z s u ≡ flatTransforms (shapeOf (flat h w) (entry ids) u)
     transforms-are =
-        own-transforms size cs bs u l
-        ∙ ap (λ l. flatTransforms (shapeOf (flat h w) (entry l) u)) (sym (r .units-ids))
+        own-transforms size cs bs u mine-low
+        ∙ ap (λ l. flatTransforms (shapeOf (flat h w) (entry l) u)) (sym (r .units .numbers))
 
     placed : (p : ℕ) → any (isFit Z s) (placements Z s u p)
         ≡ fitsTurned Z s pcells poffs (mates Z s p) (shapeOf (flat h w) (entry ids) u)
@@ -243,7 +263,7 @@ module _ {h w : ℕ} {cs bs ids cells offs pids pcells poffs : List ℕ}
 
     pub head-of : getD cells (getD offs u 0) 0 ≡ headOf (members (flat h w) (unitOf Z s) u)
     unfolding joinsIn linkOf coloured
-    head-of = rw (r .units-cells, r .units-offs) (head-at size own u l)
+    head-of = rw (r .units .cells, r .units .starts) (head-at size own u mine-low)
 
     first-cell : (xs : List ℕ) → 1 ≤ length xs
         → fitsOn Z s u xs ≡ any (isFit Z s) (placements Z s u (potentialOf Z s (headOf xs)))
@@ -253,7 +273,7 @@ module _ {h w : ℕ} {cs bs ids cells offs pids pcells poffs : List ℕ}
 
     own-full : 1 ≤ length (members (flat h w) (unitOf Z s) u)
     unfolding joinsIn linkOf coloured
-    own-full = full size own u l
+    own-full = full size own u mine-low
 
     -- what the code finds for a unit is what the definition asks
     pub fits-home : fitsTurned Z s pcells poffs (mates Z s home) (shapeOf (flat h w) (entry ids) u) ≡ fitsUnit Z s u
@@ -270,10 +290,10 @@ module _ {h w : ℕ} {cs bs ids cells offs pids pcells poffs : List ℕ}
     -- with one, a unit of one cell fits
     pub single-unit : getD offs (u + 1) 0 ≡ getD offs u 0 + 1 → {q : ℕ} → q ∈ mates Z s home → fitsUnit Z s u ≡ true
     single-unit one {q} m =
-        let l : q < groupsOf (flat h w) possible .count = mates-low potential-grouped home q m in
+        let l : q < countIn ps = mates-low potential-grouped home q m in
         sym fits-home ∙ single-fits Z s pcells poffs unit-in one m (potential-first q l)
 
     -- so it does where every potential unit has one
-    pub sure-unit : getD offs (u + 1) 0 ≡ getD offs u 0 + 1 → Adjoined h w cs bs (groupsOf (flat h w) possible .count)
+    pub sure-unit : getD offs (u + 1) 0 ≡ getD offs u 0 + 1 → Adjoined h w cs bs (countIn ps)
         → fitsUnit Z s u ≡ true
     sure-unit one k = single-unit one (k .each home home-count .1)

@@ -12,6 +12,7 @@ use Rattle.lists.specs.Arithmetic.{if-same}
 use Rattle.lists.specs.PartLaws.{part-one}
 use Rattle.lists.specs.AnyAll.{holds-any}
 use Rattle.rules.specs.Page.{Hop, State, Point, Puzzle, Shape}
+use Rattle.groups.specs.Grouping.{numbersIn, cellsIn, startsIn}
 use Rattle.rules.specs.Flat.{flat, hopIf, hopBelow, hopRight, aheadAt, cellAt}
 use Rattle.rules.specs.Groups.{entry, members}
 use Rattle.rules.specs.Check.{laid, judge}
@@ -88,11 +89,14 @@ module _ (Z : Puzzle) (s : ℕ → State) (cells offs : List ℕ) where
   bare-beside t e {q = q} {x = x} m n =
       holds-any (λ Q. any (fitsOf Z s t) (groupIn cells offs Q)) m (holds-any (fitsOf Z s t) n (bare-fits t e x))
 
-  pub single-fits : {h w g first last : ℕ} {ids units : List ℕ} → UnitIn h w ids g units first last
-      → last ≡ first + 1 → {gs : List ℕ} {q x : ℕ} → q ∈ gs → x ∈ groupIn cells offs q
-      → fitsTurned Z s cells offs gs (shapeOf (flat h w) (entry ids) g) ≡ true
-  single-fits {h} {w} {g} {first} {last} {ids} {units} u e {gs} m n =
-      let shape = shapeOf (flat h w) (entry ids) g in
-      let alone : members (flat h w) (entry ids) g ≡ getD units first 0 ∷ [] =
-      sym (u .group) ∙ rw e (part-one units first (omega (arith, u .some, u .end, u .long))) in
-      turned-own Z s cells offs shape gs (bare-beside shape (connections-none h w (entry ids) g _ alone) m n)
+  pub single-fits : {h w g : ℕ} {us : List ℕ} → UnitIn h w us g
+      → getD (startsIn us) (g + 1) 0 ≡ getD (startsIn us) g 0 + 1 → {gs : List ℕ} {q x : ℕ} → q ∈ gs
+      → x ∈ groupIn cells offs q
+      → fitsTurned Z s cells offs gs (shapeOf (flat h w) (entry (numbersIn us)) g) ≡ true
+  single-fits {h} {w} {g} {us} u e {gs} m n =
+      let first = getD (startsIn us) g 0 in
+      let number = entry (numbersIn us) in
+      let shape = shapeOf (flat h w) number g in
+      let alone : members (flat h w) number g ≡ getD (cellsIn us) first 0 ∷ [] =
+      sym (u .group) ∙ rw e (part-one (cellsIn us) first (omega (arith, u .some, u .end, u .long))) in
+      turned-own Z s cells offs shape gs (bare-beside shape (connections-none h w number g _ alone) m n)

@@ -7,7 +7,7 @@
 --   fitsUnit U          the same
 --   potentialIn U       the potential unit of unit U: that of its first cell
 --   stuckHit n U        step 3's hit, where U is the first of n units that does not fit, or n
---   Sorted              the arrays of the units and of the potential units
+--   Sorted .. us ps     the groupings are those of the units and of the potential units
 use mathlib.Core.Path.{_≡_}
 use mathlib.Core.Bool.{Bool, true, cond}
 use mathlib.Core.List.{List, [], _∷_}
@@ -23,6 +23,7 @@ use Rattle.rules.specs.Check.{Reason, isFit, placements, unitReason}
 use Rattle.groups.specs.declared.Kind.the-variants.{Units, Potential}
 use Rattle.groups.specs.Kinds.{joinsIn}
 use Rattle.groups.specs.Parts.{groupsOf}
+use Rattle.groups.specs.Grouping.{Filled}
 use Rattle.search.specs.Placing.{Drawn}
 
 -- the first number from i on that fails the test, among n; i + n if none does
@@ -57,11 +58,7 @@ module _ (Z : Puzzle) (s : ℕ → State) where
   unfoldable pub stuckHit : ℕ → ℕ → Option Reason
   stuckHit n U = cond (ltb U n) (some (unitReason Z s U (potentialIn U))) none
 
-pub record Sorted (h w : ℕ) (cs bs ids cells offs pids pcells poffs : List ℕ) : Type 0 where
+pub record Sorted (h w : ℕ) (cs bs us ps : List ℕ) : Type 0 where
   pub drawn : Drawn h w cs
-  pub units-ids : ids ≡ groupsOf (flat h w) (joinsIn Units h w cs bs) .ids
-  pub units-cells : cells ≡ groupsOf (flat h w) (joinsIn Units h w cs bs) .cells
-  pub units-offs : offs ≡ groupsOf (flat h w) (joinsIn Units h w cs bs) .offs
-  pub potential-ids : pids ≡ groupsOf (flat h w) (joinsIn Potential h w cs bs) .ids
-  pub potential-cells : pcells ≡ groupsOf (flat h w) (joinsIn Potential h w cs bs) .cells
-  pub potential-offs : poffs ≡ groupsOf (flat h w) (joinsIn Potential h w cs bs) .offs
+  pub units : Filled (groupsOf (flat h w) (joinsIn Units h w cs bs)) us
+  pub potential : Filled (groupsOf (flat h w) (joinsIn Potential h w cs bs)) ps

@@ -5,6 +5,7 @@ ghost use mathlib.Core.Bool.{true, _&&_, cond};
 ghost use Prim.Native.Nat.{_+_, _*_, _%_, _<_, _≤_};
 ghost use lib.Dec.{eqb};
 ghost use lib.ListN.{getD};
+ghost use Rattle.groups.specs.Grouping.{numbersIn, cellsIn, startsIn};
 ghost use Rattle.rules.specs.Codes.{statesIn};
 ghost use Rattle.rules.specs.Flat.{flat};
 ghost use Rattle.rules.specs.Groups.{entry};
@@ -14,8 +15,10 @@ ghost use Rattle.search.specs.Placing.{Drawn, puzzle, readRaised, readingOf, is
 ghost use Rattle.search.specs.Searching.{fitsAmong};
 ghost use Rattle.units.specs.Fitting.{UnitIn};
 ghost use Rattle.units.specs.Copies.{Shift, soonEnd, soonIn, cellClear};
-use crate::number_at;
-use crate::start_at;
+use groups::Grouping;
+use groups::cell_at;
+use groups::group_of;
+use groups::start_of;
 use search::is_clear;
 use search::read_place;
 
@@ -25,7 +28,7 @@ fn joint_clear<'a>(
     w: usize,
     colours: &'a [u8; 1024],
     borders: &'a [u8; 1984],
-    ids: &'a [u16; 1024],
+    units: &'a Grouping,
     g: usize,
     on: bool,
     to: usize,
@@ -33,12 +36,12 @@ fn joint_clear<'a>(
     x: usize,
 ) -> bool
     requires { ⌜ Drawn h w (now colours) × (on ≡ true → to < 1024) × (1 ≤ y % 2 + x % 2) × (y < 256) × (x < 256) ⌝ }
-    ensures { λ r. ⌜ r ≡ cond (on && eqb (entry (now (ids .entry)) to) g)
+    ensures { λ r. ⌜ r ≡ cond (on && eqb (entry (numbersIn (now (units .entry))) to) g)
         (isClear (readingOf (puzzle h w (now (colours .entry))) (statesIn (now (borders .entry)))
         (readRaised h w y x))) true ⌝ }
 {
     if on {
-        if number_at(ids, to) == g {
+        if group_of(units, to) == g {
             return is_clear(read_place(h, w, colours, borders, y, x));
         }
     }
@@ -52,7 +55,7 @@ fn cell_clear<'a>(
     w: usize,
     colours: &'a [u8; 1024],
     borders: &'a [u8; 1984],
-    ids: &'a [u16; 1024],
+    units: &'a Grouping,
     g: usize,
     c: usize,
     y: usize,
@@ -60,7 +63,7 @@ fn cell_clear<'a>(
 ) -> bool
     requires { ⌜ Drawn h w (now colours) × (c < h * w) × Shift y x ⌝ }
     ensures { λ r. ⌜ r ≡ cellClear h w (now (colours .entry)) (statesIn (now (borders .entry)))
-        (entry (now (ids .entry))) g y x c ⌝ }
+        (entry (numbersIn (now (units .entry)))) g y x c ⌝ }
 {
     let row = c / w;
     let column = c % w;
@@ -73,7 +76,7 @@ fn cell_clear<'a>(
         w,
         colours,
         borders,
-        ids,
+        units,
         g,
         below,
         c + w,
@@ -85,7 +88,7 @@ fn cell_clear<'a>(
             w,
             colours,
             borders,
-            ids,
+            units,
             g,
             right,
             c + 1,
@@ -96,31 +99,29 @@ fn cell_clear<'a>(
     false
 }
 
-// Whether unit `g`, shifted so that its first cell lies on the origin `o`, fits. Its cells stand from the place `first`
-// of the list of units to the place `last`.
+// Whether unit `g`, shifted so that its first cell lies on the origin `o`, fits.
 fn copy_fits<'a>(
     h: usize,
     w: usize,
     colours: &'a [u8; 1024],
     borders: &'a [u8; 1984],
-    ids: &'a [u16; 1024],
+    units: &'a Grouping,
     g: usize,
-    units: &'a [u16; 1024],
-    first: usize,
-    last: usize,
     o: usize,
 ) -> bool
-    requires { ⌜ Drawn h w (now colours) × UnitIn h w (now ids) g (now units) first last × (o < h * w) ⌝ }
+    requires { ⌜ Drawn h w (now colours) × UnitIn h w (now units) g × (o < h * w) ⌝ }
     ensures { λ r. ⌜ r ≡ fitsOf (puzzle h w (now (colours .entry))) (statesIn (now (borders .entry)))
-        (shapeOf (flat h w) (entry (now (ids .entry))) g) o ⌝ }
+        (shapeOf (flat h w) (entry (numbersIn (now (units .entry)))) g) o ⌝ }
 {
-    let f = number_at(units, first);
+    let first = start_of(units, g);
+    let last = start_of(units, g + 1);
+    let f = cell_at(units, first);
     let y = 2 * (o / w) + (64 - 2 * (f / w));
     let x = 2 * (o % w) + (64 - 2 * (f % w));
     let mut i = first;
     while i < last {
-        let c = number_at(units, i);
-        if cell_clear(h, w, colours, borders, ids, g, c, y, x) {
+        let c = cell_at(units, i);
+        if cell_clear(h, w, colours, borders, units, g, c, y, x) {
             i += 1;
         } else {
             return false;
@@ -146,26 +147,24 @@ pub fn copy_fits_soon<'a>(
     w: usize,
     colours: &'a [u8; 1024],
     borders: &'a [u8; 1984],
-    ids: &'a [u16; 1024],
+    units: &'a Grouping,
     g: usize,
-    units: &'a [u16; 1024],
-    first: usize,
-    last: usize,
-    cells: &'a [u16; 1024],
-    offs: &'a [u16; 1025],
+    potential: &'a Grouping,
     q: usize,
 ) -> bool
-    requires { ⌜ Drawn h w (now colours) × UnitIn h w (now ids) g (now units) first last × (q < 1024)
-        × Cells h w (now cells) (getD (now offs) q 0) (getD (now offs) (q + 1) 0) ⌝ }
+    requires { ⌜ Drawn h w (now colours) × UnitIn h w (now units) g × (q < 1024)
+        × Cells h w (cellsIn (now potential)) (getD (startsIn (now potential)) q 0)
+        (getD (startsIn (now potential)) (q + 1) 0) ⌝ }
     ensures { λ r. ⌜ r ≡ fitsAmong (puzzle h w (now (colours .entry))) (statesIn (now (borders .entry)))
-        (shapeOf (flat h w) (entry (now (ids .entry))) g) (soonIn (now (cells .entry)) (now (offs .entry)) q) ⌝ }
+        (shapeOf (flat h w) (entry (numbersIn (now (units .entry)))) g)
+        (soonIn (cellsIn (now (potential .entry))) (startsIn (now (potential .entry))) q) ⌝ }
 {
-    let from = start_at(offs, q);
-    let to = soon_end(from, start_at(offs, q + 1));
+    let from = start_of(potential, q);
+    let to = soon_end(from, start_of(potential, q + 1));
     let mut i = from;
     while i < to {
-        let o = number_at(cells, i);
-        if copy_fits(h, w, colours, borders, ids, g, units, first, last, o) {
+        let o = cell_at(potential, i);
+        if copy_fits(h, w, colours, borders, units, g, o) {
             return true;
         }
         i += 1;

@@ -3,6 +3,7 @@ ghost use mathlib.Core.Path.{_≡_};
 ghost use mathlib.Core.Bool.{true};
 ghost use Prim.Native.Nat.{ℕ, _<_};
 ghost use lib.ListN.{length};
+ghost use Rattle.groups.specs.Grouping.{numbersIn, cellsIn, startsIn, countIn};
 ghost use Rattle.rules.specs.Check.{mates};
 ghost use Rattle.rules.specs.Codes.{statesIn};
 ghost use Rattle.rules.specs.Flat.{flat};
@@ -10,20 +11,23 @@ ghost use Rattle.rules.specs.Groups.{entry};
 ghost use Rattle.rules.specs.Shapes.{shapeOf};
 ghost use Rattle.search.specs.Mates.{OneOf};
 ghost use Rattle.search.specs.Placing.{puzzle};
-ghost use Rattle.shapes.specs.Spots.{spots, Spotted};
-ghost use Rattle.units.specs.Images.{Jointed};
+ghost use Rattle.shapes.specs.Images.{Jointed};
+ghost use Rattle.shapes.specs.Spots.{cellSpots, jointSpots, Spotted};
 ghost use Rattle.units.specs.Fitting.{Lent, UnitIn, fitsTurned, fitsRows};
 ghost use Rattle.units.specs.Held.{Home, Nearby, Adjoined, Held, HeldOf};
 use crate::images::some_row_fits;
-use crate::number_at;
-use crate::start_at;
-use crate::turn_row;
+use groups::Grouping;
+use groups::count_of;
 use planes::draw_mask;
 use planes::draw_planes;
+use rules::index;
 use search::mates::mates_of;
 use search::mates::some_mate;
+use shapes::Outline;
 use shapes::connections::joints;
 use shapes::connections::places;
+use shapes::turned::Turned;
+use shapes::turned::turn_row;
 
 // One of the potential units adjacent to potential unit `p`; 1024 if there is none. `near` keeps it, raised by 1; it is
 // 0 where none was asked for.
@@ -32,24 +36,20 @@ pub fn near_mate<'a>(
     w: usize,
     colours: &'a [u8; 1024],
     borders: &'a [u8; 1984],
-    potential: &'a [u16; 1024],
-    cells: &'a [u16; 1024],
-    offs: &'a [u16; 1025],
+    potential: &'a Grouping,
     p: usize,
     near: &mut [u16; 1024],
 ) -> usize
-    requires { ⌜ Home h w (now colours) (now borders) (now potential) (now cells) (now offs) p
+    requires { ⌜ Home h w (now colours) (now borders) (now potential) p
         × Nearby h w (now colours) (now borders) (now near) ⌝ }
     ensures { λ r. ⌜ OneOf (mates (puzzle h w (now (colours .entry))) (statesIn (now (borders .entry))) p) r
         × Nearby h w (now (colours .entry)) (now (borders .entry)) (now (near .exit)) ⌝ }
 {
-    let kept = number_at(near, p);
+    let kept = index(near[p]);
     if 0 < kept {
         return kept - 1;
     }
-    let first = start_at(offs, p);
-    let last = start_at(offs, p + 1);
-    let q = some_mate(h, w, colours, borders, potential, cells, first, last);
+    let q = some_mate(h, w, colours, borders, potential, p);
     if 1024 <= q {
         return q;
     }
@@ -57,26 +57,25 @@ pub fn near_mate<'a>(
     q
 }
 
-// Whether each of the `total` potential units has an adjacent one. `near` keeps those that were found.
+// Whether each potential unit has an adjacent one. `near` keeps those that were found.
 pub fn all_near<'a>(
     h: usize,
     w: usize,
     colours: &'a [u8; 1024],
     borders: &'a [u8; 1984],
-    potential: &'a [u16; 1024],
-    cells: &'a [u16; 1024],
-    offs: &'a [u16; 1025],
-    total: usize,
+    potential: &'a Grouping,
     near: &mut [u16; 1024],
 ) -> bool
-    requires { ⌜ ((p : ℕ) → p < total → Home h w (now colours) (now borders) (now potential) (now cells) (now offs) p)
+    requires { ⌜ ((p : ℕ) → p < countIn (now potential) → Home h w (now colours) (now borders) (now potential) p)
         × Nearby h w (now colours) (now borders) (now near) ⌝ }
-    ensures { λ r. ⌜ (r ≡ true → Adjoined h w (now (colours .entry)) (now (borders .entry)) total)
+    ensures { λ r. ⌜ (r ≡ true → Adjoined h w (now (colours .entry)) (now (borders .entry))
+        (countIn (now (potential .entry))))
         × Nearby h w (now (colours .entry)) (now (borders .entry)) (now (near .exit)) ⌝ }
 {
+    let total = count_of(potential);
     let mut p = 0;
     while p < total {
-        let q = near_mate(h, w, colours, borders, potential, cells, offs, p, near);
+        let q = near_mate(h, w, colours, borders, potential, p, near);
         if 1024 <= q {
             return false;
         }
@@ -85,24 +84,21 @@ pub fn all_near<'a>(
     true
 }
 
-// Makes planes and mask those of the page and of the potential unit `p`; the list is lent for those adjacent to it.
+// Makes planes and mask those of the page and of the potential unit `p`.
 fn prepare<'a>(
     h: usize,
     w: usize,
     colours: &'a [u8; 1024],
     borders: &'a [u8; 1984],
-    potential: &'a [u16; 1024],
-    cells: &'a [u16; 1024],
-    offs: &'a [u16; 1025],
+    potential: &'a Grouping,
     p: usize,
     planes: &mut [u64; 192],
     mask: &mut [u64; 33],
-    list: &mut [u16; 1024],
 )
-    requires { ⌜ Home h w (now colours) (now borders) (now potential) (now cells) (now offs) p
-        × Held h w (now colours) (now borders) (now cells) (now offs) (now planes) (now mask) (now list) ⌝ }
-    ensures { λ r. ⌜ HeldOf h w (now (colours .entry)) (now (borders .entry)) (now (cells .entry))
-        (now (offs .entry)) p (now (planes .exit)) (now (mask .exit)) × (length (now (list .exit)) ≡ 1024) ⌝ }
+    requires { ⌜ Home h w (now colours) (now borders) (now potential) p
+        × Held h w (now colours) (now borders) (now potential) (now planes) (now mask) ⌝ }
+    ensures { λ r. ⌜ HeldOf h w (now (colours .entry)) (now (borders .entry)) (now (potential .entry)) p
+        (now (planes .exit)) (now (mask .exit)) ⌝ }
 {
     let name = mask[32];
     if name == p as u64 + 1 {
@@ -111,125 +107,80 @@ fn prepare<'a>(
     if name == 0 {
         draw_planes(h, w, colours, borders, planes);
     }
-    let first = start_at(offs, p);
-    let last = start_at(offs, p + 1);
-    let n = mates_of(h, w, colours, borders, potential, cells, first, last, list);
-    draw_mask(h, w, cells, offs, list, 0, n, p as u64 + 1, mask);
+    let mut list = [0u16; 1025];
+    mates_of(h, w, colours, borders, potential, p, &mut list);
+    draw_mask(h, w, potential, &list, p as u64 + 1, mask);
 }
 
-// Whether one of a unit's eight images fits at a cell of one of the potential units adjacent to potential unit `p`. The
-// unit's `n` cells stand in rows and columns, its `k` connections in down and across.
+// Whether one of a unit's eight images fits at a cell of one of the potential units adjacent to potential unit `p`.
 fn written_fits<'a>(
     h: usize,
     w: usize,
     colours: &'a [u8; 1024],
     borders: &'a [u8; 1984],
-    potential: &'a [u16; 1024],
-    cells: &'a [u16; 1024],
-    offs: &'a [u16; 1025],
+    potential: &'a Grouping,
     p: usize,
-    rows: &'a [u16; 1024],
-    columns: &'a [u16; 1024],
-    n: usize,
-    down: &'a [u16; 2048],
-    across: &'a [u16; 2048],
-    k: usize,
-    ys: &mut [u8; 2048],
-    xs: &mut [u8; 2048],
+    outline: &'a Outline,
+    turned: &mut Turned,
     planes: &mut [u64; 192],
     mask: &mut [u64; 33],
-    list: &mut [u16; 1024],
 ) -> bool
-    requires { ⌜ Home h w (now colours) (now borders) (now potential) (now cells) (now offs) p
-        × Spotted (now rows) (now columns) n × Jointed (now down) (now across) k
-        × Held h w (now colours) (now borders) (now cells) (now offs) (now planes) (now mask) (now list)
-        × (length (now ys) ≡ 2048) × (length (now xs) ≡ 2048) ⌝ }
+    requires { ⌜ Home h w (now colours) (now borders) (now potential) p
+        × Spotted (now outline) × Jointed (now outline)
+        × Held h w (now colours) (now borders) (now potential) (now planes) (now mask)
+        × (length (now turned) ≡ 4096) ⌝ }
     ensures { λ r. ⌜ (r ≡ fitsRows (puzzle h w (now (colours .entry))) (statesIn (now (borders .entry)))
-        (now (cells .entry)) (now (offs .entry))
+        (cellsIn (now (potential .entry))) (startsIn (now (potential .entry)))
         (mates (puzzle h w (now (colours .entry))) (statesIn (now (borders .entry))) p)
-        (spots (now (rows .entry)) (now (columns .entry)) n) (spots (now (down .entry)) (now (across .entry)) k))
-        × Held h w (now (colours .entry)) (now (borders .entry)) (now (cells .entry)) (now (offs .entry))
-        (now (planes .exit)) (now (mask .exit)) (now (list .exit))
-        × (length (now (ys .exit)) ≡ 2048) × (length (now (xs .exit)) ≡ 2048) ⌝ }
+        (cellSpots (now (outline .entry))) (jointSpots (now (outline .entry))))
+        × Held h w (now (colours .entry)) (now (borders .entry)) (now (potential .entry))
+        (now (planes .exit)) (now (mask .exit))
+        × (length (now (turned .exit)) ≡ 4096) ⌝ }
 {
-    turn_row(0, rows, columns, n, down, across, k, ys, xs);
-    prepare(
-        h,
-        w,
-        colours,
-        borders,
-        potential,
-        cells,
-        offs,
-        p,
-        planes,
-        mask,
-        list,
-    );
-    some_row_fits(h, planes, mask, rows, columns, n, down, across, k, ys, xs)
+    turn_row(0, outline, turned);
+    prepare(h, w, colours, borders, potential, p, planes, mask);
+    some_row_fits(h, planes, mask, outline, turned)
 }
 
 // Whether a listed transform of unit `g` fits at a cell of one of the potential units adjacent to potential unit `p`.
-// The unit's cells stand from the place `first` of the list of units to the place `last`. All eight rows of the table
-// are tried: one that is not listed gives the cells and connections of one that is.
+// All eight rows of the table are tried: one that is not listed gives the cells and connections of one that is.
 pub fn unit_fits<'a>(
     h: usize,
     w: usize,
     colours: &'a [u8; 1024],
     borders: &'a [u8; 1984],
-    ids: &'a [u16; 1024],
+    units: &'a Grouping,
     g: usize,
-    units: &'a [u16; 1024],
-    first: usize,
-    last: usize,
-    potential: &'a [u16; 1024],
-    cells: &'a [u16; 1024],
-    offs: &'a [u16; 1025],
+    potential: &'a Grouping,
     p: usize,
-    rows: &mut [u16; 1024],
-    columns: &mut [u16; 1024],
-    down: &mut [u16; 2048],
-    across: &mut [u16; 2048],
-    ys: &mut [u8; 2048],
-    xs: &mut [u8; 2048],
+    outline: &mut Outline,
+    turned: &mut Turned,
     planes: &mut [u64; 192],
     mask: &mut [u64; 33],
-    list: &mut [u16; 1024],
 ) -> bool
-    requires { ⌜ Home h w (now colours) (now borders) (now potential) (now cells) (now offs) p
-        × UnitIn h w (now ids) g (now units) first last
-        × Lent (now rows) (now columns) (now down) (now across) (now ys) (now xs)
-        × Held h w (now colours) (now borders) (now cells) (now offs) (now planes) (now mask) (now list) ⌝ }
+    requires { ⌜ Home h w (now colours) (now borders) (now potential) p
+        × UnitIn h w (now units) g × Lent (now outline) (now turned)
+        × Held h w (now colours) (now borders) (now potential) (now planes) (now mask) ⌝ }
     ensures { λ r. ⌜ (r ≡ fitsTurned (puzzle h w (now (colours .entry))) (statesIn (now (borders .entry)))
-        (now (cells .entry)) (now (offs .entry))
+        (cellsIn (now (potential .entry))) (startsIn (now (potential .entry)))
         (mates (puzzle h w (now (colours .entry))) (statesIn (now (borders .entry))) p)
-        (shapeOf (flat h w) (entry (now (ids .entry))) g))
-        × Lent (now (rows .exit)) (now (columns .exit)) (now (down .exit)) (now (across .exit)) (now (ys .exit))
-        (now (xs .exit))
-        × Held h w (now (colours .entry)) (now (borders .entry)) (now (cells .entry)) (now (offs .entry))
-        (now (planes .exit)) (now (mask .exit)) (now (list .exit)) ⌝ }
+        (shapeOf (flat h w) (entry (numbersIn (now (units .entry)))) g))
+        × Lent (now (outline .exit)) (now (turned .exit))
+        × Held h w (now (colours .entry)) (now (borders .entry)) (now (potential .entry))
+        (now (planes .exit)) (now (mask .exit)) ⌝ }
 {
-    let n = places(units, first, last, w, rows, columns);
-    let k = joints(ids, h, w, g, rows, columns, n, down, across);
+    places(units, g, w, outline);
+    joints(units, h, w, g, outline);
     written_fits(
         h,
         w,
         colours,
         borders,
         potential,
-        cells,
-        offs,
         p,
-        rows,
-        columns,
-        n,
-        down,
-        across,
-        k,
-        ys,
-        xs,
+        outline,
+        turned,
         planes,
         mask,
-        list,
     )
 }

@@ -6,14 +6,18 @@ ghost use Prim.Native.Nat.{_<_};
 ghost use lib.ListN.{length};
 ghost use Rattle.lists.specs.Tests.{anyBelow};
 ghost use Rattle.rules.specs.Page.{Point};
-ghost use Rattle.search.specs.Placing.{Raised, spelled};
+ghost use Rattle.shapes.specs.Images.{imageJoints, Jointed};
+ghost use Rattle.shapes.specs.Outlines.{jointCount};
+ghost use Rattle.shapes.specs.Raising.{Raised, spelled};
+ghost use Rattle.shapes.specs.Spots.{cellSpots, jointSpots, Spotted};
 ghost use Rattle.planes.specs.Masks.{Sizes, Span, Answers};
-ghost use Rattle.shapes.specs.Spots.{spots, Spotted};
-ghost use Rattle.units.specs.Images.{imageJoints, Jointed};
-use crate::turn_row;
 use planes::end_row;
 use planes::first_row;
 use planes::mask_fits;
+use shapes::Outline;
+use shapes::joint_count;
+use shapes::turned::Turned;
+use shapes::turned::turn_row;
 
 // Whether the unit's image by a row of the table fits at an origin of the mask; they lie from the row `top` to before
 // the row `end`.
@@ -24,25 +28,17 @@ fn row_fits<'a>(
     top: usize,
     end: usize,
     row: usize,
-    rows: &'a [u16; 1024],
-    columns: &'a [u16; 1024],
-    n: usize,
-    down: &'a [u16; 2048],
-    across: &'a [u16; 2048],
-    k: usize,
-    ys: &mut [u8; 2048],
-    xs: &mut [u8; 2048],
+    outline: &'a Outline,
+    turned: &mut Turned,
 ) -> bool
     requires { ⌜ (row < 8) × Sizes h (now planes) (now mask) × Span h (now mask) top end
-        × Spotted (now rows) (now columns) n × Jointed (now down) (now across) k × (length (now ys) ≡ 2048) × (length
-        (now xs) ≡ 2048) ⌝ }
+        × Spotted (now outline) × Jointed (now outline) × (length (now turned) ≡ 4096) ⌝ }
     ensures { λ r. ⌜ ((F : List Point → Bool) → Answers h (now (planes .entry)) (now (mask .entry)) F
-        → r ≡ F (imageJoints row (spots (now (rows .entry)) (now (columns .entry)) n)
-        (spots (now (down .entry)) (now (across .entry)) k)))
-        × (length (now (ys .exit)) ≡ 2048) × (length (now (xs .exit)) ≡ 2048) ⌝ }
+        → r ≡ F (imageJoints row (cellSpots (now (outline .entry))) (jointSpots (now (outline .entry)))))
+        × (length (now (turned .exit)) ≡ 4096) ⌝ }
 {
-    turn_row(row, rows, columns, n, down, across, k, ys, xs);
-    mask_fits(planes, mask, h, top, end, ys, xs, k)
+    turn_row(row, outline, turned);
+    mask_fits(planes, mask, h, top, end, turned, joint_count(outline))
 }
 
 // Whether one of the eight images fits there, where the image by row 0 does not: the other rows are tried.
@@ -52,42 +48,20 @@ fn others_fit<'a>(
     mask: &'a [u64; 33],
     top: usize,
     end: usize,
-    rows: &'a [u16; 1024],
-    columns: &'a [u16; 1024],
-    n: usize,
-    down: &'a [u16; 2048],
-    across: &'a [u16; 2048],
-    k: usize,
-    ys: &mut [u8; 2048],
-    xs: &mut [u8; 2048],
+    outline: &'a Outline,
+    turned: &mut Turned,
 ) -> bool
-    requires { ⌜ Sizes h (now planes) (now mask) × Span h (now mask) top end × Spotted (now rows) (now columns) n
-        × Jointed (now down) (now across) k × (length (now ys) ≡ 2048) × (length (now xs) ≡ 2048) ⌝ }
+    requires { ⌜ Sizes h (now planes) (now mask) × Span h (now mask) top end × Spotted (now outline)
+        × Jointed (now outline) × (length (now turned) ≡ 4096) ⌝ }
     ensures { λ r. ⌜ ((F : List Point → Bool) → Answers h (now (planes .entry)) (now (mask .entry)) F
-        → F (imageJoints 0 (spots (now (rows .entry)) (now (columns .entry)) n)
-        (spots (now (down .entry)) (now (across .entry)) k)) ≡ false
-        → r ≡ anyBelow 8 (λ i. F (imageJoints i (spots (now (rows .entry)) (now (columns .entry)) n)
-        (spots (now (down .entry)) (now (across .entry)) k))))
-        × (length (now (ys .exit)) ≡ 2048) × (length (now (xs .exit)) ≡ 2048) ⌝ }
+        → F (imageJoints 0 (cellSpots (now (outline .entry))) (jointSpots (now (outline .entry)))) ≡ false
+        → r ≡ anyBelow 8 (λ i. F (imageJoints i (cellSpots (now (outline .entry)))
+        (jointSpots (now (outline .entry))))))
+        × (length (now (turned .exit)) ≡ 4096) ⌝ }
 {
     let mut row: usize = 1;
     while row < 8 {
-        if row_fits(
-            h,
-            planes,
-            mask,
-            top,
-            end,
-            row,
-            rows,
-            columns,
-            n,
-            down,
-            across,
-            k,
-            ys,
-            xs,
-        ) {
+        if row_fits(h, planes, mask, top, end, row, outline, turned) {
             return true;
         }
         row += 1;
@@ -95,49 +69,27 @@ fn others_fit<'a>(
     false
 }
 
-// Whether one of the unit's eight images fits there. Its `n` cells stand in rows and columns, its `k` connections in
-// down and across; ys and xs have the image by row 0.
+// Whether one of the unit's eight images fits there; `turned` has the image by row 0.
 pub fn some_row_fits<'a>(
     h: usize,
     planes: &'a [u64; 192],
     mask: &'a [u64; 33],
-    rows: &'a [u16; 1024],
-    columns: &'a [u16; 1024],
-    n: usize,
-    down: &'a [u16; 2048],
-    across: &'a [u16; 2048],
-    k: usize,
-    ys: &mut [u8; 2048],
-    xs: &mut [u8; 2048],
+    outline: &'a Outline,
+    turned: &mut Turned,
 ) -> bool
-    requires { ⌜ Sizes h (now planes) (now mask) × Spotted (now rows) (now columns) n
-        × Jointed (now down) (now across) k × Raised (now ys) (now xs) k
-        × (spelled (now ys) (now xs) k ≡ imageJoints 0 (spots (now rows) (now columns) n)
-        (spots (now down) (now across) k))
-        × (length (now ys) ≡ 2048) × (length (now xs) ≡ 2048) ⌝ }
+    requires { ⌜ Sizes h (now planes) (now mask) × Spotted (now outline) × Jointed (now outline)
+        × Raised (now turned) (jointCount (now outline))
+        × (spelled (now turned) (jointCount (now outline)) ≡ imageJoints 0 (cellSpots (now outline))
+        (jointSpots (now outline))) × (length (now turned) ≡ 4096) ⌝ }
     ensures { λ r. ⌜ ((F : List Point → Bool) → Answers h (now (planes .entry)) (now (mask .entry)) F
-        → r ≡ anyBelow 8 (λ i. F (imageJoints i (spots (now (rows .entry)) (now (columns .entry)) n)
-        (spots (now (down .entry)) (now (across .entry)) k))))
-        × (length (now (ys .exit)) ≡ 2048) × (length (now (xs .exit)) ≡ 2048) ⌝ }
+        → r ≡ anyBelow 8 (λ i. F (imageJoints i (cellSpots (now (outline .entry)))
+        (jointSpots (now (outline .entry))))))
+        × (length (now (turned .exit)) ≡ 4096) ⌝ }
 {
     let top = first_row(mask, h);
     let end = end_row(mask, h);
-    if mask_fits(planes, mask, h, top, end, ys, xs, k) {
+    if mask_fits(planes, mask, h, top, end, turned, joint_count(outline)) {
         return true;
     }
-    others_fit(
-        h,
-        planes,
-        mask,
-        top,
-        end,
-        rows,
-        columns,
-        n,
-        down,
-        across,
-        k,
-        ys,
-        xs,
-    )
+    others_fit(h, planes, mask, top, end, outline, turned)
 }

@@ -3,6 +3,7 @@ use mathlib.Core.Path.{_≡_, sym, _∙_}
 use native.Mathlib.Omega.{arith}
 use Rattle.groups.specs.declared.Kind.the-variants.{Blocks, Potential}
 use Rattle.groups.specs.Kinds.{joinsIn}
+use Rattle.groups.specs.Grouping.{numbersIn}
 use Rattle.checker.specs.Bridges.{lists-of, parted-of}
 use Rattle.checker.specs.Steps.{faultyIn}
 use Rattle.checker.specs.Bounds.{reason-short}
@@ -16,12 +17,12 @@ found : (c : tie.After-first-faulty) → let s = c .before .before in
     ≡ faultyIn (s .pre .0) (s .args .colours .now) (s .args .clues .now) (s .args .borders .now)
 found c =
     let p = c .before .before .pre in
-    rw (p .2 .cells-are, p .2 .offs-are, p .3, p .4 .ids-are, p .4 .offs-are) at (c .first-faulty .ensures)
+    rw (p .2 .cells, p .2 .starts, p .2 .count, p .3 .numbers, p .3 .starts) at (c .first-faulty .ensures)
 
 first-faulty-requires : tie.Need-first-faulty-requires
 first-faulty-requires c κs =
     let p = c .before .pre in
-    rw (p .2 .cells-are, p .2 .offs-are, p .3, p .4 .ids-are, p .4 .offs-are)
+    rw (p .2 .cells, p .2 .starts, p .2 .count, p .3 .numbers, p .3 .starts)
     (lists-of (p .0) (joinsIn Blocks _ _ _ _), parted-of (p .0) (joinsIn Potential _ _ _ _))
 
 is-clear-requires : tie.Need-is-clear-requires
@@ -43,11 +44,12 @@ write-fault-requires c κs =
       p .0,
       p .1 .borders,
       p .1 .colours,
-      rw (p .2 .ids-are, p .2 .cells-are, p .2 .offs-are) (fault-block (p .0) _ _ _ _ f e),
-      rw (p .4 .ids-are, p .4 .cells-are, p .4 .offs-are) (fault-unit (p .0) _ _ _ _ f),
+      fault-block (p .0) _ _ _ _ f (p .2) e,
+      fault-unit (p .0) _ _ _ _ f (p .3),
       omega (
         arith,
-        reason-short (a .h) (a .w) (a .colours .now) (a .borders .now) (a .blocks .now) (a .units .now)
+        reason-short (a .h) (a .w) (a .colours .now) (a .borders .now) (numbersIn (a .blocks .now))
+            (numbersIn (a .potential .now))
             (c .before .before .before .first-faulty .result),
         p .1 .memory,
       ),
@@ -62,7 +64,7 @@ returns-2 c =
     let e = sym (c .before .before .before .before .before .is-clear .ensures) ∙ c .before .before .before .before
     .if1 .left in
     answers-some (blocks-fault (p .0) _ _ _ _ (found (c .before .before .before .before .before .before)) e)
-    (rw (p .2 .ids-are, p .4 .ids-are) at (c .before .before .write-fault .ensures))
+    (rw (p .2 .numbers, p .3 .numbers) at (c .before .before .write-fault .ensures))
 
 pub block-hit-spec : {M : Type 1} → statement M
 block-hit-spec =

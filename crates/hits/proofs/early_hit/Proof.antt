@@ -2,20 +2,21 @@
 use mathlib.Core.Path.{_≡_}
 use native.Mathlib.Omega.{arith}
 use Rattle.rules.specs.Codes.{statesIn}
-use Rattle.laws.specs.FlatLaws.{counts}
+use Rattle.groups.specs.Grouping.{numbersIn}
 use Rattle.checker.specs.Steps.{breachIn}
 use Rattle.checker.specs.Bounds.{breach-small, breach-short}
 use Rattle.hits.specs.Found.{earlyHit}
 use Rattle.hits.specs.HitLaws.{answers-first, answers-next, answers-told, answers-none, answers-some}
 use Rattle.hits.specs.HitLaws.{walls-clear, walls-breach, arrays-of}
 use borrow.Author.Needs.{needs}
+use Rattle.laws.specs.FlatLaws.{counts}
 use Rattle.hits.proofs.early_hit.Statement.{statement}
 use Rattle.hits.proofs.early_hit.Tie as tie
 
 found : (c : tie.After-first-breach) → let s = c .before .before .before .before .before .before .before .before in
     c .first-breach .result
     ≡ breachIn (s .pre .0) (s .args .colours .now) (s .args .clues .now) (s .args .borders .now)
-found c = rw (c .before .before .before .before .before .before .before .before .pre .2 .ids-are) at (c .first-breach
+found c = rw (c .before .before .before .before .before .before .before .before .pre .2 .numbers) at (c .first-breach
     .ensures)
 
 block-hit-requires : tie.Need-block-hit-requires
@@ -46,7 +47,7 @@ write-breach-requires c κs =
     let b = c .before .before .first-breach in (
       p .0,
       p .1 .borders,
-      rw (b .ensures) (breach-small (p .0) (s .args .borders .now) (s .args .blocks .now)),
+      rw (b .ensures) (breach-small (p .0) (s .args .borders .now) (numbersIn (s .args .blocks .now))),
       omega (
         arith,
         breach-short (p .0) (statesIn (s .args .borders .now)) (b .result),

@@ -1,28 +1,20 @@
 -- `find` meets its contract: the hit of steps 1 and 2, and where there is none that of step 3.
 use Rattle.groups.specs.ForestLaws.{forest-zeros}
-use Rattle.groups.specs.NumberLaws.{blank-zeros}
-use Rattle.hits.specs.HitLaws.{answers-first, answers-next, answers-told, blank-ids, blank-cells, blank-offs}
+use Rattle.groups.specs.GroupingLaws.{vacant-zeros}
+use Rattle.hits.specs.HitLaws.{answers-first, answers-next, answers-told, vacant-of}
 use Rattle.hits.specs.LateLaws.{answers-hit}
 use borrow.Author.Needs.{needs}
 use Rattle.hits.proofs.find.Statement.{statement}
 use Rattle.hits.proofs.find.Tie as tie
 
 fill-requires : tie.Need-fill-requires
-fill-requires c κs = (
-  c .before .before .before .before .before .pre .0 .sized,
-  blank-zeros 1024 _,
-  blank-zeros 1024 _,
-  blank-zeros 1025 _,
-  forest-zeros,
-)
+fill-requires c κs = (c .before .before .before .pre .0 .sized, vacant-zeros _, forest-zeros)
 
 fill-requires-2 : tie.Need-fill-requires-2
 fill-requires-2 c κs = (
-  c .before .before .before .before .before .before .before .before .before .before .pre .0 .sized,
-  blank-zeros 1024 _,
-  blank-zeros 1024 _,
-  blank-zeros 1025 _,
-  c .before .before .before .before .fill .ensures .2,
+  c .before .before .before .before .before .before .pre .0 .sized,
+  vacant-zeros _,
+  c .before .before .fill .ensures .1,
 )
 
 early-hit-requires : tie.Need-early-hit-requires
@@ -43,22 +35,15 @@ returns c = answers-hit _ _ (answers-first _ _ _ (c .enum-told2 .given .1) (c .b
 
 late-hit-requires : tie.Need-late-hit-requires
 late-hit-requires c κs =
-    let p = c .before .before .before .before .before .before .before .before .before .before .before .before .before
-    .before .before .before .before .before .before .before .before .before .before .before .before .before .before
-    .before .before .before .before .pre in
-    let b = c .before .before .before .before .before .before .before .before .before .before .before .before .before
-    .before .before .before .before .before .before .before .before .before .before .before .before .fill .ensures in
-    let f = c .before .before .before .before .before .before .before .before .before .before .before .before .before
-    .before .before .before .before .before .before .before .fill2 .ensures in
-    let z = p .0 .sized in (
+    let n = c .before .before .before .before in
+    let f = n .before .before .before .before .before .before .before .before in
+    let b = f .before .before .before in
+    let p = b .before .before .before .before .pre in (
       p .0,
       search needs,
-      f .0,
-      f .1,
-      blank-ids z _ (b .0),
-      blank-cells z _ (b .0),
-      blank-offs z _ (b .0),
-      f .2,
+      f .fill2 .ensures .0,
+      vacant-of (p .0 .sized) _ (b .fill .ensures .0),
+      f .fill2 .ensures .1,
     )
 
 same-length-2 : tie.Need-same-length-2
@@ -66,10 +51,9 @@ same-length-2 c = search needs
 
 returns-2 : tie.Need-returns-2
 returns-2 c =
+    let n = c .before .before .before .before .before .before .before in
     answers-hit _ _
-    (answers-next _ _ (answers-told (c .before .before .before .before .before .before .before .before .before
-    .before .before .enum-told .given .1) (c .before .before .before .before .before .before .before .before .before
-    .before .before .before .before .before .before .early-hit .ensures))
+    (answers-next _ _ (answers-told (n .enum-told .given .1) (n .before .before .before .before .early-hit .ensures))
     (c .before .before .late-hit .ensures _))
 
 pub find-spec : {M : Type 1} → statement M

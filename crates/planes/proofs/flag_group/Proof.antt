@@ -3,51 +3,45 @@ use mathlib.Core.Path.{_≡_}
 use mathlib.Core.List.{List, _++_}
 use Prim.Native.Nat.{ℕ, _*_, _-_, _≤_, _<_}
 use native.Mathlib.Omega.{arith}
-use borrow.Author.Needs.{needs}
 use lib.ListN.{length, getD}
-use Rattle.lists.specs.Parts.{part}
-use Rattle.laws.specs.FlatLaws.{counts}
+use Rattle.groups.specs.Grouping.{cellsIn}
 use Rattle.search.specs.SearchLaws.{cells-at}
 use Rattle.planes.specs.Masks.{Masked}
 use Rattle.planes.specs.MaskLaws.{group-none, group-more}
+use Rattle.lists.specs.Parts.{part}
 use Rattle.planes.proofs.flag_group.Statement.{statement}
 use Rattle.planes.proofs.flag_group.Tie as tie
 
 abbrev Inv-loop : tie.InvT-loop
-Inv-loop h w cells from to mask₀ i₀ mask i = (from ≤ i) × (i ≤ to) × (length mask ≡ 33)
-    × ((xs : List ℕ) → Masked w xs mask₀ → Masked w (xs ++ part cells from i) mask)
+Inv-loop h w potential from to mask₀ i₀ mask i = (from ≤ i) × (i ≤ to) × (length mask ≡ 33)
+    × ((xs : List ℕ) → Masked w xs mask₀ → Masked w (xs ++ part (cellsIn potential) from i) mask)
 
 abbrev μ-loop : tie.MeasureT-loop
-μ-loop h w cells from to mask₀ i₀ mask i = to - i
+μ-loop h w potential from to mask₀ i₀ mask i = to - i
 
 loop-holds : tie.Need-loop-holds Inv-loop μ-loop
 loop-holds c = (
   omega arith,
   c .pre .1 .order,
   c .pre .2,
-  λ xs m. group-none (c .args .w) (c .args .cells .now) (c .args .from)
+  λ xs m. group-none (c .args .w) (cellsIn (c .args .potential .now)) (c .args .from)
       xs m,
 )
 
-mul-flag : tie.Need-mul-flag Inv-loop μ-loop
-mul-flag c = search needs
-
 -- the next cell is on the page
 cell : (c : tie.In-loop Inv-loop μ-loop)
-    → getD (c .before .before .args .cells .now) (c .before .loop .i) 0 < c .before .before .args .h * c .before
+    → getD (cellsIn (c .before .before .args .potential .now)) (c .before .loop .i) 0
+    < c .before .before .args .h * c .before
     .before .args .w
 cell c = cells-at (c .before .before .pre .1) (c .before .loop .i) (c .before .loop .inv .0) (c .loop-test .taken)
 
-element-copy-out-flag : tie.Need-element-copy-out-flag Inv-loop μ-loop
-element-copy-out-flag c = omega (arith, c .before .before .pre .1 .end)
-
-cast-flag : tie.Need-cast-flag Inv-loop μ-loop
-cast-flag c = omega (arith, cell (c .before), counts (c .before .before .before .pre .0) .cells)
+cell-at-requires : tie.Need-cell-at-requires Inv-loop μ-loop
+cell-at-requires c κs = omega (arith, c .before .before .pre .1 .end)
 
 flag-requires : tie.Need-flag-requires Inv-loop μ-loop
 flag-requires c κs =
     let i = c .before .before in
-    (i .before .before .pre .0, cell i, i .before .loop .inv .2)
+    rw (c .before .cell-at .ensures) (i .before .before .pre .0, cell i, i .before .loop .inv .2)
 
 add-i : tie.Need-add-i Inv-loop μ-loop
 add-i c = omega (arith, c .before .before .before .before .before .pre .1 .end)
@@ -64,8 +58,9 @@ loop-again c =
       omega arith,
       c .flag .ensures .0,
       λ xs m.
-          group-more (s .args .w) (s .args .cells .now) (s .args .from) xs (l .loop .i) (l .loop .inv .0)
-          (omega (arith, s .pre .1 .end, s .pre .1 .long)) (c .flag .ensures .1 _ (l .loop .inv .3 xs m)),
+          group-more (s .args .w) (cellsIn (s .args .potential .now)) (s .args .from) xs (l .loop .i) (l .loop .inv .0)
+          (omega (arith, s .pre .1 .end, s .pre .1 .long)) ((rw (c .before .before .cell-at .ensures) at
+          (c .flag .ensures .1)) _ (l .loop .inv .3 xs m)),
     )
 
 returns : tie.Need-returns Inv-loop μ-loop
@@ -82,9 +77,7 @@ flag-group-spec =
     Inv-loop
     μ-loop
     loop-holds
-    mul-flag
-    element-copy-out-flag
-    cast-flag
+    cell-at-requires
     flag-requires
     add-i
     loop-less

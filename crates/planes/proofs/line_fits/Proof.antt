@@ -12,7 +12,7 @@ returns : tie.Need-returns
 returns c =
     let s = c .before in
     rw (c .line-left .ensures)
-    (sym (fits-word (s .args .planes .now) (s .args .y) (s .args .ys .now) (s .args .xs .now) (s .args .word)
+    (sym (fits-word (s .args .planes .now) (s .args .y) (s .args .turned .now) (s .args .word)
     (s .args .n) (s .fits .word .fits)))
 
 pub line-fits-spec : {M : Type 1} → statement M

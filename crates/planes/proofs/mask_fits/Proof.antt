@@ -12,19 +12,19 @@ use Rattle.planes.proofs.mask_fits.Statement.{statement}
 use Rattle.planes.proofs.mask_fits.Tie as tie
 
 abbrev Inv-loop : tie.InvT-loop
-Inv-loop planes mask h top end ys xs n y₀ y =
-    (y ≤ h) × (anyBelow y (λ i. lineFits planes i ys xs n (getD mask i 0)) ≡ false)
+Inv-loop planes mask h top end turned n y₀ y =
+    (y ≤ h) × (anyBelow y (λ i. lineFits planes i turned n (getD mask i 0)) ≡ false)
 
 abbrev μ-loop : tie.MeasureT-loop
-μ-loop planes mask h top end ys xs n y₀ y = h - y
+μ-loop planes mask h top end turned n y₀ y = h - y
 
 -- the test of a row, and that a row without origins fails it
 abbrev test : tie.Start Inv-loop μ-loop → ℕ → Bool
 test s y =
-    lineFits (s .args .planes .now) y (s .args .ys .now) (s .args .xs .now) (s .args .n) (getD (s .args .mask .now) y 0)
+    lineFits (s .args .planes .now) y (s .args .turned .now) (s .args .n) (getD (s .args .mask .now) y 0)
 
 empty : (s : tie.Start Inv-loop μ-loop) (y : ℕ) → getD (s .args .mask .now) y 0 ≡ 0 → test s y ≡ false
-empty s y e = fits-empty (s .args .planes .now) y (s .args .ys .now) (s .args .xs .now) (s .args .n) e
+empty s y e = fits-empty (s .args .planes .now) y (s .args .turned .now) (s .args .n) e
 
 loop-holds : tie.Need-loop-holds Inv-loop μ-loop
 loop-holds c = (

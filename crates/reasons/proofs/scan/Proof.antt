@@ -3,44 +3,49 @@ use mathlib.Core.Path.{_≡_}
 use mathlib.Core.List.{List}
 use Prim.Native.Nat.{ℕ, _+_, _-_, _≤_}
 use lib.ListN.{getD}
-use Rattle.lists.specs.Parts.{part}
-use Rattle.lists.specs.UpTo.{upTo}
+use Rattle.groups.specs.Grouping.{numbersIn, cellsIn}
 use Rattle.rules.specs.declared.Literal.{Literal}
 use Rattle.reasons.specs.Memory.{Wrote}
 use Rattle.reasons.specs.Arrays.{Cells, scanAt, scanOf}
 use Rattle.reasons.specs.MemoryLaws.{loop-none, loop-more, loop-fits, loop-end, wrote-length}
 use Rattle.reasons.specs.ScanLaws.{scan-part}
 use native.Mathlib.Omega.{arith}
-use borrow.Author.Needs.{needs}
+use Rattle.lists.specs.UpTo.{upTo}
+use Rattle.lists.specs.Parts.{part}
 use Rattle.reasons.proofs.scan.Statement.{statement}
 use Rattle.reasons.proofs.scan.Tie as tie
 
 abbrev Inv-loop : tie.InvT-loop
-Inv-loop memory₀ start h w colours borders ids cells from to side same flagged count at₀ i₀ memory at i =
+Inv-loop memory₀ start h w colours borders grouping from to side same flagged count at₀ i₀ memory at i =
     (i ≤ count)
     × Wrote memory₀ start
-    (upTo (λ k. scanAt h w colours borders ids side same flagged (getD cells (from + k) 0)) i) memory at
+    (upTo (λ k. scanAt h w colours borders (numbersIn grouping) side same flagged
+    (getD (cellsIn grouping) (from + k) 0)) i) memory at
 
 abbrev μ-loop : tie.MeasureT-loop
-μ-loop memory₀ start h w colours borders ids cells from to side same flagged count at₀ i₀ memory at i = count - i
+μ-loop memory₀ start h w colours borders grouping from to side same flagged count at₀ i₀ memory at i = count - i
 
 abbrev at : tie.Start Inv-loop μ-loop → ℕ → List Literal
 at s k =
     let a = s .args in
-    scanAt (a .h) (a .w) (a .colours .now) (a .borders .now) (a .ids .now) (a .side) (a .same) (a .flagged .now)
-    (getD (a .cells .now) (a .from + k) 0)
+    scanAt (a .h) (a .w) (a .colours .now) (a .borders .now) (numbersIn (a .grouping .now)) (a .side) (a .same)
+    (a .flagged .now)
+    (getD (cellsIn (a .grouping .now)) (a .from + k) 0)
 
-listed : (s : tie.Start Inv-loop μ-loop) → let a = s .args in Cells (a .h) (a .w) (a .cells .now) (a .from) (a .to)
+listed : (s : tie.Start Inv-loop μ-loop) → let a = s .args in Cells (a .h) (a .w) (cellsIn (a .grouping .now)) (a .from)
+    (a .to)
 listed s = s .pre .4
 
 whole : (s : tie.Start Inv-loop μ-loop) →
     let a = s .args in
-    scanOf (a .h) (a .w) (a .colours .now) (a .borders .now) (a .ids .now) (a .side) (a .same) (a .flagged .now)
-    (part (a .cells .now) (a .from) (a .to))
+    scanOf (a .h) (a .w) (a .colours .now) (a .borders .now) (numbersIn (a .grouping .now)) (a .side) (a .same)
+    (a .flagged .now)
+    (part (cellsIn (a .grouping .now)) (a .from) (a .to))
     ≡ upTo (at s) (a .to - a .from)
 whole s =
     let a = s .args in
-    scan-part (a .colours .now) (a .borders .now) (a .ids .now) (a .side) (a .same) (a .flagged .now) (listed s)
+    scan-part (a .colours .now) (a .borders .now) (numbersIn (a .grouping .now)) (a .side) (a .same) (a .flagged .now)
+    (listed s)
 
 sub-count : tie.Need-sub-count Inv-loop μ-loop
 sub-count c = omega (arith, listed (c .before))
@@ -48,23 +53,17 @@ sub-count c = omega (arith, listed (c .before))
 loop-holds : tie.Need-loop-holds Inv-loop μ-loop
 loop-holds c = (omega arith, loop-none _)
 
-add-index : tie.Need-add-index Inv-loop μ-loop
-add-index c = omega (arith, listed (c .before .before .before))
+add-cell-at : tie.Need-add-cell-at Inv-loop μ-loop
+add-cell-at c = omega (arith, listed (c .before .before .before))
 
-mul-index : tie.Need-mul-index Inv-loop μ-loop
-mul-index c = omega (arith, listed (c .before .before .before))
-
-element-copy-out-index : tie.Need-element-copy-out-index Inv-loop μ-loop
-element-copy-out-index c = omega (arith, listed (c .before .before .before))
-
-index-requires : tie.Need-index-requires Inv-loop μ-loop
-index-requires c κs = search needs
+cell-at-requires : tie.Need-cell-at-requires Inv-loop μ-loop
+cell-at-requires c κs = omega (arith, listed (c .before .before .before))
 
 scan-cell-requires : tie.Need-scan-cell-requires Inv-loop μ-loop
 scan-cell-requires c κs =
-    let s = c .before .before .before .before .before .before in
-    let l = c .before .before .before .before .loop in
-    let e = c .before .index .ensures in (
+    let s = c .before .before .before .before .before in
+    let l = c .before .before .before .loop in
+    let e = c .before .cell-at .ensures in (
       s .pre .0,
       s .pre .1,
       s .pre .2,
@@ -82,9 +81,9 @@ loop-less c = omega arith
 
 loop-again : tie.Need-loop-again Inv-loop μ-loop
 loop-again c =
-    let s = c .before .before .before .before .before .before .before .before .before in
-    let l = c .before .before .before .before .before .before .before .loop in
-    let e = c .before .before .before .before .index .ensures in
+    let s = c .before .before .before .before .before .before .before .before in
+    let l = c .before .before .before .before .before .before .loop in
+    let e = c .before .before .before .before .cell-at .ensures in
     (omega arith, loop-more (at s) (l .i) (l .inv .1) (rw e at (c .before .before .scan-cell .ensures)))
 
 same-length : tie.Need-same-length Inv-loop μ-loop
@@ -104,10 +103,8 @@ scan-spec =
     μ-loop
     sub-count
     loop-holds
-    add-index
-    mul-index
-    element-copy-out-index
-    index-requires
+    add-cell-at
+    cell-at-requires
     scan-cell-requires
     add-i
     loop-less

@@ -5,7 +5,6 @@ use native.Mathlib.Omega.{arith}
 use Rattle.rules.specs.Groups.{entry}
 use Rattle.laws.specs.FlatLaws.{counts, spot}
 use Rattle.shapes.specs.UnitLaws.{in-below, in-beside, in-page}
-use borrow.Author.Needs.{needs}
 use Rattle.shapes.proofs.cell_in.Statement.{statement}
 use Rattle.shapes.proofs.cell_in.Tie as tie
 
@@ -26,27 +25,21 @@ returns-2 c =
     sym (in-beside _ _ _ _ (c .before .before .args .y) (c .before .before .args .x) (c .before .if1 .left)
     (c .if2 .taken))
 
-mul-index : tie.Need-mul-index
-mul-index c = record { fits = omega (arith, inside c) }
+mul-group-of : tie.Need-mul-group-of
+mul-group-of c = record { fits = omega (arith, inside c) }
 
-add-index : tie.Need-add-index
-add-index c = record { fits = omega (arith, inside c) }
+add-group-of : tie.Need-add-group-of
+add-group-of c = record { fits = omega (arith, inside c) }
 
-mul-index-2 : tie.Need-mul-index-2
-mul-index-2 c = record { fits = omega (arith, inside c) }
-
-element-copy-out-index : tie.Need-element-copy-out-index
-element-copy-out-index c = inside c
-
-index-requires : tie.Need-index-requires
-index-requires c κs = search needs
+group-of-requires : tie.Need-group-of-requires
+group-of-requires c κs = inside c
 
 returns-3 : tie.Need-returns-3
 unfolding entry
 returns-3 c =
-    let s = c .before .before .before .before in
-    sym (in-page _ _ _ _ (s .args .y) (s .args .x) (c .index .result) (c .before .before .before .if1 .left)
-    (c .before .before .if2 .left) (c .index .ensures))
+    let s = c .before .before .before in
+    sym (in-page _ _ _ _ (s .args .y) (s .args .x) (c .group-of .result) (c .before .before .if1 .left)
+    (c .before .if2 .left) (c .group-of .ensures))
 
 pub cell-in-spec : {M : Type 1} → statement M
 cell-in-spec =
@@ -54,9 +47,7 @@ cell-in-spec =
     (tie.spec
     returns
     returns-2
-    mul-index
-    add-index
-    mul-index-2
-    element-copy-out-index
-    index-requires
+    mul-group-of
+    add-group-of
+    group-of-requires
     returns-3)

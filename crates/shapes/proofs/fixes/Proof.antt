@@ -1,12 +1,23 @@
 -- `shapes::fixes` meets its contract: the images within the unit are as many as its cells, so they are its cells.
-use mathlib.Core.Path.{ap, _∙_}
+use mathlib.Core.Path.{_≡_, ap, _∙_}
+use native.Mathlib.Omega.{arith}
+use lib.ListN.{getD}
+use Rattle.lists.specs.SectionLaws.{section-at, front-at}
 use Rattle.rules.specs.Page.{_⊕_, opposite}
-use Rattle.shapes.specs.Spots.{spotAt}
+use Rattle.shapes.specs.Outlines.{rowsIn, columnsIn}
+use Rattle.shapes.specs.Spots.{placeAt}
 use Rattle.shapes.specs.SpotLaws.{near-least, near-small, shift-small}
 use Rattle.shapes.specs.UnitLaws.{within-fixes}
 use borrow.Author.Needs.{needs}
 use Rattle.shapes.proofs.fixes.Statement.{statement}
 use Rattle.shapes.proofs.fixes.Tie as tie
+
+-- the first cell's row and column
+row-at : (s : tie.Start) → getD (s .args .outline .now) 0 0 ≡ getD (rowsIn (s .args .outline .now)) 0 0
+row-at s = front-at 1024 (s .args .outline .now) 0 (omega arith)
+
+column-at : (s : tie.Start) → getD (s .args .outline .now) 1024 0 ≡ getD (columnsIn (s .args .outline .now)) 0 0
+column-at s = section-at 1024 1024 (s .args .outline .now) 0 (omega arith)
 
 least-requires : tie.Need-least-requires
 least-requires c κs = search needs
@@ -22,9 +33,9 @@ shift-requires c κs =
     let s = c .before .before .before in
     let u = s .pre .1 .spotted in (
       near-small (c .before .before .least .result) (c .before .before .least .ensures)
-          (near-least (s .args .row) _ _ (s .args .n) u),
-      u .down 0 (u .some),
-      u .across 0 (u .some),
+          (near-least (s .args .row) _ u),
+      rw (row-at s) (u .down 0 (u .some)),
+      rw (column-at s) (u .across 0 (u .some)),
     )
 
 within-requires : tie.Need-within-requires
@@ -34,7 +45,8 @@ within-requires c κs =
     let m = c .before .before .before .least in (
       s .pre .0,
       shift-small (c .shift .result) (m .result) _ _ (c .shift .ensures) (m .ensures)
-          (near-least (s .args .row) _ _ (s .args .n) u) (u .down 0 (u .some)) (u .across 0 (u .some)),
+          (near-least (s .args .row) _ u) (rw (row-at s) (u .down 0 (u .some)))
+          (rw (column-at s) (u .across 0 (u .some))),
       s .pre .1,
     )
 
@@ -42,11 +54,10 @@ returns : tie.Need-returns
 returns c =
     let s = c .before .before .before .before .before in
     c .within .ensures
-    ∙ within-fixes _ _ (s .args .ids .now) _ (s .args .rows .now) (s .args .columns .now) (s .args .n) (s .args .row) _
-    (s .pre .1)
-    (c .before .shift .ensures
-    ∙ ap (λ p. opposite p ⊕ spotAt (s .args .rows .now) (s .args .columns .now) 0)
-    (c .before .before .before .before .least .ensures))
+    ∙ within-fixes _ _ (s .args .units .now) _ (s .args .outline .now) (s .args .row) _ (s .pre .1)
+    (rw (← row-at s, ← column-at s) (c .before .shift .ensures
+    ∙ ap (λ p. opposite p ⊕ placeAt (getD (s .args .outline .now) 0 0) (getD (s .args .outline .now) 1024 0))
+    (c .before .before .before .before .least .ensures)))
 
 pub fixes-spec : {M : Type 1} → statement M
 fixes-spec =

@@ -1,5 +1,6 @@
 -- `shapes::lands` meets its contract: the sums fit, and are the coordinates of the shifted place.
 use mathlib.Core.Path.{ap₂, _∙_}
+use Rattle.groups.specs.Grouping.{numbersIn}
 use Rattle.rules.specs.Page.{_⊕_}
 use Rattle.rules.specs.Groups.{entry}
 use Rattle.shapes.specs.Pairs.{pointAt}
@@ -27,7 +28,8 @@ unfolding _⊕_
 returns c =
     let s = c .before .before .before .before .before .before .before .before .before in
     c .has-cell .ensures
-    ∙ ap₂ (λ y x. hasCell (s .args .h) (s .args .w) (entry (s .args .ids .now)) (s .args .g) (pointAt y x))
+    ∙ ap₂ (λ y x. hasCell (s .args .h) (s .args .w) (entry (numbersIn (s .args .units .now))) (s .args .g)
+    (pointAt y x))
     (sum-back (s .args .p .y) (s .args .v .y) (s .pre .2 .down) (s .pre .3 .down))
     (sum-back (s .args .p .x) (s .args .v .x) (s .pre .2 .across) (s .pre .3 .across))
 

@@ -5,39 +5,44 @@ use native.Mathlib.Omega.{arith}
 use borrow.Author.Needs.{needs}
 use Rattle.shapes.specs.Pairs.{pointOf}
 use Rattle.shapes.specs.PairLaws.{signs-read, turns-read}
+use Rattle.shapes.specs.Outlines.{rowsIn, columnsIn, cellCount}
 use Rattle.shapes.specs.Spots.{spots, leastImage}
 use Rattle.shapes.specs.SpotLaws.{spot-in, least-one, earlier-more}
 use Rattle.shapes.proofs.least.Statement.{statement}
 use Rattle.shapes.proofs.least.Tie as tie
 
 abbrev Inv-loop : tie.InvT-loop
-Inv-loop row rows columns n s best₀ i₀ best i =
-    (1 ≤ i) × (i ≤ n) × (pointOf best ≡ leastImage row (spots rows columns i))
+Inv-loop row outline n s best₀ i₀ best i =
+    (1 ≤ i) × (i ≤ cellCount outline) × (pointOf best ≡ leastImage row (spots (rowsIn outline) (columnsIn outline) i))
 
 abbrev μ-loop : tie.MeasureT-loop
-μ-loop row rows columns n s best₀ i₀ best i = n - i
+μ-loop row outline n s best₀ i₀ best i = n - i
+
+cell-count-requires : tie.Need-cell-count-requires Inv-loop μ-loop
+cell-count-requires c κs = search needs
 
 signs-at-requires : tie.Need-signs-at-requires Inv-loop μ-loop
 signs-at-requires c κs = search needs
 
 moved-requires : tie.Need-moved-requires Inv-loop μ-loop
 moved-requires c κs = (
-  signs-read (c .before .args .row) (c .signs-at .ensures),
-  spot-in (c .before .pre .1) (c .before .pre .1 .some),
+  signs-read (c .before .before .args .row) (c .signs-at .ensures),
+  spot-in (c .before .before .pre .1) (c .before .before .pre .1 .some),
 )
 
 loop-holds : tie.Need-loop-holds Inv-loop μ-loop
 loop-holds c = (
   omega arith,
-  c .before .before .pre .1 .some,
+  c .before .before .before .pre .1 .some,
   ap pointOf (c .moved .ensures)
-      ∙ (turns-read (c .before .before .args .row) (c .before .signs-at .ensures) _ _ ∙ sym (least-one _ _ _)),
+      ∙ (turns-read (c .before .before .before .args .row) (c .before .signs-at .ensures) _ _ ∙ sym (least-one _ _ _)),
 )
 
 moved-requires-2 : tie.Need-moved-requires-2 Inv-loop μ-loop
 moved-requires-2 c κs = (
-  signs-read (c .before .before .before .before .args .row) (c .before .before .before .signs-at .ensures),
-  spot-in (c .before .before .before .before .pre .1) (search needs),
+  signs-read (c .before .before .before .before .before .args .row) (c .before .before .before .signs-at .ensures),
+  spot-in (c .before .before .before .before .before .pre .1)
+      (omega (arith, c .before .before .before .before .cell-count .ensures)),
 )
 
 earlier-requires : tie.Need-earlier-requires Inv-loop μ-loop
@@ -55,15 +60,16 @@ loop-again c =
     let m = c .before .moved2 in
     let l = c .before .before .before .loop in (
       omega arith,
-      omega arith,
+      omega (arith, a .before .cell-count .ensures),
       earlier-more _ _ _ (l .i) (m .result) (l .best) (c .earlier .result) (l .inv .0)
-          (ap pointOf (m .ensures) ∙ turns-read (a .before .args .row) (a .signs-at .ensures) _ _)
+          (ap pointOf (m .ensures) ∙ turns-read (a .before .before .args .row) (a .signs-at .ensures) _ _)
           (l .inv .2) (c .earlier .ensures),
     )
 
 returns : tie.Need-returns Inv-loop μ-loop
 returns c =
-    let e : c .before .loop .i ≡ c .before .before .before .before .args .n = omega arith in
+    let a = c .before .before .before .before in
+    let e : c .before .loop .i ≡ cellCount (a .before .args .outline .now) = omega (arith, a .cell-count .ensures) in
     rw e at (c .before .loop .inv .2)
 
 pub least-spec : {M : Type 1} → statement M
@@ -72,6 +78,7 @@ least-spec =
     (tie.spec
     Inv-loop
     μ-loop
+    cell-count-requires
     signs-at-requires
     moved-requires
     loop-holds

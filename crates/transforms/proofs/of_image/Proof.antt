@@ -4,6 +4,7 @@ use borrow.Author.Needs.{needs}
 use mir.Syntax.{w32}
 use mir.Facts.{toZ-ofZ}
 use Rattle.rules.specs.Groups.{entry}
+use Rattle.groups.specs.Grouping.{numbersIn}
 use Rattle.rules.specs.Turns.{apply}
 use Rattle.laws.specs.PointLaws.{point-eq}
 use Rattle.shapes.specs.Pairs.{pointAt, pointOf}
@@ -28,7 +29,7 @@ returns c =
     let a = c .before .before .before .apply-back in
     let q = c .before .before .struct-told3 .given in
     c .has-cell .ensures
-    ∙ ap (hasCell (s .args .h) (s .args .w) (entry (s .args .ids .now)) (s .args .g))
+    ∙ ap (hasCell (s .args .h) (s .args .w) (entry (numbersIn (s .args .units .now))) (s .args .g))
     (point-eq refl (toZ-ofZ {w = w32} (record { sfits = q .0 .1 })) (toZ-ofZ {w = w32} (record { sfits = q .1 .0 .1 }))
     ∙ (sym (undo-turn (s .args .row) (pointOf (a .result)))
     ∙ ap (apply (turnAt (undone (s .args .row))))

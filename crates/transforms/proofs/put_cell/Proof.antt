@@ -6,6 +6,7 @@ use borrow.Author.Needs.{needs}
 use lib.ListN.{length}
 use Rattle.rules.specs.Page.{Point, _⊕_, opposite}
 use Rattle.rules.specs.Groups.{entry}
+use Rattle.groups.specs.Grouping.{numbersIn}
 use Rattle.shapes.specs.Pairs.{pointOf}
 use Rattle.transforms.specs.Box.{boxAt, ofImage}
 use Rattle.transforms.specs.ImageLaws.{wrote-none, wrote-same, cell-yes, cell-no}
@@ -14,12 +15,12 @@ use Rattle.transforms.proofs.put_cell.Tie as tie
 
 -- the test is that of the place of the box
 tested : (c : tie.After-of-image) → let s = c .before .before in
-    c .of-image .result ≡ ofImage (s .args .h) (s .args .w) (entry (s .args .ids .now)) (s .args .g) (s .args .row)
-    (boxAt (s .args .i))
+    c .of-image .result ≡ ofImage (s .args .h) (s .args .w) (entry (numbersIn (s .args .units .now))) (s .args .g)
+    (s .args .row) (boxAt (s .args .i))
 tested c =
     let s = c .before .before in
     c .of-image .ensures
-    ∙ ap (ofImage (s .args .h) (s .args .w) (entry (s .args .ids .now)) (s .args .g) (s .args .row))
+    ∙ ap (ofImage (s .args .h) (s .args .w) (entry (numbersIn (s .args .units .now))) (s .args .g) (s .args .row))
     (c .before .box-place .ensures .0)
 
 box-place-requires : tie.Need-box-place-requires
@@ -35,7 +36,7 @@ put-requires : tie.Need-put-requires
 put-requires c κs =
     let s = c .before .before .before .before .before in
     let t = c .before .before .before in
-    let e = cell-yes (s .args .h) (s .args .w) (entry (s .args .ids .now)) (s .args .g) (s .args .row)
+    let e = cell-yes (s .args .h) (s .args .w) (entry (numbersIn (s .args .units .now))) (s .args .g) (s .args .row)
     (pointOf (s .args .m)) (s .args .i) (sym (tested t) ∙ c .before .before .if1 .taken) in
     omega (arith, s .pre .5, ap length e)
 
@@ -50,15 +51,15 @@ returns c =
     wrote-same
     (ap (λ (p : Point). p ∷ [])
     (c .before .before .back .ensures ∙ ap (λ p. p ⊕ opposite m) (t .before .box-place .ensures .0))
-    ∙ sym (cell-yes (s .args .h) (s .args .w) (entry (s .args .ids .now)) (s .args .g) (s .args .row) m (s .args .i)
-    (sym (tested t) ∙ c .before .before .before .before .if1 .taken)))
+    ∙ sym (cell-yes (s .args .h) (s .args .w) (entry (numbersIn (s .args .units .now))) (s .args .g) (s .args .row) m
+    (s .args .i) (sym (tested t) ∙ c .before .before .before .before .if1 .taken)))
     (c .before .put .ensures)
 
 returns-2 : tie.Need-returns-2
 returns-2 c =
     let s = c .before .before .before in
     wrote-same
-    (sym (cell-no (s .args .h) (s .args .w) (entry (s .args .ids .now)) (s .args .g) (s .args .row)
+    (sym (cell-no (s .args .h) (s .args .w) (entry (numbersIn (s .args .units .now))) (s .args .g) (s .args .row)
     (pointOf (s .args .m)) (s .args .i) (sym (tested (c .before)) ∙ c .if1 .left))) wrote-none
 
 pub put-cell-spec : {M : Type 1} → statement M

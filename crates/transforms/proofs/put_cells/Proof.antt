@@ -4,6 +4,7 @@ use Prim.Native.Nat.{_-_, _≤_}
 use native.Mathlib.Omega.{arith}
 use borrow.Author.Needs.{needs}
 use Rattle.rules.specs.Groups.{entry}
+use Rattle.groups.specs.Grouping.{numbersIn}
 use Rattle.shapes.specs.Pairs.{pointOf}
 use Rattle.transforms.specs.Transforms.{Wrote}
 use Rattle.transforms.specs.Box.{sweep}
@@ -12,14 +13,14 @@ use Rattle.transforms.proofs.put_cells.Statement.{statement}
 use Rattle.transforms.proofs.put_cells.Tie as tie
 
 abbrev Inv-loop : tie.InvT-loop
-Inv-loop memory₀ ids h w g row m at₀ i₀ memory at i =
-    (i ≤ 4356) × Wrote memory₀ 0 (sweep h w (entry ids) g row (pointOf m) i) memory at
+Inv-loop memory₀ units h w g row m at₀ i₀ memory at i =
+    (i ≤ 4356) × Wrote memory₀ 0 (sweep h w (entry (numbersIn units)) g row (pointOf m) i) memory at
 
 abbrev μ-loop : tie.MeasureT-loop
-μ-loop memory₀ ids h w g row m at₀ i₀ memory at i = 4356 - i
+μ-loop memory₀ units h w g row m at₀ i₀ memory at i = 4356 - i
 
 loop-holds : tie.Need-loop-holds Inv-loop μ-loop
-loop-holds c = (omega arith, sweep-start _ _ (entry (c .args .ids .now)) _ _ _ _)
+loop-holds c = (omega arith, sweep-start _ _ (entry (numbersIn (c .args .units .now))) _ _ _ _)
 
 put-cell-requires : tie.Need-put-cell-requires Inv-loop μ-loop
 put-cell-requires c κs =
@@ -30,7 +31,7 @@ put-cell-requires c κs =
       s .pre .2,
       s .pre .3,
       search needs,
-      sweep-room _ _ (entry (s .args .ids .now)) _ _ _ (l .i) 4356 (search needs) (l .inv .1) (s .pre .4),
+      sweep-room _ _ (entry (numbersIn (s .args .units .now))) _ _ _ (l .i) 4356 (search needs) (l .inv .1) (s .pre .4),
     )
 
 add-i : tie.Need-add-i Inv-loop μ-loop
@@ -44,7 +45,7 @@ loop-again c =
     let s = c .before .before .before .before .before in
     let l = c .before .before .before .before .loop in (
       omega arith,
-      sweep-step _ _ (entry (s .args .ids .now)) _ _ _ (l .i) (l .inv .1) (c .before .put-cell .ensures),
+      sweep-step _ _ (entry (numbersIn (s .args .units .now))) _ _ _ (l .i) (l .inv .1) (c .before .put-cell .ensures),
     )
 
 same-length : tie.Need-same-length Inv-loop μ-loop
@@ -56,7 +57,8 @@ returns c =
     let e : c .before .loop .i ≡ 4356 = omega arith in
     wrote-same
     (ap
-    (sweep (s .args .h) (s .args .w) (entry (s .args .ids .now)) (s .args .g) (s .args .row) (pointOf (s .args .m)))
+    (sweep (s .args .h) (s .args .w) (entry (numbersIn (s .args .units .now))) (s .args .g) (s .args .row)
+    (pointOf (s .args .m)))
     e)
     (c .before .loop .inv .1)
 

@@ -5,14 +5,14 @@ use borrow.Author.Needs.{needs}
 use lib.ListN.{length}
 use Rattle.shapes.specs.Pairs.{SmallPair}
 use Rattle.shapes.specs.SpotLaws.{near-least, near-small}
-use Rattle.units.specs.ImageLaws.{jointed}
+use Rattle.shapes.specs.ImageLaws.{jointed}
 use Rattle.transforms.specs.ImageLaws.{wrote-length, cell-count, swept, written}
 use Rattle.transforms.proofs.put_image.Statement.{statement}
 use Rattle.transforms.proofs.put_image.Tie as tie
 
 -- the first image is near the page
 small : (c : tie.After-least) → SmallPair (c .least .result)
-small c = near-small (c .least .result) (c .least .ensures) (near-least _ _ _ _ (c .before .pre .1 .spotted))
+small c = near-small (c .least .result) (c .least .ensures) (near-least _ _ (c .before .pre .1 .spotted))
 
 least-requires : tie.Need-least-requires
 least-requires c κs = (c .pre .0, c .pre .1 .spotted)

@@ -3,6 +3,7 @@ use mathlib.Core.Path.{_≡_, ap}
 use Prim.Native.Nat.{_-_, _≤_}
 use native.Mathlib.Omega.{arith}
 use borrow.Author.Needs.{needs}
+use Rattle.shapes.specs.Outlines.{downIn, acrossIn, jointCount}
 use Rattle.shapes.specs.Pairs.{pointOf}
 use Rattle.shapes.specs.Spots.{spots}
 use Rattle.transforms.specs.Transforms.{Wrote}
@@ -12,24 +13,32 @@ use Rattle.transforms.proofs.put_joints.Statement.{statement}
 use Rattle.transforms.proofs.put_joints.Tie as tie
 
 abbrev Inv-loop : tie.InvT-loop
-Inv-loop memory₀ start row down across k m at₀ j₀ memory at j =
-    (j ≤ k) × Wrote memory₀ start (movedBack row (pointOf m) (spots down across j)) memory at
+Inv-loop memory₀ start row outline m k at₀ j₀ memory at j =
+    (j ≤ k) × Wrote memory₀ start (movedBack row (pointOf m) (spots (downIn outline) (acrossIn outline) j)) memory at
 
 abbrev μ-loop : tie.MeasureT-loop
-μ-loop memory₀ start row down across k m at₀ j₀ memory at j = k - j
+μ-loop memory₀ start row outline m k at₀ j₀ memory at j = k - j
+
+joint-count-requires : tie.Need-joint-count-requires Inv-loop μ-loop
+joint-count-requires c κs = search needs
 
 loop-holds : tie.Need-loop-holds Inv-loop μ-loop
-loop-holds c = (omega arith, moved-start _ _ (c .args .down .now) (c .args .across .now) _ _)
+loop-holds c =
+    let o = c .before .args .outline .now in (omega arith, moved-start _ _ (downIn o) (acrossIn o) _ _)
 
 joint-requires : tie.Need-joint-requires Inv-loop μ-loop
 joint-requires c κs =
-    let s = c .before .before in (s .pre .0, s .pre .1 .each (c .before .loop .j) (search needs), s .pre .2)
+    let a = c .before .before in
+    let s = a .before in
+    (s .pre .0, s .pre .1 .each (c .before .loop .j) (omega (arith, a .joint-count .ensures)), s .pre .2)
 
 put-requires : tie.Need-put-requires Inv-loop μ-loop
 put-requires c κs =
-    let s = c .before .before .before .before in
+    let a = c .before .before .before .before in
+    let s = a .before in
+    let o = s .args .outline .now in
     let l = c .before .before .before .loop in
-    moved-room _ _ (s .args .down .now) (s .args .across .now) (l .j) (s .args .k) (search needs) (l .inv .1)
+    moved-room _ _ (downIn o) (acrossIn o) (l .j) (jointCount o) (omega (arith, a .joint-count .ensures)) (l .inv .1)
     (s .pre .3)
 
 add-j : tie.Need-add-j Inv-loop μ-loop
@@ -40,10 +49,10 @@ loop-less c = omega arith
 
 loop-again : tie.Need-loop-again Inv-loop μ-loop
 loop-again c =
-    let s = c .before .before .before .before .before .before in
+    let o = c .before .before .before .before .before .before .before .args .outline .now in
     let l = c .before .before .before .before .before .loop in (
       omega arith,
-      moved-step _ _ (s .args .down .now) (s .args .across .now) (l .j) (l .inv .1)
+      moved-step _ _ (downIn o) (acrossIn o) (l .j) (l .inv .1)
           (c .before .before .before .joint .ensures) (c .before .put .ensures),
     )
 
@@ -52,10 +61,12 @@ same-length c = wrote-length (c .before .loop .inv .1)
 
 returns : tie.Need-returns Inv-loop μ-loop
 returns c =
-    let s = c .before .before in
-    let e : c .before .loop .j ≡ s .args .k = omega arith in
+    let a = c .before .before in
+    let s = a .before in
+    let o = s .args .outline .now in
+    let e : c .before .loop .j ≡ jointCount o = omega (arith, a .joint-count .ensures) in
     wrote-same
-    (ap (λ j. movedBack (s .args .row) (pointOf (s .args .m)) (spots (s .args .down .now) (s .args .across .now) j)) e)
+    (ap (λ j. movedBack (s .args .row) (pointOf (s .args .m)) (spots (downIn o) (acrossIn o) j)) e)
     (c .before .loop .inv .1)
 
 pub put-joints-spec : {M : Type 1} → statement M
@@ -64,6 +75,7 @@ put-joints-spec =
     (tie.spec
     Inv-loop
     μ-loop
+    joint-count-requires
     loop-holds
     joint-requires
     put-requires

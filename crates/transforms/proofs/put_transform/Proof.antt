@@ -1,137 +1,107 @@
--- `transforms::put_transform` meets its contract: no unit, no transform; otherwise the unit's places and listed rows.
+-- `transforms::put_transform` meets its contract: no unit, no transform; otherwise the unit's outline and listed rows.
 use mathlib.Core.Path.{_≡_, sym, ap, _∙_}
+use Prim.Native.Nat.{_<_}
 use native.Mathlib.Omega.{arith}
 use borrow.Author.Needs.{needs}
-use Prim.Native.Nat.{_≤_}
 use lib.ListN.{length}
 use Rattle.rules.specs.Codes.{statesIn}
 use Rattle.rules.specs.Check.{transformsOf}
+use Rattle.groups.specs.ForestLaws.{forest-zeros}
+use Rattle.groups.specs.Grouping.{countIn}
+use Rattle.groups.specs.GroupingLaws.{vacant-zeros}
 use Rattle.search.specs.Placing.{puzzle}
-use Rattle.shapes.specs.Spots.{UnitAt}
 use Rattle.units.specs.Fitting.{UnitIn}
 use Rattle.units.specs.FitLaws.{unit-part, unit-placed}
 use Rattle.transforms.specs.Transforms.{kthAnswer, kthMemory}
-use Rattle.transforms.specs.AnswerLaws.{past-answer, past-memory, no-unit}
-use Rattle.transforms.specs.AnswerLaws.{unit-transforms, unit-part-in, units-few}
+use Rattle.transforms.specs.AnswerLaws.{past-answer, past-memory, no-unit, unit-transforms, unit-part-in}
 use Rattle.transforms.proofs.put_transform.Statement.{statement}
 use Rattle.transforms.proofs.put_transform.Tie as tie
 
-groups-of-requires : tie.Need-groups-of-requires
-groups-of-requires c κs = search needs
+fill-requires : tie.Need-fill-requires
+fill-requires c κs = (c .before .before .pre .0, vacant-zeros _, forest-zeros)
+
+count-of-requires : tie.Need-count-of-requires
+count-of-requires c κs = search needs
 
 none-requires : tie.Need-none-requires
 none-requires c κs = search needs
 
 returns : tie.Need-returns
 returns c =
-    let s = c .before .before .before in
+    let a = c .before .before in
+    let f = a .before .before in
+    let s = f .before .before .before in
     let cs = s .args .colours .now in
     let bs = s .args .borders .now in
     let ts = transformsOf (puzzle (s .args .h) (s .args .w) cs) (statesIn bs) (s .args .u) in
     let e : length ts ≡ 0 =
-    ap length (no-unit (s .pre .0) cs bs (c .before .before .groups-of .ensures) (s .args .u) (search needs)) in (
+    ap length (no-unit (s .pre .0) cs bs (f .fill .ensures .0) (s .args .u)
+    (omega (arith, a .count-of .ensures, c .before .if1 .taken))) in (
       c .none .ensures ∙ past-answer ts (s .args .k) (omega arith) (sym e),
       past-memory ts (s .args .k) (omega arith) (s .args .memory .now),
     )
 
--- the unit's number is low
-low : (c : tie.Else1) → c .before .before .args .u ≤ 1023
-low c =
-    let s = c .before .before in
-    omega (
-      arith,
-      units-few (s .pre .0) (s .args .colours .now) (s .args .borders .now) (c .before .groups-of .ensures)
-          (s .args .u),
-    )
-
-mul-index : tie.Need-mul-index
-mul-index c = omega (arith, low c)
-
-element-copy-out-index : tie.Need-element-copy-out-index
-element-copy-out-index c = omega (arith, low c)
-
-index-requires : tie.Need-index-requires
-index-requires c κs = search needs
-
-add-index : tie.Need-add-index
-add-index c = search needs
-
-mul-index-2 : tie.Need-mul-index-2
-mul-index-2 c = omega (arith, low (c .before .before))
-
-element-copy-out-index-2 : tie.Need-element-copy-out-index-2
-element-copy-out-index-2 c = omega (arith, low (c .before .before))
-
-index-requires-2 : tie.Need-index-requires-2
-index-requires-2 c κs = search needs
+-- the unit has a number
+low : (c : tie.Else1) → let f = c .before .before .before in
+    f .before .before .before .args .u < countIn (f .fill .last .1 .1 .1 .1 .1 .0)
+low c = omega (arith, c .before .count-of .ensures, c .if1 .left)
 
 -- its part of the list of cells
-part-is : (c : tie.After-index2) → let g = c .before .before .before .before .before in
-    UnitIn (g .before .args .h) (g .before .args .w) (g .groups-of .result .ids) (g .before .args .u)
-    (g .groups-of .result .cells) (c .before .before .index .result) (c .index2 .result)
+part-is : (c : tie.Else1) → let f = c .before .before .before in let s = f .before .before .before in
+    UnitIn (s .args .h) (s .args .w) (f .fill .last .1 .1 .1 .1 .1 .0) (s .args .u)
 part-is c =
-    let g = c .before .before .before .before .before in
-    let s = g .before in
-    rw (c .before .before .index .ensures, c .index2 .ensures)
-    (unit-part-in (s .pre .0) (s .args .colours .now) (s .args .borders .now) (g .groups-of .ensures) (s .args .u)
-    (search needs))
+    let f = c .before .before .before in
+    let s = f .before .before .before in
+    unit-part-in (s .pre .0) (s .args .colours .now) (s .args .borders .now) (f .fill .ensures .0) (s .args .u) (low c)
 
 places-requires : tie.Need-places-requires
 places-requires c κs =
-    let s = c .before .before .before .before .before .before .before .before .before .before in
-    (unit-part (s .pre .0) (part-is (c .before .before .before .before)), search needs, search needs)
+    let e = c .before .before in
+    (unit-part (e .before .before .before .before .before .before .pre .0) (part-is e), search needs)
 
--- its places
-placed : (c : tie.After-places) →
-    let g = c .before .before .before .before .before .before .before .before .before .before in
-    UnitAt (g .before .args .h) (g .before .args .w) (g .groups-of .result .ids) (g .before .args .u)
-    (c .places .last .1 .1 .1 .1 .0) (c .places .last .1 .1 .1 .1 .1 .0) (c .places .result)
-placed c =
-    let s = c .before .before .before .before .before .before .before .before .before .before .before in
-    unit-placed (s .pre .0) (part-is (c .before .before .before .before .before)) (c .places .ensures .0)
-    (c .places .ensures .1)
+joints-requires : tie.Need-joints-requires
+joints-requires c κs =
+    let a = c .before .before in
+    let e = a .before .before .before in
+    let p = a .places .ensures in
+    unit-placed (e .before .before .before .before .before .before .pre .0) (part-is e) (p .0) (p .1)
 
 list-rows-requires : tie.Need-list-rows-requires
-list-rows-requires c κs = placed (c .before .before .before .before)
+list-rows-requires c κs = c .before .before .joints .ensures .0
 
 put-listed-requires : tie.Need-put-listed-requires
 put-listed-requires c κs =
-    let l = c .before .before .before .before in
-    let p = l .before .before .before .before .before in
-    let s = p .before .before .before .before .before .before .before .before .before .before .before in
-    (placed p, l .list-rows .ensures, s .pre .1)
+    let l = c .before .before .before in
+    let j = l .before .before .before in
+    let s = j .before .before .before .before .before .before .before .before .before .before .before .before in
+    (j .joints .ensures .0, j .joints .ensures .1, l .list-rows .ensures, s .pre .1)
 
 same-length : tie.Need-same-length
 same-length c = search needs
 
 returns-2 : tie.Need-returns-2
 returns-2 c =
-    let p = c .before .before .before .before .before .before .before .before .before .before .before in
-    let i = p .before .before .before .before .before .before .before .before .before in
-    let g = i .before in
-    let s = g .before in
-    let e = sym (unit-transforms (s .pre .0) (s .args .colours .now) (s .args .borders .now) (g .groups-of .ensures)
-    (s .args .u) (omega (arith, i .if1 .left))) in
+    let j = c .before .before .before .before .before .before .before .before in
+    let e = j .before .before .before .before .before .before in
+    let f = e .before .before .before in
+    let s = f .before .before .before in
+    let t = sym (unit-transforms (s .pre .0) (s .args .colours .now) (s .args .borders .now) (f .fill .ensures .0)
+    (s .args .u) (low e)) in
     let r = c .before .put-listed .ensures in (
-      r .0 ∙ ap (λ ts. kthAnswer ts (s .args .k)) e,
-      r .1 ∙ ap (λ ts. kthMemory ts (s .args .k) (s .args .memory .now)) e,
+      r .0 ∙ ap (λ ts. kthAnswer ts (s .args .k)) t,
+      r .1 ∙ ap (λ ts. kthMemory ts (s .args .k) (s .args .memory .now)) t,
     )
 
 pub put-transform-spec : {M : Type 1} → statement M
 put-transform-spec =
     tie.close
     (tie.spec
-    groups-of-requires
+    fill-requires
+    count-of-requires
     none-requires
     returns
-    mul-index
-    element-copy-out-index
-    index-requires
-    add-index
-    mul-index-2
-    element-copy-out-index-2
-    index-requires-2
     places-requires
+    joints-requires
     list-rows-requires
     put-listed-requires
     same-length

@@ -1,10 +1,11 @@
 -- Blockers, Inside and walls, one after another; what the arrays give is the reason of the unit.
 use borrow.Author.Needs.{needs}
+use Rattle.groups.specs.Grouping.{numbersIn}
 use Rattle.rules.specs.Flat.{flat}
 use Rattle.rules.specs.Groups.{entry}
 use Rattle.rules.specs.Shapes.{shapeOf}
+use Rattle.shapes.specs.ImageLaws.{jointed}
 use Rattle.units.specs.FitLaws.{rows-listed}
-use Rattle.units.specs.ImageLaws.{jointed}
 use Rattle.unitreason.specs.ReasonLaws.{own, own-cells, beside, mated}
 use Rattle.unitreason.specs.ReasonLaws.{room-blocks, room-inside, room-walls, reason-written}
 use Rattle.unitreason.proofs.write_unit.Statement.{statement}
@@ -12,66 +13,38 @@ use Rattle.unitreason.proofs.write_unit.Tie as tie
 
 block-rows-requires : tie.Need-block-rows-requires
 block-rows-requires c κs =
-    let s = c .before .before .before .before in
+    let s = c .before .before in
     let a = s .pre .0 in
     let b = s .pre .1 in (
-      rows-listed (shapeOf (flat (s .args .h) (s .args .w)) (entry (s .args .ids .now)) (s .args .u)) (b .rows),
+      rows-listed (shapeOf (flat (s .args .h) (s .args .w)) (entry (numbersIn (s .args .units .now))) (s .args .u))
+          (b .rows),
       a .drawn,
       b .cells .spotted,
       jointed (b .cells) (b .connections),
       beside a,
-      s .pre .2,
-      s .pre .3,
-      room-blocks a b _ (s .pre .4),
+      room-blocks a b _ (s .pre .2),
     )
-
-mul-index : tie.Need-mul-index
-mul-index c = search needs
-
-element-copy-out-index : tie.Need-element-copy-out-index
-element-copy-out-index c = search needs
-
-index-requires : tie.Need-index-requires
-index-requires c κs = search needs
-
-add-index : tie.Need-add-index
-add-index c = search needs
-
-mul-index-2 : tie.Need-mul-index-2
-mul-index-2 c = search needs
-
-element-copy-out-index-2 : tie.Need-element-copy-out-index-2
-element-copy-out-index-2 c = search needs
-
-index-requires-2 : tie.Need-index-requires-2
-index-requires-2 c κs = search needs
 
 inside-requires : tie.Need-inside-requires
 inside-requires c κs =
-    let q = c .before in
-    let t = q .before .before .before .before .before .before in
-    let s = t .before .before .before .before .before in
-    let a = s .pre .0 in (
-      a .drawn .sized,
-      record { borders = a .borders; numbers = a .lengths .0 },
-      a .unit .few,
-      rw (q .index2 .ensures, q .before .before .index .ensures) (a .unit .is),
-      room-inside a (s .pre .1) (s .pre .4) (t .block-rows .ensures),
-    )
+    let t = c .before .before .before in
+    let s = t .before .before .before in
+    let a = s .pre .0 in
+    (a .drawn .sized, a .borders, a .unit, room-inside a (s .pre .1) (s .pre .2) (t .block-rows .ensures))
 
 walls-of-requires : tie.Need-walls-of-requires
 walls-of-requires c κs =
     let i = c .before .before .before in
-    let t = i .before .before .before .before .before .before .before .before in
-    let s = t .before .before .before .before .before in
+    let t = i .before .before .before .before in
+    let s = t .before .before .before in
     let a = s .pre .0 in (
       a .drawn .sized,
-      record { borders = a .borders; numbers = a .lengths .1 },
+      a .borders,
       a .colours,
       mated a,
       own a,
       own-cells a,
-      room-walls a (s .pre .1) (s .pre .4) (t .block-rows .ensures) (i .inside .ensures),
+      room-walls a (s .pre .1) (s .pre .2) (t .block-rows .ensures) (i .inside .ensures),
     )
 
 same-length : tie.Need-same-length
@@ -81,24 +54,10 @@ returns : tie.Need-returns
 returns c =
     let e = c .before .before in
     let i = e .before .before .before .before in
-    let t = i .before .before .before .before .before .before .before .before in
-    let s = t .before .before .before .before .before in
-    λ k.
-    reason-written (s .pre .0) (s .pre .1) k (t .block-rows .ensures) (i .inside .ensures) (e .walls-of .ensures)
+    let t = i .before .before .before .before in
+    let s = t .before .before .before in
+    λ k. reason-written (s .pre .0) (s .pre .1) k (t .block-rows .ensures) (i .inside .ensures) (e .walls-of .ensures)
 
 pub write-unit-spec : {M : Type 1} → statement M
 write-unit-spec =
-    tie.close
-    (tie.spec
-    block-rows-requires
-    mul-index
-    element-copy-out-index
-    index-requires
-    add-index
-    mul-index-2
-    element-copy-out-index-2
-    index-requires-2
-    inside-requires
-    walls-of-requires
-    same-length
-    returns)
+    tie.close (tie.spec block-rows-requires inside-requires walls-of-requires same-length returns)

@@ -1,4 +1,5 @@
 -- Units of one cell are passed first; the search goes on where they end.
+use mathlib.Core.Path.{_∙_}
 use Rattle.units.specs.HeldLaws.{nearby-none}
 use Rattle.units.specs.StuckLaws.{passed-done}
 use Rattle.units.proofs.first_stuck.Statement.{statement}
@@ -7,23 +8,27 @@ use Rattle.units.proofs.first_stuck.Tie as tie
 after-singles-requires : tie.Need-after-singles-requires
 after-singles-requires c κs =
     let s = c .before in (
-      rw (s .pre .0 .units-ids) at (s .pre .0),
-      s .pre .1,
-      s .pre .2,
+      s .pre,
       nearby-none (s .args .h) (s .args .w) (s .args .colours .now) (s .args .borders .now),
     )
 
+count-of-requires : tie.Need-count-of-requires
+count-of-requires c κs = tt
+
 returns : tie.Need-returns
-returns c = passed-done (c .before .after-singles .ensures .0) (c .if1 .taken)
+returns c =
+    let k = c .before in
+    let e = k .count-of .ensures in
+    e ∙ passed-done (k .before .after-singles .ensures .0) (rw e at (c .if1 .taken))
 
 stuck-from-requires : tie.Need-stuck-from-requires
 stuck-from-requires c κs =
-    let a = c .before .before in
+    let a = c .before .before .before in
     let s = a .before .before in
-    (s .pre .0, s .pre .1, a .after-singles .ensures .0, a .after-singles .ensures .1)
+    (s .pre, a .after-singles .ensures .0, a .after-singles .ensures .1)
 
 returns-2 : tie.Need-returns-2
 returns-2 c = c .stuck-from .ensures
 
 pub first-stuck-spec : {M : Type 1} → statement M
-first-stuck-spec = tie.close (tie.spec after-singles-requires returns stuck-from-requires returns-2)
+first-stuck-spec = tie.close (tie.spec after-singles-requires count-of-requires returns stuck-from-requires returns-2)

@@ -2,6 +2,7 @@
 use mathlib.Core.Path.{_≡_, sym, ap, _∙_}
 use native.Mathlib.Omega.{arith}
 use lib.ListN.{getD}
+use Rattle.groups.specs.Grouping.{numbersIn, cellsIn, startsIn}
 use Rattle.rules.specs.Check.{mates}
 use Rattle.rules.specs.Codes.{statesIn}
 use Rattle.rules.specs.Flat.{flat}
@@ -17,45 +18,46 @@ use Rattle.units.specs.ReadyLaws.{unit-few, unit-in, head-low, home-of, 
 use Rattle.units.proofs.fits_at.Statement.{statement}
 use Rattle.units.proofs.fits_at.Tie as tie
 
-start-at-requires : tie.Need-start-at-requires
-start-at-requires c κs = omega (arith, c .pre .1, unit-few (c .pre .0))
+start-of-requires : tie.Need-start-of-requires
+start-of-requires c κs = omega (arith, c .pre .1, unit-few (c .pre .0))
 
-add-start-at : tie.Need-add-start-at
-add-start-at c = let s = c .before in omega (arith, s .pre .1, unit-few (s .pre .0))
+add-start-of : tie.Need-add-start-of
+add-start-of c = let s = c .before in omega (arith, s .pre .1, unit-few (s .pre .0))
 
-start-at-requires-2 : tie.Need-start-at-requires-2
-start-at-requires-2 c κs = let s = c .before in omega (arith, s .pre .1, unit-few (s .pre .0))
+start-of-requires-2 : tie.Need-start-of-requires-2
+start-of-requires-2 c κs = let s = c .before in omega (arith, s .pre .1, unit-few (s .pre .0))
 
-number-at-requires : tie.Need-number-at-requires
-number-at-requires c κs =
+cell-at-requires : tie.Need-cell-at-requires
+cell-at-requires c κs =
     let s = c .before .before in
     let u = unit-in (s .pre .0) (s .args .u) (s .pre .1) in
-    omega (arith, u .some, u .end, c .before .start-at .ensures)
+    omega (arith, u .some, u .end, c .before .start-of .ensures)
 
 -- the unit's first cell, its potential unit, and a potential unit adjacent to that
-cell-is : (c : tie.After-number-at) → let s = c .before .before .before in
-    c .number-at .result ≡ getD (s .args .units .now) (getD (s .args .unit-offs .now) (s .args .u) 0) 0
+cell-is : (c : tie.After-cell-at) → let s = c .before .before .before in
+    c .cell-at .result ≡ getD (cellsIn (s .args .units .now)) (getD (startsIn (s .args .units .now)) (s .args .u) 0) 0
 cell-is c =
     let s = c .before .before .before in
-    c .number-at .ensures ∙ ap (λ i. getD (s .args .units .now) i 0) (c .before .before .start-at .ensures)
+    c .cell-at .ensures ∙ ap (λ i. getD (cellsIn (s .args .units .now)) i 0) (c .before .before .start-of .ensures)
 
-home-is : (c : tie.After-number-at2) → let s = c .before .before .before .before in
-    c .number-at2 .result
-    ≡ getD (s .args .potential .now)
-    (getD (s .args .units .now) (getD (s .args .unit-offs .now) (s .args .u) 0) 0) 0
+home-is : (c : tie.After-group-of) → let s = c .before .before .before .before in
+    c .group-of .result
+    ≡ getD (numbersIn (s .args .potential .now))
+    (getD (cellsIn (s .args .units .now)) (getD (startsIn (s .args .units .now)) (s .args .u) 0) 0) 0
 home-is c =
     let s = c .before .before .before .before in
-    c .number-at2 .ensures ∙ ap (λ i. getD (s .args .potential .now) i 0) (cell-is (c .before))
+    c .group-of .ensures ∙ ap (λ i. getD (numbersIn (s .args .potential .now)) i 0) (cell-is (c .before))
 
 one : (c : tie.After-near-mate) → let s = c .before .before .before .before .before .before in
     OneOf
     (mates (puzzle (s .args .h) (s .args .w) (s .args .colours .now)) (statesIn (s .args .borders .now))
-    (getD (s .args .potential .now) (getD (s .args .units .now) (getD (s .args .unit-offs .now) (s .args .u) 0) 0) 0))
+    (getD (numbersIn (s .args .potential .now)) (getD (cellsIn (s .args .units .now))
+    (getD (startsIn (s .args .units .now)) (s .args .u) 0) 0) 0))
     (c .near-mate .result)
 one c = rw (home-is (c .before .before)) at (c .near-mate .ensures .0)
 
-number-at-requires-2 : tie.Need-number-at-requires-2
-number-at-requires-2 c κs =
+group-of-requires : tie.Need-group-of-requires
+group-of-requires c κs =
     let s = c .before .before .before in
     omega (
       arith,
@@ -84,7 +86,7 @@ add-if2 c =
     let l = c .before .before .before .before .before in
     let s = l .before .before in
     let u = unit-in (s .pre .0) (s .args .u) (s .pre .1) in
-    omega (arith, u .some, u .end, l .before .start-at .ensures)
+    omega (arith, u .some, u .end, l .before .start-of .ensures)
 
 returns-2 : tie.Need-returns-2
 returns-2 c =
@@ -92,7 +94,7 @@ returns-2 c =
     let l = m .before .before .before .before in
     let s = l .before .before in (
       sym (single-unit (s .pre .0) (s .args .u) (s .pre .1)
-          (rw (l .before .start-at .ensures, l .start-at2 .ensures) at (c .if2 .taken))
+          (rw (l .before .start-of .ensures, l .start-of2 .ensures) at (c .if2 .taken))
           (one m .some (c .before .if1 .left))),
       m .near-mate .ensures .1,
       s .pre .3,
@@ -108,7 +110,7 @@ copy-fits-soon-requires c κs =
     let k = home-of (s .pre .0) (s .args .u) (s .pre .1) in
     let q = one m .some (i .if1 .left) in (
       s .pre .0 .drawn,
-      rw (l .before .start-at .ensures, l .start-at2 .ensures) (unit-in (s .pre .0) (s .args .u) (s .pre .1)),
+      unit-in (s .pre .0) (s .args .u) (s .pre .1),
       mate-few k q,
       mate-cells k q,
     )
@@ -122,8 +124,8 @@ returns-3 c =
     let q = one m .some (i .if1 .left) in (
       sym (sym (fits-home (s .pre .0) (s .args .u) (s .pre .1))
           ∙ soon-turned (puzzle (s .args .h) (s .args .w) (s .args .colours .now)) (statesIn (s .args .borders .now))
-          (s .args .cells .now) (s .args .offs .now)
-          (shapeOf (flat (s .args .h) (s .args .w)) (entry (s .args .ids .now)) (s .args .u)) q
+          (cellsIn (s .args .potential .now)) (startsIn (s .args .potential .now))
+          (shapeOf (flat (s .args .h) (s .args .w)) (entry (numbersIn (s .args .units .now))) (s .args .u)) q
           (mate-cells (home-of (s .pre .0) (s .args .u) (s .pre .1)) q .order)
           (sym (c .before .copy-fits-soon .ensures) ∙ c .if3 .taken)),
       m .near-mate .ensures .1,
@@ -133,28 +135,28 @@ returns-3 c =
 
 unit-fits-requires : tie.Need-unit-fits-requires
 unit-fits-requires c κs =
-    let i = c .before .before .before .before .before .before .before .before .before in
+    let i = c .before .before .before .before in
     let p = i .before .before .before .before .before .before in
     let l = p .before .before in
     let s = l .before .before in (
       rw (home-is p) (home-of (s .pre .0) (s .args .u) (s .pre .1)),
-      rw (l .before .start-at .ensures, l .start-at2 .ensures) (unit-in (s .pre .0) (s .args .u) (s .pre .1)),
+      unit-in (s .pre .0) (s .args .u) (s .pre .1),
       s .pre .3,
       s .pre .4,
     )
 
 returns-4 : tie.Need-returns-4
 returns-4 c =
-    let i = c .before .before .before .before .before .before .before .before .before .before in
+    let i = c .before .before .before .before .before in
     let m = i .before .before .before .before in
     let p = m .before .before in
     let s = p .before .before .before .before in
     let e = c .unit-fits .ensures in (
       e .0
           ∙ (ap (λ q. fitsTurned (puzzle (s .args .h) (s .args .w) (s .args .colours .now))
-          (statesIn (s .args .borders .now)) (s .args .cells .now) (s .args .offs .now)
+          (statesIn (s .args .borders .now)) (cellsIn (s .args .potential .now)) (startsIn (s .args .potential .now))
           (mates (puzzle (s .args .h) (s .args .w) (s .args .colours .now)) (statesIn (s .args .borders .now)) q)
-          (shapeOf (flat (s .args .h) (s .args .w)) (entry (s .args .ids .now)) (s .args .u))) (home-is p)
+          (shapeOf (flat (s .args .h) (s .args .w)) (entry (numbersIn (s .args .units .now))) (s .args .u))) (home-is p)
           ∙ fits-home (s .pre .0) (s .args .u) (s .pre .1)),
       m .near-mate .ensures .1,
       e .1,
@@ -165,11 +167,11 @@ pub fits-at-spec : {M : Type 1} → statement M
 fits-at-spec =
     tie.close
     (tie.spec
-    start-at-requires
-    add-start-at
-    start-at-requires-2
-    number-at-requires
-    number-at-requires-2
+    start-of-requires
+    add-start-of
+    start-of-requires-2
+    cell-at-requires
+    group-of-requires
     near-mate-requires
     returns
     add-if2

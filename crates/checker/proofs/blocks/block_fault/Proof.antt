@@ -3,8 +3,7 @@
 use mathlib.Core.Path.{ap, _∙_}
 use mathlib.Core.Bool.{Bool, true, false}
 use Prim.Native.Nat.{_+_, _<_, _≤_}
-use Rattle.lists.specs.Parts.{part}
-use Rattle.lists.specs.PartLaws.{part-one}
+use Rattle.groups.specs.Grouping.{numbersIn, cellsIn, startsIn}
 use Rattle.rules.specs.Codes.{coloursIn, cluesIn}
 use Rattle.rules.specs.Groups.{entry}
 use Rattle.checker.specs.Arrays.{sizeIn}
@@ -14,39 +13,36 @@ use Rattle.checker.specs.FaultCases.{fault-census, own-parted}
 use native.Mathlib.Omega.{arith}
 use lib.ListN.{getD}
 use borrow.Author.Needs.{needs}
+use Rattle.lists.specs.Parts.{part}
+use Rattle.lists.specs.PartLaws.{part-one}
 use Rattle.checker.proofs.blocks.block_fault.Statement.{statement}
 use Rattle.checker.proofs.blocks.block_fault.Tie as tie
 
 add-if1 : tie.Need-add-if1
 add-if1 c = search needs
 
-mul-index : tie.Need-mul-index
-mul-index c = search needs
-
-element-copy-out-index : tie.Need-element-copy-out-index
-element-copy-out-index c = search needs
-
-index-requires : tie.Need-index-requires
-index-requires c κs = search needs
+cell-at-requires : tie.Need-cell-at-requires
+cell-at-requires c κs = omega (arith, c .before .pre .0)
 
 lone-fault-requires : tie.Need-lone-fault-requires
 lone-fault-requires c κs =
-    let s = c .before .before .before in
+    let s = c .before .before in
     let h = s .pre .0 .cells (s .args .from) (omega arith) (omega arith) in
-    (omega (arith, h, c .index .ensures), s .pre .1)
+    (omega (arith, h, c .cell-at .ensures), s .pre .1)
 
 returns : tie.Need-returns
 returns c =
-    let s = c .before .before .before .before in
+    let s = c .before .before .before in
     let a = s .args in
-    let t = c .before .before .before .if1 .taken in
+    let t = c .before .before .if1 .taken in
     let one =
-    ap (part (a .cells .now) (a .from)) t
-    ∙ part-one (a .cells .now) (a .from) (omega (arith, s .pre .0, t)) in
+    ap (part (cellsIn (a .blocks .now)) (a .from)) t
+    ∙ part-one (cellsIn (a .blocks .now)) (a .from) (omega (arith, s .pre .0, t)) in
     c .lone-fault .ensures
-    ∙ rw (one, ← c .before .index .ensures)
-    (lone-fault (cluesIn (a .clues .now)) (entry (a .ids .now)) (sizeIn (a .offs .now)) (coloursIn (a .colours .now))
-    (c .before .index .result))
+    ∙ rw (one, ← c .before .cell-at .ensures)
+    (lone-fault (cluesIn (a .clues .now)) (entry (numbersIn (a .potential .now)))
+    (sizeIn (startsIn (a .potential .now))) (coloursIn (a .colours .now))
+    (c .before .cell-at .result))
 
 look-requires : tie.Need-look-requires
 look-requires c κs = search needs
@@ -60,13 +56,14 @@ census-requires c κs = search needs
 -- the potential unit of a colour's first cell has a size
 parted : (c : tie.After-census) → (colour : Bool)
     → let a = c .before .before .before .before .args in
-    let u = ownUnit (coloursIn (a .colours .now)) (cluesIn (a .clues .now)) (entry (a .ids .now))
-    (part (a .cells .now) (a .from) (a .to)) colour in
-    (u < 1024) × (getD (a .offs .now) u 0 ≤ getD (a .offs .now) (u + 1) 0)
+    let u = ownUnit (coloursIn (a .colours .now)) (cluesIn (a .clues .now)) (entry (numbersIn (a .potential .now)))
+    (part (cellsIn (a .blocks .now)) (a .from) (a .to)) colour in
+    (u < 1024) × (getD (startsIn (a .potential .now)) u 0 ≤ getD (startsIn (a .potential .now)) (u + 1) 0)
 parted c =
     let a = c .before .before .before .before .args in
-    own-parted (coloursIn (a .colours .now)) (cluesIn (a .clues .now)) (a .ids .now) (a .offs .now)
-    (part (a .cells .now) (a .from) (a .to)) (c .before .before .before .before .pre .1)
+    own-parted (coloursIn (a .colours .now)) (cluesIn (a .clues .now)) (numbersIn (a .potential .now))
+    (startsIn (a .potential .now))
+    (part (cellsIn (a .blocks .now)) (a .from) (a .to)) (c .before .before .before .before .pre .1)
 
 size-of-requires : tie.Need-size-of-requires
 unfolding censusOf partOf
@@ -89,8 +86,9 @@ returns-3 c =
     let a = d .before .before .before .before .args in
     c .census-fault .ensures
     ∙ rw (c .before .size-of2 .ensures, c .before .before .size-of .ensures)
-    (fault-census (coloursIn (a .colours .now)) (cluesIn (a .clues .now)) (entry (a .ids .now)) (sizeIn (a .offs .now))
-    (part (a .cells .now) (a .from) (a .to)) _ (d .census .ensures)
+    (fault-census (coloursIn (a .colours .now)) (cluesIn (a .clues .now)) (entry (numbersIn (a .potential .now)))
+    (sizeIn (startsIn (a .potential .now)))
+    (part (cellsIn (a .blocks .now)) (a .from) (a .to)) _ (d .census .ensures)
     (d .before .before .look .ensures .1 (d .before .if2 .left)))
 
 pub block-fault-spec : {M : Type 1} → statement M
@@ -98,9 +96,7 @@ block-fault-spec =
     tie.close
     (tie.spec
     add-if1
-    mul-index
-    element-copy-out-index
-    index-requires
+    cell-at-requires
     lone-fault-requires
     returns
     look-requires

@@ -5,6 +5,7 @@ use mathlib.Core.List.{List}
 use native.Mathlib.Omega.{arith}
 use lib.IntN.{ℤ}
 use borrow.Author.Needs.{needs}
+use Rattle.groups.specs.Grouping.{numbersIn, cellsIn, startsIn, countIn}
 use Rattle.rules.specs.Codes.{coloursIn, cluesIn}
 use Rattle.rules.specs.Groups.{entry}
 use Rattle.checker.specs.declared.Fault.{Fault}
@@ -20,58 +21,53 @@ faultsOf cs ks ids offs cells starts B =
     faultOn (coloursIn cs) (cluesIn ks) (entry ids) (sizeIn offs) (partOf cells starts B)
 
 abbrev Inv-loop : tie.InvT-loop
-Inv-loop colours clues ids offs cells starts count b₀ b =
+Inv-loop colours clues potential blocks count b₀ b =
     (b ≤ count)
-    × (firstFaulty (faultsOf colours clues ids offs cells starts) count
-    ≡ faultyFrom (faultsOf colours clues ids offs cells starts) (count - b) b)
+    × (firstFaulty (faultsOf colours clues (numbersIn potential) (startsIn potential) (cellsIn blocks)
+    (startsIn blocks)) (countIn blocks)
+    ≡ faultyFrom (faultsOf colours clues (numbersIn potential) (startsIn potential) (cellsIn blocks) (startsIn blocks))
+    (count - b) b)
 
 abbrev μ-loop : tie.MeasureT-loop
-μ-loop colours clues ids offs cells starts count b₀ b = count - b
+μ-loop colours clues potential blocks count b₀ b = count - b
 
 -- the fault found is that of block b
-fault : (c : tie.After-block-fault Inv-loop μ-loop)
-    → c .block-fault .result
-    ≡ faultsOf (c .before .before .before .before .before .before .before .args .colours .now)
-    (c .before .before .before .before .before .before .before .args .clues .now)
-    (c .before .before .before .before .before .before .before .args .ids .now)
-    (c .before .before .before .before .before .before .before .args .offs .now)
-    (c .before .before .before .before .before .before .before .args .cells .now)
-    (c .before .before .before .before .before .before .before .args .starts .now)
-    (c .before .before .before .before .before .before .loop .b)
+fault : (c : tie.After-block-fault Inv-loop μ-loop) → let a = c .before .before .before .before .before .before .args in
+    c .block-fault .result
+    ≡ faultsOf (a .colours .now) (a .clues .now) (numbersIn (a .potential .now)) (startsIn (a .potential .now))
+    (cellsIn (a .blocks .now)) (startsIn (a .blocks .now)) (c .before .before .before .before .loop .b)
 unfolding partOf
-fault c = c .block-fault .ensures ∙ rw (c .before .index2 .ensures, c .before .before .before .index .ensures)
+fault c = c .block-fault .ensures ∙ rw (c .before .start-of2 .ensures, c .before .before .start-of .ensures)
+
+-- as many blocks as the grouping counts, and so no more than cells
+few : (c : tie.After-count-of Inv-loop μ-loop) → c .count-of .result ≤ 1024
+few c = rw (c .count-of .ensures) (c .before .pre .0 .few)
+
+count-of-requires : tie.Need-count-of-requires Inv-loop μ-loop
+count-of-requires c κs = search needs
 
 loop-holds : tie.Need-loop-holds Inv-loop μ-loop
 unfolding firstFaulty
-loop-holds c = (omega arith, let e : c .args .count - 0 ≡ c .args .count = omega arith in rw e)
+loop-holds c =
+    let n = c .count-of .result in
+    (omega arith, let e : n - 0 ≡ n = omega arith in rw (← c .count-of .ensures, e))
 
-mul-index : tie.Need-mul-index Inv-loop μ-loop
-mul-index c = search needs
+start-of-requires : tie.Need-start-of-requires Inv-loop μ-loop
+start-of-requires c κs = omega (arith, few (c .before .before))
 
-element-copy-out-index : tie.Need-element-copy-out-index Inv-loop μ-loop
-element-copy-out-index c = omega (arith, c .before .before .pre .0)
+add-start-of : tie.Need-add-start-of Inv-loop μ-loop
+add-start-of c = omega (arith, few (c .before .before .before))
 
-index-requires : tie.Need-index-requires Inv-loop μ-loop
-index-requires c κs = tt
-
-add-index : tie.Need-add-index Inv-loop μ-loop
-add-index c = omega (arith, c .before .before .before .before .pre .0)
-
-mul-index-2 : tie.Need-mul-index-2 Inv-loop μ-loop
-mul-index-2 c = omega (arith, c .before .before .before .before .pre .0)
-
-element-copy-out-index-2 : tie.Need-element-copy-out-index-2 Inv-loop μ-loop
-element-copy-out-index-2 c = omega (arith, c .before .before .before .before .pre .0)
-
-index-requires-2 : tie.Need-index-requires-2 Inv-loop μ-loop
-index-requires-2 c κs = tt
+start-of-requires-2 : tie.Need-start-of-requires-2 Inv-loop μ-loop
+start-of-requires-2 c κs = omega (arith, few (c .before .before .before))
 
 block-fault-requires : tie.Need-block-fault-requires Inv-loop μ-loop
 block-fault-requires c κs =
-    let l = c .before .before .before .before .before .loop in
-    let p = c .before .before .before .before .before .before .pre in (
-      rw (c .before .before .index .ensures, c .index2 .ensures)
-          (p .0 .parts (l .b) (c .before .before .before .before .loop-test .taken)),
+    let l = c .before .before .before .loop in
+    let p = c .before .before .before .before .before .pre in (
+      rw (c .before .start-of .ensures, c .start-of2 .ensures)
+          (p .0 .parts (l .b) (rw (c .before .before .before .before .count-of .ensures) at
+          (c .before .before .loop-test .taken))),
       p .1,
     )
 
@@ -79,25 +75,25 @@ is-clear-requires : tie.Need-is-clear-requires Inv-loop μ-loop
 is-clear-requires c κs = tt
 
 add-b : tie.Need-add-b Inv-loop μ-loop
-add-b c = omega (arith, c .before .before .before .before .before .before .before .before .before .pre .0)
+add-b c = omega (arith, few (c .before .before .before .before .before .before .before))
 
 loop-less : tie.Need-loop-less Inv-loop μ-loop
 loop-less c = omega arith
 
 loop-again : tie.Need-loop-again Inv-loop μ-loop
 loop-again c =
-    let l = c .before .before .before .before .before .before .before .before .loop in (
+    let l = c .before .before .before .before .before .before .loop in (
       omega arith,
       l .inv .1
-          ∙ faulty-next _ _ (l .b) (c .before .before .before .before .before .before .before .loop-test .taken)
+          ∙ faulty-next _ _ (l .b) (c .before .before .before .before .before .loop-test .taken)
           (ap isClear (sym (fault (c .before .before))) ∙ (sym (c .before .is-clear .ensures) ∙ c .if1 .taken)),
     )
 
 returns : tie.Need-returns Inv-loop μ-loop
 returns c =
-    let l = c .before .before .before .before .before .before .before .before .loop in
+    let l = c .before .before .before .before .before .before .loop in
     ap (at (l .b)) (fault (c .before .before))
-    ∙ (faulty-found _ _ (l .b) (c .before .before .before .before .before .before .before .loop-test .taken)
+    ∙ (faulty-found _ _ (l .b) (c .before .before .before .before .before .loop-test .taken)
     (ap isClear (sym (fault (c .before .before))) ∙ (sym (c .before .is-clear .ensures) ∙ c .if1 .left))
     ∙ sym (l .inv .1))
 
@@ -111,14 +107,11 @@ first-faulty-spec =
     (tie.spec
     Inv-loop
     μ-loop
+    count-of-requires
     loop-holds
-    mul-index
-    element-copy-out-index
-    index-requires
-    add-index
-    mul-index-2
-    element-copy-out-index-2
-    index-requires-2
+    start-of-requires
+    add-start-of
+    start-of-requires-2
     block-fault-requires
     is-clear-requires
     add-b

@@ -50,33 +50,27 @@ returns c = lone-free _ _ _ _ (clue (c .before .before) ∙ ap optionOf (c .enum
 returns-2 : tie.Need-returns-2
 returns-2 c = lone-none _ _ _ _ _ (is (c .before .before)) (c .if1 .taken)
 
-mul-index : tie.Need-mul-index
-mul-index c = search needs
-
-element-copy-out-index : tie.Need-element-copy-out-index
-element-copy-out-index c = search needs
-
-index-requires : tie.Need-index-requires
-index-requires c κs = search needs
+group-of-requires : tie.Need-group-of-requires
+group-of-requires c κs = c .before .before .before .before .before .before .pre .0
 
 size-of-requires : tie.Need-size-of-requires
 size-of-requires c κs =
-    let s = c .before .before .before .before .before .before .before .before in
-    rw (c .index .ensures) (s .pre .1 .few (s .args .c), s .pre .1 .rises (s .args .c))
+    let s = c .before .before .before .before .before .before .before in
+    rw (c .group-of .ensures) (s .pre .1 .few (s .args .c), s .pre .1 .rises (s .args .c))
 
 returns-3 : tie.Need-returns-3
 unfolding entry
 returns-3 c =
-    let fits = rw (c .before .size-of .ensures, c .before .before .index .ensures) at (c .if2 .taken) in
-    let d = c .before .before .before .before in
+    let fits = rw (c .before .size-of .ensures, c .before .before .group-of .ensures) at (c .if2 .taken) in
+    let d = c .before .before .before in
     lone-fits _ _ _ _ _ (is (d .before .before)) (d .if1 .left) fits
 
 returns-4 : tie.Need-returns-4
 unfolding entry
 returns-4 c =
-    let big = rw (c .before .size-of .ensures, c .before .before .index .ensures) at (c .if2 .left) in
-    let d = c .before .before .before .before in
-    rw (c .before .before .index .ensures) (lone-big _ _ _ _ _ (is (d .before .before)) (d .if1 .left) big)
+    let big = rw (c .before .size-of .ensures, c .before .before .group-of .ensures) at (c .if2 .left) in
+    let d = c .before .before .before in
+    rw (c .before .before .group-of .ensures) (lone-big _ _ _ _ _ (is (d .before .before)) (d .if1 .left) big)
 
 pub lone-fault-spec : {M : Type 1} → statement M
 lone-fault-spec =
@@ -89,9 +83,7 @@ lone-fault-spec =
     enum-told
     returns
     returns-2
-    mul-index
-    element-copy-out-index
-    index-requires
+    group-of-requires
     size-of-requires
     returns-3
     returns-4)

@@ -11,60 +11,50 @@ use mir.Syntax.{w32}
 use mir.Val.{toZ, ofZ}
 use borrow.Author.Needs.{needs, sfits-of}
 use lib.Dec.{eqb}
-use Rattle.lists.specs.CountLaws.{bit-under}
+use Rattle.groups.specs.Grouping.{numbersIn, cellsIn}
 use Rattle.rules.specs.Codes.{clueOf}
 use Rattle.checker.specs.declared.Fault.the-variants.{InsideEdge}
 use Rattle.checker.specs.Censuses.{clueIn}
 use Rattle.checker.specs.Looks.{Put, Kept}
 use Rattle.checker.specs.Looked.{Looked, looked-none, looked-more, looked-few, zero-parted, one-parted}
 use Rattle.checker.specs.Looked.{kept-none, settles, looked-stray, looked-clash, looked-scan, looked-clear}
+use Rattle.lists.specs.CountLaws.{bit-under}
 use Rattle.checker.proofs.blocks.look.Statement.{statement}
 use Rattle.checker.proofs.blocks.look.Tie as tie
 
 abbrev Inv-loop : tie.InvT-loop
-Inv-loop colours clues ids offs cells from to own₀ first₀ ones₀ i₀ own first ones i =
-    (from ≤ i) × (i ≤ to) × (length own ≡ 2) × Looked colours clues ids cells from i own first ones
+Inv-loop colours clues potential blocks from to own₀ first₀ ones₀ i₀ own first ones i =
+    (from ≤ i) × (i ≤ to) × (length own ≡ 2) × Looked colours clues (numbersIn potential)
+    (cellsIn blocks) from i own first ones
 
 abbrev μ-loop : tie.MeasureT-loop
-μ-loop colours clues ids offs cells from to own₀ first₀ ones₀ i₀ own first ones i = to - i
+μ-loop colours clues potential blocks from to own₀ first₀ ones₀ i₀ own first ones i = to - i
 
 -- a listed cell is one of 1,024
-small : (c : tie.After-index Inv-loop μ-loop) → c .index .result < 1024
+small : (c : tie.After-cell-at Inv-loop μ-loop) → c .cell-at .result < 1024
 small c =
-    let l = c .before .before .before .loop in
-    let h = c .before .before .before .before .pre .0 .cells (l .i) (l .inv .0) (c .before .before .loop-test .taken) in
-    omega (arith, h, c .index .ensures)
+    let l = c .before .before .loop in
+    let h = c .before .before .before .pre .0 .cells (l .i) (l .inv .0) (c .before .loop-test .taken) in
+    omega (arith, h, c .cell-at .ensures)
 
 -- a colour's place is one of two
 two : (c : tie.After-bit Inv-loop μ-loop) → c .bit .result < 2
 two c =
-    let d = c .before .before .before .before in
-    let k = getD (d .before .before .before .before .args .colours .now) (d .index .result) 0 in
+    let d = c .before .before .before in
+    let k = getD (d .before .before .before .args .colours .now) (d .cell-at .result) 0 in
     rw (c .bit .ensures) (bit-under (eqb k 1))
 
 loop-holds : tie.Need-loop-holds Inv-loop μ-loop
 loop-holds c = (omega arith, omega (arith, c .pre .0), refl, looked-none _ _ _ _ _)
 
-mul-index : tie.Need-mul-index Inv-loop μ-loop
-mul-index c = omega (arith, c .before .before .pre .0)
+cell-at-requires : tie.Need-cell-at-requires Inv-loop μ-loop
+cell-at-requires c κs = omega (arith, c .before .before .pre .0)
 
-element-copy-out-index : tie.Need-element-copy-out-index Inv-loop μ-loop
-element-copy-out-index c = omega (arith, c .before .before .pre .0)
-
-index-requires : tie.Need-index-requires Inv-loop μ-loop
-index-requires c κs = tt
-
-mul-index-2 : tie.Need-mul-index-2 Inv-loop μ-loop
-mul-index-2 c = omega (arith, small c)
-
-element-copy-out-index-2 : tie.Need-element-copy-out-index-2 Inv-loop μ-loop
-element-copy-out-index-2 c = small c
-
-index-requires-2 : tie.Need-index-requires-2 Inv-loop μ-loop
-index-requires-2 c κs = tt
+group-of-requires : tie.Need-group-of-requires Inv-loop μ-loop
+group-of-requires c κs = small c
 
 element-copy-out-bit : tie.Need-element-copy-out-bit Inv-loop μ-loop
-element-copy-out-bit c = small (c .before .before)
+element-copy-out-bit c = small (c .before)
 
 bit-requires : tie.Need-bit-requires Inv-loop μ-loop
 bit-requires c κs = tt
@@ -87,15 +77,15 @@ settled-requires c κs = tt
 returns : tie.Need-returns Inv-loop μ-loop
 returns c =
     let d = c .before .before .before in
-    let w = d .before .before .before .before in
-    let l = w .before .before .before in
+    let w = d .before .before .before in
+    let l = w .before .before in
     let p = l .before .pre .0 in
     settles (c .settled .result) (c .settled .ensures)
-    (ap InsideEdge (d .before .before .index2 .ensures)
-    ∙ looked-stray (l .loop .inv .3) (w .index .result) (l .loop .inv .0) (w .index .ensures) _ _
-    (w .before .before .loop-test .taken) (omega (arith, p .long, p .within))
+    (ap InsideEdge (d .before .before .group-of .ensures)
+    ∙ looked-stray (l .loop .inv .3) (w .cell-at .result) (l .loop .inv .0) (w .cell-at .ensures) _ _
+    (w .before .loop-test .taken) (omega (arith, p .long, p .within))
     (rw (d .bit .ensures) at (c .before .if2 .taken))
-    (rw (d .bit .ensures, d .before .before .index2 .ensures) at (c .before .before .if1 .taken)))
+    (rw (d .bit .ensures, d .before .before .group-of .ensures) at (c .before .before .if1 .taken)))
 
 mul-own : tie.Need-mul-own Inv-loop μ-loop
 mul-own c = omega (arith, two (c .before .before))
@@ -104,16 +94,16 @@ array-write-own : tie.Need-array-write-own Inv-loop μ-loop
 array-write-own c = two (c .before .before)
 
 mul-if3 : tie.Need-mul-if3 Inv-loop μ-loop
-mul-if3 c = omega (arith, small (c .before .before .before .before .before))
+mul-if3 c = omega (arith, small (c .before .before .before .before))
 
 element-copy-out-if3 : tie.Need-element-copy-out-if3 Inv-loop μ-loop
-element-copy-out-if3 c = small (c .before .before .before .before .before)
+element-copy-out-if3 c = small (c .before .before .before .before)
 
 mul-clue-at : tie.Need-mul-clue-at Inv-loop μ-loop
-mul-clue-at c = omega (arith, small (c .before .before .before .before .before .before .before))
+mul-clue-at c = omega (arith, small (c .before .before .before .before .before .before))
 
 element-copy-out-clue-at : tie.Need-element-copy-out-clue-at Inv-loop μ-loop
-element-copy-out-clue-at c = small (c .before .before .before .before .before .before .before)
+element-copy-out-clue-at c = small (c .before .before .before .before .before .before)
 
 clue-at-requires : tie.Need-clue-at-requires Inv-loop μ-loop
 clue-at-requires c κs = tt
@@ -127,14 +117,13 @@ settled-requires-2 c κs = tt
 -- the unit stands at its colour, or was put there
 put : (c : tie.Joined1 Inv-loop μ-loop)
     → let d = c .before .before .before in
-    Put (d .before .before .before .before .before .loop .own) (c .before .bit .result) (d .index2 .result)
-    (c .if1 .own)
+    Put (d .before .before .before .loop .own) (c .before .bit .result) (d .group-of .result) (c .if1 .own)
 put c = ⊎-elim (λ w. inr (w .2, w .1 .left)) (λ w. inl (w .1, w .0 .left)) (c .if1 .came)
 
 -- a clue is read with its sign
 signed : (c : tie.After-if32 Inv-loop μ-loop)
-    → let d = c .before .before .before .before .before .before in
-    let z = getD (d .before .before .before .before .args .clues .now) (d .index .result) (pos 0) in
+    → let d = c .before .before .before .before .before in
+    let z = getD (d .before .before .before .args .clues .now) (d .cell-at .result) (pos 0) in
     toZ w32 (ofZ w32 z) ≡ z
 signed c = toZ-ofZ (sfits-of (c .if32 .given))
 
@@ -142,13 +131,13 @@ returns-2 : tie.Need-returns-2 Inv-loop μ-loop
 returns-2 c =
     let f = c .before .before .before .before .before .before in
     let d = f .before .before in
-    let w = d .before .before .before .before in
-    let l = w .before .before .before in
+    let w = d .before .before .before in
+    let l = w .before .before in
     let p = l .before .pre in
     settles (c .settled2 .result) (c .settled2 .ensures)
-    (looked-clash (l .loop .inv .3) (w .index .result) (l .loop .inv .0) (w .index .ensures) _ _
-    (w .before .before .loop-test .taken) (omega (arith, p .0 .long, p .0 .within)) (l .loop .inv .2) (p .1 .few) _
-    (rw (d .bit .ensures, d .before .before .index2 .ensures) at (put (f .before)))
+    (looked-clash (l .loop .inv .3) (w .cell-at .result) (l .loop .inv .0) (w .cell-at .ensures) _ _
+    (w .before .loop-test .taken) (omega (arith, p .0 .long, p .0 .within)) (l .loop .inv .2) (p .1 .few) _
+    (rw (d .bit .ensures, d .before .before .group-of .ensures) at (put (f .before)))
     (rw (← ap (λ z. clueIn (clueOf z)) (signed f), ← c .before .before .before .clue-at .ensures)
     (sym (c .before .before .clash .ensures) ∙ c .before .if4 .taken)))
 
@@ -158,30 +147,30 @@ first-clue-requires c κs = tt
 add-ones : tie.Need-add-ones Inv-loop μ-loop
 add-ones c =
     let d = c .before .before .before in
-    let e = d .before .before .before .before .before .before .before in
+    let e = d .before .before .before .before .before in
     omega (arith, two d, looked-few (e .loop .inv .3), e .loop .inv, e .before .pre .0)
 
 add-i : tie.Need-add-i Inv-loop μ-loop
 add-i c =
     let d = c .before .before .before in
-    omega (arith, d .before .before .before .before .before .before .before .before .pre .0)
+    omega (arith, d .before .before .before .before .before .before .pre .0)
 
 loop-less : tie.Need-loop-less Inv-loop μ-loop
 loop-less c = omega arith
 
 still : (c : tie.Joined1 Inv-loop μ-loop) → length (c .if1 .own) ≡ 2
 still c =
-    let two = c .before .before .before .before .before .before .before .before .loop .inv .2 in
+    let two = c .before .before .before .before .before .before .loop .inv .2 in
     ⊎-elim (λ w. ap length (w .2) ∙ simp length-set two) (λ w. ap length (w .1) ∙ two) (c .if1 .came)
 
 -- the clue agrees, and is kept if it is the first
 kept : (c : tie.Joined3 Inv-loop μ-loop)
-    → let d = c .before .before .before .before .before .before .before in
-    let z = getD (d .before .before .before .before .args .clues .now) (d .index .result) (pos 0) in
-    Kept (d .before .before .before .loop .first) (clueIn (clueOf z)) (c .if3 .first)
+    → let d = c .before .before .before .before .before .before in
+    let z = getD (d .before .before .before .args .clues .now) (d .cell-at .result) (pos 0) in
+    Kept (d .before .before .loop .first) (clueIn (clueOf z)) (c .if3 .first)
 kept c =
-    let d = c .before .before .before .before .before .before .before in
-    let z = getD (d .before .before .before .before .args .clues .now) (d .index .result) (pos 0) in
+    let d = c .before .before .before .before .before .before in
+    let z = getD (d .before .before .before .args .clues .now) (d .cell-at .result) (pos 0) in
     ⊎-elim
     (λ w.
     let e = w .2 .ensures ∙ ap (λ y. clueIn (clueOf y)) (signed (c .before)) in
@@ -191,16 +180,16 @@ kept c =
 loop-again : tie.Need-loop-again Inv-loop μ-loop
 loop-again c =
     let d = c .before .before .before in
-    let w = d .before .before .before .before in
-    let l = w .before .before .before in
+    let w = d .before .before .before in
+    let l = w .before .before in
     let p = l .before .pre in (
       omega arith,
       omega arith,
       still (c .before .before),
       rw (d .bit .ensures)
-          (looked-more (l .loop .inv .3) (w .index .result) (l .loop .inv .0) (w .index .ensures)
+          (looked-more (l .loop .inv .3) (w .cell-at .result) (l .loop .inv .0) (w .cell-at .ensures)
           (omega (arith, p .0 .long, p .0 .within)) (l .loop .inv .2) (p .1 .few) _
-          (rw (d .bit .ensures, d .before .before .index2 .ensures) at (put (c .before .before))) _ (kept c)),
+          (rw (d .bit .ensures, d .before .before .group-of .ensures) at (put (c .before .before))) _ (kept c)),
     )
 
 sub-zeros : tie.Need-sub-zeros Inv-loop μ-loop
@@ -265,12 +254,8 @@ look-spec =
     Inv-loop
     μ-loop
     loop-holds
-    mul-index
-    element-copy-out-index
-    index-requires
-    mul-index-2
-    element-copy-out-index-2
-    index-requires-2
+    cell-at-requires
+    group-of-requires
     element-copy-out-bit
     bit-requires
     mul-if1

@@ -5,29 +5,31 @@ use Prim.Native.Nat.{_≤_, _<_, _+_, _-_}
 use native.Mathlib.Omega.{arith}
 use lib.Dec.{eqb}
 use lib.ListN.{getD}
-use Rattle.lists.specs.Arithmetic.{below-more}
-use Rattle.lists.specs.CountLaws.{bit-under, no-bit}
+use Rattle.groups.specs.Grouping.{numbersIn}
+use Rattle.groups.specs.GroupingLaws.{number-at}
 use Rattle.rules.specs.Codes.{statesIn}
 use Rattle.rules.specs.Groups.{entry}
 use Rattle.laws.specs.CodeLaws.{state-wall}
 use Rattle.checker.specs.Breaches.{isBreach}
 use Rattle.checker.specs.Clean.{Apart}
+use Rattle.lists.specs.CountLaws.{no-bit, bit-under, bit-under, no-bit}
+use Rattle.lists.specs.Arithmetic.{below-more}
 use Rattle.checker.proofs.walls.count_hits.Statement.{statement}
 use Rattle.checker.proofs.walls.count_hits.Tie as tie
 
 abbrev Inv-loop : tie.InvT-loop
-Inv-loop borders ids at c d n hits₀ i₀ hits i =
-    (i ≤ n) × (hits ≤ i) × (hits ≡ 0 → Apart (statesIn borders) (entry ids) at c d i)
+Inv-loop borders blocks at c d n hits₀ i₀ hits i =
+    (i ≤ n) × (hits ≤ i) × (hits ≡ 0 → Apart (statesIn borders) (entry (numbersIn blocks)) at c d i)
 
 abbrev μ-loop : tie.MeasureT-loop
-μ-loop borders ids at c d n hits₀ i₀ hits i = n - i
+μ-loop borders blocks at c d n hits₀ i₀ hits i = n - i
 
 -- what was counted is at most 1
 one : (c : tie.After-hit Inv-loop μ-loop) → c .hit .result < 2
 one c =
     let a = c .before .before .before .before .before .before .args in
     let i = c .before .before .before .before .before .loop .i in
-    let ids = a .ids .now in
+    let ids = a .blocks .now in
     rw (c .hit .ensures)
     (bit-under (eqb (getD (a .borders .now) (a .at + i) 0) 1 && eqb (getD ids (a .c + i) 0) (getD ids (a .d + i) 0)))
 
@@ -35,15 +37,16 @@ one c =
 none : (c : tie.After-hit Inv-loop μ-loop) → c .hit .result ≡ 0
     → let a = c .before .before .before .before .before .before .args in
     let i = c .before .before .before .before .before .loop .i in
-    isBreach (statesIn (a .borders .now)) (entry (a .ids .now)) (a .c + i)
+    isBreach (statesIn (a .borders .now)) (entry (numbersIn (a .blocks .now))) (a .c + i)
     (record { border = a .at + i; to = a .d + i })
     ≡ false
 unfolding isBreach entry
 none c e =
     let a = c .before .before .before .before .before .before .args in
     let i = c .before .before .before .before .before .loop .i in
-    let ids = a .ids .now in
-    rw state-wall
+    let ids = a .blocks .now in
+    let p = c .before .before .before .before .before .before .pre in
+    rw (state-wall, ← number-at ids (a .c + i) (omega (arith, p)), ← number-at ids (a .d + i) (omega (arith, p)))
     (no-bit (eqb (getD (a .borders .now) (a .at + i) 0) 1 && eqb (getD ids (a .c + i) 0) (getD ids (a .d + i) 0))
     (sym (c .hit .ensures) ∙ e))
 

@@ -2,6 +2,7 @@
 use mathlib.Core.Path.{_≡_, sym, _∙_}
 use Prim.Native.Nat.{_≤_, _-_, _*_}
 use native.Mathlib.Omega.{arith}
+use Rattle.groups.specs.Grouping.{numbersIn}
 use Rattle.rules.specs.Flat.{flat}
 use Rattle.rules.specs.Codes.{statesIn}
 use Rattle.rules.specs.Groups.{entry}
@@ -11,13 +12,13 @@ use Rattle.checker.proofs.walls.first_breach.Statement.{statement}
 use Rattle.checker.proofs.walls.first_breach.Tie as tie
 
 abbrev Inv-loop : tie.InvT-loop
-Inv-loop h w borders ids y₀ y =
+Inv-loop h w borders blocks y₀ y =
     (y ≤ h)
-    × (firstBreach (flat h w) (statesIn borders) (entry ids)
-    ≡ breachFrom (breachAt h w borders ids) (h * w - y * w) (y * w))
+    × (firstBreach (flat h w) (statesIn borders) (entry (numbersIn blocks))
+    ≡ breachFrom (breachAt h w borders (numbersIn blocks)) (h * w - y * w) (y * w))
 
 abbrev μ-loop : tie.MeasureT-loop
-μ-loop h w borders ids y₀ y = h - y
+μ-loop h w borders blocks y₀ y = h - y
 
 is-clean-requires : tie.Need-is-clean-requires Inv-loop μ-loop
 is-clean-requires c κs = c .pre

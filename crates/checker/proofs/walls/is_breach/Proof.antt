@@ -2,7 +2,6 @@
 use mathlib.Core.Path.{_≡_}
 use mathlib.Core.Bool.{true, false}
 use native.Mathlib.Omega.{arith}
-use borrow.Author.Needs.{needs}
 use borrow.Author.Tests.{eq-eqb, ne-eqb, not-true, not-false}
 use Rattle.rules.specs.Groups.{entry}
 use Rattle.laws.specs.CodeLaws.{state-wall}
@@ -27,22 +26,23 @@ returns-2 : tie.Need-returns-2
 unfolding isBreach
 returns-2 c = rw (there (c .before .before), state-wall, ne-eqb _ _ (c .if2 .taken))
 
-mul-result : tie.Need-mul-result
-mul-result c = search needs
+group-of-requires : tie.Need-group-of-requires
+group-of-requires c κs = c .before .before .before .before .pre .1
 
-element-copy-out-result : tie.Need-element-copy-out-result
-element-copy-out-result c = search needs
-
-mul-result-2 : tie.Need-mul-result-2
-mul-result-2 c = omega (arith, near (c .before .before .before))
-
-element-copy-out-result-2 : tie.Need-element-copy-out-result-2
-element-copy-out-result-2 c = omega (arith, near (c .before .before .before))
+group-of-requires-2 : tie.Need-group-of-requires-2
+group-of-requires-2 c κs = near (c .before .before .before) .to
 
 returns-3 : tie.Need-returns-3
 unfolding isBreach entry
 returns-3 c =
-    rw (there (c .before .before .before .before), state-wall, eq-eqb _ _ (c .before .before .if2 .left))
+    rw (
+      there (c .before .before .before .before),
+      state-wall,
+      eq-eqb _ _
+          (c .before .before .if2 .left),
+      c .group-of2 .ensures,
+      c .before .group-of .ensures,
+    )
 
 pub is-breach-spec : {M : Type 1} → statement M
 is-breach-spec =
@@ -51,8 +51,6 @@ is-breach-spec =
     returns
     element-copy-out-if2
     returns-2
-    mul-result
-    element-copy-out-result
-    mul-result-2
-    element-copy-out-result-2
+    group-of-requires
+    group-of-requires-2
     returns-3)

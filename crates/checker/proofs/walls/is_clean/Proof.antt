@@ -2,21 +2,22 @@
 use mathlib.Core.Path.{_≡_}
 use Prim.Native.Nat.{ℕ, _≤_, _<_, _+_, _-_, _*_}
 use native.Mathlib.Omega.{arith}
-use Rattle.lists.specs.Arithmetic.{below-more}
+use Rattle.groups.specs.Grouping.{numbersIn}
 use Rattle.rules.specs.Codes.{statesIn}
 use Rattle.rules.specs.Groups.{entry}
 use Rattle.laws.specs.FlatLaws.{Counts, counts, Spot, spot}
 use Rattle.checker.specs.Clean.{Apart, page-clean}
+use Rattle.lists.specs.Arithmetic.{below-more}
 use Rattle.checker.proofs.walls.is_clean.Statement.{statement}
 use Rattle.checker.proofs.walls.is_clean.Tie as tie
 
 abbrev Inv-loop : tie.InvT-loop
-Inv-loop h w borders ids y₀ y =
+Inv-loop h w borders blocks y₀ y =
     (y ≤ h)
-    × ((v : ℕ) → v < y → Apart (statesIn borders) (entry ids) (v * (w - 1)) (v * w) (v * w + 1) (w - 1))
+    × ((v : ℕ) → v < y → Apart (statesIn borders) (entry (numbersIn blocks)) (v * (w - 1)) (v * w) (v * w + 1) (w - 1))
 
 abbrev μ-loop : tie.MeasureT-loop
-μ-loop h w borders ids y₀ y = h - y
+μ-loop h w borders blocks y₀ y = h - y
 
 all : (s : tie.Start Inv-loop μ-loop) → Counts (s .args .h) (s .args .w)
 all s = counts (s .pre .0)
@@ -96,7 +97,8 @@ loop-again c =
     let l = c .before .before .before .loop in
     let a = c .before .before .before .before .before .before .args in
     let s = statesIn (a .borders .now) in
-    let row : ℕ → Type 0 = λ v. Apart s (entry (a .ids .now)) (v * (a .w - 1)) (v * a .w) (v * a .w + 1) (a .w - 1) in
+    let row : ℕ → Type 0 = λ v. Apart s (entry (numbersIn (a .blocks .now))) (v * (a .w - 1)) (v * a .w) (v * a .w + 1)
+    (a .w - 1) in
     (omega arith, below-more row (l .y) (l .inv .1) (c .before .count-hits2 .ensures (c .if2 .left)))
 
 returns-3 : tie.Need-returns-3 Inv-loop μ-loop

@@ -2,18 +2,20 @@
 use mathlib.Core.Path.{_≡_, sym, _∙_}
 use Prim.Native.Nat.{_≤_, _+_, _-_, _*_}
 use native.Mathlib.Omega.{arith}
+use Rattle.groups.specs.Grouping.{numbersIn}
 use Rattle.checker.specs.Breaches.{breachFrom}
 use Rattle.checker.specs.WallCases.{breachAt, or-found, or-missed, row-split, from-end}
 use Rattle.checker.proofs.walls.row_breach.Statement.{statement}
 use Rattle.checker.proofs.walls.row_breach.Tie as tie
 
 abbrev Inv-loop : tie.InvT-loop
-Inv-loop h w borders ids y x₀ x =
+Inv-loop h w borders blocks y x₀ x =
     (x ≤ w)
-    × (breachFrom (breachAt h w borders ids) w (y * w) ≡ breachFrom (breachAt h w borders ids) (w - x) (y * w + x))
+    × (breachFrom (breachAt h w borders (numbersIn blocks)) w (y * w)
+    ≡ breachFrom (breachAt h w borders (numbersIn blocks)) (w - x) (y * w + x))
 
 abbrev μ-loop : tie.MeasureT-loop
-μ-loop h w borders ids y x₀ x = w - x
+μ-loop h w borders blocks y x₀ x = w - x
 
 loop-holds : tie.Need-loop-holds Inv-loop μ-loop
 loop-holds c =

@@ -4,6 +4,7 @@ use mathlib.Core.List.{List, [], _++_}
 use Prim.Native.Nat.{ℕ}
 use native.Mathlib.Omega.{arith}
 use borrow.Author.Needs.{needs}
+use Rattle.groups.specs.Grouping.{numbersIn}
 use Rattle.rules.specs.declared.Literal.{Literal}
 use Rattle.reasons.specs.Arrays.{insideIn, edgeIn}
 use Rattle.reasons.specs.MemoryLaws.{wrote-none, wrote-more}
@@ -16,13 +17,14 @@ use Rattle.checker.proofs.write.write_fault.Tie as tie
 abbrev whole : tie.Start → List Literal
 whole s =
     let a = s .args in
-    reasonIn (a .h) (a .w) (a .colours .now) (a .borders .now) (a .blocks .now) (a .units .now) (a .faulty)
+    reasonIn (a .h) (a .w) (a .colours .now) (a .borders .now) (numbersIn (a .blocks .now))
+    (numbersIn (a .potential .now)) (a .faulty)
 
 abbrev within : tie.Start → List Literal
-within s = let a = s .args in insideIn (a .h) (a .w) (a .borders .now) (a .blocks .now) (a .faulty .block)
+within s = let a = s .args in insideIn (a .h) (a .w) (a .borders .now) (numbersIn (a .blocks .now)) (a .faulty .block)
 
 abbrev around : tie.Start → ℕ → List Literal
-around s = let a = s .args in edgeIn (a .h) (a .w) (a .colours .now) (a .borders .now) (a .units .now)
+around s = let a = s .args in edgeIn (a .h) (a .w) (a .colours .now) (a .borders .now) (numbersIn (a .potential .now))
 
 clear : (s : tie.Start) → s .args .faulty .fault ≡ Clear → whole s ≡ []
 unfolding reasonIn faultLiterals
@@ -50,15 +52,15 @@ enum-told c = search needs
 enum-known-fault : tie.Need-enum-known-fault
 enum-known-fault c = search needs
 
-write-inside-requires : tie.Need-write-inside-requires
-write-inside-requires c κs =
+inside-requires : tie.Need-inside-requires
+inside-requires c κs =
     let s = c .before .before .before .before .before in
     let f = c .before .before .fault .given in
     let e = inside-edge s (f .1) in
     (s .pre .0, s .pre .1, s .pre .3, fits-first (within s) (around s (f .0 .0)) _ (rw e at (s .pre .5)))
 
-write-edge-requires : tie.Need-write-edge-requires
-write-edge-requires c κs =
+edge-requires : tie.Need-edge-requires
+edge-requires c κs =
     let s = c .before .before .before .before .before .before .before .before .before in
     let f = c .before .before .before .before .before .before .fault .given .1 in
     let e = inside-edge s f in (
@@ -66,14 +68,14 @@ write-edge-requires c κs =
       s .pre .1,
       s .pre .2,
       rw f at (s .pre .4),
-      fits-second (c .before .before .before .write-inside .ensures) _ (rw e at (s .pre .5)),
+      fits-second (c .before .before .before .inside .ensures) _ (rw e at (s .pre .5)),
     )
 
 enum-told-2 : tie.Need-enum-told-2
 enum-told-2 c = search needs
 
-write-inside-requires-2 : tie.Need-write-inside-requires-2
-write-inside-requires-2 c κs =
+inside-requires-2 : tie.Need-inside-requires-2
+inside-requires-2 c κs =
     let s = c .before .before .before .before in
     let e = inside s (c .before .enum-told2 .given .1) in
     (s .pre .0, s .pre .1, s .pre .3, omega (arith, rw e at (s .pre .5)))
@@ -81,8 +83,8 @@ write-inside-requires-2 c κs =
 enum-known-fault-2 : tie.Need-enum-known-fault-2
 enum-known-fault-2 c = search needs
 
-write-edge-requires-2 : tie.Need-write-edge-requires-2
-write-edge-requires-2 c κs =
+edge-requires-2 : tie.Need-edge-requires-2
+edge-requires-2 c κs =
     let s = c .before .before .before .before .before in
     let f = c .before .before .fault2 .given .1 in
     let e = edge s f in
@@ -91,8 +93,8 @@ write-edge-requires-2 c κs =
 enum-known-fault-3 : tie.Need-enum-known-fault-3
 enum-known-fault-3 c = search needs
 
-write-edge-requires-3 : tie.Need-write-edge-requires-3
-write-edge-requires-3 c κs =
+edge-requires-3 : tie.Need-edge-requires-3
+edge-requires-3 c κs =
     let s = c .before .before .before .before .before in
     let f = c .before .before .fault3 .given in
     let e = edge-inside s (f .1) in (
@@ -103,14 +105,14 @@ write-edge-requires-3 c κs =
       fits-first (around s (f .0 .0)) (within s) _ (rw e at (s .pre .5)),
     )
 
-write-inside-requires-3 : tie.Need-write-inside-requires-3
-write-inside-requires-3 c κs =
+inside-requires-3 : tie.Need-inside-requires-3
+inside-requires-3 c κs =
     let s = c .before .before .before .before .before .before .before .before .before in
     let e = edge-inside s (c .before .before .before .before .before .before .fault3 .given .1) in (
       s .pre .0,
       s .pre .1,
       s .pre .3,
-      fits-second (c .before .before .before .write-edge3 .ensures) _ (rw e at (s .pre .5)),
+      fits-second (c .before .before .before .edge3 .ensures) _ (rw e at (s .pre .5)),
     )
 
 returns : tie.Need-returns
@@ -125,8 +127,8 @@ returns-2 : tie.Need-returns-2
 returns-2 c =
     let s = c .before .before .before .before .before .before .before .before .before .before .before .before in
     rw (inside-edge s (c .before .before .before .before .before .before .before .before .before .fault .given .1))
-    (wrote-more (c .before .before .before .before .before .before .write-inside .ensures)
-    (c .before .before .write-edge .ensures))
+    (wrote-more (c .before .before .before .before .before .before .inside .ensures)
+    (c .before .before .edge .ensures))
 
 same-length-2 : tie.Need-same-length-2
 same-length-2 c = search needs
@@ -134,7 +136,7 @@ same-length-2 c = search needs
 returns-3 : tie.Need-returns-3
 returns-3 c =
     let s = c .before .before .before .before .before .before .before in
-    rw (inside s (c .before .before .before .before .enum-told2 .given .1)) (c .before .before .write-inside2 .ensures)
+    rw (inside s (c .before .before .before .before .enum-told2 .given .1)) (c .before .before .inside2 .ensures)
 
 same-length-3 : tie.Need-same-length-3
 same-length-3 c = search needs
@@ -142,7 +144,7 @@ same-length-3 c = search needs
 returns-4 : tie.Need-returns-4
 returns-4 c =
     let s = c .before .before .before .before .before .before .before .before in
-    rw (edge s (c .before .before .before .before .before .fault2 .given .1)) (c .before .before .write-edge2 .ensures)
+    rw (edge s (c .before .before .before .before .before .fault2 .given .1)) (c .before .before .edge2 .ensures)
 
 same-length-4 : tie.Need-same-length-4
 same-length-4 c = search needs
@@ -151,8 +153,8 @@ returns-5 : tie.Need-returns-5
 returns-5 c =
     let s = c .before .before .before .before .before .before .before .before .before .before .before .before in
     rw (edge-inside s (c .before .before .before .before .before .before .before .before .before .fault3 .given .1))
-    (wrote-more (c .before .before .before .before .before .before .write-edge3 .ensures)
-    (c .before .before .write-inside3 .ensures))
+    (wrote-more (c .before .before .before .before .before .before .edge3 .ensures)
+    (c .before .before .inside3 .ensures))
 
 pub write-fault-spec : {M : Type 1} → statement M
 write-fault-spec =
@@ -160,15 +162,15 @@ write-fault-spec =
     (tie.spec
     enum-told
     enum-known-fault
-    write-inside-requires
-    write-edge-requires
+    inside-requires
+    edge-requires
     enum-told-2
-    write-inside-requires-2
+    inside-requires-2
     enum-known-fault-2
-    write-edge-requires-2
+    edge-requires-2
     enum-known-fault-3
-    write-edge-requires-3
-    write-inside-requires-3
+    edge-requires-3
+    inside-requires-3
     returns
     same-length
     returns-2

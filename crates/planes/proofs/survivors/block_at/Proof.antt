@@ -33,21 +33,21 @@ slim s = mod-lt (s .args .o) (omega (arith, s .pre .0 .columns))
 -- its placement
 is : (c : tie.After-placed) → let s = c .before .before .before in
     c .placed .result
-    ≡ placedAt (s .args .h) (s .args .w) (s .args .borders .now) (s .args .rows .now) (s .args .ys .now)
-    (s .args .xs .now) (s .args .n) (s .args .o / s .args .w) (s .args .o % s .args .w)
+    ≡ placedAt (s .args .h) (s .args .w) (s .args .borders .now) (s .args .rows .now) (s .args .turned .now)
+    (s .args .n) (s .args .o / s .args .w) (s .args .o % s .args .w)
 is c = let s = c .before .before .before in
     c .placed .ensures
     ∙ ap₂
-    (placedAt (s .args .h) (s .args .w) (s .args .borders .now) (s .args .rows .now) (s .args .ys .now)
-    (s .args .xs .now) (s .args .n)) (row s) (column s)
+    (placedAt (s .args .h) (s .args .w) (s .args .borders .now) (s .args .rows .now) (s .args .turned .now)
+    (s .args .n)) (row s) (column s)
 
 -- the blocker
 one : (c : tie.After-known-told) → let s = c .before .before .before .before .before .before in
-    blockIn (s .args .h) (s .args .w) (s .args .borders .now) (s .args .rows .now) (s .args .ys .now) (s .args .xs .now)
+    blockIn (s .args .h) (s .args .w) (s .args .borders .now) (s .args .rows .now) (s .args .turned .now)
     (s .args .n) (s .args .o) ≡ wallAt (c .before .border .given .0 .0) ∷ []
 one c = let s = c .before .before .before .before .before .before in
-    block-one (s .args .h) (s .args .w) (s .args .borders .now) (s .args .rows .now) (s .args .ys .now)
-    (s .args .xs .now) (s .args .n) (s .args .o) (is (c .before .before .before)) (c .before .border .given .1)
+    block-one (s .args .h) (s .args .w) (s .args .borders .now) (s .args .rows .now) (s .args .turned .now)
+    (s .args .n) (s .args .o) (is (c .before .before .before)) (c .before .border .given .1)
 
 mul-place : tie.Need-mul-place
 mul-place c = omega (arith, c .before .pre .4, counts (c .before .pre .0) .cells)
@@ -77,16 +77,16 @@ returns : tie.Need-returns
 returns c =
     let s = c .before .before .before .before in
     let p = c .before .placed .result in
-    let e = block-none (s .args .h) (s .args .w) (s .args .borders .now) (s .args .rows .now) (s .args .ys .now)
-    (s .args .xs .now) (s .args .n) (s .args .o) (is (c .before))
+    let e = block-none (s .args .h) (s .args .w) (s .args .borders .now) (s .args .rows .now) (s .args .turned .now)
+    (s .args .n) (s .args .o) (is (c .before))
     (⊎-elim (λ t. inl (lives-at enum p 0 t .1)) (λ t. inr (lives-at enum p 2 t .1)) (c .match .keys2)) in
     rw e (wrote-none _ _)
 
 append-requires : tie.Need-append-requires
 append-requires c κs =
     let s = c .before .before .before .before .before .before .before in
-    let w = placed-within (s .args .h) (s .args .w) (s .args .borders .now) (s .args .rows .now) (s .args .ys .now)
-    (s .args .xs .now) (s .args .n) (s .pre .0) (s .pre .2) _ _ (low s) (slim s) in (
+    let w = placed-within (s .args .h) (s .args .w) (s .args .borders .now) (s .args .rows .now) (s .args .turned .now)
+    (s .args .n) (s .pre .0) (s .pre .2) _ _ (low s) (slim s) in (
       omega (arith, ap length (one (c .before)), s .pre .5),
       rw (← is (c .before .before .before .before), c .before .before .border .given .1) at w,
     )

@@ -4,10 +4,10 @@ use mathlib.Core.List.{List}
 use Prim.Native.Nat.{ℕ, _≤_, _-_}
 use native.Mathlib.Omega.{arith}
 use borrow.Author.Needs.{needs}
+use Rattle.groups.specs.Grouping.{cellsIn}
 use Rattle.lists.specs.Lists.{flatMap}
 use Rattle.lists.specs.Parts.{part}
 use Rattle.rules.specs.declared.Literal.{Literal}
-use Rattle.laws.specs.FlatLaws.{counts}
 use Rattle.reasons.specs.Memory.{Wrote}
 use Rattle.reasons.specs.MemoryLaws.{wrote-length}
 use Rattle.reasons.specs.MemoryLaws.{write-none, write-more, write-fits}
@@ -17,52 +17,40 @@ use Rattle.planes.proofs.survivors.block_group.Statement.{statement}
 use Rattle.planes.proofs.survivors.block_group.Tie as tie
 
 abbrev Inv-loop : tie.InvT-loop
-Inv-loop memory₀ start h w borders places rows ys xs n cells from to at₀ i₀ memory at i =
+Inv-loop memory₀ start h w borders places rows turned n potential from to at₀ i₀ memory at i =
     (from ≤ i) × (i ≤ to) × Wrote memory₀ start
-    (flatMap (blockIn h w borders rows ys xs n) (part cells from i)) memory at
+    (flatMap (blockIn h w borders rows turned n) (part (cellsIn potential) from i)) memory at
 
 abbrev μ-loop : tie.MeasureT-loop
-μ-loop memory₀ start h w borders places rows ys xs n cells from to at₀ i₀ memory at i = to - i
+μ-loop memory₀ start h w borders places rows turned n potential from to at₀ i₀ memory at i = to - i
 
 -- the blocker at a cell
 abbrev each : tie.Start Inv-loop μ-loop → ℕ → List Literal
 each s o =
-    blockIn (s .args .h) (s .args .w) (s .args .borders .now) (s .args .rows .now) (s .args .ys .now) (s .args .xs .now)
+    blockIn (s .args .h) (s .args .w) (s .args .borders .now) (s .args .rows .now) (s .args .turned .now)
     (s .args .n) o
 
 loop-holds : tie.Need-loop-holds Inv-loop μ-loop
 loop-holds c = let s = c .before in (
   omega arith,
   s .pre .4 .order,
-  write-none (each s) (s .args .cells .now) (s .args .from),
+  write-none (each s) (cellsIn (s .args .potential .now)) (s .args .from),
 )
 
-mul-block-at : tie.Need-mul-block-at Inv-loop μ-loop
-mul-block-at c = search needs
-
-element-copy-out-block-at : tie.Need-element-copy-out-block-at Inv-loop μ-loop
-element-copy-out-block-at c = let s = c .before .before .before .before in omega (arith, s .pre .4 .end)
-
-cast-block-at : tie.Need-cast-block-at Inv-loop μ-loop
-cast-block-at c =
-    let s = c .before .before .before .before .before in
-    omega (
-      arith,
-      cells-at (s .pre .4) _ (c .before .before .before .loop .inv .0)
-          (c .before .before .loop-test .taken),
-      counts (s .pre .0),
-    )
+cell-at-requires : tie.Need-cell-at-requires Inv-loop μ-loop
+cell-at-requires c κs = let s = c .before .before .before .before in omega (arith, s .pre .4 .end)
 
 block-at-requires : tie.Need-block-at-requires Inv-loop μ-loop
 block-at-requires c κs =
-    let s = c .before .before .before .before .before in (
+    let s = c .before .before .before .before .before in
+    rw (c .cell-at .ensures) (
       s .pre .0,
       s .pre .1,
       s .pre .2,
       s .pre .3,
       cells-at (s .pre .4) _ (c .before .before .before .loop .inv .0)
           (c .before .before .loop-test .taken),
-      write-fits (each s) (s .args .cells .now) _ _
+      write-fits (each s) (cellsIn (s .args .potential .now)) _ _
           (c .before .before .before .loop .inv .0) (c .before .before .before .loop .inv .2) _
           (c .before .before .loop-test .taken) (cells-reach (s .pre .4)) (s .pre .5),
     )
@@ -78,10 +66,10 @@ loop-again c =
     let s = c .before .before .before .before .before .before .before .before in (
       omega arith,
       omega arith,
-      write-more (each s) (s .args .cells .now) _ _
+      write-more (each s) (cellsIn (s .args .potential .now)) _ _
           (c .before .before .before .before .before .before .loop .inv .0)
           (c .before .before .before .before .before .before .loop .inv .2) (omega (arith, cells-reach (s .pre .4)))
-          (c .before .before .block-at .ensures),
+          (rw (c .before .before .before .cell-at .ensures) at (c .before .before .block-at .ensures)),
     )
 
 same-length : tie.Need-same-length Inv-loop μ-loop
@@ -100,9 +88,7 @@ block-group-spec =
     Inv-loop
     μ-loop
     loop-holds
-    mul-block-at
-    element-copy-out-block-at
-    cast-block-at
+    cell-at-requires
     block-at-requires
     add-i
     loop-less

@@ -1,15 +1,18 @@
 -- The loop's invariant: the blockers beside the groups before i are written.
 use mathlib.Core.Path.{_≡_}
 use mathlib.Core.List.{List}
-use Prim.Native.Nat.{ℕ, _≤_, _-_}
+use Prim.Native.Nat.{ℕ, _≤_, _<_, _-_}
 use native.Mathlib.Omega.{arith}
 use borrow.Author.Needs.{needs}
+use lib.ListN.{getD}
+use Rattle.groups.specs.Grouping.{cellsIn, startsIn}
 use Rattle.lists.specs.Lists.{flatMap}
 use Rattle.lists.specs.Parts.{part}
 use Rattle.rules.specs.declared.Literal.{Literal}
 use Rattle.reasons.specs.Memory.{Wrote}
 use Rattle.reasons.specs.MemoryLaws.{wrote-length}
 use Rattle.reasons.specs.MemoryLaws.{write-none, write-more, write-fits}
+use Rattle.search.specs.Mates.{mateCount}
 use Rattle.search.specs.SearchLaws.{mates-reach}
 use Rattle.search.specs.Searching.{groupIn}
 use Rattle.planes.specs.Survivors.{blockIn}
@@ -17,107 +20,81 @@ use Rattle.planes.proofs.survivors.block_mates.Statement.{statement}
 use Rattle.planes.proofs.survivors.block_mates.Tie as tie
 
 abbrev Inv-loop : tie.InvT-loop
-Inv-loop memory₀ start h w borders places rows ys xs n cells offs mates from to at₀ i₀ memory at i =
-    (from ≤ i) × (i ≤ to) × Wrote memory₀ start
-    (flatMap (λ q. flatMap (blockIn h w borders rows ys xs n) (groupIn cells offs q)) (part mates from i)) memory at
+Inv-loop memory₀ start h w borders places rows turned n potential mates count at₀ i₀ memory at i =
+    (i ≤ mateCount mates) × Wrote memory₀ start
+    (flatMap (λ q. flatMap (blockIn h w borders rows turned n) (groupIn (cellsIn potential) (startsIn potential) q))
+    (part mates 0 i)) memory at
 
 abbrev μ-loop : tie.MeasureT-loop
-μ-loop memory₀ start h w borders places rows ys xs n cells offs mates from to at₀ i₀ memory at i = to - i
+μ-loop memory₀ start h w borders places rows turned n potential mates count at₀ i₀ memory at i = count - i
 
 -- the blockers beside a group
 abbrev each : tie.Start Inv-loop μ-loop → ℕ → List Literal
 each s q =
     flatMap
-    (blockIn (s .args .h) (s .args .w) (s .args .borders .now) (s .args .rows .now) (s .args .ys .now)
-    (s .args .xs .now) (s .args .n))
-    (groupIn (s .args .cells .now) (s .args .offs .now) q)
+    (blockIn (s .args .h) (s .args .w) (s .args .borders .now) (s .args .rows .now) (s .args .turned .now) (s .args .n))
+    (groupIn (cellsIn (s .args .potential .now)) (startsIn (s .args .potential .now)) q)
+
+element-copy-out-index : tie.Need-element-copy-out-index Inv-loop μ-loop
+element-copy-out-index c = omega arith
+
+index-requires : tie.Need-index-requires Inv-loop μ-loop
+index-requires c κs = search needs
 
 loop-holds : tie.Need-loop-holds Inv-loop μ-loop
-loop-holds c = let s = c .before in (
-  omega arith,
-  s .pre .4 .order,
-  write-none (each s) (s .args .mates .now) (s .args .from),
-)
+loop-holds c = let s = c .before .before .before in (omega arith, write-none (each s) (s .args .mates .now) 0)
+
+-- the start, and the next unit in the list
+abbrev begin : tie.In-loop Inv-loop μ-loop → tie.Start Inv-loop μ-loop
+begin t = t .before .before .before .before .before
+
+next : (t : tie.In-loop Inv-loop μ-loop) → t .before .loop .i < mateCount (begin t .args .mates .now)
+next t =
+    let e : t .before .before .index .result ≡ mateCount (begin t .args .mates .now) =
+    t .before .before .index .ensures in
+    omega (arith, t .loop-test .taken)
+
+low : (t : tie.In-loop Inv-loop μ-loop) → getD (begin t .args .mates .now) (t .before .loop .i) 0 < 1024
+low t = begin t .pre .4 .low _ (next t)
 
 mul-q : tie.Need-mul-q Inv-loop μ-loop
-mul-q c = search needs
+mul-q c = omega (arith, next c, begin c .pre .4 .end)
 
 element-copy-out-q : tie.Need-element-copy-out-q Inv-loop μ-loop
-element-copy-out-q c = let s = c .before .before .before in omega (arith, s .pre .4 .end)
+element-copy-out-q c = omega (arith, next c, begin c .pre .4 .end)
 
 cast-q : tie.Need-cast-q Inv-loop μ-loop
-cast-q c = let s = c .before .before .before .before in
-    omega (arith, (s .pre .4 .low _ (c .before .before .loop .inv .0) (c .before .loop-test .taken)))
+cast-q c = omega (arith, low (c .before))
 
-mul-block-group : tie.Need-mul-block-group Inv-loop μ-loop
-mul-block-group c = let s = c .before .before .before .before .before in
-    omega (arith, (s .pre .4 .low _ (c .before .before .before .loop .inv .0) (c .before .before .loop-test .taken)))
+start-of-requires : tie.Need-start-of-requires Inv-loop μ-loop
+start-of-requires c κs = omega (arith, low (c .before .before))
 
-element-copy-out-block-group : tie.Need-element-copy-out-block-group Inv-loop μ-loop
-element-copy-out-block-group c = let s = c .before .before .before .before .before in
-    omega (arith, (s .pre .4 .low _ (c .before .before .before .loop .inv .0) (c .before .before .loop-test .taken)))
+add-start-of : tie.Need-add-start-of Inv-loop μ-loop
+add-start-of c = omega (arith, low (c .before .before .before))
 
-cast-block-group : tie.Need-cast-block-group Inv-loop μ-loop
-cast-block-group c = let s = c .before .before .before .before .before .before in
-    omega (
-      arith,
-      (s .pre .4 .each _ (c .before .before .before .before .loop .inv .0)
-          (c .before .before .before .loop-test .taken)) .order,
-      (s .pre .4 .each _ (c .before .before .before .before .loop .inv .0)
-          (c .before .before .before .loop-test .taken))
-          .end,
-    )
-
-add-block-group : tie.Need-add-block-group Inv-loop μ-loop
-add-block-group c = let s = c .before .before .before .before .before .before in
-    omega (
-      arith,
-      (s .pre .4 .low _ (c .before .before .before .before .loop .inv .0)
-          (c .before .before .before .loop-test .taken)),
-    )
-
-mul-block-group-2 : tie.Need-mul-block-group-2 Inv-loop μ-loop
-mul-block-group-2 c = let s = c .before .before .before .before .before .before in
-    omega (
-      arith,
-      (s .pre .4 .low _ (c .before .before .before .before .loop .inv .0)
-          (c .before .before .before .loop-test .taken)),
-    )
-
-element-copy-out-block-group-2 : tie.Need-element-copy-out-block-group-2 Inv-loop μ-loop
-element-copy-out-block-group-2 c = let s = c .before .before .before .before .before .before in
-    omega (
-      arith,
-      (s .pre .4 .low _ (c .before .before .before .before .loop .inv .0)
-          (c .before .before .before .loop-test .taken)),
-    )
-
-cast-block-group-2 : tie.Need-cast-block-group-2 Inv-loop μ-loop
-cast-block-group-2 c = let s = c .before .before .before .before .before .before .before in
-    omega (
-      arith,
-      (s .pre .4 .each _ (c .before .before .before .before .before .loop .inv .0)
-          (c .before .before .before .before .loop-test .taken)) .end,
-    )
+start-of-requires-2 : tie.Need-start-of-requires-2 Inv-loop μ-loop
+start-of-requires-2 c κs = omega (arith, low (c .before .before .before))
 
 block-group-requires : tie.Need-block-group-requires Inv-loop μ-loop
 unfolding groupIn
 block-group-requires c κs =
-    let s = c .before .before .before .before .before .before .before in (
+    let t = c .before .before .before .before in
+    let l = t .before in
+    let s = begin t in
+    rw (c .start-of2 .ensures, c .before .start-of .ensures) (
       s .pre .0,
       s .pre .1,
       s .pre .2,
       s .pre .3,
-      (s .pre .4 .each _ (c .before .before .before .before .before .loop .inv .0)
-          (c .before .before .before .before .loop-test .taken)),
-      write-fits (each s) (s .args .mates .now) _ _
-          (c .before .before .before .before .before .loop .inv .0)
-          (c .before .before .before .before .before .loop .inv .2) _
-          (c .before .before .before .before .loop-test .taken) (mates-reach (s .pre .4)) (s .pre .5),
+      s .pre .4 .each _ (next t),
+      write-fits (each s) (s .args .mates .now) _ _ (omega arith) (l .loop .inv .1) _ (next t)
+          (mates-reach (s .pre .4)) (s .pre .5),
     )
 
 add-i : tie.Need-add-i Inv-loop μ-loop
-add-i c = search needs
+add-i c =
+    let t = c .before .before .before .before .before .before .before in
+    omega (arith, next t, begin t .pre .4 .end)
 
 loop-less : tie.Need-loop-less Inv-loop μ-loop
 loop-less c = omega arith
@@ -125,23 +102,26 @@ loop-less c = omega arith
 loop-again : tie.Need-loop-again Inv-loop μ-loop
 unfolding groupIn
 loop-again c =
-    let s = c .before .before .before .before .before .before .before .before .before .before in (
-      omega arith,
-      omega arith,
-      write-more (each s) (s .args .mates .now) _ _
-          (c .before .before .before .before .before .before .before .before .loop .inv .0)
-          (c .before .before .before .before .before .before .before .before .loop .inv .2)
-          (omega (arith, mates-reach (s .pre .4))) (c .before .before .block-group .ensures),
+    let t = c .before .before .before .before .before .before .before in
+    let l = t .before in
+    let s = begin t in (
+      omega (arith, next t),
+      write-more (each s) (s .args .mates .now) _ _ (omega arith) (l .loop .inv .1)
+          (omega (arith, next t, mates-reach (s .pre .4)))
+          (rw (c .before .before .before .start-of2 .ensures, c .before .before .before .before .start-of .ensures) at
+          (c .before .before .block-group .ensures)),
     )
 
 same-length : tie.Need-same-length Inv-loop μ-loop
-same-length c = wrote-length (c .before .loop .inv .2)
+same-length c = wrote-length (c .before .loop .inv .1)
 
 returns : tie.Need-returns Inv-loop μ-loop
 returns c =
-    let s = c .before .before .before in
-    let e : c .before .loop .i ≡ s .args .to = omega arith in
-    rw e at (c .before .loop .inv .2)
+    let a = c .before .before in
+    let s = a .before .before .before in
+    let n : a .index .result ≡ mateCount (s .args .mates .now) = a .index .ensures in
+    let e : c .before .loop .i ≡ mateCount (s .args .mates .now) = omega arith in
+    rw e at (c .before .loop .inv .1)
 
 pub block-mates-spec : {M : Type 1} → statement M
 block-mates-spec =
@@ -149,17 +129,15 @@ block-mates-spec =
     (tie.spec
     Inv-loop
     μ-loop
+    element-copy-out-index
+    index-requires
     loop-holds
     mul-q
     element-copy-out-q
     cast-q
-    mul-block-group
-    element-copy-out-block-group
-    cast-block-group
-    add-block-group
-    mul-block-group-2
-    element-copy-out-block-group-2
-    cast-block-group-2
+    start-of-requires
+    add-start-of
+    start-of-requires-2
     block-group-requires
     add-i
     loop-less

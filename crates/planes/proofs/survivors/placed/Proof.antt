@@ -30,16 +30,16 @@ returns c =
     let s = c .before .before .before .before in
     c .laid-back .ensures
     ∙ sym
-    (placed-some (s .args .h) (s .args .w) (s .args .borders .now) (s .args .rows .now) (s .args .ys .now)
-    (s .args .xs .now) (s .args .n) (s .args .y) (s .args .x)
+    (placed-some (s .args .h) (s .args .w) (s .args .borders .now) (s .args .rows .now) (s .args .turned .now)
+    (s .args .n) (s .args .y) (s .args .x)
     (sym (c .before .before .has .ensures) ∙ c .before .if1 .taken))
 
 returns-2 : tie.Need-returns-2
 returns-2 c =
     let s = c .before .before .before in
     sym
-    (placed-none (s .args .h) (s .args .w) (s .args .borders .now) (s .args .rows .now) (s .args .ys .now)
-    (s .args .xs .now) (s .args .n) (s .args .y) (s .args .x) (sym (c .before .has .ensures) ∙ c .if1 .left))
+    (placed-none (s .args .h) (s .args .w) (s .args .borders .now) (s .args .rows .now) (s .args .turned .now)
+    (s .args .n) (s .args .y) (s .args .x) (sym (c .before .has .ensures) ∙ c .if1 .left))
 
 pub placed-spec : {M : Type 1} → statement M
 placed-spec =

@@ -9,11 +9,11 @@ use Rattle.planes.proofs.survivors.survivors.Statement.{statement}
 use Rattle.planes.proofs.survivors.survivors.Tie as tie
 
 abbrev Inv-loop : tie.InvT-loop
-Inv-loop planes mask h ys xs n rows₀ y₀ rows y = (y ≤ h) × (length rows ≡ 32)
-    × ((i : ℕ) → i < y → getD rows i 0 ≡ clearWord planes i ys xs (getD mask i 0) n)
+Inv-loop planes mask h turned n rows₀ y₀ rows y = (y ≤ h) × (length rows ≡ 32)
+    × ((i : ℕ) → i < y → getD rows i 0 ≡ clearWord planes i turned (getD mask i 0) n)
 
 abbrev μ-loop : tie.MeasureT-loop
-μ-loop planes mask h ys xs n rows₀ y₀ rows y = h - y
+μ-loop planes mask h turned n rows₀ y₀ rows y = h - y
 
 loop-holds : tie.Need-loop-holds Inv-loop μ-loop
 loop-holds c = (omega arith, c .pre .2, λ i h. absurd (omega arith))
@@ -53,7 +53,7 @@ loop-again c =
     let s = i .before .before in (
       omega (arith, i .loop-test .taken),
       length-set (l .rows) (l .y) _ ∙ l .inv .1,
-      stored-more (λ y. clearWord (s .args .planes .now) y (s .args .ys .now) (s .args .xs .now)
+      stored-more (λ y. clearWord (s .args .planes .now) y (s .args .turned .now)
           (getD (s .args .mask .now) y 0) (s .args .n)) 0 _ (l .rows) (l .y) (omega (arith, low i, l .inv .1))
           (c .line-left .ensures) (l .inv .2),
     )

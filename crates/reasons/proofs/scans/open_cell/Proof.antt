@@ -4,7 +4,7 @@ use mathlib.Core.Bool.{true}
 use mathlib.Core.List.{List, []}
 use Prim.Native.Nat.{ℕ, _+_, _*_, _≤_}
 use lib.ListN.{length}
-use Rattle.lists.specs.UpTo.{upTo}
+use Rattle.groups.specs.Grouping.{numbersIn}
 use Rattle.rules.specs.declared.Side.the-variants.{Open}
 use Rattle.rules.specs.declared.Literal.{Literal}
 use Rattle.laws.specs.FlatLaws.{OnPage, row-of}
@@ -14,6 +14,7 @@ use Rattle.reasons.specs.MemoryLaws.{loop-none, loop-more, loop-fits}
 use Rattle.reasons.specs.ScanLaws.{scan-open}
 use native.Mathlib.Omega.{arith}
 use borrow.Author.Needs.{needs}
+use Rattle.lists.specs.UpTo.{upTo}
 use Rattle.reasons.proofs.scans.open_cell.Statement.{statement}
 use Rattle.reasons.proofs.scans.open_cell.Tie as tie
 
@@ -23,14 +24,16 @@ row s = row-of _ _ _ (s .pre .3)
 abbrev at : tie.Start → ℕ → List Literal
 at s i =
     let a = s .args in
-    scanTo (a .h) (a .w) [] (a .borders .now) (a .ids .now) Open true (a .flagged .now) (a .c) (2 * i + 1)
+    scanTo (a .h) (a .w) [] (a .borders .now) (numbersIn (a .grouping .now)) Open true (a .flagged .now) (a .c)
+    (2 * i + 1)
 
 whole : (s : tie.Start) →
     let a = s .args in
-    scanAt (a .h) (a .w) [] (a .borders .now) (a .ids .now) Open true (a .flagged .now) (a .c) ≡ upTo (at s) 2
+    scanAt (a .h) (a .w) [] (a .borders .now) (numbersIn (a .grouping .now)) Open true (a .flagged .now) (a .c)
+    ≡ upTo (at s) 2
 whole s =
     let a = s .args in
-    scan-open (a .h) (a .w) [] (a .borders .now) (a .ids .now) true (a .flagged .now) (a .c)
+    scan-open (a .h) (a .w) [] (a .borders .now) (numbersIn (a .grouping .now)) true (a .flagged .now) (a .c)
 
 start : (s : tie.Start) → let a = s .args in Wrote (a .memory .now) (a .from) (upTo (at s) 0) (a .memory .now) (a .from)
 start s = loop-none (at s)

@@ -3,7 +3,7 @@ use mathlib.Core.Path.{_≡_}
 use mathlib.Core.List.{List}
 use Prim.Native.Nat.{ℕ, _+_, _<_, _≤_}
 use lib.ListN.{length}
-use Rattle.lists.specs.UpTo.{upTo}
+use Rattle.groups.specs.Grouping.{numbersIn}
 use Rattle.rules.specs.declared.Side.the-variants.{Wall}
 use Rattle.rules.specs.declared.Literal.{Literal}
 use Rattle.laws.specs.FlatLaws.{counts, OnPage, row-of}
@@ -13,6 +13,7 @@ use Rattle.reasons.specs.MemoryLaws.{loop-none, loop-more, loop-fits}
 use Rattle.reasons.specs.ScanLaws.{scan-walls}
 use native.Mathlib.Omega.{arith}
 use borrow.Author.Needs.{needs}
+use Rattle.lists.specs.UpTo.{upTo}
 use Rattle.reasons.proofs.scans.wall_cell.Statement.{statement}
 use Rattle.reasons.proofs.scans.wall_cell.Tie as tie
 
@@ -22,15 +23,18 @@ row s = row-of _ _ _ (s .pre .4)
 abbrev at : tie.Start → ℕ → List Literal
 at s =
     let a = s .args in
-    scanTo (a .h) (a .w) (a .colours .now) (a .borders .now) (a .ids .now) Wall (a .same) (a .flagged .now) (a .c)
+    scanTo (a .h) (a .w) (a .colours .now) (a .borders .now) (numbersIn (a .grouping .now)) Wall (a .same)
+    (a .flagged .now) (a .c)
 
 whole : (s : tie.Start) →
     let a = s .args in
-    scanAt (a .h) (a .w) (a .colours .now) (a .borders .now) (a .ids .now) Wall (a .same) (a .flagged .now) (a .c)
+    scanAt (a .h) (a .w) (a .colours .now) (a .borders .now) (numbersIn (a .grouping .now)) Wall (a .same)
+    (a .flagged .now) (a .c)
     ≡ upTo (at s) 4
 whole s =
     let a = s .args in
-    scan-walls (a .h) (a .w) (a .colours .now) (a .borders .now) (a .ids .now) (a .same) (a .flagged .now) (a .c)
+    scan-walls (a .h) (a .w) (a .colours .now) (a .borders .now) (numbersIn (a .grouping .now)) (a .same)
+    (a .flagged .now) (a .c)
 
 start : (s : tie.Start) → let a = s .args in Wrote (a .memory .now) (a .from) (upTo (at s) 0) (a .memory .now) (a .from)
 start s = loop-none (at s)

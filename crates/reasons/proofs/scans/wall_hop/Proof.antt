@@ -2,6 +2,7 @@
 use mathlib.Core.Path.{_≡_}
 use mathlib.Core.Bool.{Bool}
 use mathlib.Core.List.{[]}
+use Rattle.groups.specs.Grouping.{numbersIn}
 use Rattle.lists.specs.Lists.{keep}
 use Rattle.rules.specs.declared.Side.the-variants.{Wall}
 use Rattle.rules.specs.Page.{Hop}
@@ -17,7 +18,7 @@ use Rattle.reasons.proofs.scans.wall_hop.Tie as tie
 abbrev test : tie.Start → Hop → Bool
 test s =
     let a = s .args in
-    wallKept (coloursIn (a .colours .now)) (statesIn (a .borders .now)) (entry (a .ids .now)) (a .same)
+    wallKept (coloursIn (a .colours .now)) (statesIn (a .borders .now)) (entry (numbersIn (a .grouping .now))) (a .same)
     (isFlagged (a .flagged .now)) (a .c)
 
 kept : (c : tie.After-wall-kept) →

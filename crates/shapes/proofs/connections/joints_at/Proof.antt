@@ -1,9 +1,11 @@
 -- `shapes::joints_at` meets its contract: the two neighbours are on the page, and their connections come one after the
 -- other.
 use mathlib.Core.Bool.{_&&_}
+use mathlib.Core.Path.{_∙_}
 use Prim.Native.Nat.{_+_, _*_}
 use native.Mathlib.Omega.{arith}
 use lib.Dec.{eqb, ltb}
+use Rattle.groups.specs.Grouping.{numbersIn}
 use Rattle.rules.specs.Groups.{entry}
 use Rattle.shapes.specs.JointLaws.{cell-room, grown-count, joint-one, joints-are}
 use borrow.Author.Needs.{needs}
@@ -42,16 +44,16 @@ cast-join-2 c = search needs
 
 join-requires : tie.Need-join-requires
 join-requires c κs =
-    let s = c .before .before in
+    let s = c .before in
     let r = s .pre .4 in (
       s .pre .1,
       cell-room (s .pre .0) (s .pre .2) (s .pre .3) .1,
-      record { downs = r .downs; acrosses = r .acrosses; space = omega (arith, r .space) },
+      record { long = r .long; space = omega (arith, r .space) },
     )
 
 add-join-3 : tie.Need-add-join-3
 add-join-3 c =
-    let s = c .before .before .before in omega (arith, cell-room (s .pre .0) (s .pre .2) (s .pre .3) .0)
+    let s = c .before .before in omega (arith, cell-room (s .pre .0) (s .pre .2) (s .pre .3) .0)
 
 cast-join-3 : tie.Need-cast-join-3
 cast-join-3 c = search needs
@@ -64,26 +66,25 @@ cast-join-4 c = search needs
 
 join-requires-2 : tie.Need-join-requires-2
 join-requires-2 c κs =
-    let s = c .before .before .before .before .before in
-    let j = c .before .before .join .ensures in
+    let s = c .before .before .before in
+    let j = c .before .join .ensures in
     let y = s .args .y in
     let x = s .args .x in
-    let on = ltb (y + 1) (s .args .h) && eqb (entry (s .args .ids .now) (y * s .args .w + x + s .args .w)) (s .args .g)
-    in (
+    let w = s .args .w in
+    let on = ltb (y + 1) (s .args .h) && eqb (entry (numbersIn (s .args .units .now)) (y * w + x + w)) (s .args .g) in (
       s .pre .1,
       cell-room (s .pre .0) (s .pre .2) (s .pre .3) .2,
       record {
-        downs = j .downs;
-        acrosses = j .acrosses;
+        long = j .only .long ∙ s .pre .4 .long;
         space = omega (arith, s .pre .4 .space, grown-count j, joint-one on (2 * y + 1) (2 * x));
       },
     )
 
 returns : tie.Need-returns
 returns c =
-    let s = c .before .before .before .before .before .before in
-    joints-are (s .args .h) (s .args .w) (entry (s .args .ids .now)) (s .args .g) (s .args .y) (s .args .x) (s .pre .3)
-    (c .before .before .before .join .ensures) (c .join2 .ensures)
+    let s = c .before .before .before .before in
+    joints-are (s .args .h) (s .args .w) (entry (numbersIn (s .args .units .now))) (s .args .g) (s .args .y)
+    (s .args .x) (s .pre .3) (c .before .before .join .ensures) (c .join2 .ensures)
 
 pub joints-at-spec : {M : Type 1} → statement M
 joints-at-spec =

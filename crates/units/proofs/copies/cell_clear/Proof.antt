@@ -6,6 +6,8 @@ use native.Mathlib.Omega.{arith}
 use borrow.Author.Needs.{needs}
 use lib.Dec.{ltb}
 use Rattle.rules.specs.Codes.{statesIn}
+use Rattle.laws.specs.FlatLaws.{counts}
+use Rattle.groups.specs.Grouping.{numbersIn}
 use Rattle.rules.specs.Groups.{entry}
 use Rattle.laws.specs.FlatLaws.{counts, row-of}
 use Rattle.shapes.specs.JointLaws.{cell-room}
@@ -93,14 +95,14 @@ returns c =
     let i = c .before in
     let s = i .before .before in
     cell-yes (s .args .h) (s .args .w) (s .args .colours .now) (statesIn (s .args .borders .now)) (s .args .y)
-    (s .args .x) (entry (s .args .ids .now)) (s .args .g) (s .args .c) (row-of _ _ _ (s .pre .1) .column)
+    (s .args .x) (entry (numbersIn (s .args .units .now))) (s .args .g) (s .args .c) (row-of _ _ _ (s .pre .1) .column)
     (i .before .joint-clear .ensures) (i .if1 .taken) (c .joint-clear2 .ensures)
 
 returns-2 : tie.Need-returns-2
 returns-2 c =
     let s = c .before .before in
     cell-no (s .args .h) (s .args .w) (s .args .colours .now) (statesIn (s .args .borders .now)) (s .args .y)
-    (s .args .x) (entry (s .args .ids .now)) (s .args .g) (s .args .c) (row-of _ _ _ (s .pre .1) .column)
+    (s .args .x) (entry (numbersIn (s .args .units .now))) (s .args .g) (s .args .c) (row-of _ _ _ (s .pre .1) .column)
     (c .before .joint-clear .ensures) (c .if1 .left)
 
 pub cell-clear-spec : {M : Type 1} → statement M

@@ -7,8 +7,7 @@ use native.Mathlib.Omega.{arith}
 use borrow.Author.Needs.{needs}
 use lib.ListN.{getD}
 use Rattle.lists.specs.Lists.{any}
-use Rattle.lists.specs.Parts.{part}
-use Rattle.lists.specs.PartLaws.{any-done, any-found, any-next}
+use Rattle.groups.specs.Grouping.{numbersIn, cellsIn, startsIn}
 use Rattle.rules.specs.Codes.{statesIn}
 use Rattle.rules.specs.Flat.{flat}
 use Rattle.rules.specs.Groups.{entry}
@@ -19,47 +18,53 @@ use Rattle.search.specs.SearchLaws.{cells-reach, cells-at}
 use Rattle.search.specs.Searching.{fitsAmong}
 use Rattle.units.specs.Copies.{soonEnd, soonIn}
 use Rattle.units.specs.CopyLaws.{soon-cells}
+use Rattle.lists.specs.Parts.{part}
+use Rattle.lists.specs.PartLaws.{any-done, any-found, any-next}
 use Rattle.units.proofs.copies.copy_fits_soon.Statement.{statement}
 use Rattle.units.proofs.copies.copy_fits_soon.Tie as tie
 
 -- the unit's shape fits at a cell
 abbrev fit : ℕ → ℕ → List ℕ → List ℕ → List ℕ → ℕ → ℕ → Bool
-fit h w colours borders ids g = fitsOf (puzzle h w colours) (statesIn borders) (shapeOf (flat h w) (entry ids) g)
+fit h w colours borders units g =
+    fitsOf (puzzle h w colours) (statesIn borders) (shapeOf (flat h w) (entry (numbersIn units)) g)
 
 abbrev Inv-loop : tie.InvT-loop
-Inv-loop h w colours borders ids g units first last cells offs q from to i₀ i =
-    (from ≤ i) × (i ≤ to) × (fitsAmong (puzzle h w colours) (statesIn borders) (shapeOf (flat h w) (entry ids) g)
-    (soonIn cells offs q) ≡ any (fit h w colours borders ids g) (part cells i to))
+Inv-loop h w colours borders units g potential q from to i₀ i =
+    (from ≤ i) × (i ≤ to)
+    × (fitsAmong (puzzle h w colours) (statesIn borders) (shapeOf (flat h w) (entry (numbersIn units)) g)
+    (soonIn (cellsIn potential) (startsIn potential) q)
+    ≡ any (fit h w colours borders units g) (part (cellsIn potential) i to))
 
 abbrev μ-loop : tie.MeasureT-loop
-μ-loop h w colours borders ids g units first last cells offs q from to i₀ i = to - i
+μ-loop h w colours borders units g potential q from to i₀ i = to - i
 
 -- where the first cells end
 end-is : (c : tie.After-soon-end Inv-loop μ-loop) → let s = c .before .before .before in
     c .soon-end .result
-    ≡ soonEnd (getD (s .args .offs .now) (s .args .q) 0) (getD (s .args .offs .now) (s .args .q + 1) 0)
+    ≡ soonEnd (getD (startsIn (s .args .potential .now)) (s .args .q) 0)
+    (getD (startsIn (s .args .potential .now)) (s .args .q + 1) 0)
 end-is c =
-    c .soon-end .ensures ∙ ap₂ soonEnd (c .before .before .start-at .ensures) (c .before .start-at2 .ensures)
+    c .soon-end .ensures ∙ ap₂ soonEnd (c .before .before .start-of .ensures) (c .before .start-of2 .ensures)
 
 -- they are cells of the page
 soon : (c : tie.After-soon-end Inv-loop μ-loop) → let f = c .before .before in let s = f .before in
-    Cells (s .args .h) (s .args .w) (s .args .cells .now) (f .start-at .result) (c .soon-end .result)
+    Cells (s .args .h) (s .args .w) (cellsIn (s .args .potential .now)) (f .start-of .result) (c .soon-end .result)
 soon c =
     let f = c .before .before in
-    rw (f .start-at .ensures, end-is c) (soon-cells (f .before .pre .3))
+    rw (f .start-of .ensures, end-is c) (soon-cells (f .before .pre .3))
 
-start-at-requires : tie.Need-start-at-requires Inv-loop μ-loop
-start-at-requires c κs = search needs
+start-of-requires : tie.Need-start-of-requires Inv-loop μ-loop
+start-of-requires c κs = search needs
 
-add-start-at : tie.Need-add-start-at Inv-loop μ-loop
-add-start-at c = search needs
+add-start-of : tie.Need-add-start-of Inv-loop μ-loop
+add-start-of c = search needs
 
-start-at-requires-2 : tie.Need-start-at-requires-2 Inv-loop μ-loop
-start-at-requires-2 c κs = search needs
+start-of-requires-2 : tie.Need-start-of-requires-2 Inv-loop μ-loop
+start-of-requires-2 c κs = search needs
 
 soon-end-requires : tie.Need-soon-end-requires Inv-loop μ-loop
 soon-end-requires c κs =
-    let s = c .before .before in omega (arith, s .pre .3 .order, s .pre .3 .end, c .before .start-at .ensures)
+    let s = c .before .before in omega (arith, s .pre .3 .order, s .pre .3 .end, c .before .start-of .ensures)
 
 loop-holds : tie.Need-loop-holds Inv-loop μ-loop
 unfolding fitsAmong soonIn
@@ -68,12 +73,12 @@ loop-holds c =
     let a = f .before .args in (
       omega arith,
       soon c .order,
-      sym (ap₂ (λ i j. any (fit (a .h) (a .w) (a .colours .now) (a .borders .now) (a .ids .now) (a .g))
-          (part (a .cells .now) i j)) (f .start-at .ensures) (end-is c)),
+      sym (ap₂ (λ i j. any (fit (a .h) (a .w) (a .colours .now) (a .borders .now) (a .units .now) (a .g))
+          (part (cellsIn (a .potential .now)) i j)) (f .start-of .ensures) (end-is c)),
     )
 
-number-at-requires : tie.Need-number-at-requires Inv-loop μ-loop
-number-at-requires c κs = let e = c .before .before in omega (arith, soon e .end)
+cell-at-requires : tie.Need-cell-at-requires Inv-loop μ-loop
+cell-at-requires c κs = let e = c .before .before in omega (arith, soon e .end)
 
 copy-fits-requires : tie.Need-copy-fits-requires Inv-loop μ-loop
 copy-fits-requires c κs =
@@ -82,22 +87,24 @@ copy-fits-requires c κs =
     let s = e .before .before .before in (
       s .pre .0,
       s .pre .1,
-      rw (c .number-at .ensures) (cells-at (soon e) (l .loop .i) (l .loop .inv .0) (c .before .loop-test .taken)),
+      rw (c .cell-at .ensures) (cells-at (soon e) (l .loop .i) (l .loop .inv .0) (c .before .loop-test .taken)),
     )
 
 -- the answer at the cell at i
 cell-is : (c : tie.After-copy-fits Inv-loop μ-loop) → let l = c .before .before .before in
     let a = l .before .before .before .before .args in
     c .copy-fits .result
-    ≡ fit (a .h) (a .w) (a .colours .now) (a .borders .now) (a .ids .now) (a .g) (getD (a .cells .now) (l .loop .i) 0)
-cell-is c = rw (c .before .number-at .ensures) at (c .copy-fits .ensures)
+    ≡ fit (a .h) (a .w) (a .colours .now) (a .borders .now) (a .units .now) (a .g)
+    (getD (cellsIn (a .potential .now)) (l .loop .i) 0)
+cell-is c = rw (c .before .cell-at .ensures) at (c .copy-fits .ensures)
 
 returns : tie.Need-returns Inv-loop μ-loop
 returns c =
     let l = c .before .before .before .before in
     let e = l .before in
     let a = e .before .before .before .args in
-    any-found (fit (a .h) (a .w) (a .colours .now) (a .borders .now) (a .ids .now) (a .g)) (a .cells .now) (l .loop .i)
+    any-found (fit (a .h) (a .w) (a .colours .now) (a .borders .now) (a .units .now) (a .g))
+    (cellsIn (a .potential .now)) (l .loop .i)
     (e .soon-end .result) (l .loop .inv .2) (c .before .before .before .loop-test .taken) (cells-reach (soon e))
     (sym (cell-is (c .before)) ∙ c .if1 .taken)
 
@@ -114,7 +121,8 @@ loop-again c =
     let a = e .before .before .before .args in (
       omega (arith, l .loop .inv .0),
       omega (arith, c .before .before .before .loop-test .taken),
-      any-next (fit (a .h) (a .w) (a .colours .now) (a .borders .now) (a .ids .now) (a .g)) (a .cells .now)
+      any-next (fit (a .h) (a .w) (a .colours .now) (a .borders .now) (a .units .now) (a .g))
+          (cellsIn (a .potential .now))
           (l .loop .i) (e .soon-end .result) (l .loop .inv .2) (c .before .before .before .loop-test .taken)
           (cells-reach (soon e)) (sym (cell-is (c .before)) ∙ c .if1 .left),
     )
@@ -124,7 +132,8 @@ returns-2 c =
     let l = c .before in
     let e = l .before in
     let a = e .before .before .before .args in
-    any-done (fit (a .h) (a .w) (a .colours .now) (a .borders .now) (a .ids .now) (a .g)) (a .cells .now) (l .loop .i)
+    any-done (fit (a .h) (a .w) (a .colours .now) (a .borders .now) (a .units .now) (a .g))
+    (cellsIn (a .potential .now)) (l .loop .i)
     (e .soon-end .result) (l .loop .inv .2) (c .loop-test .left)
 
 pub copy-fits-soon-spec : {M : Type 1} → statement M
@@ -133,12 +142,12 @@ copy-fits-soon-spec =
     (tie.spec
     Inv-loop
     μ-loop
-    start-at-requires
-    add-start-at
-    start-at-requires-2
+    start-of-requires
+    add-start-of
+    start-of-requires-2
     soon-end-requires
     loop-holds
-    number-at-requires
+    cell-at-requires
     copy-fits-requires
     returns
     add-i

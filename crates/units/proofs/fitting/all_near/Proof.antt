@@ -2,27 +2,33 @@
 use mathlib.Core.Path.{_≡_}
 use Prim.Native.Nat.{ℕ, _-_, _≤_}
 use native.Mathlib.Omega.{arith}
+use Rattle.groups.specs.Grouping.{countIn}
 use Rattle.units.specs.Held.{Nearby, Adjoined}
 use Rattle.units.specs.HeldLaws.{adjoined-none, adjoined-more}
 use Rattle.units.proofs.fitting.all_near.Statement.{statement}
 use Rattle.units.proofs.fitting.all_near.Tie as tie
 
 abbrev Inv-loop : tie.InvT-loop
-Inv-loop h w colours borders potential cells offs total near₀ p₀ near p =
+Inv-loop h w colours borders potential near₀ total p₀ near p =
     (p ≤ total) × Adjoined h w colours borders p × Nearby h w colours borders near
 
 abbrev μ-loop : tie.MeasureT-loop
-μ-loop h w colours borders potential cells offs total near₀ p₀ near p = total - p
+μ-loop h w colours borders potential near₀ total p₀ near p = total - p
+
+count-of-requires : tie.Need-count-of-requires Inv-loop μ-loop
+count-of-requires c κs = tt
 
 loop-holds : tie.Need-loop-holds Inv-loop μ-loop
 loop-holds c =
-    (omega arith, adjoined-none (c .args .h) (c .args .w) (c .args .colours .now) (c .args .borders .now), c .pre .1)
+    let s = c .before in
+    (omega arith, adjoined-none (s .args .h) (s .args .w) (s .args .colours .now) (s .args .borders .now), s .pre .1)
 
 near-mate-requires : tie.Need-near-mate-requires Inv-loop μ-loop
 near-mate-requires c κs =
     let t = c .before in
     let l = t .before in
-    (l .before .pre .0 (l .loop .p) (t .loop-test .taken), l .loop .inv .2)
+    let n = l .before in
+    (n .before .pre .0 (l .loop .p) (rw (n .count-of .ensures) at (t .loop-test .taken)), l .loop .inv .2)
 
 returns : tie.Need-returns Inv-loop μ-loop
 returns c = (λ e. let z : _≡_ {A = ℕ} 0 1 = cc in absurd (omega arith), c .before .near-mate .ensures .1)
@@ -45,7 +51,9 @@ loop-again c =
 returns-2 : tie.Need-returns-2 Inv-loop μ-loop
 returns-2 c =
     let l = c .before .loop in
-    let e : l .p ≡ c .before .before .args .total = omega (arith, l .inv .0, c .loop-test .left) in
+    let n = c .before .before in
+    let e : l .p ≡ countIn (n .before .args .potential .now) =
+    omega (arith, l .inv .0, c .loop-test .left, n .count-of .ensures) in
     (λ d. rw e at (l .inv .1), l .inv .2)
 
 pub all-near-spec : {M : Type 1} → statement M
@@ -54,6 +62,7 @@ all-near-spec =
     (tie.spec
     Inv-loop
     μ-loop
+    count-of-requires
     loop-holds
     near-mate-requires
     returns

@@ -2,6 +2,7 @@
 use mathlib.Core.Bool.{Bool}
 use mathlib.Core.List.{List}
 use native.Mathlib.Omega.{arith}
+use Rattle.groups.specs.Grouping.{cellsIn, startsIn}
 use Rattle.rules.specs.Check.{mates}
 use Rattle.rules.specs.Codes.{statesIn}
 use Rattle.rules.specs.Page.{Point, Puzzle}
@@ -16,45 +17,44 @@ use Rattle.units.proofs.fitting.written_fits.Tie as tie
 abbrev fits : tie.Start → List Point → Bool
 fits s js =
     let page : Puzzle = puzzle (s .args .h) (s .args .w) (s .args .colours .now) in
-    fitsBeside page (statesIn (s .args .borders .now)) (bare js) (s .args .cells .now) (s .args .offs .now)
+    fitsBeside page (statesIn (s .args .borders .now)) (bare js) (cellsIn (s .args .potential .now))
+    (startsIn (s .args .potential .now))
     (mates page (statesIn (s .args .borders .now)) (s .args .p))
 
 turn-row-requires : tie.Need-turn-row-requires
 turn-row-requires c κs =
-    let s = c .before .before in
-    (omega arith, s .pre .1, s .pre .2, s .pre .4, s .pre .5)
+    let s = c .before in
+    (omega arith, s .pre .1, s .pre .2, s .pre .4)
 
 prepare-requires : tie.Need-prepare-requires
 prepare-requires c κs =
-    let s = c .before .before .before .before .before .before in
+    let s = c .before .before .before .before in
     (s .pre .0, s .pre .3)
 
 some-row-fits-requires : tie.Need-some-row-fits-requires
 some-row-fits-requires c κs =
-    let q = c .before .before .before .before in
-    let t = q .before .before .before .before in
-    let s = t .before .before .before in
+    let q = c .before .before .before in
+    let t = q .before .before .before in
+    let s = t .before .before in
     let e = t .turn-row .ensures in (
-      held-sizes (q .prepare .ensures .0) (s .pre .0),
+      held-sizes (q .prepare .ensures) (s .pre .0),
       s .pre .1,
       s .pre .2,
       e .0,
       e .1,
       e .2,
-      e .3,
     )
 
 returns : tie.Need-returns
 unfolding fitsRows
 returns c =
-    let q = c .before .before .before .before .before in
-    let s = q .before .before .before .before .before .before .before in
+    let q = c .before .before .before .before in
+    let s = q .before .before .before .before .before in
     let k = q .prepare .ensures in
     let e = c .some-row-fits .ensures in (
-      e .0 (fits s) (held-answers (k .0) (s .pre .0)),
-      held-of (k .0) (k .1),
+      e .0 (fits s) (held-answers k (s .pre .0)),
+      held-of k,
       e .1,
-      e .2,
     )
 
 pub written-fits-spec : {M : Type 1} → statement M

@@ -6,48 +6,47 @@ use Prim.Native.Nat.{ℕ, _≤_, _-_}
 use native.Mathlib.Omega.{arith}
 use lib.ListN.{length}
 use Rattle.lists.specs.Tests.{anyBelow}
-use Rattle.lists.specs.TestLaws.{any-none, any-some, none-more}
+use Rattle.lists.specs.TestLaws.{any-none, any-some}
 use Rattle.rules.specs.Page.{Point}
 use Rattle.planes.specs.Masks.{Answers}
-use Rattle.shapes.specs.Spots.{spots}
-use Rattle.units.specs.Images.{imageJoints}
+use Rattle.shapes.specs.Spots.{cellSpots, jointSpots}
+use Rattle.shapes.specs.Images.{imageJoints}
+use Rattle.lists.specs.TestLaws.{none-more}
 use Rattle.units.proofs.images.others_fit.Statement.{statement}
 use Rattle.units.proofs.images.others_fit.Tie as tie
 
 abbrev Inv-loop : tie.InvT-loop
-Inv-loop h planes mask top end rows columns n down across k ys₀ xs₀ row₀ ys xs row =
-    (row ≤ 8) × (length ys ≡ 2048) × (length xs ≡ 2048)
+Inv-loop h planes mask top end outline turned₀ row₀ turned row =
+    (row ≤ 8) × (length turned ≡ 4096)
     × ((F : List Point → Bool) → Answers h planes mask F
-    → F (imageJoints 0 (spots rows columns n) (spots down across k)) ≡ false
-    → anyBelow row (λ i. F (imageJoints i (spots rows columns n) (spots down across k))) ≡ false)
+    → F (imageJoints 0 (cellSpots outline) (jointSpots outline)) ≡ false
+    → anyBelow row (λ i. F (imageJoints i (cellSpots outline) (jointSpots outline))) ≡ false)
 
 abbrev μ-loop : tie.MeasureT-loop
-μ-loop h planes mask top end rows columns n down across k ys₀ xs₀ row₀ ys xs row = 8 - row
+μ-loop h planes mask top end outline turned₀ row₀ turned row = 8 - row
 
 -- the test of a row
 abbrev test : tie.Start Inv-loop μ-loop → (List Point → Bool) → ℕ → Bool
 test s F i =
-    F (imageJoints i (spots (s .args .rows .now) (s .args .columns .now) (s .args .n))
-    (spots (s .args .down .now) (s .args .across .now) (s .args .k)))
+    F (imageJoints i (cellSpots (s .args .outline .now)) (jointSpots (s .args .outline .now)))
 
 loop-holds : tie.Need-loop-holds Inv-loop μ-loop
-loop-holds c = (omega arith, c .pre .4, c .pre .5, λ F a e. none-more 0 (test c F) (any-none (test c F)) e)
+loop-holds c = (omega arith, c .pre .4, λ F a e. none-more 0 (test c F) (any-none (test c F)) e)
 
 row-fits-requires : tie.Need-row-fits-requires Inv-loop μ-loop
 row-fits-requires c κs =
-    let l = c .before .before .before in
+    let l = c .before .before in
     let s = l .before in
-    (c .before .before .loop-test .taken, s .pre .0, s .pre .1, s .pre .2, s .pre .3, l .loop .inv .1, l .loop .inv .2)
+    (c .before .loop-test .taken, s .pre .0, s .pre .1, s .pre .2, s .pre .3, l .loop .inv .1)
 
 returns : tie.Need-returns Inv-loop μ-loop
 returns c =
-    let t = c .before .before .before .before in
+    let t = c .before .before .before in
     let s = t .before .before in
     let e = c .before .row-fits .ensures in (
       λ F a z.
           sym (any-some 8 (test s F) (t .before .loop .row) (t .loop-test .taken) (sym (e .0 F a) ∙ c .if1 .taken)),
       e .1,
-      e .2,
     )
 
 add-row : tie.Need-add-row Inv-loop μ-loop
@@ -58,14 +57,13 @@ loop-less c = omega arith
 
 loop-again : tie.Need-loop-again Inv-loop μ-loop
 loop-again c =
-    let t = c .before .before .before .before in
+    let t = c .before .before .before in
     let l = t .before in
     let s = l .before in
     let e = c .before .row-fits .ensures in (
       omega (arith, t .loop-test .taken),
       e .1,
-      e .2,
-      λ F a z. none-more (l .loop .row) (test s F) (l .loop .inv .3 F a z) (sym (e .0 F a) ∙ c .if1 .left),
+      λ F a z. none-more (l .loop .row) (test s F) (l .loop .inv .2 F a z) (sym (e .0 F a) ∙ c .if1 .left),
     )
 
 returns-2 : tie.Need-returns-2 Inv-loop μ-loop
@@ -73,9 +71,8 @@ returns-2 c =
     let l = c .before in
     let s = l .before in
     let e : l .loop .row ≡ 8 = omega (arith, l .loop .inv .0, c .loop-test .left) in (
-      λ F a z. sym (rw e at (l .loop .inv .3 F a z)),
+      λ F a z. sym (rw e at (l .loop .inv .2 F a z)),
       l .loop .inv .1,
-      l .loop .inv .2,
     )
 
 pub others-fit-spec : {M : Type 1} → statement M

@@ -3,16 +3,17 @@
 --   raiseOf v           the shift back by twice v, raised by 64
 --   imageJoints r ps js   the connections js of the cells ps, turned by row r, and shifted back by twice the first
 --                       image
---   Jointed D A k       the k connections in the memory are on the largest page
+--   Jointed o           the outline's connections are on the largest page
 use mathlib.Core.List.{List, map}
 use Prim.Native.Nat.{ℕ, _+_, _-_, _*_, _<_, _≤_}
 use lib.IntN.{ℤ, pos, negsuc}
 use Rattle.rules.specs.Page.{Point, _⊕_, opposite}
 use Rattle.rules.specs.Turns.{apply}
 use Rattle.rules.specs.Shapes.{shiftBy}
+use Rattle.shapes.specs.Outlines.{jointCount}
 use Rattle.shapes.specs.Rows.{turnAt}
 use Rattle.shapes.specs.Spots.{leastImage}
 use Rattle.shapes.specs.Joints.{JointIn}
 
 abbrev pub raiseOf : ℤ → ℕ
 raiseOf (pos a) = 64 - 2 * a
@@ -23,6 +24,6 @@ unfoldable pub imageJoints : ℕ → List Point → List Point → List Point
 imageJoints r ps js =
     shiftBy (opposite (leastImage r ps) ⊕ opposite (leastImage r ps)) (map (apply (turnAt r)) js)
 
-pub record Jointed (D A : List ℕ) (k : ℕ) : Type 0 where
-  pub few : k ≤ 2048
-  pub each : (j : ℕ) → j < k → JointIn D A j
+pub record Jointed (o : List ℕ) : Type 0 where
+  pub few : jointCount o ≤ 2048
+  pub each : (j : ℕ) → j < jointCount o → JointIn o j

@@ -2,10 +2,10 @@
 use mathlib.Core.Path.{ap, _∙_}
 use native.Mathlib.Omega.{arith}
 use lib.IntN.{pos, natAbs}
 use Rattle.shapes.specs.PairLaws.{sum-fits, twice-fits, twice-back}
-use Rattle.units.specs.ImageLaws.{raise-sum, raise-small}
-use Rattle.units.proofs.raise.Statement.{statement}
-use Rattle.units.proofs.raise.Tie as tie
+use Rattle.shapes.specs.ImageLaws.{raise-sum, raise-small}
+use Rattle.shapes.proofs.turned.raise.Statement.{statement}
+use Rattle.shapes.proofs.turned.raise.Tie as tie
 
 add-result : tie.Need-add-result
 add-result c = sum-fits (c .args .v) (c .args .v) (omega (arith, c .pre)) (omega (arith, c .pre))

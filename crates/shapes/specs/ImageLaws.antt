@@ -10,9 +10,10 @@ use lib.Signed.{mag, ltZ}
 use lib.ListN.{length, getD}
 use mir.Syntax.{w8}
 use mir.Val.{toZ, ofZ}
+use Rattle.groups.specs.Grouping.{numbersIn}
 use Rattle.lists.specs.Lists.{_∈_}
 use Rattle.lists.specs.ListLaws.{map-find}
-use Rattle.lists.specs.TableLaws.{table-find, map-range}
+use Rattle.lists.specs.TableLaws.{table-find}
 use Rattle.lists.specs.Maps.{map-map}
 use Rattle.lists.specs.Booleans.{false-true}
 use Rattle.rules.specs.Page.{Point, _⊕_, opposite}
@@ -21,20 +22,20 @@ use Rattle.rules.specs.Shapes.{shiftBy, shapeOf}
 use Rattle.rules.specs.Flat.{flat}
 use Rattle.rules.specs.Groups.{entry}
 use Rattle.laws.specs.PointLaws.{point-eq}
+use Rattle.shapes.specs.declared.Pair.{Pair}
+use Rattle.shapes.specs.declared.Signs.{Signs}
+use Rattle.shapes.specs.Pairs.{pointAt, pointOf, signOf, signsOf}
+use Rattle.shapes.specs.Rows.{turnAt, image}
+use Rattle.shapes.specs.Spots.{placeAt, spotAt, spots, cellSpots, jointSpots, leastImage, Near, Spotted, UnitAt}
+use Rattle.shapes.specs.SpotLaws.{length-spots, near-least}
 use Rattle.laws.specs.SortLaws.{sort-mem}
-use Rattle.shapes.specs.declared.Pair.{Pair}
-use Rattle.shapes.specs.declared.Signs.{Signs}
-use Rattle.shapes.specs.Pairs.{pointAt, pointOf, signOf, signsOf}
-use Rattle.shapes.specs.Rows.{turnAt, image}
-use Rattle.shapes.specs.Spots.{placeAt, spotAt, spots, leastImage, Near, Spotted, UnitAt}
-use Rattle.shapes.specs.SpotLaws.{length-spots, near-least}
 use Rattle.shapes.specs.FixLaws.{least-image}
 use Rattle.shapes.specs.UnitLaws.{image-joints}
 use Rattle.shapes.specs.Joints.{Joined}
 use Rattle.shapes.specs.JointLaws.{joint-in}
-use Rattle.search.specs.Placing.{lowered, raised}
-use Rattle.search.specs.Raising.{turnOf, pointsOf, movedBy, Lifts, Turnable}
-use Rattle.units.specs.Images.{raiseOf, imageJoints, Jointed}
+use Rattle.shapes.specs.Raising.{lowered, raised, turnOf, movedBy, Lifts, Turnable}
+use Rattle.shapes.specs.Images.{raiseOf, imageJoints, Jointed}
+use Rattle.shapes.specs.Outlines.{rowsIn, columnsIn, downIn, acrossIn, cellCount, jointCount}
 
 -- the raised shift
 pub raise-sum : (v : ℤ) → mag v < 33 → pos 64 +ℤ (negℤ v +ℤ negℤ v) ≡ pos (raiseOf v)
@@ -131,14 +132,9 @@ one : (u : Bool) (y x : ℕ) → y < 32 → x < 32 → cond u x y < 32
 one true y x h k = k
 one false y x h k = h
 
-points-spots : (D A : List ℕ) (k : ℕ) → pointsOf D A k ≡ spots D A k
-unfolding pointsOf spots
-points-spots D A k = map-range (spotAt D A) k
-
-module _ (r : ℕ) (R C : List ℕ) (n : ℕ) (s : Spotted R C n) (p : Pair)
-    (first : pointOf p ≡ leastImage r (spots R C n)) where
+module _ (r : ℕ) (o : List ℕ) (s : Spotted o) (p : Pair) (first : pointOf p ≡ leastImage r (cellSpots o)) where
   near : Near (pointOf p)
-  near = subst Near (sym first) (near-least r R C n s)
+  near = subst Near (sym first) (near-least r o s)
 
   pub down-near : mag (p .y) < 33
   down-near = near .row
@@ -146,8 +142,23 @@ module _ (r : ℕ) (R C : List ℕ) (n : ℕ) (s : Spotted R C n) (p : Pair)
   pub across-near : mag (p .x) < 33
   across-near = near .column
 
-module _ (r : ℕ) (R C : List ℕ) (n : ℕ) (s : Spotted R C n) (D A : List ℕ) (k : ℕ) (j : Jointed D A k)
-    (p : Pair) (first : pointOf p ≡ leastImage r (spots R C n)) (t : Signs) (e : t ≡ signsOf (turnAt r)) where
+module _ (r : ℕ) (o : List ℕ) (s : Spotted o) (j : Jointed o) (p : Pair)
+    (first : pointOf p ≡ leastImage r (cellSpots o)) (t : Signs) (e : t ≡ signsOf (turnAt r)) where
+  abbrev R : List ℕ
+  R = rowsIn o
+
+  abbrev C : List ℕ
+  C = columnsIn o
+
+  abbrev n : ℕ
+  n = cellCount o
+
+  abbrev D : List ℕ
+  D = downIn o
+
+  abbrev A : List ℕ
+  A = acrossIn o
+
   abbrev swap : Bool
   swap = t .swap
 
@@ -188,7 +199,7 @@ module _ (r : ℕ) (R C : List ℕ) (n : ℕ) (s : Spotted R C n) (D A : List �
       let i = least-of r R C n (s .some) .1 in
       one swap (getD C cell 0) (getD R cell 0) (s .across cell i) (s .down cell i)
 
-  pub turnable : Turnable swap up left (raiseOf (p .y)) (raiseOf (p .x)) D A k
+  pub turnable : Turnable swap up left (raiseOf (p .y)) (raiseOf (p .x)) (downIn o) (acrossIn o) (jointCount o)
   turnable =
       record {
         few = j .few;
@@ -214,32 +225,33 @@ module _ (r : ℕ) (R C : List ℕ) (n : ℕ) (s : Spotted R C n) (D A : List �
       }
 
   raised-back : raised (raiseOf (p .y)) (raiseOf (p .x))
-      ≡ opposite (leastImage r (spots R C n)) ⊕ opposite (leastImage r (spots R C n))
+      ≡ opposite (leastImage r (cellSpots o)) ⊕ opposite (leastImage r (cellSpots o))
   unfolding _⊕_ opposite
   raised-back =
-      point-eq {q = opposite (pointOf p) ⊕ opposite (pointOf p)} refl (lower-raise (p .y) (down-near r R C n s p first))
-      (lower-raise (p .x) (across-near r R C n s p first))
+      point-eq {q = opposite (pointOf p) ⊕ opposite (pointOf p)} refl (lower-raise (p .y) (down-near r o s p first))
+      (lower-raise (p .x) (across-near r o s p first))
       ∙ ap (λ q. opposite q ⊕ opposite q) first
 
-  pub moved-image : movedBy (apply (turnOf swap up left)) (raised (raiseOf (p .y)) (raiseOf (p .x))) (pointsOf D A k)
-      ≡ imageJoints r (spots R C n) (spots D A k)
+  pub moved-image : movedBy (apply (turnOf swap up left)) (raised (raiseOf (p .y)) (raiseOf (p .x))) (jointSpots o)
+      ≡ imageJoints r (cellSpots o) (jointSpots o)
   unfolding movedBy imageJoints shiftBy
   moved-image =
-      let v = opposite (leastImage r (spots R C n)) ⊕ opposite (leastImage r (spots R C n)) in
-      ap (λ q. movedBy (apply q) (raised (raiseOf (p .y)) (raiseOf (p .x))) (pointsOf D A k)) (sym (read-turn r t e))
-      ∙ (ap₂ (λ q js. movedBy (apply (turnAt r)) q js) raised-back (points-spots D A k)
-      ∙ sym (map-map (λ q. q ⊕ v) (apply (turnAt r)) (spots D A k)))
+      let v = opposite (leastImage r (cellSpots o)) ⊕ opposite (leastImage r (cellSpots o)) in
+      ap (λ q. movedBy (apply q) (raised (raiseOf (p .y)) (raiseOf (p .x))) (jointSpots o)) (sym (read-turn r t e))
+      ∙ (ap (λ q. movedBy (apply (turnAt r)) q (jointSpots o)) raised-back
+      ∙ sym (map-map (λ q. q ⊕ v) (apply (turnAt r)) (jointSpots o)))
 
 -- the connections of a unit's image
-pub image-is : {h w g n k : ℕ} {ids R C D A : List ℕ} → UnitAt h w ids g R C n → Joined h w (entry ids) g D A k
-    → (r : ℕ) → image r (shapeOf (flat h w) (entry ids) g) .connections ≡ imageJoints r (spots R C n) (spots D A k)
+pub image-is : {h w g : ℕ} {units o : List ℕ} → UnitAt h w units g o → Joined h w units g o
+    → (r : ℕ) → image r (shapeOf (flat h w) (entry (numbersIn units)) g) .connections
+    ≡ imageJoints r (cellSpots o) (jointSpots o)
 unfolding imageJoints
-image-is {h} {w} {g} {n} {k} {ids} {R} {C} {D} {A} u j r =
-    let P = spots R C n in
-    image-joints h w (entry ids) g (u .sized .columns) P (u .here) (rw (length-spots R C n) (u .spotted .some)) r
+image-is {h} {w} {g} {units} {o} u j r =
+    let P = cellSpots o in
+    image-joints h w (entry (numbersIn units)) g (u .sized .columns) P (u .here)
+    (rw (length-spots (rowsIn o) (columnsIn o) (cellCount o)) (u .spotted .some)) r
     ∙ ap (λ js. shiftBy (opposite (leastImage r P) ⊕ opposite (leastImage r P)) (map (apply (turnAt r)) js))
     (sym (j .here))
 
-pub jointed : {h w g n k : ℕ} {ids R C D A : List ℕ} → UnitAt h w ids g R C n → Joined h w (entry ids) g D A k
-    → Jointed D A k
+pub jointed : {h w g : ℕ} {units o : List ℕ} → UnitAt h w units g o → Joined h w units g o → Jointed o
 jointed u j = record { few = j .few; each = λ i l. joint-in i (u .sized) j l }

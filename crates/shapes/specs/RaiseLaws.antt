@@ -1,4 +1,4 @@
--- Laws of raised coordinates: what they stand for, and the transform that two arrays of them spell.
+-- Laws of raised coordinates: what they stand for, and the transform that an array of them spells.
 use mathlib.Core.Path.{_≡_, refl, ap, ap₂, _∙_}
 use mathlib.Core.Bool.{Bool, true, false, cond}
 use mathlib.Core.List.{List, _∷_, map}
@@ -10,8 +10,10 @@ use lib.ListN.{getD}
 use Rattle.lists.specs.Lists.{rangeFrom}
 use Rattle.rules.specs.Page.{Point, _⊕_}
 use Rattle.rules.specs.Turns.{signed, apply, coordinate, rowward, columnward}
-use Rattle.search.specs.Placing.{lowered, raised, pointAt, spelled, Raised}
-use Rattle.search.specs.Raising.{liftOf, turnOf, pointOf, pointsOf, movedBy, Lifts, Turnable}
+use Rattle.lists.specs.TableLaws.{map-range}
+use Rattle.shapes.specs.Raising.{ysIn, xsIn, lowered, raised, raisedSpot, spelled, Raised}
+use Rattle.shapes.specs.Raising.{liftOf, turnOf, movedBy, Lifts, Turnable}
+use Rattle.shapes.specs.Spots.{placeAt, spotAt, spots}
 
 -- a difference of naturals
 minus-pos : (b a : ℕ) → a ≤ b → pos (b - a) ≡ pos b +ℤ negℤ (pos a)
@@ -38,24 +40,24 @@ pub lift-odd : (minus : Bool) (base : ℕ) (k : ℕ) → Lifts minus base k → 
 lift-odd true base k l h = let d = l .down refl in omega arith
 lift-odd false base k l h = omega arith
 
--- two arrays of raised coordinates spell the transform
+-- an array of raised coordinates spells the transform
 module _ (swap r c : Bool) (y x : ℕ) (down across : List ℕ) (n : ℕ) (t : Turnable swap r c y x down across n)
-    (ys xs : List ℕ)
-    (rows : (i : ℕ) → i < n → getD ys i 0 ≡ liftOf r y (getD (cond swap across down) i 0))
-    (columns : (i : ℕ) → i < n → getD xs i 0 ≡ liftOf c x (getD (cond swap down across) i 0)) where
-  pub turned-raised : Raised ys xs n
+    (a : List ℕ)
+    (rows : (i : ℕ) → i < n → getD (ysIn a) i 0 ≡ liftOf r y (getD (cond swap across down) i 0))
+    (columns : (i : ℕ) → i < n → getD (xsIn a) i 0 ≡ liftOf c x (getD (cond swap down across) i 0)) where
+  pub turned-raised : Raised a n
   turned-raised i h =
-      let a = rows i h in
+      let d = rows i h in
       let b = columns i h in
       let k = t .rows i h in
       let j = t .columns i h in
       record {
         place = omega (arith, t .few);
-        row = rw a (lift-low r y (getD (cond swap across down) i 0) k (t .low .0));
+        row = rw d (lift-low r y (getD (cond swap across down) i 0) k (t .low .0));
         column = rw b (lift-low c x (getD (cond swap down across) i 0) j (t .low .1));
         odd =
             rw (
-              a,
+              d,
               b,
               lift-odd r y (getD (cond swap across down) i 0) k (t .even .0),
               lift-odd c x (getD (cond swap down across) i 0) j (t .even .1),
@@ -70,34 +72,36 @@ module _ (swap r c : Bool) (y x : ℕ) (down across : List ℕ) (n : ℕ) (t : T
 
   -- the coordinates before the turn
   from-row : (u : Bool) (i : ℕ) → pos (getD (cond u across down) i 0)
-      ≡ coordinate (cond u columnward rowward) (pointOf (getD down i 0) (getD across i 0))
+      ≡ coordinate (cond u columnward rowward) (placeAt (getD down i 0) (getD across i 0))
   from-row true i = refl
   from-row false i = refl
 
   from-column : (u : Bool) (i : ℕ) → pos (getD (cond u down across) i 0)
-      ≡ coordinate (cond u rowward columnward) (pointOf (getD down i 0) (getD across i 0))
+      ≡ coordinate (cond u rowward columnward) (placeAt (getD down i 0) (getD across i 0))
   from-column true i = refl
   from-column false i = refl
 
   turned-at : (i : ℕ) → i < n
-      → pointAt ys xs i
-      ≡ apply (turnOf swap r c) (pointOf (getD down i 0) (getD across i 0)) ⊕ raised y x
-  unfolding pointAt apply _⊕_
+      → raisedSpot a i
+      ≡ apply (turnOf swap r c) (placeAt (getD down i 0) (getD across i 0)) ⊕ raised y x
+  unfolding raisedSpot apply _⊕_
   turned-at i h =
-      let a = lift-lowered r y (getD (cond swap across down) i 0) (t .rows i h) in
+      let d = lift-lowered r y (getD (cond swap across down) i 0) (t .rows i h) in
       let b = lift-lowered c x (getD (cond swap down across) i 0) (t .columns i h) in
-      let p = ap lowered (rows i h) ∙ a ∙ ap (λ (z : ℤ). signed r z +ℤ lowered y) (from-row swap i) in
+      let p = ap lowered (rows i h) ∙ d ∙ ap (λ (z : ℤ). signed r z +ℤ lowered y) (from-row swap i) in
       let q = ap lowered (columns i h) ∙ b ∙ ap (λ (z : ℤ). signed c z +ℤ lowered x) (from-column swap i) in
       λ e. record { layer = pos 0; row = p e; column = q e }
 
   turned-from : (i m : ℕ) → i + m ≤ n
-      → map (pointAt ys xs) (rangeFrom i m)
+      → map (raisedSpot a) (rangeFrom i m)
       ≡ map (λ j. apply (turnOf swap r c) j ⊕ raised y x)
-      (map (λ k. pointOf (getD down k 0) (getD across k 0)) (rangeFrom i m))
+      (map (spotAt down across) (rangeFrom i m))
   turned-from i zero h = refl
   turned-from i (suc m) h =
       ap₂ (λ (p : Point) (ps : List Point). p ∷ ps) (turned-at i (omega arith)) (turned-from (suc i) m (omega arith))
 
-  pub turned-spelled : spelled ys xs n ≡ movedBy (apply (turnOf swap r c)) (raised y x) (pointsOf down across n)
-  unfolding spelled movedBy pointsOf
-  turned-spelled = turned-from 0 n (omega arith)
+  pub turned-spelled : spelled a n ≡ movedBy (apply (turnOf swap r c)) (raised y x) (spots down across n)
+  unfolding spelled movedBy spots
+  turned-spelled =
+      turned-from 0 n (omega arith)
+      ∙ ap (map (λ j. apply (turnOf swap r c) j ⊕ raised y x)) (map-range (spotAt down across) n)

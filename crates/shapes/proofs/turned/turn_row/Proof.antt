@@ -5,13 +5,13 @@ use native.Mathlib.Omega.{arith}
 use borrow.Author.Needs.{needs}
 use lib.Signed.{mag}
 use Rattle.rules.specs.Turns.{apply}
-use Rattle.search.specs.Placing.{raised}
-use Rattle.search.specs.Raising.{turnOf, pointsOf, movedBy}
+use Rattle.shapes.specs.Raising.{raised, turnOf, movedBy}
 use Rattle.shapes.specs.PairLaws.{small-back}
-use Rattle.units.specs.Images.{raiseOf}
-use Rattle.units.specs.ImageLaws.{below, down-near, across-near, turnable, moved-image}
-use Rattle.units.proofs.turn_row.Statement.{statement}
-use Rattle.units.proofs.turn_row.Tie as tie
+use Rattle.shapes.specs.Spots.{jointSpots}
+use Rattle.shapes.specs.Images.{raiseOf}
+use Rattle.shapes.specs.ImageLaws.{below, down-near, across-near, turnable, moved-image}
+use Rattle.shapes.proofs.turned.turn_row.Statement.{statement}
+use Rattle.shapes.proofs.turned.turn_row.Tie as tie
 
 least-requires : tie.Need-least-requires
 least-requires c κs = search needs
@@ -21,7 +21,7 @@ raise-requires c κs =
     let s = c .before .before in
     let p = c .before .least .result in
     let n : mag (p .y) < 33 =
-    down-near (s .args .row) (s .args .rows .now) (s .args .columns .now) (s .args .n) (s .pre .1) p
+    down-near (s .args .row) (s .args .outline .now) (s .pre .1) p
     (c .before .least .ensures) in
     rw (small-back (p .y) (omega arith)) n
 
@@ -30,7 +30,7 @@ raise-requires-2 c κs =
     let s = c .before .before .before .before in
     let p = c .before .before .before .least .result in
     let n : mag (p .x) < 33 =
-    across-near (s .args .row) (s .args .rows .now) (s .args .columns .now) (s .args .n) (s .pre .1) p
+    across-near (s .args .row) (s .args .outline .now) (s .pre .1) p
     (c .before .before .before .least .ensures) in
     rw (small-back (p .x) (omega arith)) n
 
@@ -45,7 +45,7 @@ down-raised c =
     let s = a .before in
     let p = a .least .result in
     let n : mag (p .y) < 33 =
-    down-near (s .args .row) (s .args .rows .now) (s .args .columns .now) (s .args .n) (s .pre .1) p
+    down-near (s .args .row) (s .args .outline .now) (s .pre .1) p
     (a .least .ensures) in
     c .before .before .raise .ensures ∙ ap raiseOf (small-back (p .y) (omega arith))
 
@@ -56,41 +56,37 @@ across-raised c =
     let s = a .before in
     let p = a .least .result in
     let n : mag (p .x) < 33 =
-    across-near (s .args .row) (s .args .rows .now) (s .args .columns .now) (s .args .n) (s .pre .1) p
+    across-near (s .args .row) (s .args .outline .now) (s .pre .1) p
     (a .least .ensures) in
     c .raise2 .ensures ∙ ap raiseOf (small-back (p .x) (omega arith))
 
-turn-requires : tie.Need-turn-requires
-turn-requires c κs =
-    let g = c .before .before .before .before .before .before in
+turn-joints-requires : tie.Need-turn-joints-requires
+turn-joints-requires c κs =
+    let g = c .before .before .before .before .before in
     let b = g .before in
     let a = b .before .before .before .before in
     let s = a .before in (
       rw (down-raised b, across-raised b)
-          (turnable (s .args .row) (s .args .rows .now) (s .args .columns .now) (s .args .n) (s .pre .1)
-          (s .args .down .now) (s .args .across .now) (s .args .k) (s .pre .2) (a .least .result) (a .least .ensures)
-          (g .signs-at .result) (g .signs-at .ensures)),
+          (turnable (s .args .row) (s .args .outline .now) (s .pre .1) (s .pre .2) (a .least .result)
+          (a .least .ensures) (g .signs-at .result) (g .signs-at .ensures)),
       s .pre .3,
-      s .pre .4,
     )
 
 returns : tie.Need-returns
 returns c =
-    let g = c .before .before .before .before .before .before .before in
+    let g = c .before .before .before .before .before .before in
     let b = g .before in
     let a = b .before .before .before .before in
     let s = a .before in
     let q = g .signs-at .result in
-    let t = c .turn .ensures in (
+    let t = c .turn-joints .ensures in (
       t .0,
       t .1
           ∙ (ap₂ (λ y x. movedBy (apply (turnOf (q .swap) (below (q .down)) (below (q .across)))) (raised y x)
-          (pointsOf (s .args .down .now) (s .args .across .now) (s .args .k))) (down-raised b) (across-raised b)
-          ∙ moved-image (s .args .row) (s .args .rows .now) (s .args .columns .now) (s .args .n)
-          (s .pre .1) (s .args .down .now) (s .args .across .now) (s .args .k) (s .pre .2) (a .least .result)
+          (jointSpots (s .args .outline .now))) (down-raised b) (across-raised b)
+          ∙ moved-image (s .args .row) (s .args .outline .now) (s .pre .1) (s .pre .2) (a .least .result)
           (a .least .ensures) q (g .signs-at .ensures)),
       t .2,
-      t .3,
     )
 
 pub turn-row-spec : {M : Type 1} → statement M
@@ -101,5 +97,5 @@ turn-row-spec =
     raise-requires
     raise-requires-2
     signs-at-requires
-    turn-requires
+    turn-joints-requires
     returns)

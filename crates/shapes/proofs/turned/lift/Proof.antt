@@ -1,7 +1,7 @@
 -- In either arm the requires keep the sum a byte.
 use borrow.Author.Needs.{needs}
-use Rattle.search.proofs.lift.Statement.{statement}
-use Rattle.search.proofs.lift.Tie as tie
+use Rattle.shapes.proofs.turned.lift.Statement.{statement}
+use Rattle.shapes.proofs.turned.lift.Tie as tie
 
 sub-result : tie.Need-sub-result
 sub-result c = let s = c .before in s .pre .0 .down (c .if1 .taken)

@@ -1,0 +1,90 @@
+-- Either arm raises the rows and then the columns, which leaves the rows; the array then spells the transform.
+use mathlib.Core.Bool.{Bool, true, false}
+use mathlib.Core.List.{List}
+use mathlib.Core.Path.{_≡_, ap, _∙_}
+use Prim.Native.Nat.{ℕ, _<_}
+use native.Mathlib.Omega.{arith}
+use lib.ListN.{getD}
+use Rattle.lists.specs.Sections.{Only}
+use Rattle.lists.specs.SectionLaws.{only-before}
+use Rattle.shapes.specs.Outlines.{downIn, acrossIn, jointCount}
+use Rattle.shapes.specs.RaiseLaws.{turned-raised, turned-spelled}
+use Rattle.shapes.specs.Raising.{Turnable, ysIn}
+use Rattle.shapes.proofs.turned.turn_joints.Statement.{statement}
+use Rattle.shapes.proofs.turned.turn_joints.Tie as tie
+
+-- the requires, in the arm that was taken
+chosen : (s : tie.Start) {v : Bool} → s .args .swap ≡ v
+    → Turnable v (s .args .upward) (s .args .leftward) (s .args .y) (s .args .x) (downIn (s .args .outline .now))
+    (acrossIn (s .args .outline .now)) (jointCount (s .args .outline .now))
+chosen s e = rw e at (s .pre .0)
+
+-- the rows after the columns are written
+still : {t u : List ℕ} {n : ℕ} {f : ℕ → ℕ} → Only 2048 4096 t u → ((i : ℕ) → i < n → getD (ysIn t) i 0 ≡ f i)
+    → (i : ℕ) → i < n → getD (ysIn u) i 0 ≡ f i
+still o e i h = ap (λ (l : List ℕ). getD l i 0) (only-before o 0 2048 (omega arith)) ∙ e i h
+
+lift-all-requires : tie.Need-lift-all-requires
+lift-all-requires c κs =
+    let s = c .before .before in
+    let t = chosen s (c .before .if1 .taken) in
+    (omega arith, omega arith, t .few, t .low .0, t .rows, s .pre .1)
+
+lift-all-requires-2 : tie.Need-lift-all-requires-2
+lift-all-requires-2 c κs =
+    let s = c .before .before .before .before in
+    let t = chosen s (c .before .before .before .if1 .taken) in
+    (omega arith, omega arith, t .few, t .low .1, t .columns, c .before .lift-all .ensures .0 .long ∙ s .pre .1)
+
+lift-all-requires-3 : tie.Need-lift-all-requires-3
+lift-all-requires-3 c κs =
+    let s = c .before .before in
+    let t = chosen s (c .before .if1 .left) in
+    (omega arith, omega arith, t .few, t .low .0, t .rows, s .pre .1)
+
+lift-all-requires-4 : tie.Need-lift-all-requires-4
+lift-all-requires-4 c κs =
+    let s = c .before .before .before .before in
+    let t = chosen s (c .before .before .before .if1 .left) in
+    (omega arith, omega arith, t .few, t .low .1, t .columns, c .before .lift-all3 .ensures .0 .long ∙ s .pre .1)
+
+returns : tie.Need-returns
+returns c =
+    let s = c .before .before .before .before .before in
+    let o = s .args .outline .now in
+    let t = chosen s (c .before .before .before .before .if1 .taken) in
+    let y = c .before .before .lift-all .ensures in
+    let x = c .lift-all2 .ensures in (
+      turned-raised true (s .args .upward) (s .args .leftward) (s .args .y) (s .args .x) (downIn o) (acrossIn o)
+          (jointCount o) t _ (still (x .0) (y .1)) (x .1),
+      rw (c .before .before .before .before .if1 .taken)
+          (turned-spelled true (s .args .upward) (s .args .leftward) (s .args .y) (s .args .x) (downIn o) (acrossIn o)
+          (jointCount o) t _ (still (x .0) (y .1)) (x .1)),
+      x .0 .long ∙ (y .0 .long ∙ s .pre .1),
+    )
+
+returns-2 : tie.Need-returns-2
+returns-2 c =
+    let s = c .before .before .before .before .before in
+    let o = s .args .outline .now in
+    let t = chosen s (c .before .before .before .before .if1 .left) in
+    let y = c .before .before .lift-all3 .ensures in
+    let x = c .lift-all4 .ensures in (
+      turned-raised false (s .args .upward) (s .args .leftward) (s .args .y) (s .args .x) (downIn o) (acrossIn o)
+          (jointCount o) t _ (still (x .0) (y .1)) (x .1),
+      rw (c .before .before .before .before .if1 .left)
+          (turned-spelled false (s .args .upward) (s .args .leftward) (s .args .y) (s .args .x) (downIn o) (acrossIn o)
+          (jointCount o) t _ (still (x .0) (y .1)) (x .1)),
+      x .0 .long ∙ (y .0 .long ∙ s .pre .1),
+    )
+
+pub turn-joints-spec : {M : Type 1} → statement M
+turn-joints-spec =
+    tie.close
+    (tie.spec
+    lift-all-requires
+    lift-all-requires-2
+    lift-all-requires-3
+    lift-all-requires-4
+    returns
+    returns-2)
