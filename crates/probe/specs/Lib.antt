@@ -3,3 +3,5 @@ pub mod ProbeLaws
 pub mod ProbeTransform
 pub mod ProbeAsked
 pub mod ProbeAskedLaws
+pub mod ProbeChecks
+pub mod ProbeChecksLaws

@@ -4,18 +4,16 @@
 --   isFit h w room        h and w are a page's, and the memory has 16,384 places
 --   kindOf k              the kind of groups with the number k: blocks, units, potential units
 --   sideOf s              open for 0, otherwise wall
---   groupsIn h w cs bs k  the groups of that kind, for lists of colours and borders
+--   kindGroups h w cs bs k   the groups of that kind, for lists of colours and borders
 --   reasonWords ..        Inside(G) (open) or Edge(G) (wall) of the group g, as literal codes
---   Long g                the lengths of groups' lists
---   groupWords g          groups as one list: numbers, count, cells, starts
 --   pathWords ..          Path(a, b), as literal codes
 --   Written m ws m′ r     the words ws were written into the memory m from its start: m′ is the memory afterwards, and
 --                         r their number
 --   Answered h w m ws m′ r   the same where the call fits; otherwise m′ is m, and r is 65,535
 use mathlib.Core.Path.{_≡_}
 use mathlib.Core.Bool.{Bool, _&&_, cond}
-use mathlib.Core.List.{List, [], _∷_, _++_, map}
-use Prim.Native.Nat.{ℕ, _≤_}
+use mathlib.Core.List.{List, map}
+use Prim.Native.Nat.{ℕ}
 use lib.Dec.{eqb, leb}
 use lib.ListN.{length}
 use lib.Seq.{sets}
@@ -28,9 +26,8 @@ use Rattle.rules.specs.Groups.{entry}
 use Rattle.board.specs.Alien.{cellsOf}
 use Rattle.groups.specs.declared.Kind.{Kind}
 use Rattle.groups.specs.declared.Kind.the-variants.{Blocks, Units, Potential}
-use Rattle.groups.specs.declared.Groups.{Groups}
 use Rattle.groups.specs.Kinds.{joinsIn}
-use Rattle.groups.specs.Parts.{groupsOf}
+use Rattle.groups.specs.Parts.{Groups, groupsOf}
 use Rattle.reasons.specs.Arrays.{groupReason}
 use Rattle.reasons.specs.Search.{pathIn}
 
@@ -48,20 +45,11 @@ unfoldable pub sideOf : ℕ → Side
 sideOf s = cond (eqb s 0) Open Wall
 
 module _ (h w : ℕ) (cs bs : List ℕ) (k : ℕ) where
-  unfoldable pub groupsIn : Groups
-  groupsIn = groupsOf (flat h w) (joinsIn (kindOf k) h w (places 1024 cs) (places 1984 bs))
+  unfoldable pub kindGroups : Groups
+  kindGroups = groupsOf (flat h w) (joinsIn (kindOf k) h w (places 1024 cs) (places 1984 bs))
 
   unfoldable pub reasonWords : Side → ℕ → List ℕ
-  reasonWords side g = map literalCode (groupReason h w (places 1024 cs) (places 1984 bs) (groupsIn .ids) side g)
-
-pub record Long (g : Groups) : Type 0 where
-  pub ids : length (g .ids) ≡ 1024
-  pub count : g .count ≤ 1024
-  pub cells : length (g .cells) ≡ 1024
-  pub offs : length (g .offs) ≡ 1025
-
-unfoldable pub groupWords : Groups → List ℕ
-groupWords g = g .ids ++ ((g .count ∷ []) ++ (g .cells ++ g .offs))
+  reasonWords side g = map literalCode (groupReason h w (places 1024 cs) (places 1984 bs) (kindGroups .ids) side g)
 
 unfoldable pub pathWords : ℕ → ℕ → List ℕ → ℕ → ℕ → List ℕ
 pathWords h w bs a b = map literalCode (pathIn h w (places 1984 bs) a b)

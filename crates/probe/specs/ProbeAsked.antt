@@ -19,10 +19,10 @@ use Rattle.groups.specs.declared.Kind.{Kind}
 use Rattle.groups.specs.declared.Kind.the-variants as kind
 use Rattle.groups.specs.declared.Which.{Which}
 use Rattle.groups.specs.declared.Which.the-variants.{Units, Potential}
-use Rattle.groups.specs.declared.Groups.{Groups}
 use Rattle.groups.specs.declared.Answer.{Answer}
+use Rattle.groups.specs.Grouping.{groupCells}
 use Rattle.groups.specs.Asked.{noGroups, answered, askedOf}
-use Rattle.groups.specs.Parts.{partOf, partFrom}
+use Rattle.groups.specs.Parts.{partFrom}
 use Rattle.image.specs.Image.{rightLength, spelledBoard}
 
 unfoldable pub whichOf : ℕ → Which
@@ -35,9 +35,7 @@ askedIn s k = cond (rightLength s) (askedOf (spelledBoard s) k) (answered Alien 
 -- "A group's cells are handed back as a part of the unit list or of the potential list"
 unfoldable pub partIn : List ℕ → Which → ℕ → List ℕ
 partIn s which g =
-    let us : Groups = askedIn s kind.Units .groups in
-    let ps : Groups = askedIn s kind.Potential .groups in
-    partFrom which (partOf (us .cells) (us .offs) g) (partOf (ps .cells) (ps .offs) g)
+    partFrom which (groupCells (askedIn s kind.Units .groups) g) (groupCells (askedIn s kind.Potential .groups) g)
 
 pub record Told (f : ℕ) (m words after : List ℕ) (r : ℕ) : Type 0 where
   pub memory : after ≡ cond (eqb f 0 && leb 16384 (length m)) (sets m 0 words) m

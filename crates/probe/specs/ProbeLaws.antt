@@ -1,14 +1,13 @@
--- Laws of the probes: the lengths of their arrays and words, a group's part, and the two cases of an answer.
+-- Laws of the probes: the lengths of their arrays and words, a group, and the two cases of an answer.
 use mathlib.Core.Path.{_≡_, refl}
 use mathlib.Core.Bool.{Bool, true, false, _&&_, cond}
-use mathlib.Core.List.{List, [], _∷_, _++_, map}
-use Prim.Native.Nat.{ℕ, _+_, _*_, _<_, _≤_}
+use mathlib.Core.List.{List, [], map}
+use Prim.Native.Nat.{ℕ, _*_, _<_, _≤_}
 use native.Mathlib.Omega.{arith}
 use native.Mathlib.Nat.{le-trans}
 use lib.Dec.{leb}
 use borrow.Author.Tests.{leb-true}
-use lib.ListN.{length, getD, length-map, length-append}
-use lib.Seq.{sets}
+use lib.ListN.{length, length-map}
 use Rattle.rules.specs.declared.Side.{Side}
 use Rattle.rules.specs.declared.Side.the-variants.{Wall, Open}
 use Rattle.rules.specs.declared.Literal.{Literal}
@@ -16,7 +15,6 @@ use Rattle.rules.specs.Flat.{Sized, flat}
 use Rattle.rules.specs.Codes.{literalCode, put}
 use Rattle.lists.specs.Lists.{flatMap}
 use Rattle.lists.specs.TableLaws.{length-table}
-use Rattle.lists.specs.Stores.{sets-append}
 use Rattle.rules.specs.Groups.{entry, groupCount, members}
 use Rattle.rules.specs.Reasons.{inside, edge}
 use Rattle.rules.specs.Codes.{statesIn, coloursIn}
@@ -26,15 +24,16 @@ use Rattle.laws.specs.FlatReasons.{flat-inside-le, flat-edge-le, flat-path-le}
 use Rattle.board.specs.Alien.{sizeRight, cellsOf}
 use Rattle.board.specs.ConditionLaws.{sized}
 use Rattle.groups.specs.Kinds.{joinsIn}
-use Rattle.groups.specs.Parts.{groupsOf, partOf}
-use Rattle.groups.specs.PartLaws.{ids-entry, ids-length, count-le, offs-next, offs-le, cells-long, offs-length}
-use Rattle.groups.specs.PartLaws.{members-cells, part-members}
+use Rattle.groups.specs.Grouping.{countIn, Filled}
+use Rattle.groups.specs.Parts.{groupsOf}
+use Rattle.groups.specs.PartLaws.{ids-entry, members-cells}
 use Rattle.groups.specs.SortLaws.{cells-length, size-le}
-use Rattle.reasons.specs.Arrays.{Part, groupReason, insideIn, edgeIn}
+use Rattle.checker.specs.Bridges.{group-at}
+use Rattle.reasons.specs.Arrays.{GroupAt, groupReason, insideIn, edgeIn}
 use Rattle.reasons.specs.Memory.{Wrote}
 use Rattle.reasons.specs.Search.{pathIn}
-use Rattle.probe.specs.Probe.{places, isFit, kindOf, groupsIn, reasonWords}
-use Rattle.probe.specs.Probe.{Long, Written, Answered}
+use Rattle.probe.specs.Probe.{places, isFit, kindOf, kindGroups, reasonWords}
+use Rattle.probe.specs.Probe.{Written, Answered}
 
 pub places-length : (n : ℕ) (l : List ℕ) → length (places n l) ≡ n
 unfolding places
@@ -78,42 +77,6 @@ unfolding put
 literals {ls = ls} a =
     record { memory = a .memory; count = omega (arith, a .place, length-map ls literalCode) }
 
--- groups, written part by part
-pub parts : (m ids cells offs : List ℕ) (count : ℕ) → length ids ≡ 1024 → length cells ≡ 1024 → length offs ≡ 1025
-    → Written m (ids ++ ((count ∷ []) ++ (cells ++ offs)))
-    (sets (sets (sets (sets m 0 ids) 1024 (count ∷ [])) 1025 cells) 2049 offs) 3074
-parts m ids cells offs count i c o =
-    record {
-      memory =
-          rw (
-            sets-append m 0 ids ((count ∷ []) ++ (cells ++ offs)),
-            i,
-            sets-append (sets m 0 ids) 1024 (count ∷ []) (cells ++ offs),
-            sets-append (sets (sets m 0 ids) 1024 (count ∷ [])) 1025 cells offs,
-            c,
-          );
-      count =
-          omega (
-            arith,
-            length-append ids ((count ∷ []) ++ (cells ++ offs)),
-            length-append (count ∷ []) (cells ++ offs),
-            length-append cells offs,
-          );
-    }
-
--- the lengths of a page's groups
-pub groups-long : {h w : ℕ} → Sized h w → (link : ℕ → Bool) → Long (groupsOf (flat h w) link)
-unfolding flat
-groups-long {h} {w} z link =
-    let G = flat h w in
-    let c = counts z in
-    record {
-      ids = ids-length G link (c .some) (c .cells);
-      count = le-trans (count-le G link (c .some) (c .cells)) (c .cells);
-      cells = cells-long G link (c .some) (c .cells);
-      offs = offs-length G link (c .some) (c .cells);
-    }
-
 -- a page's groups
 module _ {h w : ℕ} (z : Sized h w) (cs bs : List ℕ) (k : ℕ) where
   abbrev link : ℕ → Bool
@@ -127,61 +90,49 @@ module _ {h w : ℕ} (z : Sized h w) (cs bs : List ℕ) (k : ℕ) where
   unfolding flat
   small = counts z .cells
 
-  count-is : groupsIn h w cs bs k .count ≡ groupCount (flat h w) link
-  unfolding groupsIn groupsOf
+  count-is : kindGroups h w cs bs k .count ≡ groupCount (flat h w) link
+  unfolding kindGroups groupsOf
   count-is = refl
 
-  pub long : Long (groupsIn h w cs bs k)
-  unfolding groupsIn
-  long = groups-long z link
-
-  -- the part that reasons ask for
-  pub group-part : (g : ℕ) → g < groupsIn h w cs bs k .count
-      → Part h w (groupsIn h w cs bs k .ids) (groupsIn h w cs bs k .cells) (getD (groupsIn h w cs bs k .offs) g 0)
-      (getD (groupsIn h w cs bs k .offs) (g + 1) 0) g
-  unfolding groupsIn partOf
-  group-part g l =
-      let G = flat h w in
-      let q : g < groupCount G link = omega (arith, count-is) in
-      record {
-        long = cells-long G link some small;
-        order = omega (arith, offs-next G link some small g q);
-        end = omega (arith, offs-le G link some small (g + 1) (omega arith), small);
-        group = rw (ids-entry G link some small) (part-members G link some small g);
-      }
+  -- what reasons ask of a group
+  pub group-is : {grouping : List ℕ} → Filled (kindGroups h w cs bs k) grouping → (g : ℕ) → g < countIn grouping
+      → GroupAt h w grouping g
+  unfolding kindGroups
+  group-is f g l = group-at z link f g (rw (f .count) at l)
 
   -- "A number that no group has gives an empty part"
-  no-members : (g : ℕ) → groupsIn h w cs bs k .count ≤ g
-      → members (flat h w) (entry (groupsIn h w cs bs k .ids)) g ≡ []
-  unfolding groupsIn
+  no-members : (g : ℕ) → kindGroups h w cs bs k .count ≤ g
+      → members (flat h w) (entry (kindGroups h w cs bs k .ids)) g ≡ []
+  unfolding kindGroups
   no-members g l =
       rw (ids-entry (flat h w) link some small) (members-none (flat h w) link g (omega (arith, count-is)))
 
-  pub no-reason : (side : Side) (g : ℕ) → groupsIn h w cs bs k .count ≤ g → reasonWords h w cs bs k side g ≡ []
+  pub no-reason : (side : Side) (g : ℕ) → kindGroups h w cs bs k .count ≤ g → reasonWords h w cs bs k side g ≡ []
   unfolding reasonWords insideIn edgeIn inside edge flatMap
   no-reason Wall g l = rw (no-members g l)
   no-reason Open g l = rw (no-members g l)
 
-  members-few : (g : ℕ) → length (members (flat h w) (entry (groupsIn h w cs bs k .ids)) g) ≤ 1024
+  members-few : (g : ℕ) → length (members (flat h w) (entry (kindGroups h w cs bs k .ids)) g) ≤ 1024
   members-few g =
-      let number = entry (groupsIn h w cs bs k .ids) in
+      let number = entry (kindGroups h w cs bs k .ids) in
       rw (members-cells (flat h w) number g)
       (omega (arith, cells-length number (flat h w .cells) g, size-le number (flat h w .cells) g, small))
 
   pub reason-few : (side : Side) (g : ℕ)
-      → length (groupReason h w (places 1024 cs) (places 1984 bs) (groupsIn h w cs bs k .ids) side g) ≤ 4096
+      → length (groupReason h w (places 1024 cs) (places 1984 bs) (kindGroups h w cs bs k .ids) side g) ≤ 4096
   unfolding insideIn edgeIn
   reason-few Wall g =
       omega (
         arith,
         members-few g,
-        flat-edge-le h w (statesIn (places 1984 bs)) (entry (groupsIn h w cs bs k .ids)) g (coloursIn (places 1024 cs)),
+        flat-edge-le h w (statesIn (places 1984 bs)) (entry (kindGroups h w cs bs k .ids)) g
+            (coloursIn (places 1024 cs)),
       )
   reason-few Open g =
       omega (
         arith,
         members-few g,
-        flat-inside-le h w (statesIn (places 1984 bs)) (entry (groupsIn h w cs bs k .ids)) g,
+        flat-inside-le h w (statesIn (places 1984 bs)) (entry (kindGroups h w cs bs k .ids)) g,
       )
 
 pub path-few : {h w : ℕ} → Sized h w → (bs : List ℕ) (a b : ℕ) → length (pathIn h w bs a b) ≤ 1024

@@ -2,13 +2,15 @@
 // is given as an image; an image of another length is alien. As in lib.rt, words are written from the start of the
 // memory, and where it has under 16,384 places a call gives 65,535 and leaves it.
 ghost use mathlib.Core.Path.{_≡_};
+ghost use lib.ListN.{length};
 ghost use Rattle.board.specs.Board.{numberOf};
-ghost use Rattle.probe.specs.Probe.{kindOf, groupWords};
+ghost use Rattle.groups.specs.Grouping.{groupCells};
+ghost use Rattle.groups.specs.Parts.{partFrom};
+ghost use Rattle.probe.specs.Probe.{kindOf};
 ghost use Rattle.probe.specs.ProbeAsked.{whichOf, askedIn, partIn, Told};
 use crate::ROOM;
 use crate::UNFIT;
 use crate::kind_of;
-use crate::put_groups;
 use crate::write;
 use board::Board;
 use groups::Answer;
@@ -41,7 +43,7 @@ fn asked_in(s: &[u8], kind: Kind) -> Answer
 #[no_mangle]
 pub extern "C" fn probe_asked(s: &[u8], kind: u32, memory: &mut [u16]) -> usize
     ensures { λ r. ⌜ Told (numberOf (askedIn (now (s .entry)) (kindOf kind) .outcome)) (now (memory .entry))
-        (groupWords (askedIn (now (s .entry)) (kindOf kind) .groups)) (now (memory .exit)) r ⌝ }
+        (askedIn (now (s .entry)) (kindOf kind) .groups) (now (memory .exit)) r ⌝ }
 {
     let a = asked_in(s, kind_of(kind));
     let outcome = a.outcome;
@@ -52,8 +54,24 @@ pub extern "C" fn probe_asked(s: &[u8], kind: u32, memory: &mut [u16]) -> usize
     if memory.len() < ROOM {
         return UNFIT;
     }
-    let g = a.groups;
-    put_groups(memory, g)
+    let grouping = a.groups;
+    write(memory, &grouping)
+}
+
+// The cells of group g of the units or of the potential units, each given as a grouping.
+fn part_in<'a>(units: &'a [u16], potential: &'a [u16], which: Which, g: usize) -> &'a [u16]
+    requires { ⌜ (length (now units) ≡ 3074) × (length (now potential) ≡ 3074) ⌝ }
+    ensures { λ r. ⌜ now r ≡ partFrom which (groupCells (now (units .entry)) g)
+        (groupCells (now (potential .entry)) g) ⌝ }
+{
+    groups::part(
+        &units[1024..2048],
+        &units[2048..3073],
+        &potential[1024..2048],
+        &potential[2048..3073],
+        which,
+        g,
+    )
 }
 
 // The cells of group g, as the part of the chosen list. There are none where no group has the number, and so of an
@@ -67,20 +85,8 @@ pub extern "C" fn probe_part(s: &[u8], which: u32, g: usize, memory: &mut [u16])
     }
     let a = asked_in(s, Kind::Units);
     let b = asked_in(s, Kind::Potential);
-    let us = a.groups;
-    let ps = b.groups;
-    let units = us.cells;
-    let unit_offs = us.offs;
-    let potential = ps.cells;
-    let potential_offs = ps.offs;
-    let words = groups::part(
-        &units,
-        &unit_offs,
-        &potential,
-        &potential_offs,
-        which_of(which),
-        g,
-    );
-    write(memory, 0, words);
-    words.len()
+    let units = a.groups;
+    let potential = b.groups;
+    let cells = part_in(&units, &potential, which_of(which), g);
+    write(memory, cells)
 }

@@ -1,22 +1,22 @@
-// For tests alone: groups and their parts, reasons and transforms exported, to be compared with the published Rust.
-// Each function of this file writes its words from the start of the memory and gives how many they are. Where the size
-// is no page's, or the memory has under 16,384 places, it gives 65,535 and leaves the memory. Colours and borders may
-// have any length: past their end they are 0.
+// For tests alone: groups and their parts, reasons, transforms and checks exported, to be compared with the published
+// Rust. Each function of this file writes its words from the start of the memory and gives how many they are. Where the
+// size is no page's, or the memory has under 16,384 places, it gives 65,535 and leaves the memory. Colours and borders
+// may have any length: past their end they are 0.
 ghost use mathlib.Core.Path.{_≡_};
-ghost use Prim.Native.Nat.{_+_, _≤_};
+ghost use Prim.Native.Nat.{_≤_};
 ghost use lib.ListN.{length};
-ghost use lib.Seq.{sets};
 ghost use Rattle.rules.specs.Flat.{Sized};
 ghost use Rattle.rules.specs.Groups.{entry};
-ghost use Rattle.probe.specs.Probe.{places, isFit, kindOf, sideOf, groupsIn};
-ghost use Rattle.probe.specs.Probe.{Long, groupWords, reasonWords, pathWords, Written, Answered};
+ghost use Rattle.groups.specs.Grouping.{laid, Filled};
+ghost use Rattle.probe.specs.Probe.{places, isFit, kindOf, sideOf, kindGroups};
+ghost use Rattle.probe.specs.Probe.{reasonWords, pathWords, Written, Answered};
 use board::Board;
-use groups::Groups;
+use groups::Grouping;
 use groups::Kind;
-use rules::Side;
-use rules::index;
+use groups::count_of;
 
 mod asked; // asked.rt: the groups asked of a board, and their parts
+mod checks; // checks.rt: many checks in one call
 mod transform; // transform.rt: the transforms of a board's units
 
 // The least memory that is lent to a call.
@@ -64,16 +64,17 @@ fn borders_in(s: &[u8]) -> [u8; Board::BORDER_LIMIT]
     out
 }
 
-// Writes the words from the place `at`.
-fn write(memory: &mut [u16], at: usize, words: &[u16])
-    requires { ⌜ at + length (now words) ≤ length (now memory) ⌝ }
-    ensures { λ _. ⌜ now (memory .exit) ≡ sets (now (memory .entry)) at (now (words .entry)) ⌝ }
+// Writes the words from the start of the memory; gives how many they are.
+fn write(memory: &mut [u16], words: &[u16]) -> usize
+    requires { ⌜ length (now words) ≤ length (now memory) ⌝ }
+    ensures { λ r. ⌜ Written (now (memory .entry)) (now (words .entry)) (now (memory .exit)) r ⌝ }
 {
     let mut i: usize = 0;
     while i < words.len() {
-        memory[at + i] = words[i];
+        memory[i] = words[i];
         i += 1;
     }
+    i
 }
 
 // Whether the size is a page's, and the memory is large enough.
@@ -100,32 +101,19 @@ fn kind_of(kind: u32) -> Kind
 }
 
 // The groups of one kind.
-fn grouped(h: usize, w: usize, colours: &[u8], borders: &[u8], kind: u32) -> Groups
+fn grouped(h: usize, w: usize, colours: &[u8], borders: &[u8], kind: u32) -> Grouping
     requires { ⌜ Sized h w ⌝ }
-    ensures { λ r. ⌜ r ≡ groupsIn h w (now (colours .entry)) (now (borders .entry)) kind ⌝ }
+    ensures { λ r. ⌜ Filled (kindGroups h w (now (colours .entry)) (now (borders .entry)) kind) r ⌝ }
 {
     let c = colours_in(colours);
     let b = borders_in(borders);
-    groups::groups_of(h, w, &c, &b, kind_of(kind))
+    let mut grouping = [0u16; 3074];
+    let mut parents = [0u16; Board::CELL_LIMIT];
+    groups::fill(h, w, &c, &b, kind_of(kind), &mut grouping, &mut parents);
+    grouping
 }
 
-// Writes groups as one list; gives its length.
-fn put_groups(memory: &mut [u16], g: Groups) -> usize
-    requires { ⌜ Long g × (16384 ≤ length (now memory)) ⌝ }
-    ensures { λ r. ⌜ Written (now (memory .entry)) (groupWords g) (now (memory .exit)) r ⌝ }
-{
-    let ids = g.ids;
-    let count = [g.count as u16; 1];
-    let cells = g.cells;
-    let offs = g.offs;
-    write(memory, 0, &ids);
-    write(memory, 1024, &count);
-    write(memory, 1025, &cells);
-    write(memory, 2049, &offs);
-    3074
-}
-
-// Writes Inside (side 0) or Edge (any other side) of the group of g with that number.
+// Writes Inside (side 0) or Edge (any other side) of the group with that number.
 fn put_reason(
     memory: &mut [u16],
     h: usize,
@@ -140,21 +128,16 @@ fn put_reason(
     ensures { λ r. ⌜ Written (now (memory .entry)) (reasonWords h w (now (colours .entry)) (now (borders .entry)) kind
         (sideOf side) group) (now (memory .exit)) r ⌝ }
 {
-    let g = grouped(h, w, colours, borders, kind);
-    if g.count <= group {
+    let grouping = grouped(h, w, colours, borders, kind);
+    if count_of(&grouping) <= group {
         return 0;
     }
-    let offs = g.offs;
-    let from = index(offs[group]);
-    let to = index(offs[group + 1]);
-    let ids = g.ids;
-    let cells = g.cells;
     let b = borders_in(borders);
     if side == 0 {
-        return reasons::inside(memory, 0, h, w, &b, &ids, &cells, from, to, group);
+        return reasons::inside(memory, 0, h, w, &b, &grouping, group);
     }
     let c = colours_in(colours);
-    reasons::edge(memory, 0, h, w, &c, &b, &ids, &cells, from, to, group)
+    reasons::edge(memory, 0, h, w, &c, &b, &grouping, group)
 }
 
 // Writes the path from cell a to cell b.
@@ -166,8 +149,8 @@ fn put_path(memory: &mut [u16], h: usize, w: usize, borders: &[u8], a: usize, b:
     reasons::paths::path(memory, 0, h, w, &states, a, b)
 }
 
-// The groups of one kind: the cells' numbers (1,024 places), the count, the cells group by group (1,024), and where
-// each group starts (1,025).
+// The groups of one kind, as they stand in a grouping: the cells' numbers (1,024 places), the cells group by group
+// (1,024), where each group starts (1,025), and the count.
 #[no_mangle]
 pub extern "C" fn probe_groups(
     h: usize,
@@ -178,11 +161,11 @@ pub extern "C" fn probe_groups(
     memory: &mut [u16],
 ) -> usize
     ensures { λ r. ⌜ Answered h w (now (memory .entry))
-        (groupWords (groupsIn h w (now (colours .entry)) (now (borders .entry)) kind)) (now (memory .exit)) r ⌝ }
+        (laid (kindGroups h w (now (colours .entry)) (now (borders .entry)) kind)) (now (memory .exit)) r ⌝ }
 {
     if fits(h, w, memory.len()) {
-        let g = grouped(h, w, colours, borders, kind);
-        return put_groups(memory, g);
+        let grouping = grouped(h, w, colours, borders, kind);
+        return write(memory, &grouping);
     }
     UNFIT
 }

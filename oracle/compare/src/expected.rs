@@ -125,7 +125,7 @@ pub fn codes(literals: &[Literal]) -> Vec<u16> {
         .collect()
 }
 
-/// Groups as they stand in memory: numbers, count, cells, starts, each filled up with 0.
+/// Groups as they stand in memory: numbers, cells, starts, each filled up with 0, then the count.
 pub fn words(groups: &Groups) -> Vec<u16> {
     let filled = |list: Vec<usize>, length: usize| {
         let mut places: Vec<u16> = list.iter().map(|&n| n as u16).collect();
@@ -138,9 +138,9 @@ pub fn words(groups: &Groups) -> Vec<u16> {
     }
     [
         filled(groups.ids.clone(), 1024),
-        vec![groups.lists.len() as u16],
         filled(groups.lists.concat(), 1024),
         filled(starts, 1025),
+        vec![groups.lists.len() as u16],
     ]
     .concat()
 }

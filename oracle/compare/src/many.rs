@@ -1,9 +1,9 @@
 //! Many boards for the check: all of small pages, and generated ones of every size.
 
 use crate::boards;
+use crate::checks::Trial;
 use crate::expected;
 use crate::ours::{Memory, ROOM};
-use crate::trial::Trial;
 use oracle::book::Answer;
 use oracle::generate;
 use oracle::page::{Board, Puzzle};

@@ -128,7 +128,7 @@ impl Ours {
         }
     }
 
-    /// The groups of one kind: numbers (1,024 places), count, cells (1,024), starts (1,025).
+    /// The groups of one kind: numbers (1,024 places), cells (1,024), starts (1,025), count.
     pub fn groups(&self, kind: Kind, memory: &mut [u16]) -> usize {
         // SAFETY: addresses and lengths are those of slices that live through the call.
         unsafe {

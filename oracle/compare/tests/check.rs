@@ -1,9 +1,9 @@
 //! The proved check against the published one: pass with its count, or the reason literal by literal,
 //! in order and with repeats; the memory beyond; refused calls.
 
+use compare::checks::Trial;
 use compare::many::Judge;
 use compare::ours::{Memory, ROOM};
-use compare::trial::Trial;
 use compare::{boards, expected};
 use oracle::bench;
 use oracle::book::{self, Answer};

@@ -81,8 +81,8 @@ fn short_lists_read_as_zero() {
 // ---- groups asked of the board that an image spells
 
 const ALIEN: usize = 5;
-/// How many words groups are: numbers, count, cells and starts.
-const WORDS: usize = 1024 + 1 + 1024 + 1025;
+/// How many words groups are: numbers, cells, starts and count.
+const WORDS: usize = 1024 + 1024 + 1025 + 1;
 
 /// What asking for groups of one kind gives, and what it wrote.
 fn asked(memory: &mut Memory, image: &[u8], kind: Kind) -> (usize, Vec<u16>) {
@@ -111,7 +111,7 @@ fn judge_parts(memory: &mut Memory, image: &[u8], which: usize, theirs: &Groups)
         assert_eq!(part(memory, image, which, past), [], "{which} {past}");
     }
     let (_, written) = asked(memory, image, PARTED[which]);
-    let cells = written[1025..].iter().map(|&cell| usize::from(cell));
+    let cells = written[1024..].iter().map(|&cell| usize::from(cell));
     assert!(cells.take(list.len()).eq(list), "{:?}", image::read(image));
     count
 }

@@ -1,6 +1,7 @@
--- The equations of the parts put together.
-use mathlib.Core.Path.{_∙_}
-use Rattle.probe.specs.Probe.{groupsIn}
+-- The page's groups fill an array of zeros.
+use Rattle.groups.specs.ForestLaws.{forest-zeros}
+use Rattle.groups.specs.GroupingLaws.{vacant-zeros}
+use Rattle.probe.specs.Probe.{kindGroups}
 use borrow.Author.Needs.{needs}
 use Rattle.probe.proofs.grouped.Statement.{statement}
 use Rattle.probe.proofs.grouped.Tie as tie
@@ -14,16 +15,17 @@ borders-in-requires c κs = search needs
 kind-of-requires : tie.Need-kind-of-requires
 kind-of-requires c κs = search needs
 
-groups-of-requires : tie.Need-groups-of-requires
-groups-of-requires c κs = search needs
+fill-requires : tie.Need-fill-requires
+fill-requires c κs = (search needs, vacant-zeros _, forest-zeros)
 
 returns : tie.Need-returns
-unfolding groupsIn
+unfolding kindGroups
 returns c =
-    let k = c .before .before .before .before in
-    c .groups-of .ensures ∙ rw (c .before .kind-of .ensures, k .borders-in .ensures, k .before .colours-in .ensures)
+    let k = c .before .before .before in
+    let b = k .before .before .before in
+    rw (b .before .colours-in .ensures, b .borders-in .ensures, k .kind-of .ensures) at (c .fill .ensures .0)
 
 pub grouped-spec : {M : Type 1} → statement M
 grouped-spec =
     tie.close
-    (tie.spec colours-in-requires borders-in-requires kind-of-requires groups-of-requires returns)
+    (tie.spec colours-in-requires borders-in-requires kind-of-requires fill-requires returns)

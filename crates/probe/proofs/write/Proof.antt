@@ -1,6 +1,6 @@
 -- The loop's invariant: the words before i are written.
 use mathlib.Core.Path.{_≡_, refl, ap, _∙_}
-use Prim.Native.Nat.{_-_, _≤_}
+use Prim.Native.Nat.{_+_, _-_, _≤_}
 use native.Mathlib.Omega.{arith}
 use borrow.Author.Needs.{needs}
 use lib.ListN.{length, take}
@@ -10,10 +10,10 @@ use Rattle.probe.proofs.write.Statement.{statement}
 use Rattle.probe.proofs.write.Tie as tie
 
 abbrev Inv-loop : tie.InvT-loop
-Inv-loop memory₀ at words i₀ memory i = (i ≤ length words) × (memory ≡ sets memory₀ at (take i words))
+Inv-loop memory₀ words i₀ memory i = (i ≤ length words) × (memory ≡ sets memory₀ 0 (take i words))
 
 abbrev μ-loop : tie.MeasureT-loop
-μ-loop memory₀ at words i₀ memory i = length words - i
+μ-loop memory₀ words i₀ memory i = length words - i
 
 loop-holds : tie.Need-loop-holds Inv-loop μ-loop
 loop-holds c = (search needs, refl)
@@ -24,9 +24,6 @@ mul-memory c = omega arith
 shared-slice-read-memory : tie.Need-shared-slice-read-memory Inv-loop μ-loop
 shared-slice-read-memory c = search needs
 
-add-memory : tie.Need-add-memory Inv-loop μ-loop
-add-memory c = omega arith
-
 mul-memory-2 : tie.Need-mul-memory-2 Inv-loop μ-loop
 mul-memory-2 c = omega arith
 
@@ -35,7 +32,7 @@ slice-write-memory c =
     let r = c .before .before .loop in
     let a = c .before .before .before .args in
     let e : length (r .memory) ≡ length (a .memory .now) =
-    ap length (r .inv .1) ∙ length-sets (a .memory .now) (a .at) (take (r .i) (a .words .now)) in
+    ap length (r .inv .1) ∙ length-sets (a .memory .now) 0 (take (r .i) (a .words .now)) in
     omega (arith, e, r .inv .0, c .before .before .before .pre)
 
 add-i : tie.Need-add-i Inv-loop μ-loop
@@ -48,19 +45,23 @@ loop-again : tie.Need-loop-again Inv-loop μ-loop
 loop-again c =
     let r = c .before .before .loop in
     let a = c .before .before .before .args in
-    (omega arith, rw (r .inv .1) (sets-more (a .memory .now) (a .at) (a .words .now) (r .i) 0 (omega arith)))
+    let e : 0 + r .i ≡ r .i = omega arith in
+    (omega arith, rw (r .inv .1) (rw e at (sets-more (a .memory .now) 0 (a .words .now) (r .i) 0 (omega arith))))
 
 same-length : tie.Need-same-length Inv-loop μ-loop
 same-length c =
     let a = c .before .before .args in
     let r = c .before .loop in
-    ap length (r .inv .1) ∙ length-sets (a .memory .now) (a .at) (take (r .i) (a .words .now))
+    ap length (r .inv .1) ∙ length-sets (a .memory .now) 0 (take (r .i) (a .words .now))
 
 returns : tie.Need-returns Inv-loop μ-loop
 returns c =
     let a = c .before .before .args in
     let r = c .before .loop in
-    r .inv .1 ∙ rw (take-all (r .i) (a .words .now) (omega arith))
+    record {
+      memory = r .inv .1 ∙ rw (take-all (r .i) (a .words .now) (omega arith));
+      count = omega (arith, r .inv .0);
+    }
 
 pub write-spec : {M : Type 1} → statement M
 write-spec =
@@ -71,7 +72,6 @@ write-spec =
     loop-holds
     mul-memory
     shared-slice-read-memory
-    add-memory
     mul-memory-2
     slice-write-memory
     add-i

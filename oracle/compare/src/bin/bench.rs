@@ -5,11 +5,11 @@
 //! A part of the work is a line of PARTS: how to make its two sides ready on a board.
 
 use compare::boards;
+use compare::checks::Trial;
 use compare::expected::published;
 use compare::images::{self, our_calls, our_fresh, ImageCall, MEMORY, UNDO};
 use compare::ours::{Ours, ROOM};
 use compare::timing::{least, plain, times_of, Run, Side, BATCHES, FEWEST};
-use compare::trial::Trial;
 use oracle::bench::{self, Named};
 use oracle::generate;
 use oracle::image;

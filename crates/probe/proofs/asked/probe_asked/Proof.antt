@@ -1,10 +1,12 @@
 -- A refusal, memory that is too short, or the groups' words.
-use mathlib.Core.Path.{_≡_, sym, ap, subst, _∙_}
+use mathlib.Core.Path.{_≡_, ap, _∙_}
+use native.Mathlib.Omega.{arith}
+use lib.ListN.{length}
 use Rattle.board.specs.Board.{numberOf}
 use Rattle.groups.specs.declared.Answer.{Answer}
-use Rattle.probe.specs.Probe.{kindOf, Long}
+use Rattle.probe.specs.Probe.{kindOf}
 use Rattle.probe.specs.ProbeAsked.{askedIn}
-use Rattle.probe.specs.ProbeAskedLaws.{asked-long, told-refusal, told-short, told-words}
+use Rattle.probe.specs.ProbeAskedLaws.{told-refusal, told-short, told-words}
 use borrow.Author.Needs.{needs}
 use Rattle.probe.proofs.asked.probe_asked.Statement.{statement}
 use Rattle.probe.proofs.asked.probe_asked.Tie as tie
@@ -37,22 +39,24 @@ returns c = told-refusal (refusal (c .before)) (c .if1 .taken)
 returns-2 : tie.Need-returns-2
 returns-2 c = told-short (refusal (c .before .before)) (c .before .if1 .left) (c .if2 .taken)
 
-put-groups-requires : tie.Need-put-groups-requires
-put-groups-requires c κs = (
-  subst (λ (a : Answer). Long (a .groups)) (sym (answer (c .before .before .before .before .before)))
-      (asked-long _ _),
-  c .before .before .if2 .left,
-)
+slice-aggregate-write : tie.Need-slice-aggregate-write
+slice-aggregate-write c = search needs
+
+write-requires : tie.Need-write-requires
+write-requires c κs =
+    let n : 3074 ≡ length (c .before .before .before .before .before .before .asked-in .result .groups) =
+    slice-aggregate-write c in
+    omega (arith, n, c .before .before .before .if2 .left)
 
 same-length : tie.Need-same-length
 same-length c = search needs
 
 returns-3 : tie.Need-returns-3
 returns-3 c =
-    let n = c .before .before .before .before .before .before .before in
-    told-words (refusal n) (c .before .before .before .before .before .before .if1 .left)
-    (c .before .before .before .before .before .if2 .left)
-    (rw (answer (n .before)) at (c .before .before .put-groups .ensures))
+    let n = c .before .before .before .before .before .before .before .before in
+    told-words (refusal n) (c .before .before .before .before .before .before .before .if1 .left)
+    (c .before .before .before .before .before .before .if2 .left)
+    (rw (answer (n .before)) at (c .before .before .write .ensures))
 
 pub probe-asked-spec : {M : Type 1} → statement M
 probe-asked-spec =
@@ -64,6 +68,7 @@ probe-asked-spec =
     cast-refusal
     returns
     returns-2
-    put-groups-requires
+    slice-aggregate-write
+    write-requires
     same-length
     returns-3)

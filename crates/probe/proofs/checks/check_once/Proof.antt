@@ -1,10 +1,10 @@
 -- The check answers in range.
 use mathlib.Core.Path.{ap, _∙_}
 use Rattle.calls.specs.Answers.{answerNumber}
-use Rattle.trial.specs.TrialLaws.{check-in-range}
+use Rattle.probe.specs.ProbeChecksLaws.{check-in-range}
 use borrow.Author.Needs.{needs}
-use Rattle.trial.proofs.check_once.Statement.{statement}
-use Rattle.trial.proofs.check_once.Tie as tie
+use Rattle.probe.proofs.checks.check_once.Statement.{statement}
+use Rattle.probe.proofs.checks.check_once.Tie as tie
 
 check-lent-requires : tie.Need-check-lent-requires
 check-lent-requires c κs = search needs

@@ -1,4 +1,4 @@
--- The loop's invariant: what is left of the stream gives the whole.
+-- The loop's invariant: deciding and checking what is left gives the whole.
 use mathlib.Core.Path.{_≡_, refl, ap, sym, _∙_}
 use mathlib.Core.List.{map}
 use Prim.Native.Nat.{_+_, _-_, _≤_}
@@ -8,24 +8,23 @@ use lib.ListN.{length, drop}
 use Rattle.board.specs.declared.Board.{Board}
 use Rattle.board.specs.Alien.{boardOf}
 use Rattle.board.specs.Accepted.{decidesOf}
-use Rattle.calls.specs.Answers.{literalOf, checkMemory}
-use Rattle.calls.specs.AnswerLaws.{length-check}
-use Rattle.trial.specs.Trial.{streamMemory}
-use Rattle.trial.specs.TrialLaws.{decides-more, decides-none, stream-more, stream-none}
-use Rattle.trial.proofs.streamed.Statement.{statement}
-use Rattle.trial.proofs.streamed.Tie as tie
+use Rattle.calls.specs.Answers.{literalOf}
+use Rattle.probe.specs.ProbeChecks.{checksMemory, decidesMemory}
+use Rattle.probe.specs.ProbeChecksLaws.{decides-more, decides-none, checked-more, checked-none, checks-length}
+use Rattle.probe.proofs.checks.decided.Statement.{statement}
+use Rattle.probe.proofs.checks.decided.Tie as tie
 
 abbrev Inv-loop : tie.InvT-loop
-Inv-loop h w colours clues borders₀ stack₀ count codes memory₀ n₀ i₀ borders stack memory n i =
+Inv-loop h w colours clues borders₀ stack₀ count codes each memory₀ n₀ i₀ borders stack memory n i =
     (i ≤ length codes)
     × (decidesOf (boardOf h w colours clues borders stack n) (map literalOf (drop i codes))
     ≡ decidesOf (boardOf h w colours clues borders₀ stack₀ count) (map literalOf codes))
-    × (streamMemory (boardOf h w colours clues borders stack n) (map literalOf (drop i codes)) memory
-    ≡ streamMemory (boardOf h w colours clues borders₀ stack₀ count) (map literalOf codes) memory₀)
+    × (decidesMemory each (boardOf h w colours clues borders stack n) (map literalOf (drop i codes)) memory
+    ≡ decidesMemory each (boardOf h w colours clues borders₀ stack₀ count) (map literalOf codes) memory₀)
     × (length memory ≡ length memory₀)
 
 abbrev μ-loop : tie.MeasureT-loop
-μ-loop h w colours clues borders₀ stack₀ count codes memory₀ n₀ i₀ borders stack memory n i = length codes - i
+μ-loop h w colours clues borders₀ stack₀ count codes each memory₀ n₀ i₀ borders stack memory n i = length codes - i
 
 -- the board at the loop's test
 abbrev passed : tie.At-loop Inv-loop μ-loop → Board
@@ -45,8 +44,8 @@ shared-slice-read-decide-next c = search needs
 decide-next-requires : tie.Need-decide-next-requires Inv-loop μ-loop
 decide-next-requires c κs = search needs
 
-check-once-requires : tie.Need-check-once-requires Inv-loop μ-loop
-check-once-requires c κs = search needs
+checks-requires : tie.Need-checks-requires Inv-loop μ-loop
+checks-requires c κs = search needs
 
 add-i : tie.Need-add-i Inv-loop μ-loop
 add-i c = omega arith
@@ -59,18 +58,20 @@ loop-again c =
     let d = c .before .before .before .before .before .before in
     let p = d .before .before .before .before .before in
     let i = p .loop .i in
-    let codes = p .before .before .before .args .codes .now in
+    let a = p .before .before .before .args in
+    let codes = a .codes .now in
     let left = map literalOf (drop (i + 1) codes) in
-    let e = c .before .before .check-once .ensures .1 in (
+    let e = c .before .before .checks .ensures .1 in (
       omega arith,
       ap (λ (b : Board). decidesOf b left) (d .decide-next .ensures)
           ∙ sym (decides-more (passed p) codes i (omega arith))
           ∙ p .loop .inv .1,
-      ap (streamMemory _ left) e
-          ∙ ap (λ (b : Board). streamMemory b left (checkMemory b (p .loop .memory))) (d .decide-next .ensures)
-          ∙ sym (stream-more (passed p) codes (p .loop .memory) i (omega arith))
+      ap (decidesMemory (a .each) _ left) e
+          ∙ ap (λ (b : Board). decidesMemory (a .each) b left (checksMemory b (a .each) (p .loop .memory)))
+          (d .decide-next .ensures)
+          ∙ sym (checked-more (a .each) (passed p) codes (p .loop .memory) i (omega arith))
           ∙ p .loop .inv .2,
-      ap length e ∙ length-check _ (p .loop .memory) ∙ p .loop .inv .3,
+      ap length e ∙ checks-length _ (a .each) (p .loop .memory) ∙ p .loop .inv .3,
     )
 
 same-length : tie.Need-same-length Inv-loop μ-loop
@@ -79,13 +80,14 @@ same-length c = c .before .loop .inv .3
 returns : tie.Need-returns Inv-loop μ-loop
 returns c =
     let p = c .before in
-    let codes = p .before .before .before .args .codes .now in (
+    let a = p .before .before .before .args in
+    let codes = a .codes .now in (
       sym (decides-none (passed p) codes (p .loop .i) (omega arith)) ∙ p .loop .inv .1,
-      sym (stream-none (passed p) codes (p .loop .memory) (p .loop .i) (omega arith)) ∙ p .loop .inv .2,
+      sym (checked-none (a .each) (passed p) codes (p .loop .memory) (p .loop .i) (omega arith)) ∙ p .loop .inv .2,
     )
 
-pub streamed-spec : {M : Type 1} → statement M
-streamed-spec =
+pub decided-spec : {M : Type 1} → statement M
+decided-spec =
     tie.close
     (tie.spec
     Inv-loop
@@ -94,7 +96,7 @@ streamed-spec =
     mul-decide-next
     shared-slice-read-decide-next
     decide-next-requires
-    check-once-requires
+    checks-requires
     add-i
     loop-less
     loop-again

@@ -7,8 +7,8 @@ use Rattle.board.specs.declared.Returned.{Returned}
 use Rattle.board.specs.Board.{numberOf}
 use Rattle.board.specs.DecideLaws.{decided-is, done-returned}
 use Rattle.board.specs.NativeLaws.{borders-fit, native-has, room}
-use Rattle.trial.proofs.decide_next.Statement.{statement}
-use Rattle.trial.proofs.decide_next.Tie as tie
+use Rattle.probe.proofs.checks.decide_next.Statement.{statement}
+use Rattle.probe.proofs.checks.decide_next.Tie as tie
 
 index-requires : tie.Need-index-requires
 index-requires c κs = search needs

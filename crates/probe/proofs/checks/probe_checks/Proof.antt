@@ -1,4 +1,4 @@
--- The board is refused; or it is made, the stream runs on it, and one more check answers.
+-- The board is refused; or it is made, its literals are decided, and the checks answer.
 use mathlib.Core.Path.{_≡_, ap, ap₂, sym, _∙_}
 use mathlib.Core.List.{List, map}
 use Prim.Native.Nat.{ℕ}
@@ -9,12 +9,11 @@ use Rattle.board.specs.declared.Board.{Board}
 use Rattle.board.specs.declared.Returned.{Returned}
 use Rattle.board.specs.Board.{numberOf}
 use Rattle.board.specs.Accepted.{madeBoard, decidesOf}
-use Rattle.calls.specs.Answers.{literalOf, answerNumber, checkAnswer, checkMemory}
-use Rattle.trial.specs.Trial.{streamMemory, made, boardIn}
-use Rattle.trial.specs.TrialLaws.{number-refused, stream-refused, number-made, stream-made, number-more}
-use Rattle.trial.specs.TrialLaws.{stream-length}
-use Rattle.trial.proofs.trial_stream.Statement.{statement}
-use Rattle.trial.proofs.trial_stream.Tie as tie
+use Rattle.calls.specs.Answers.{literalOf}
+use Rattle.probe.specs.ProbeChecks.{checksNumber, checksMemory, decidesMemory, made, boardIn}
+use Rattle.probe.specs.ProbeChecksLaws.{decides-length, number-refused, memory-refused, number-made, memory-made}
+use Rattle.probe.proofs.checks.probe_checks.Statement.{statement}
+use Rattle.probe.proofs.checks.probe_checks.Tie as tie
 
 -- the number of making the board
 made-is : (c : tie.After-refusal) → let a = c .before .before .before .before .before .args in
@@ -32,15 +31,15 @@ returns c =
     let a = c .before .before .before .before .before .before .args in
     let e = made-is (c .before) in
     let f = ne-eqb _ _ (λ q. c .if1 .taken (e ∙ q)) in (
-      e ∙ number-refused _ _ _ _ (a .codes .now) 1 (a .memory .now) f,
-      stream-refused _ _ _ _ (a .codes .now) 1 (a .memory .now) f,
+      e ∙ number-refused _ _ _ _ (a .codes .now) (a .each) (a .times) (a .memory .now) f,
+      memory-refused _ _ _ _ (a .codes .now) (a .each) (a .times) (a .memory .now) f,
     )
 
-streamed-requires : tie.Need-streamed-requires
-streamed-requires c κs = search needs
+decided-requires : tie.Need-decided-requires
+decided-requires c κs = search needs
 
-check-once-requires : tie.Need-check-once-requires
-check-once-requires c κs = search needs
+checks-requires : tie.Need-checks-requires
+checks-requires c κs = search needs
 
 same-length : tie.Need-same-length
 same-length c = search needs
@@ -55,21 +54,20 @@ returns-2 c =
     let m = a .memory .now in
     let ls = map literalOf (a .codes .now) in
     let d : _ ≡ boardIn (a .h) (a .w) (a .colours .now) (a .clues .now) (a .codes .now) =
-    s .streamed .ensures .0 ∙ ap (λ (r : Returned). decidesOf (r .board) ls) (r .before .fresh .ensures) in
-    let t : _ ≡ streamMemory (madeBoard (a .h) (a .w) (a .colours .now) (a .clues .now)) ls m =
-    s .streamed .ensures .1 ∙ ap (λ (r : Returned). streamMemory (r .board) ls m) (r .before .fresh .ensures) in
-    let n : _ ≡ length m = ap length t ∙ stream-length _ ls m in
-    let e = c .before .before .check-once .ensures in (
+    s .decided .ensures .0 ∙ ap (λ (r : Returned). decidesOf (r .board) ls) (r .before .fresh .ensures) in
+    let t : _ ≡ decidesMemory (a .each) (madeBoard (a .h) (a .w) (a .colours .now) (a .clues .now)) ls m =
+    s .decided .ensures .1
+    ∙ ap (λ (r : Returned). decidesMemory (a .each) (r .board) ls m) (r .before .fresh .ensures) in
+    let e = c .before .before .checks .ensures in (
       e .0
-          ∙ ap₂ (λ (b : Board) (k : ℕ). answerNumber (checkAnswer b k)) d n
-          ∙ number-more _ (length m) 0
-          ∙ number-made _ _ _ _ (a .codes .now) 1 m f,
+          ∙ ap₂ (λ (b : Board) (k : ℕ). checksNumber b k (a .times)) d (ap length t ∙ decides-length (a .each) _ ls m)
+          ∙ number-made _ _ _ _ (a .codes .now) (a .each) (a .times) m f,
       e .1
-          ∙ ap₂ (λ (b : Board) (l : List ℕ). checkMemory b l) d t
-          ∙ stream-made _ _ _ _ (a .codes .now) 1 m f,
+          ∙ ap₂ (λ (b : Board) (l : List ℕ). checksMemory b (a .times) l) d t
+          ∙ memory-made _ _ _ _ (a .codes .now) (a .each) (a .times) m f,
     )
 
-pub trial-stream-spec : {M : Type 1} → statement M
-trial-stream-spec =
+pub probe-checks-spec : {M : Type 1} → statement M
+probe-checks-spec =
     tie.close
-    (tie.spec fresh-requires refusal-requires returns streamed-requires check-once-requires same-length returns-2)
+    (tie.spec fresh-requires refusal-requires returns decided-requires checks-requires same-length returns-2)

@@ -1,8 +1,8 @@
 -- Each return cites its test.
 use borrow.Author.Tests.{eq-eqb, ne-eqb}
 use Rattle.calls.specs.Answers.{literalOf}
-use Rattle.trial.proofs.literal.Statement.{statement}
-use Rattle.trial.proofs.literal.Tie as tie
+use Rattle.probe.proofs.checks.literal.Statement.{statement}
+use Rattle.probe.proofs.checks.literal.Tie as tie
 
 returns : tie.Need-returns
 unfolding literalOf

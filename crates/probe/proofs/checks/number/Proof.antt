@@ -3,8 +3,8 @@ use mathlib.Core.Path.{ap, sym}
 use native.Mathlib.Omega.{arith}
 use Rattle.calls.specs.Answers.{answerNumber}
 use borrow.Author.Needs.{needs}
-use Rattle.trial.proofs.number.Statement.{statement}
-use Rattle.trial.proofs.number.Tie as tie
+use Rattle.probe.proofs.checks.number.Statement.{statement}
+use Rattle.probe.proofs.checks.number.Tie as tie
 
 enum-told : tie.Need-enum-told
 enum-told c = search needs

@@ -1,4 +1,4 @@
-//! Safe calls of crate trial: the proved check.
+//! Safe calls of crate probe: the proved check.
 
 use crate::ours::Memory;
 use oracle::book::Answer;
@@ -6,7 +6,7 @@ use oracle::page::{code, Board, Literal};
 
 // A slice goes over as its address and its length.
 extern "C" {
-    fn trial_check(
+    fn probe_checks(
         h: usize,
         w: usize,
         colours: *const u8,
@@ -15,19 +15,8 @@ extern "C" {
         clues_length: usize,
         codes: *const u16,
         codes_length: usize,
+        each: usize,
         times: usize,
-        memory: *mut u16,
-        memory_length: usize,
-    ) -> usize;
-    fn trial_stream(
-        h: usize,
-        w: usize,
-        colours: *const u8,
-        colours_length: usize,
-        clues: *const i32,
-        clues_length: usize,
-        codes: *const u16,
-        codes_length: usize,
         memory: *mut u16,
         memory_length: usize,
     ) -> usize;
@@ -55,11 +44,11 @@ impl Trial {
         }
     }
 
-    /// The number of the last of so many checks, after all literals are decided; 0 for no check.
-    pub fn check(&self, times: usize, memory: &mut [u16]) -> usize {
+    /// So many checks after each decide, and so many at the end: the number of the last; 0 for none.
+    fn checks(&self, each: usize, times: usize, memory: &mut [u16]) -> usize {
         // SAFETY: addresses and lengths are those of slices that live through the call.
         unsafe {
-            trial_check(
+            probe_checks(
                 self.h,
                 self.w,
                 self.colours.as_ptr(),
@@ -68,6 +57,7 @@ impl Trial {
                 self.clues.len(),
                 self.codes.as_ptr(),
                 self.codes.len(),
+                each,
                 times,
                 memory.as_mut_ptr(),
                 memory.len(),
@@ -75,23 +65,14 @@ impl Trial {
         }
     }
 
+    /// The number of the last of so many checks, after all literals are decided; 0 for no check.
+    pub fn check(&self, times: usize, memory: &mut [u16]) -> usize {
+        self.checks(0, times, memory)
+    }
+
     /// A check after each decide, and one more at the end, whose number is given.
     pub fn stream(&self, memory: &mut [u16]) -> usize {
-        // SAFETY: addresses and lengths are those of slices that live through the call.
-        unsafe {
-            trial_stream(
-                self.h,
-                self.w,
-                self.colours.as_ptr(),
-                self.colours.len(),
-                self.clues.as_ptr(),
-                self.clues.len(),
-                self.codes.as_ptr(),
-                self.codes.len(),
-                memory.as_mut_ptr(),
-                memory.len(),
-            )
-        }
+        self.checks(1, 1, memory)
     }
 
     /// What one check answers. The memory beyond the reason must be as it was.

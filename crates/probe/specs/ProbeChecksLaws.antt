@@ -1,4 +1,4 @@
--- Laws of the trial: one decide and one check more, and the two cases of its answer.
+-- Laws of the checks: one decide and one check more, and the two cases of the answer.
 use mathlib.Core.Path.{_≡_, refl, _∙_}
 use mathlib.Core.Bool.{true, false}
 use mathlib.Core.List.{List, [], _∷_, map}
@@ -16,8 +16,8 @@ use Rattle.board.specs.Accepted.{madeBoard, decidesOf}
 use Rattle.calls.specs.Answers.{literalOf, answerNumber, checkAnswer, checkMemory, callOf}
 use Rattle.calls.specs.AnswerLaws.{length-check}
 use Rattle.calls.specs.NumberLaws.{InRange, call-range}
-use Rattle.trial.specs.Trial.{checksNumber, checksMemory, streamMemory, made, boardIn}
-use Rattle.trial.specs.Trial.{trialNumber, trialMemory, trialStreamMemory}
+use Rattle.probe.specs.ProbeChecks.{checksNumber, checksMemory, decidesMemory, made, boardIn}
+use Rattle.probe.specs.ProbeChecks.{checkedNumber, checkedMemory}
 
 -- ---- one check
 pub check-in-range : (b : Board) (m : List ℕ) → InRange (checkAnswer b (length m))
@@ -36,24 +36,6 @@ pub decides-none : (b : Board) (codes : List ℕ) (i : ℕ) → length codes ≤
 unfolding decidesOf
 decides-none b codes i h = rw (drop-of-length-le codes h)
 
-pub stream-more : (b : Board) (codes m : List ℕ) (i : ℕ) → i < length codes
-    → streamMemory b (map literalOf (drop i codes)) m
-    ≡ streamMemory (decideOf b (literalOf (getD codes i 0)) .board) (map literalOf (drop (i + 1) codes))
-    (checkMemory (decideOf b (literalOf (getD codes i 0)) .board) m)
-unfolding streamMemory
-stream-more b codes m i h = rw (drop-cons codes i 0 h, add-one i)
-
-pub stream-none : (b : Board) (codes m : List ℕ) (i : ℕ) → length codes ≤ i
-    → streamMemory b (map literalOf (drop i codes)) m ≡ m
-unfolding streamMemory
-stream-none b codes m i h = rw (drop-of-length-le codes h)
-
-pub stream-length : (b : Board) (ls : List Literal) (m : List ℕ) → length (streamMemory b ls m) ≡ length m
-unfolding streamMemory
-stream-length b [] m = refl
-stream-length b (l ∷ ls) m =
-    stream-length (decideOf b l .board) ls (checkMemory (decideOf b l .board) m) ∙ length-check (decideOf b l .board) m
-
 -- ---- several checks
 pub checks-length : (b : Board) (times : ℕ) (m : List ℕ) → length (checksMemory b times m) ≡ length m
 unfolding checksMemory
@@ -68,32 +50,46 @@ pub number-more : (b : Board) (n i : ℕ) → answerNumber (checkAnswer b n) ≡
 unfolding checksNumber
 number-more b n i = rw (add-one i)
 
+-- ---- the same with checks after each decide
+module _ (each : ℕ) (b : Board) where
+  pub checked-more : (codes m : List ℕ) (i : ℕ) → i < length codes
+      → let c = decideOf b (literalOf (getD codes i 0)) .board in
+      decidesMemory each b (map literalOf (drop i codes)) m
+      ≡ decidesMemory each c (map literalOf (drop (i + 1) codes)) (checksMemory c each m)
+  unfolding decidesMemory
+  checked-more codes m i h = rw (drop-cons codes i 0 h, add-one i)
+
+  pub checked-none : (codes m : List ℕ) (i : ℕ) → length codes ≤ i
+      → decidesMemory each b (map literalOf (drop i codes)) m ≡ m
+  unfolding decidesMemory
+  checked-none codes m i h = rw (drop-of-length-le codes h)
+
+pub decides-length : (each : ℕ) (b : Board) (ls : List Literal) (m : List ℕ)
+    → length (decidesMemory each b ls m) ≡ length m
+unfolding decidesMemory
+decides-length each b [] m = refl
+decides-length each b (l ∷ ls) m =
+    let c = decideOf b l .board in decides-length each c ls (checksMemory c each m) ∙ checks-length c each m
+
 -- ---- the board is refused, or made
-module _ (h w : ℕ) (cs : List ℕ) (ks : List ℤ) (codes : List ℕ) (times : ℕ) (m : List ℕ) where
+module _ (h w : ℕ) (cs : List ℕ) (ks : List ℤ) (codes : List ℕ) (each times : ℕ) (m : List ℕ) where
   module _ (e : eqb (made h w cs ks) 0 ≡ false) where
-    pub number-refused : made h w cs ks ≡ trialNumber h w cs ks codes times (length m)
-    unfolding trialNumber
+    pub number-refused : made h w cs ks ≡ checkedNumber h w cs ks codes times (length m)
+    unfolding checkedNumber
     number-refused = rw e
 
-    pub memory-refused : m ≡ trialMemory h w cs ks codes times m
-    unfolding trialMemory
+    pub memory-refused : m ≡ checkedMemory h w cs ks codes each times m
+    unfolding checkedMemory
     memory-refused = rw e
-
-    pub stream-refused : m ≡ trialStreamMemory h w cs ks codes m
-    unfolding trialStreamMemory
-    stream-refused = rw e
 
   module _ (e : eqb (made h w cs ks) 0 ≡ true) where
     pub number-made : checksNumber (boardIn h w cs ks codes) (length m) times
-        ≡ trialNumber h w cs ks codes times (length m)
-    unfolding trialNumber
+        ≡ checkedNumber h w cs ks codes times (length m)
+    unfolding checkedNumber
     number-made = rw e
 
-    pub memory-made : checksMemory (boardIn h w cs ks codes) times m ≡ trialMemory h w cs ks codes times m
-    unfolding trialMemory
+    pub memory-made : checksMemory (boardIn h w cs ks codes) times
+        (decidesMemory each (madeBoard h w cs ks) (map literalOf codes) m)
+        ≡ checkedMemory h w cs ks codes each times m
+    unfolding checkedMemory
     memory-made = rw e
-
-    pub stream-made : checkMemory (boardIn h w cs ks codes) (streamMemory (madeBoard h w cs ks) (map literalOf codes) m)
-        ≡ trialStreamMemory h w cs ks codes m
-    unfolding trialStreamMemory
-    stream-made = rw e

@@ -7,10 +7,10 @@ use lib.ListN.{length}
 use Rattle.board.specs.declared.Board.{Board}
 use Rattle.board.specs.Alien.{boardOf}
 use Rattle.calls.specs.Answers.{answerNumber, checkAnswer, checkMemory}
-use Rattle.trial.specs.Trial.{checksNumber, checksMemory}
-use Rattle.trial.specs.TrialLaws.{checks-length, memory-more, number-more}
-use Rattle.trial.proofs.checks.Statement.{statement}
-use Rattle.trial.proofs.checks.Tie as tie
+use Rattle.probe.specs.ProbeChecks.{checksNumber, checksMemory}
+use Rattle.probe.specs.ProbeChecksLaws.{checks-length, memory-more, number-more}
+use Rattle.probe.proofs.checks.checks.Statement.{statement}
+use Rattle.probe.proofs.checks.checks.Tie as tie
 
 abbrev Inv-loop : tie.InvT-loop
 Inv-loop h w colours clues borders stack count memory₀ times last₀ i₀ memory last i =
