@@ -1,7 +1,7 @@
 -- Groups asked of a board.
 --
 --   noGroups         no groups: every place is 0
---   answered o g     an outcome with groups
+--   boardGroups o g  an outcome with groups
 --   askedOf b kind   what asking a board for its groups of one kind returns
 use mathlib.Core.Bool.{cond}
 use mathlib.Core.List.{List}
@@ -13,20 +13,20 @@ use Rattle.board.specs.declared.Outcome.the-variants.{Done, Alien}
 use Rattle.board.specs.Alien.{isAlien}
 use Rattle.board.specs.View.{puzzleOf, statesOf}
 use Rattle.groups.specs.declared.Kind.{Kind}
-use Rattle.groups.specs.Grouping.{laid}
-use Rattle.groups.specs.declared.Answer.{Answer}
+use Rattle.groups.specs.Grouping.{arrayOf}
+use Rattle.groups.specs.declared.BoardGroups.{BoardGroups}
 use Rattle.groups.specs.Kinds.{linkOf}
 use Rattle.groups.specs.Parts.{groupsOf}
 
 abbrev pub noGroups : List ℕ
 noGroups = replicate 3074 0
 
-abbrev pub answered : Outcome → List ℕ → Answer
-answered o g = record { outcome = o; groups = g }
+abbrev pub boardGroups : Outcome → List ℕ → BoardGroups
+boardGroups o g = record { outcome = o; groups = g }
 
 -- "Groups or transforms asked of an alien board give 5 and none"
-unfoldable pub askedOf : Board → Kind → Answer
+unfoldable pub askedOf : Board → Kind → BoardGroups
 askedOf b kind =
     cond (isAlien b)
-    (answered Alien noGroups)
-    (answered Done (laid (groupsOf (puzzleOf b .page) (linkOf kind (puzzleOf b) (statesOf b)))))
+    (boardGroups Alien noGroups)
+    (boardGroups Done (arrayOf (groupsOf (puzzleOf b .page) (linkOf kind (puzzleOf b) (statesOf b)))))

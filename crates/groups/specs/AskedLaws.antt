@@ -10,12 +10,11 @@ use Rattle.groups.specs.declared.Kind.{Kind}
 use Rattle.groups.specs.Kinds.{joinsIn, linkOf}
 use Rattle.groups.specs.KindLaws.{link-in}
 use Rattle.groups.specs.Parts.{groupsOf}
-use Rattle.groups.specs.Grouping.{laid}
-use Rattle.rules.specs.Codes.{puzzleIn}
-use Rattle.groups.specs.Asked.{noGroups, answered, askedOf}
+use Rattle.groups.specs.Grouping.{arrayOf}
+use Rattle.groups.specs.Asked.{noGroups, boardGroups, askedOf}
 
 module _ (b : Board) (k : Kind) where
-  pub asked-alien : isAlien b ≡ true → answered Alien noGroups ≡ askedOf b k
+  pub asked-alien : isAlien b ≡ true → boardGroups Alien noGroups ≡ askedOf b k
   unfolding askedOf
   asked-alien e = rw e
 
@@ -24,7 +23,7 @@ module _ (b : Board) (k : Kind) where
   board-link = link-in k (puzzleOf b) (b .height) (b .width) (b .colours) (b .borders) refl refl
 
   pub asked-done : isAlien b ≡ false
-      → answered Done (laid (groupsOf (flat (b .height) (b .width))
+      → boardGroups Done (arrayOf (groupsOf (flat (b .height) (b .width))
       (joinsIn k (b .height) (b .width) (b .colours) (b .borders)))) ≡ askedOf b k
   unfolding askedOf puzzleOf
   asked-done e = rw (e, board-link)

@@ -6,7 +6,7 @@
 --   countIn g        how many groups there are: the last place
 --   startIn g k      where group k's cells start in the list of cells
 --   groupCells g k   the cells of group k
---   laid G           the array of the groups G
+--   arrayOf G        the array of the groups G
 --   Filled G g       the array holds the groups G
 --   Vacant n g       an array that may be lent for n cells: its places past the page are 0
 use mathlib.Core.Path.{_≡_}
@@ -35,8 +35,8 @@ startIn g k = getD (startsIn g) k 0
 abbrev pub groupCells : List ℕ → ℕ → List ℕ
 groupCells g k = take (startIn g (k + 1) - startIn g k) (drop (startIn g k) (cellsIn g))
 
-unfoldable pub laid : Groups → List ℕ
-laid G = G .ids ++ (G .cells ++ (G .offs ++ (G .count ∷ [])))
+unfoldable pub arrayOf : Groups → List ℕ
+arrayOf G = G .ids ++ (G .cells ++ (G .offs ++ (G .count ∷ [])))
 
 pub record Filled (G : Groups) (g : List ℕ) : Type 0 where
   pub long : length g ≡ 3074

@@ -13,7 +13,7 @@ use Rattle.lists.specs.SectionLaws.{front-at, front-set}
 use Rattle.lists.specs.PaddedLaws.{zeros}
 use Rattle.groups.specs.Parts.{Groups}
 use Rattle.groups.specs.Arrays.{Stored}
-use Rattle.groups.specs.Grouping.{numbersIn, cellsIn, startsIn, countIn, laid}
+use Rattle.groups.specs.Grouping.{numbersIn, cellsIn, startsIn, countIn, arrayOf}
 use Rattle.groups.specs.Grouping.{Filled, Vacant}
 use Rattle.groups.specs.NumberLaws.{blank-set}
 
@@ -86,6 +86,6 @@ sections g e =
     sym (take-append-drop 1024 g) ∙ ap (λ (x : List ℕ). numbersIn g ++ x)
     (cells ∙ ap (λ (x : List ℕ). cellsIn g ++ x) (starts ∙ ap (λ (x : List ℕ). startsIn g ++ x) rest))
 
-pub filled-laid : {G : Groups} (g : List ℕ) → Filled G g → g ≡ laid G
-unfolding laid
-filled-laid g f = sections g (f .long) ∙ rw (f .numbers, f .cells, f .starts, f .count)
+pub filled-array : {G : Groups} (g : List ℕ) → Filled G g → g ≡ arrayOf G
+unfolding arrayOf
+filled-array g f = sections g (f .long) ∙ rw (f .numbers, f .cells, f .starts, f .count)

@@ -19,9 +19,9 @@ use Rattle.groups.specs.declared.Kind.{Kind}
 use Rattle.groups.specs.declared.Kind.the-variants as kind
 use Rattle.groups.specs.declared.Which.{Which}
 use Rattle.groups.specs.declared.Which.the-variants.{Units, Potential}
-use Rattle.groups.specs.declared.Answer.{Answer}
+use Rattle.groups.specs.declared.BoardGroups.{BoardGroups}
 use Rattle.groups.specs.Grouping.{groupCells}
-use Rattle.groups.specs.Asked.{noGroups, answered, askedOf}
+use Rattle.groups.specs.Asked.{noGroups, boardGroups, askedOf}
 use Rattle.groups.specs.Parts.{partFrom}
 use Rattle.image.specs.Image.{rightLength, spelledBoard}
 
@@ -29,8 +29,8 @@ unfoldable pub whichOf : ℕ → Which
 whichOf n = cond (eqb n 0) Units Potential
 
 -- "Groups or transforms asked of an alien board give 5 and none"
-unfoldable pub askedIn : List ℕ → Kind → Answer
-askedIn s k = cond (rightLength s) (askedOf (spelledBoard s) k) (answered Alien noGroups)
+unfoldable pub askedIn : List ℕ → Kind → BoardGroups
+askedIn s k = cond (rightLength s) (askedOf (spelledBoard s) k) (boardGroups Alien noGroups)
 
 -- "A group's cells are handed back as a part of the unit list or of the potential list"
 unfoldable pub partIn : List ℕ → Which → ℕ → List ℕ

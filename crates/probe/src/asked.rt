@@ -13,7 +13,7 @@ use crate::UNFIT;
 use crate::kind_of;
 use crate::write;
 use board::Board;
-use groups::Answer;
+use groups::BoardGroups;
 use groups::Kind;
 use groups::Which;
 
@@ -29,7 +29,7 @@ fn which_of(which: u32) -> Which
 }
 
 // What the board that the image s spells gives, asked for its groups of one kind.
-fn asked_in(s: &[u8], kind: Kind) -> Answer
+fn asked_in(s: &[u8], kind: Kind) -> BoardGroups
     ensures { λ r. ⌜ r ≡ askedIn (now (s .entry)) kind ⌝ }
 {
     if s.len() != image::LENGTH {

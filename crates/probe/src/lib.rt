@@ -7,7 +7,7 @@ ghost use Prim.Native.Nat.{_≤_};
 ghost use lib.ListN.{length};
 ghost use Rattle.rules.specs.Flat.{Sized};
 ghost use Rattle.rules.specs.Groups.{entry};
-ghost use Rattle.groups.specs.Grouping.{laid, Filled};
+ghost use Rattle.groups.specs.Grouping.{arrayOf, Filled};
 ghost use Rattle.probe.specs.Probe.{places, isFit, kindOf, sideOf, kindGroups};
 ghost use Rattle.probe.specs.Probe.{reasonWords, pathWords, Written, Answered};
 use board::Board;
@@ -107,10 +107,7 @@ fn grouped(h: usize, w: usize, colours: &[u8], borders: &[u8], kind: u32) -> Gro
 {
     let c = colours_in(colours);
     let b = borders_in(borders);
-    let mut grouping = [0u16; 3074];
-    let mut parents = [0u16; Board::CELL_LIMIT];
-    groups::fill(h, w, &c, &b, kind_of(kind), &mut grouping, &mut parents);
-    grouping
+    groups::groups_of(h, w, &c, &b, kind_of(kind))
 }
 
 // Writes Inside (side 0) or Edge (any other side) of the group with that number.
@@ -161,7 +158,7 @@ pub extern "C" fn probe_groups(
     memory: &mut [u16],
 ) -> usize
     ensures { λ r. ⌜ Answered h w (now (memory .entry))
-        (laid (kindGroups h w (now (colours .entry)) (now (borders .entry)) kind)) (now (memory .exit)) r ⌝ }
+        (arrayOf (kindGroups h w (now (colours .entry)) (now (borders .entry)) kind)) (now (memory .exit)) r ⌝ }
 {
     if fits(h, w, memory.len()) {
         let grouping = grouped(h, w, colours, borders, kind);

@@ -28,6 +28,7 @@ use board::Outcome;
 use groups::Grouping;
 use groups::Kind;
 use groups::count_of;
+use groups::groups_of;
 use shapes::Listed;
 use shapes::Outline;
 use shapes::Pair;
@@ -271,17 +272,7 @@ fn put_transform<'a>(
         × (now (memory .exit) ≡ kthMemory (transformsOf (puzzle h w (now (colours .entry)))
         (statesIn (now (borders .entry))) u) k (now (memory .entry))) ⌝ }
 {
-    let mut units = [0u16; 3074];
-    let mut parents = [0u16; Board::CELL_LIMIT];
-    groups::fill(
-        h,
-        w,
-        colours,
-        borders,
-        Kind::Units,
-        &mut units,
-        &mut parents,
-    );
+    let units = groups_of(h, w, colours, borders, Kind::Units);
     if count_of(&units) <= u {
         return none(Outcome::Done, 0);
     }

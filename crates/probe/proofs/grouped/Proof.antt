@@ -1,6 +1,4 @@
--- The page's groups fill an array of zeros.
-use Rattle.groups.specs.ForestLaws.{forest-zeros}
-use Rattle.groups.specs.GroupingLaws.{vacant-zeros}
+-- The equations of the parts put together.
 use Rattle.probe.specs.Probe.{kindGroups}
 use borrow.Author.Needs.{needs}
 use Rattle.probe.proofs.grouped.Statement.{statement}
@@ -15,17 +13,16 @@ borders-in-requires c κs = search needs
 kind-of-requires : tie.Need-kind-of-requires
 kind-of-requires c κs = search needs
 
-fill-requires : tie.Need-fill-requires
-fill-requires c κs = (search needs, vacant-zeros _, forest-zeros)
+groups-of-requires : tie.Need-groups-of-requires
+groups-of-requires c κs = search needs
 
 returns : tie.Need-returns
 unfolding kindGroups
 returns c =
-    let k = c .before .before .before in
-    let b = k .before .before .before in
-    rw (b .before .colours-in .ensures, b .borders-in .ensures, k .kind-of .ensures) at (c .fill .ensures .0)
+    let b = c .before .before .before .before in
+    rw (b .before .colours-in .ensures, b .borders-in .ensures, c .before .kind-of .ensures) at (c .groups-of .ensures)
 
 pub grouped-spec : {M : Type 1} → statement M
 grouped-spec =
     tie.close
-    (tie.spec colours-in-requires borders-in-requires kind-of-requires fill-requires returns)
+    (tie.spec colours-in-requires borders-in-requires kind-of-requires groups-of-requires returns)

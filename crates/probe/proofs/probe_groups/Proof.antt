@@ -1,7 +1,7 @@
 -- An unfit call is refused; any other is answered.
 use mathlib.Core.Path.{sym, _∙_}
 use native.Mathlib.Omega.{arith}
-use Rattle.groups.specs.GroupingLaws.{filled-laid}
+use Rattle.groups.specs.GroupingLaws.{filled-array}
 use Rattle.probe.specs.ProbeLaws.{fit, unfit, done}
 use borrow.Author.Needs.{needs}
 use Rattle.probe.proofs.probe_groups.Statement.{statement}
@@ -29,7 +29,7 @@ returns : tie.Need-returns
 returns c =
     let g = c .before .before .before .before .before in
     done (sym (g .before .before .fits2 .ensures) ∙ g .before .if1 .taken)
-    (rw (filled-laid _ (g .grouped .ensures)) at (c .before .before .write .ensures))
+    (rw (filled-array _ (g .grouped .ensures)) at (c .before .before .write .ensures))
 
 returns-2 : tie.Need-returns-2
 returns-2 c = unfit (sym (c .before .fits2 .ensures) ∙ c .if1 .left)

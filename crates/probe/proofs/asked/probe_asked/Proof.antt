@@ -3,7 +3,7 @@ use mathlib.Core.Path.{_≡_, ap, _∙_}
 use native.Mathlib.Omega.{arith}
 use lib.ListN.{length}
 use Rattle.board.specs.Board.{numberOf}
-use Rattle.groups.specs.declared.Answer.{Answer}
+use Rattle.groups.specs.declared.BoardGroups.{BoardGroups}
 use Rattle.probe.specs.Probe.{kindOf}
 use Rattle.probe.specs.ProbeAsked.{askedIn}
 use Rattle.probe.specs.ProbeAskedLaws.{told-refusal, told-short, told-words}
@@ -19,7 +19,7 @@ answer c =
 
 refusal : (c : tie.After-number) → let a = c .before .before .before .before .before .args in
     c .number .result ≡ numberOf (askedIn (a .s .now) (kindOf (a .kind)) .outcome)
-refusal c = c .number .ensures ∙ ap (λ (a : Answer). numberOf (a .outcome)) (answer (c .before))
+refusal c = c .number .ensures ∙ ap (λ (a : BoardGroups). numberOf (a .outcome)) (answer (c .before))
 
 kind-of-requires : tie.Need-kind-of-requires
 kind-of-requires c κs = search needs
