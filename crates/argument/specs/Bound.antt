@@ -1,7 +1,7 @@
 -- How long a reason can be, on a page where a cell has at most D neighbours ahead and A around, and a shape at most M
 -- listed transforms: with n cells, at most n·M + (D·n + A·n) + 1 literals.
 --
---   hit-short, check-short   the bound, of a hit and of an answer
+--   hit-short, check-bound   the bound, of a hit and of an answer
 use mathlib.Core.Path.{_≡_, _∙_, sym, subst}
 use mathlib.Core.Bool.{Bool, true, false, not, _&&_, cond, Bool·beq}
 use mathlib.Core.List.{List, [], _∷_, map, _++_}
@@ -222,7 +222,7 @@ module _ (Z : Puzzle) (K : Bordered (Z .page)) (s : ℕ → State) (D A M : ℕ)
       each-some (λ (q : Reason). length q ≤ bound) r
       (subst (Each (λ (q : Reason). length q ≤ bound)) e (each-form Z s (λ r. length r ≤ bound) short-forms))
 
-  pub check-short : (r : Reason) → check Z s ≡ conflict r
+  pub check-bound : (r : Reason) → check Z s ≡ conflict r
       → length r ≤ Z .page .cells * M + (D * Z .page .cells + A * Z .page .cells) + 1
-  check-short r e = check-each (λ (q : Reason). length q ≤ bound) Z s
+  check-bound r e = check-each (λ (q : Reason). length q ≤ bound) Z s
       (each-form Z s (λ r. length r ≤ bound) short-forms) r e

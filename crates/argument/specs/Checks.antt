@@ -15,7 +15,7 @@ use Rattle.lists.specs.Ranges.{mem-range, range-lt}
 use Rattle.rules.specs.Page.{Puzzle, State, Contains}
 use Rattle.rules.specs.Rules.{Solution}
 use Rattle.rules.specs.Check.{Reason, Verdict, pass, conflict, hit, undecidedCount, verdictOf, check}
-use Rattle.laws.specs.PageLaws.{Bordered, Placed, Listed}
+use Rattle.laws.specs.PageLaws.{Bordered, CellsPlaced, TurnsListed}
 use Rattle.argument.specs.Demand.{Full, Passes}
 use Rattle.argument.specs.Hits.{Each, each-some, each-or, each-first, else-none}
 use Rattle.argument.specs.Sound.{Sound, sound-block}
@@ -44,7 +44,7 @@ unfolding check
 check-each Q Z s h r e =
     each-some Q r (subst (Each Q) (answer-hit (undecidedCount Z s) (hit Z s) r e) h)
 
-module _ (Z : Puzzle) (K : Bordered (Z .page)) (P : Placed (Z .page)) (I : Listed (Z .page)) where
+module _ (Z : Puzzle) (K : Bordered (Z .page)) (P : CellsPlaced (Z .page)) (I : TurnsListed (Z .page)) where
   pub check-holds : (s : ℕ → State) (r : Reason) → check Z s ≡ conflict r → Contains s r
   check-holds s r e =
       check-each (Contains s) Z s (each-form Z s (Contains s) (held-forms Z K s)) r e

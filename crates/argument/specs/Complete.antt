@@ -20,7 +20,7 @@ use Rattle.rules.specs.Rules.{stay, joinsBlock, joinsUnit, SameBlock, Congruent
 use Rattle.rules.specs.Groups.{blockOf, blockCount, unitOf, unitCount}
 use Rattle.rules.specs.Shapes.{shapeOf}
 use Rattle.rules.specs.Check.{blockHit, wallHit, wallHits, unitHit}
-use Rattle.laws.specs.PageLaws.{Bordered, Placed, Listed}
+use Rattle.laws.specs.PageLaws.{Bordered, CellsPlaced, TurnsListed}
 use Rattle.laws.specs.StateLaws.{not-both}
 use Rattle.laws.specs.Copies.{shape-based, copy}
 use Rattle.laws.specs.RuleLaws.{join-trans, join-in, join-sym, unit-colour, unit-block}
@@ -32,7 +32,7 @@ use Rattle.argument.specs.Passes.{one-unit, same-size, clue-kept}
 use Rattle.argument.specs.Fits.{Fit, fit}
 use Rattle.argument.specs.Lays.{congruent-to}
 
-module _ (Z : Puzzle) (K : Bordered (Z .page)) (P : Placed (Z .page)) (I : Listed (Z .page)) (s : ℕ → State)
+module _ (Z : Puzzle) (K : Bordered (Z .page)) (P : CellsPlaced (Z .page)) (I : TurnsListed (Z .page)) (s : ℕ → State)
     (full : Full Z s)
     (pass1 : (B : ℕ) → B < blockCount Z s → blockHit Z s B ≡ none)
     (pass2 : (x : ℕ) → x < Z .page .cells → wallHits Z s x ≡ none)

@@ -1,7 +1,7 @@
 -- Demand 3 for the book holds, for every puzzle on a page that meets the page laws and every list of calls.
 --
 --   answered-longer, ruled-longer, stood-longer   what is so in a list is so in a longer one
---   book-demand         the claim
+--   book-demand                                   the claim
 use mathlib.Core.Path.{_≡_, _∙_, refl, ap, sym, subst}
 use mathlib.Core.Logic.{_⊎_, inl, inr, _↔_}
 use mathlib.Core.List.{List, _∷_, _++_, append-assoc}
@@ -11,7 +11,7 @@ use Rattle.rules.specs.Page.{Puzzle, State, Contains}
 use Rattle.rules.specs.Rules.{Solution}
 use Rattle.rules.specs.Check.{Reason, Verdict, pass, conflict, check}
 use Rattle.rules.specs.Book.{Asked, states, sequence}
-use Rattle.laws.specs.PageLaws.{Bordered, Placed, Listed}
+use Rattle.laws.specs.PageLaws.{Bordered, CellsPlaced, TurnsListed}
 use Rattle.laws.specs.BookLaws.{Clean, decided-mem, sequence-clean, answered-check}
 use Rattle.argument.specs.Demand.{SameSides, BookAnswered, BookRuledOut, BookStoodAt, Passes, BookDemand}
 use Rattle.argument.specs.Agrees.{sides-sym, solution-agrees}
@@ -61,7 +61,7 @@ module _ (Z : Puzzle) where
       let h = clean .below l (decided-mem (q .sequence) l (c l m)) in
       sym (q .sides (l .border) h) ∙ c l m
 
-module _ (Z : Puzzle) (K : Bordered (Z .page)) (P : Placed (Z .page)) (I : Listed (Z .page)) where
+module _ (Z : Puzzle) (K : Bordered (Z .page)) (P : CellsPlaced (Z .page)) (I : TurnsListed (Z .page)) where
   none-ruled : (calls : List Asked) (σ : ℕ → State) → Solution Z σ → BookRuledOut Z calls σ → ⊥
   none-ruled calls σ sol q =
       check-sound Z K P I (states (q .sequence)) (q .reason)

@@ -25,7 +25,7 @@ use Rattle.laws.specs.FlatShapes.{flatPuzzle, flat-eight}
 use Rattle.argument.specs.Demand.{Full, Passes, BookDemand}
 use Rattle.argument.specs.Checks.{check-holds, check-sound, check-full}
 use Rattle.argument.specs.DemandLaws.{book-demand}
-use Rattle.argument.specs.Bound.{check-short}
+use Rattle.argument.specs.Bound.{check-bound}
 
 module _ (h w : ℕ) (hw : 0 < w) (colour : ℕ → Bool) (clue : ℕ → Option ℕ) where
   pub flat-demand : (calls : List Asked) → BookDemand (flatPuzzle h w colour clue) calls
@@ -54,7 +54,7 @@ module _ (h w : ℕ) (hw : 0 < w) (colour : ℕ → Bool) (clue : ℕ → Option
   pub flat-bound : (s : ℕ → State) (r : Reason) → check (flatPuzzle h w colour clue) s ≡ conflict r
       → length r ≤ 14 * (h * w) + 1
   flat-bound s r e =
-      let few = check-short (flatPuzzle h w colour clue) (flat-bordered h w hw) s 2 4 8 (flat-ahead h w)
+      let few = check-bound (flatPuzzle h w colour clue) (flat-bordered h w hw) s 2 4 8 (flat-ahead h w)
       (flat-around h w) images-eight r e in
       omega (arith, few, cells-are)
 

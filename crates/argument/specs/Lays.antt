@@ -17,7 +17,7 @@ use Rattle.rules.specs.Page.{Hop, Point, _⊕_, opposite, Puzzle, State, isOpen
 use Rattle.rules.specs.Rules.{stay, oneColour, joinsUnit, SameUnit, Congruent, step}
 use Rattle.rules.specs.Groups.{unitOf}
 use Rattle.rules.specs.Check.{laid}
-use Rattle.laws.specs.PageLaws.{Bordered, Near, Placed, near-turn, near-right, near-left, near-eq}
+use Rattle.laws.specs.PageLaws.{Bordered, OneStep, CellsPlaced, near-turn, near-right, near-left, near-eq}
 use Rattle.laws.specs.PointLaws.{add-assoc, add-comm, add-origin, add-opposite, cancel, swap4}
 use Rattle.laws.specs.Copies.{Copy}
 use Rattle.laws.specs.RuleLaws.{join-trans, join-in}
@@ -29,7 +29,7 @@ use Rattle.argument.specs.Fulls.{open-of}
 use Rattle.argument.specs.Fits.{Reads, fits-all, Fit}
 
 -- a placement that fits, its shape the unit of x turned by g
-module _ (Z : Puzzle) (K : Bordered (Z .page)) (P : Placed (Z .page)) (s : ℕ → State) (full : Full Z s)
+module _ (Z : Puzzle) (K : Bordered (Z .page)) (P : CellsPlaced (Z .page)) (s : ℕ → State) (full : Full Z s)
     (x : ℕ) (hx : x < Z .page .cells) (F : Fit Z s x) (ho : F .at < Z .page .cells) (g : Point → Point)
     (gm : g ∈ Z .page .turns) (E : Copy (Z .page) (unitOf Z s) (unitOf Z s x) g (F .shape)) where
   abbrev U : ℕ
@@ -80,7 +80,7 @@ module _ (Z : Puzzle) (K : Bordered (Z .page)) (P : Placed (Z .page)) (s : ℕ �
       hq : L .q < Z .page .cells
       hq = join-in (Z .page) K (joinsUnit Z s) ho (L .unit)
 
-      near : Near (place (L .q)) (o ⊕ copied (j .to))
+      near : OneStep (place (L .q)) (o ⊕ copied (j .to))
       near = near-eq (L .spot) refl (near-left o
           (near-right _ (near-turn (Z .page .turns) (P .turns-ok) g gm (P .hop-near y j hy m))))
 

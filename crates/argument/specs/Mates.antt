@@ -31,7 +31,7 @@ use Rattle.rules.specs.Groups.{joinsPotential, unitOf, unitCount, potentialOf, 
 use Rattle.rules.specs.Shapes.{shapeOf}
 use Rattle.rules.specs.Check.{Reason, insideUnit, edgeOf, touches, adjacent, mates, judge, laid, isFit, blockers}
 use Rattle.rules.specs.Check.{transformsOf, placements, farWallsAt, farWalls, unitReason, unitHitIn, unitHitOn, unitHit}
-use Rattle.laws.specs.PageLaws.{Bordered, Near, Placed, Listed, near-turn, near-right, near-left, near-eq}
+use Rattle.laws.specs.PageLaws.{Bordered, OneStep, CellsPlaced, TurnsListed, near-turn, near-right, near-left, near-eq}
 use Rattle.laws.specs.PointLaws.{swap4, lands}
 use Rattle.laws.specs.StateLaws.{contains-l, contains-r, has, open-not-wall, unlike-T}
 use Rattle.laws.specs.Copies.{CopyCells, Copy, shape-based, copy-cells, copy}
@@ -49,15 +49,16 @@ pub transforms-listed : (Z : Puzzle) (s : ℕ → State) (U : ℕ) → U < unitC
 unfolding transformsOf
 transforms-listed Z s U h = rw (lt-ltb U (unitCount Z s) h)
 
-module _ (Z : Puzzle) (K : Bordered (Z .page)) (P : Placed (Z .page)) (I : Listed (Z .page)) (s : ℕ → State) where
+module _ (Z : Puzzle) (K : Bordered (Z .page)) (P : CellsPlaced (Z .page)) (I : TurnsListed (Z .page))
+    (s : ℕ → State) where
   -- a connection read within a unit of the setting
-  record Fine (σ : ℕ → State) (o : Option ℕ) : Type 0 where
+  record BorderFine (σ : ℕ → State) (o : Option ℕ) : Type 0 where
     border : ℕ
     is : o ≡ some border
     same : T (oneColour Z border)
     free : σ border ≡ decided Wall → ⊥
 
-  judged : (σ : ℕ → State) (last : Option ℕ) (os : List (Option ℕ)) → ((o : Option ℕ) → o ∈ os → Fine σ o)
+  judged : (σ : ℕ → State) (last : Option ℕ) (os : List (Option ℕ)) → ((o : Option ℕ) → o ∈ os → BorderFine σ o)
       → ((b : ℕ) → last ≡ some b → σ b ≡ decided Wall → ⊥) →
       (judge Z s last os ≡ Fits) ⊎ ((b : ℕ) × (judge Z s last os ≡ Blocked b) × (σ b ≡ decided Wall → ⊥))
   unfolding judge
@@ -72,7 +73,7 @@ module _ (Z : Puzzle) (K : Bordered (Z .page)) (P : Placed (Z .page)) (I : Liste
       J : Option ℕ → List (Option ℕ) → Placement
       J l ps = judge Z s l ps
 
-      go : (c : Bool) → oneColour Z b ≡ c → (w : Bool) → isWall (s b) ≡ w → Fine σ (some b) →
+      go : (c : Bool) → oneColour Z b ≡ c → (w : Bool) → isWall (s b) ≡ w → BorderFine σ (some b) →
           ((l : Option ℕ) → ((d : ℕ) → l ≡ some d → σ d ≡ decided Wall → ⊥)
           → (J l os ≡ Fits) ⊎ ((d : ℕ) × (J l os ≡ Blocked d) × (σ d ≡ decided Wall → ⊥))) →
           (cond c (J (cond w (some b) last) os) Cannot ≡ Fits) ⊎
@@ -217,14 +218,14 @@ module _ (Z : Puzzle) (K : Bordered (Z .page)) (P : Placed (Z .page)) (I : Liste
                   ∙ ap (λ z. place o ⊕ z) (sym (r .2)))),
             )
 
-        fine : (d : Point) → d ∈ u .connections → Fine σ (Z .page .reads (place o ⊕ place o ⊕ d))
+        fine : (d : Point) → d ∈ u .connections → BorderFine σ (Z .page .reads (place o ⊕ place o ⊕ d))
         fine d m = go (E .connection-is d m)
           where
             copied : ℕ → Point
             copied x = g (place x) ⊕ opposite (g (place (E .from)))
 
             go : (c : ℕ) × (h : Hop) × c ∈ unitCells Z s U × h ∈ Z .page .ahead c × (unitOf Z s (h .to) ≡ U) ×
-                (d ≡ copied c ⊕ copied (h .to)) → Fine σ (Z .page .reads (place o ⊕ place o ⊕ d))
+                (d ≡ copied c ⊕ copied (h .to)) → BorderFine σ (Z .page .reads (place o ⊕ place o ⊕ d))
             go r = read (landed (copied (r .0)) (E .is-cell (r .0) (r .2)))
                 (landed (copied (r .1 .to)) (E .is-cell (r .1 .to) mt))
               where
@@ -237,12 +238,12 @@ module _ (Z : Puzzle) (K : Bordered (Z .page)) (P : Placed (Z .page)) (I : Liste
                 mt : r .1 .to ∈ unitCells Z s U
                 mt = mem-members (Z .page) (unitOf Z s) U (r .1 .to) (K .hop-in (r .0) (r .1) hc am) (r .4)
 
-                near : Near (copied (r .0)) (copied (r .1 .to))
+                near : OneStep (copied (r .0)) (copied (r .1 .to))
                 near = near-right _ (near-turn (Z .page .turns) (P .turns-ok) g gm (P .hop-near (r .0) (r .1) hc am))
 
                 read : (q : ℕ) × SameUnit Z σ (M .y) q × (place q ≡ place o ⊕ copied (r .0))
                     → (q : ℕ) × SameUnit Z σ (M .y) q × (place q ≡ place o ⊕ copied (r .1 .to))
-                    → Fine σ (Z .page .reads (place o ⊕ place o ⊕ d))
+                    → BorderFine σ (Z .page .reads (place o ⊕ place o ⊕ d))
                 read a b =
                     let ha = join-in (Z .page) K (joinsUnit Z σ) (M .hy) (a .1) in
                     let hb = join-in (Z .page) K (joinsUnit Z σ) (M .hy) (b .1) in
@@ -273,7 +274,7 @@ module _ (Z : Puzzle) (K : Bordered (Z .page)) (P : Placed (Z .page)) (I : Liste
         unfolding laid
         outcome = judged σ none _ (λ q m. let r =
             map-find (λ (d : Point). Z .page .reads (place o ⊕ place o ⊕ d)) (u .connections) m in
-            subst (Fine σ) (sym (r .2)) (fine (r .0) (r .1)))
+            subst (BorderFine σ) (sym (r .2)) (fine (r .0) (r .1)))
             (λ b e. let z : _≡_ {A = ℕ} 0 1 = cc in absurd (omega arith))
 
         no-place : u ∈ transformsOf Z s U → T (not (any (isFit Z s) Laid)) → ⊥

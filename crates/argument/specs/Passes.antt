@@ -32,14 +32,14 @@ use Rattle.argument.specs.Fulls.{pot-unit, unit-size, in-block, size-cou
 
 module _ (Z : Puzzle) (K : Bordered (Z .page)) (s : ℕ → State) (full : Full Z s)
     (pass1 : (B : ℕ) → B < blockCount Z s → blockHit Z s B ≡ none) where
-  record Passed (x : ℕ) : Type 0 where
+  record BlockPassed (x : ℕ) : Type 0 where
     agree : (y z : ℕ) → y ∈ ownBlock Z s x → z ∈ ownBlock Z s x → Agree Z s y z
     small : (c : Bool) → smallHit Z s (blockOf Z s x) (ownBlock Z s x) c
         (head? (coloured Z s c (ownBlock Z s x))) ≡ none
     clue : clueHit Z s (blockOf Z s x) (ownBlock Z s x)
         (blockClue (Z .clue) (ownBlock Z s x)) ≡ none
 
-  passed : (x : ℕ) → x < Z .page .cells → Passed x
+  passed : (x : ℕ) → x < Z .page .cells → BlockPassed x
   unfolding blockHit blockHitOn
   passed x h = let e = else-none _ _ (pass1 (blockOf Z s x) (number-lt (Z .page) (joinsBlock Z s) (omega arith) x h)) in
       let f = else-none _ _ (e .1) in record {

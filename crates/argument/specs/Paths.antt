@@ -1,7 +1,7 @@
 -- Path(a, b): the search finds every cell that is joined to a, and a setting that contains the path joins its ends.
 --
---   Reached a f x       x is the start, or is among the found cells f
---   Chain, Linked       each found cell was found from a cell reached before it, over an open border
+--   PathReached a f x   x is the start, or is among the found cells f
+--   Chain, FoundLinked  each found cell was found from a cell reached before it, over an open border
 --   Shut f y            every neighbour of y over an open border is reached
 --   Searched f          the found cells f are a chain, and every reached cell is shut
 --   found-all           what the search finds is so
@@ -27,18 +27,18 @@ use Rattle.laws.specs.PageLaws.{Bordered}
 use Rattle.laws.specs.RuleLaws.{join-in}
 
 module _ (Z : Puzzle) (K : Bordered (Z .page)) (s : ℕ → State) (a : ℕ) (ha : a < Z .page .cells) where
-  abbrev pub Reached : List Found → ℕ → Type 0
-  Reached f x = T (isFound a f x)
+  abbrev pub PathReached : List Found → ℕ → Type 0
+  PathReached f x = T (isFound a f x)
 
-  reached-start : (f : List Found) → Reached f a
+  reached-start : (f : List Found) → PathReached f a
   unfolding isFound
   reached-start f = T-or-l (eqb a a) _ (eqb-refl a)
 
-  reached-new : (f : List Found) (e : Found) → Reached (e ∷ f) (e .cell)
+  reached-new : (f : List Found) (e : Found) → PathReached (e ∷ f) (e .cell)
   unfolding isFound any
   reached-new f e = T-or-r (eqb (e .cell) a) _ (T-or-l (eqb (e .cell) (e .cell)) _ (eqb-refl (e .cell)))
 
-  reached-old : (f : List Found) (e : Found) (x : ℕ) → Reached f x → Reached (e ∷ f) x
+  reached-old : (f : List Found) (e : Found) (x : ℕ) → PathReached f x → PathReached (e ∷ f) x
   unfolding isFound any
   reached-old f e x t = go (T-or (eqb x a) _ t)
     where
@@ -47,7 +47,7 @@ module _ (Z : Puzzle) (K : Bordered (Z .page)) (s : ℕ → State) (a : ℕ) (ha
       go (inl u) = T-or-l (eqb x a) _ u
       go (inr u) = T-or-r (eqb x a) _ (T-or-r (eqb x (e .cell)) _ u)
 
-  reached-cases : (f : List Found) (e : Found) (x : ℕ) → Reached (e ∷ f) x → (x ≡ e .cell) ⊎ Reached f x
+  reached-cases : (f : List Found) (e : Found) (x : ℕ) → PathReached (e ∷ f) x → (x ≡ e .cell) ⊎ PathReached f x
   unfolding isFound any
   reached-cases f e x t = go (T-or (eqb x a) _ t)
     where
@@ -61,7 +61,7 @@ module _ (Z : Puzzle) (K : Bordered (Z .page)) (s : ℕ → State) (a : ℕ) (ha
       go (inl u) = inr (T-or-l (eqb x a) _ u)
       go (inr u) = next (T-or (eqb x (e .cell)) _ u)
 
-  reached-nil : (x : ℕ) → Reached [] x → x ≡ a
+  reached-nil : (x : ℕ) → PathReached [] x → x ≡ a
   unfolding isFound any
   reached-nil x t = go (T-or (eqb x a) false t)
     where
@@ -69,18 +69,18 @@ module _ (Z : Puzzle) (K : Bordered (Z .page)) (s : ℕ → State) (a : ℕ) (ha
       go (inl u) = eqb→eq x a u
       go (inr u) = absurd u
 
-  pub record Linked (e : Found) (f : List Found) : Type 0 where
+  pub record FoundLinked (e : Found) (f : List Found) : Type 0 where
     pub from-in : e .from < Z .page .cells
     pub hop : record { border = e .over; to = e .cell } ∈ Z .page .around (e .from)
     pub opens : T (isOpen (s (e .over)))
-    pub known : Reached f (e .from)
+    pub known : PathReached f (e .from)
 
   abbrev pub Chain : List Found → Type 0
   Chain [] = Unit {0}
-  Chain (e ∷ f) = Linked e f × Chain f
+  Chain (e ∷ f) = FoundLinked e f × Chain f
 
   abbrev pub Shut : List Found → ℕ → Type 0
-  Shut f y = (h : Hop) → h ∈ Z .page .around y → T (isOpen (s (h .border))) → Reached f (h .to)
+  Shut f y = (h : Hop) → h ∈ Z .page .around y → T (isOpen (s (h .border))) → PathReached f (h .to)
 
   -- how many cells are still to be found
   unfound : List Found → ℕ
@@ -89,14 +89,14 @@ module _ (Z : Puzzle) (K : Bordered (Z .page)) (s : ℕ → State) (a : ℕ) (ha
   -- while the cell x is looked at
   record Inv (x n : ℕ) (t : Search) : Type 0 where
     chain : Chain (t .found)
-    inq : (y : ℕ) → y ∈ t .queue → (y < Z .page .cells) × Reached (t .found) y
-    shut : (y : ℕ) → Reached (t .found) y → (y ≡ x) ⊎ (y ∈ t .queue ⊎ Shut (t .found) y)
+    inq : (y : ℕ) → y ∈ t .queue → (y < Z .page .cells) × PathReached (t .found) y
+    shut : (y : ℕ) → PathReached (t .found) y → (y ≡ x) ⊎ (y ∈ t .queue ⊎ Shut (t .found) y)
     count : length (t .queue) + unfound (t .found) ≤ n
 
-  record Looked (x n : ℕ) (hs : List Hop) (t u : Search) : Type 0 where
+  record FoundLooked (x n : ℕ) (hs : List Hop) (t u : Search) : Type 0 where
     inv : Inv x n u
-    all : (h : Hop) → h ∈ hs → T (isOpen (s (h .border))) → Reached (u .found) (h .to)
-    more : (y : ℕ) → Reached (t .found) y → Reached (u .found) y
+    all : (h : Hop) → h ∈ hs → T (isOpen (s (h .border))) → PathReached (u .found) (h .to)
+    more : (y : ℕ) → PathReached (t .found) y → PathReached (u .found) y
 
   -- one cell more is found
   one-found : (f : List Found) (e : Found) (x : ℕ) → T (not (isFound a f (e .cell)))
@@ -123,7 +123,7 @@ module _ (Z : Puzzle) (K : Bordered (Z .page)) (s : ℕ → State) (a : ℕ) (ha
       (ap not (T-true (isFound a (e ∷ f) (e .cell)) (reached-new f e))) in
       omega arith
 
-  visit : (x n : ℕ) (h : Hop) (t : Search) → x < Z .page .cells → Reached (t .found) x → h ∈ Z .page .around x
+  visit : (x n : ℕ) (h : Hop) (t : Search) → x < Z .page .cells → PathReached (t .found) x → h ∈ Z .page .around x
       → Inv x n t → (b : Bool) → isOpen (s (h .border)) && not (isFound a (t .found) (h .to)) ≡ b →
       Inv x n (visitIf b x h t)
   visit x n h t hx fx m i false e = i
@@ -148,7 +148,7 @@ module _ (Z : Puzzle) (K : Bordered (Z .page)) (s : ℕ → State) (a : ℕ) (ha
       d : Found
       d = record { cell = h .to; over = h .border; from = x }
 
-      into : (y : ℕ) → y ∈ t .queue ⊎ y ∈ (h .to ∷ []) → (y < Z .page .cells) × Reached (d ∷ t .found) y
+      into : (y : ℕ) → y ∈ t .queue ⊎ y ∈ (h .to ∷ []) → (y < Z .page .cells) × PathReached (d ∷ t .found) y
       into y (inl k) = let r = i .inq y k in (r .0, reached-old (t .found) d y (r .1))
       into y (inr k) = let q = List·Memᴰ·eq-of-singleton k in rw q (K .hop-in x h hx m, reached-new (t .found) d)
 
@@ -158,36 +158,36 @@ module _ (Z : Puzzle) (K : Bordered (Z .page)) (s : ℕ → State) (a : ℕ) (ha
       old y (inr (inl k)) = inr (inl (Memᴰ·append-left (h .to ∷ []) k))
       old y (inr (inr f)) = inr (inr (λ j k u. reached-old (t .found) d (j .to) (f j k u)))
 
-      cases : (y : ℕ) → (y ≡ h .to) ⊎ Reached (t .found) y
+      cases : (y : ℕ) → (y ≡ h .to) ⊎ PathReached (t .found) y
           → (y ≡ x) ⊎ (y ∈ (t .queue ++ (h .to ∷ [])) ⊎ Shut (d ∷ t .found) y)
       cases y (inl q) = inr (inl (Memᴰ·append-right (t .queue) (List·Memᴰ·head q)))
       cases y (inr k) = old y (i .shut y k)
 
-  visit-more : (x : ℕ) (h : Hop) (t : Search) (b : Bool) (y : ℕ) → Reached (t .found) y
-      → Reached ((visitIf b x h t) .found) y
+  visit-more : (x : ℕ) (h : Hop) (t : Search) (b : Bool) (y : ℕ) → PathReached (t .found) y
+      → PathReached ((visitIf b x h t) .found) y
   visit-more x h t true y k = reached-old (t .found) (record { cell = h .to; over = h .border; from = x }) y k
   visit-more x h t false y k = k
 
   visit-all : (x : ℕ) (h : Hop) (t : Search) (b : Bool)
       → isOpen (s (h .border)) && not (isFound a (t .found) (h .to)) ≡ b → T (isOpen (s (h .border)))
-      → Reached ((visitIf b x h t) .found) (h .to)
+      → PathReached ((visitIf b x h t) .found) (h .to)
   visit-all x h t true e o = reached-new (t .found) (record { cell = h .to; over = h .border; from = x })
   visit-all x h t false e o = go (T-dec (isFound a (t .found) (h .to)))
     where
-      go : Reached (t .found) (h .to) ⊎ T (not (isFound a (t .found) (h .to))) → Reached (t .found) (h .to)
+      go : PathReached (t .found) (h .to) ⊎ T (not (isFound a (t .found) (h .to))) → PathReached (t .found) (h .to)
       go (inl u) = u
       go (inr u) = absurd (rw e at (T-and (isOpen (s (h .border))) (not (isFound a (t .found) (h .to))) o u))
 
-  looked : (x n : ℕ) (hs : List Hop) (t : Search) → x < Z .page .cells → Reached (t .found) x
-      → ((h : Hop) → h ∈ hs → h ∈ Z .page .around x) → Inv x n t → Looked x n hs t (look (Z .page) s a x hs t)
+  looked : (x n : ℕ) (hs : List Hop) (t : Search) → x < Z .page .cells → PathReached (t .found) x
+      → ((h : Hop) → h ∈ hs → h ∈ Z .page .around x) → Inv x n t → FoundLooked x n hs t (look (Z .page) s a x hs t)
   unfolding look
   looked x n [] t hx fx m i = record { inv = i; all = λ h k. absurd (List·Memᴰ·not-nil k); more = λ y k. k }
   looked x n (h ∷ hs) t hx fx m i = go (isOpen (s (h .border)) && not (isFound a (t .found) (h .to))) refl
       (λ u fu iu. looked x n hs u hx fu (λ j k. m j (List·Memᴰ·tail k)) iu)
     where
       go : (b : Bool) → isOpen (s (h .border)) && not (isFound a (t .found) (h .to)) ≡ b →
-          ((u : Search) → Reached (u .found) x → Inv x n u → Looked x n hs u (look (Z .page) s a x hs u))
-          → Looked x n (h ∷ hs) t (look (Z .page) s a x hs (visitIf b x h t))
+          ((u : Search) → PathReached (u .found) x → Inv x n u → FoundLooked x n hs u (look (Z .page) s a x hs u))
+          → FoundLooked x n (h ∷ hs) t (look (Z .page) s a x hs (visitIf b x h t))
       go b e ih = let r = ih (visitIf b x h t) (visit-more x h t b x fx)
           (visit x n h t hx fx (m h (List·Memᴰ·head refl)) i b e) in record {
             inv = r .inv;
@@ -195,25 +195,26 @@ module _ (Z : Puzzle) (K : Bordered (Z .page)) (s : ℕ → State) (a : ℕ) (ha
             more = λ y k. r .more y (visit-more x h t b y k);
           }
         where
-          every : Looked x n hs (visitIf b x h t) (look (Z .page) s a x hs (visitIf b x h t)) → (j : Hop)
+          every : FoundLooked x n hs (visitIf b x h t) (look (Z .page) s a x hs (visitIf b x h t)) → (j : Hop)
               → T (isOpen (s (j .border))) → (j ≡ h) ⊎ j ∈ hs
-              → Reached ((look (Z .page) s a x hs (visitIf b x h t)) .found) (j .to)
+              → PathReached ((look (Z .page) s a x hs (visitIf b x h t)) .found) (j .to)
           every r j o (inl q) = r .more (j .to) (rw q (visit-all x h t b e (rw q at o)))
           every r j o (inr k) = r .all j k o
 
   pub record Searched (f : List Found) : Type 0 where
     pub chain : Chain f
-    pub shut : (y : ℕ) → Reached f y → Shut f y
+    pub shut : (y : ℕ) → PathReached f y → Shut f y
 
-  hunt-empty : (f : List Found) → Chain f → ((y : ℕ) → Reached f y → y ∈ [] ⊎ Shut f y) → Searched f
+  hunt-empty : (f : List Found) → Chain f → ((y : ℕ) → PathReached f y → y ∈ [] ⊎ Shut f y) → Searched f
   hunt-empty f c u = record { chain = c; shut = λ y k. go y (u y k) }
     where
       go : (y : ℕ) → y ∈ [] ⊎ Shut f y → Shut f y
       go y (inl m) = absurd (List·Memᴰ·not-nil m)
       go y (inr g) = g
 
-  hunt-done : (n : ℕ) (q : List ℕ) (f : List Found) → Chain f → ((y : ℕ) → y ∈ q → (y < Z .page .cells) × Reached f y)
-      → ((y : ℕ) → Reached f y → y ∈ q ⊎ Shut f y) → length q + unfound f ≤ n → Searched (hunt (Z .page) s n a q f)
+  hunt-done : (n : ℕ) (q : List ℕ) (f : List Found) → Chain f
+      → ((y : ℕ) → y ∈ q → (y < Z .page .cells) × PathReached f y)
+      → ((y : ℕ) → PathReached f y → y ∈ q ⊎ Shut f y) → length q + unfound f ≤ n → Searched (hunt (Z .page) s n a q f)
   unfolding hunt
   hunt-done zero [] f c i u l = hunt-empty f c u
   hunt-done zero (x ∷ q) f c i u l = absurd (omega arith)
@@ -232,7 +233,7 @@ module _ (Z : Puzzle) (K : Bordered (Z .page)) (s : ℕ → State) (a : ℕ) (ha
           split (inl e) = inl e
           split (inr k) = inr (inl k)
 
-      r : Looked x n (Z .page .around x) t (look (Z .page) s a x (Z .page .around x) t)
+      r : FoundLooked x n (Z .page .around x) t (look (Z .page) s a x (Z .page .around x) t)
       r = looked x n (Z .page .around x) t (i x (List·Memᴰ·head refl) .0) (i x (List·Memᴰ·head refl) .1) (λ h k. k)
           (record {
             chain = c;
@@ -260,22 +261,23 @@ module _ (Z : Puzzle) (K : Bordered (Z .page)) (s : ℕ → State) (a : ℕ) (ha
           (ap not (T-true (isFound a [] a) (reached-start [])))
 
   -- every joined cell is found
-  joined-found : {x y : ℕ} → Reached (hunt (Z .page) s (Z .page .cells) a (a ∷ []) []) x
-      → Joined (Z .page) (joinsBlock Z s) y x → Reached (hunt (Z .page) s (Z .page .cells) a (a ∷ []) []) y
+  joined-found : {x y : ℕ} → PathReached (hunt (Z .page) s (Z .page .cells) a (a ∷ []) []) x
+      → Joined (Z .page) (joinsBlock Z s) y x → PathReached (hunt (Z .page) s (Z .page .cells) a (a ∷ []) []) y
   unfolding joinsBlock
   joined-found k (stay e) = rw (← e) k
   joined-found {x} k (step h m t r) = joined-found (found-all .shut x k h m t) r
 
   -- a setting that contains the path joins its ends
-  traced : (σ : ℕ → State) (f : List Found) (x : ℕ) → Chain f → Reached f x → Contains σ (trace f x) → SameBlock Z σ x a
+  traced : (σ : ℕ → State) (f : List Found) (x : ℕ) → Chain f → PathReached f x → Contains σ (trace f x)
+      → SameBlock Z σ x a
   unfolding trace Contains joinsBlock
   traced σ [] x c k q = stay (reached-nil x k)
   traced σ (e ∷ f) x c k q = go (eqb x (e .cell)) refl q (reached-cases f e x k) (λ k′ q′. traced σ f x (c .1) k′ q′)
       (λ q′. traced σ f (e .from) (c .1) (c .0 .known) q′)
     where
       go : (b : Bool) → eqb x (e .cell) ≡ b → Contains σ (cond b (openAt (e .over) ∷ trace f (e .from)) (trace f x))
-          → (x ≡ e .cell) ⊎ Reached f x →
-          (Reached f x → Contains σ (trace f x) → SameBlock Z σ x a)
+          → (x ≡ e .cell) ⊎ PathReached f x →
+          (PathReached f x → Contains σ (trace f x) → SameBlock Z σ x a)
           → (Contains σ (trace f (e .from)) → SameBlock Z σ (e .from) a) → SameBlock Z σ x a
       go true d q′ w i j = step {x = x} (record { border = e .over; to = e .from })
           (subst (λ (y : ℕ). record { border = e .over; to = e .from } ∈ Z .page .around y)

@@ -21,7 +21,7 @@ use Rattle.rules.specs.Page.{_⊕_, Puzzle, State}
 use Rattle.rules.specs.Rules.{joinsUnit, SameBlock, SameUnit, UnitHas, Congruent, Solution}
 use Rattle.rules.specs.Groups.{members, unitOf}
 use Rattle.laws.specs.PointLaws.{cancel}
-use Rattle.laws.specs.PageLaws.{Bordered, Placed}
+use Rattle.laws.specs.PageLaws.{Bordered, CellsPlaced}
 use Rattle.laws.specs.StateLaws.{not-both}
 use Rattle.laws.specs.RuleLaws.{join-in}
 use Rattle.laws.specs.GroupLaws.{number-joined, joined-number, mem-members, members-lt, members-number}
@@ -72,7 +72,7 @@ module _ (Z : Puzzle) (K : Bordered (Z .page)) (s : ℕ → State) where
   same-unit-size x y h j = ap (λ k. length (unitCells Z s k)) (joined-number (Z .page) K (joinsUnit Z s) h j)
 
 -- what a solution has
-module _ (Z : Puzzle) (K : Bordered (Z .page)) (P : Placed (Z .page)) (σ : ℕ → State) where
+module _ (Z : Puzzle) (K : Bordered (Z .page)) (P : CellsPlaced (Z .page)) (σ : ℕ → State) where
   pub congruent-size : (x y : ℕ) → x < Z .page .cells → y < Z .page .cells → Congruent Z σ x y
       → unitSize Z σ x ≡ unitSize Z σ y
   unfolding unitSize

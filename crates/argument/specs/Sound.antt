@@ -28,7 +28,7 @@ use Rattle.rules.specs.Rules.{joinsBlock, SameBlock, Solution}
 use Rattle.rules.specs.Groups.{blockOf, potentialOf}
 use Rattle.rules.specs.Check.{Reason, isSome, clash, blockClue, insideBlock, edgeOf, sizeOf, coloured, strayFrom}
 use Rattle.rules.specs.Check.{cellHit, cellHits, smallHit, bigHit, clueHit, blockHitOn, blockHit}
-use Rattle.laws.specs.PageLaws.{Bordered, Placed}
+use Rattle.laws.specs.PageLaws.{Bordered, CellsPlaced}
 use Rattle.laws.specs.StateLaws.{contains-l, contains-r}
 use Rattle.laws.specs.RuleLaws.{join-trans, join-in, join-sym}
 use Rattle.laws.specs.GroupLaws.{number-joined, mem-members, members-lt, members-number, members-distinct, blockCells}
@@ -42,7 +42,7 @@ unfoldable pub Sound : Puzzle → Reason → Type 0
 Sound Z r = (σ : ℕ → State) → Solution Z σ → Contains σ r → ⊥
 
 -- what a board and a solution that contains Inside or Edge have
-module _ (Z : Puzzle) (K : Bordered (Z .page)) (P : Placed (Z .page)) (s : ℕ → State) where
+module _ (Z : Puzzle) (K : Bordered (Z .page)) (P : CellsPlaced (Z .page)) (s : ℕ → State) where
   -- two cells of B are in one block of the solution
   pub block-of : (σ : ℕ → State) (B x y : ℕ) → Contains σ (insideBlock Z s B) → x ∈ blockCells Z s B
       → y ∈ blockCells Z s B → SameBlock Z σ x y

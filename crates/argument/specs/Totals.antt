@@ -12,7 +12,7 @@ use native.Mathlib.Nat.{mul-add}
 use native.Mathlib.Omega.{arith}
 use lib.Dec.{eqb, eqb→eq}
 use lib.ListN.{length, length-append}
-use Rattle.lists.specs.Lists.{_∈_, keep, filter, flatMap, Distinct}
+use Rattle.lists.specs.Lists.{_∈_, keepIf, filter, flatMap, Distinct}
 
 abbrev pub ofGroup : (ℕ → ℕ) → List ℕ → ℕ → List ℕ
 ofGroup number xs k = filter (λ x. eqb (number x) k) xs
@@ -33,7 +33,7 @@ no-more number [] xs x h = refl
 no-more number (k ∷ ks) xs x h = go (eqb (number x) k) refl (no-more number ks xs x (λ m. h (List·Memᴰ·tail m)))
   where
     go : (b : Bool) → eqb (number x) k ≡ b → total number (x ∷ xs) ks ≡ total number xs ks
-        → length (keep b x (ofGroup number xs k)) + total number (x ∷ xs) ks
+        → length (keepIf b x (ofGroup number xs k)) + total number (x ∷ xs) ks
         ≡ length (ofGroup number xs k) + total number xs ks
     go true e q = absurd (h (List·Memᴰ·head (eqb→eq (number x) k (rw e tt))))
     go false e q = omega arith
@@ -45,7 +45,7 @@ one-more number (k ∷ ks) xs x d = go (eqb (number x) k) refl (one-more number 
   where
     go : (b : Bool) → eqb (number x) k ≡ b → total number (x ∷ xs) ks ≤ suc (total number xs ks)
         → ((number x ∈ ks → ⊥) → total number (x ∷ xs) ks ≡ total number xs ks)
-        → length (keep b x (ofGroup number xs k)) + total number (x ∷ xs) ks ≤ suc
+        → length (keepIf b x (ofGroup number xs k)) + total number (x ∷ xs) ks ≤ suc
         (length (ofGroup number xs k) + total number xs ks)
     go true e h q = let u = q (λ m. d .0 (subst (λ (j : ℕ). j ∈ ks) (eqb→eq (number x) k (rw e tt)) m)) in omega arith
     go false e h q = omega arith

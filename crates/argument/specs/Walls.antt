@@ -10,7 +10,7 @@ use Rattle.rules.specs.Rules.{joinsBlock}
 use Rattle.rules.specs.Groups.{blockOf}
 use Rattle.rules.specs.Reasons.{path}
 use Rattle.rules.specs.Check.{wallHit, wallHits}
-use Rattle.laws.specs.PageLaws.{Bordered, Placed}
+use Rattle.laws.specs.PageLaws.{Bordered, CellsPlaced}
 use Rattle.laws.specs.StateLaws.{contains-l, contains-r, has}
 use Rattle.laws.specs.RuleLaws.{join-sym}
 use Rattle.laws.specs.GroupLaws.{number-joined}
@@ -18,7 +18,7 @@ use Rattle.argument.specs.Hits.{Each, each-hit, each-first}
 use Rattle.argument.specs.Sound.{Sound}
 use Rattle.argument.specs.Paths.{path-joins}
 
-module _ (Z : Puzzle) (K : Bordered (Z .page)) (P : Placed (Z .page)) (s : ℕ → State) where
+module _ (Z : Puzzle) (K : Bordered (Z .page)) (P : CellsPlaced (Z .page)) (s : ℕ → State) where
   sound-wall : (x : ℕ) (h : Hop) → x < Z .page .cells → h ∈ Z .page .ahead x → Each (Sound Z) (wallHit Z s x h)
   unfolding wallHit Sound
   sound-wall x h hx m = each-hit (Sound Z) _ _ (λ t σ sol c.

@@ -27,11 +27,11 @@ use Rattle.laws.specs.PageLaws.{Bordered}
 use Rattle.laws.specs.PointLaws.{add-assoc, add-comm, add-opposite, add-origin, origin}
 use Rattle.laws.specs.TurnLaws.{apply-keep}
 use Rattle.laws.specs.FlatPage.{flat-bordered}
-use Rattle.argument.specs.Boards.{pair}
+use Rattle.argument.specs.Boards.{pairPuzzle}
 
 -- 1×2, 01, the clue 1 at (0,0)
 abbrev pub small : Puzzle
-small = pair (pos 1 ∷ negsuc 0 ∷ [])
+small = pairPuzzle (pos 1 ∷ negsuc 0 ∷ [])
 
 abbrev pub opened : ℕ → State
 opened = states (openAt 0 ∷ [])

@@ -10,11 +10,11 @@ use lib.IntN.{ℤ}
 use Rattle.rules.specs.declared.Literal.{Literal}
 use Rattle.board.specs.declared.Board.{Board}
 use Rattle.board.specs.declared.Outcome.the-variants.{Done}
-use Rattle.board.specs.Board.{freshOf, decideOf, Small}
+use Rattle.board.specs.Board.{freshOf, decideOf, SmallClues}
 
 -- "A puzzle is accepted if making its board is not refused"; clues are numbers of 32 bits, as the code takes them
 pub record Accepted (h w : ℕ) (cs : List ℕ) (ks : List ℤ) : Type 0 where
-  pub small : Small ks
+  pub small : SmallClues ks
   pub made : freshOf h w cs ks .outcome ≡ Done
 
 abbrev pub madeBoard : ℕ → ℕ → List ℕ → List ℤ → Board

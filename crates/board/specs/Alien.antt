@@ -16,13 +16,13 @@
 --   zerosFrom l from        the places of l from `from` on are 0
 --   clueZero k              k is 0
 --   zeroCluesFrom ks from   the clues from `from` on are 0
---   cellsIn n cs ks         the colours and the clues of n cells are right
+--   puzzleRight n cs ks     the colours and the clues of n cells are right
 --   decisionsIn m bs s k    the k entries of the stack s are exactly the decided of m borders, each once
 --   unusedIn n m cs ks bs s k   the places that n cells, m borders and k entries do not use are 0
 --   cellCountOf b, borderCountOf b   how many cells and borders the page of a board has
 --   cellsRight b, decisionsRight b, unusedZero b   the three of a board
 --   boardOf h w cs ks bs st n   the board with these arrays
---   boardWith b bs st n   the board b with these borders, this stack and this count
+--   boardWith b bs st n     the board b with these borders, this stack and this count
 --   isAlien b               decides and undos cannot produce b from a fresh board; crate reach has the proof
 use mathlib.Core.Path.{_≡_}
 use mathlib.Core.Bool.{Bool, false, not, cond, _&&_, Bool·beq}
@@ -93,8 +93,8 @@ unfoldable pub zeroCluesFrom : List ℤ → ℕ → Bool
 zeroCluesFrom ks from = allBetween from (length ks) (λ i. clueZero (getD ks i (pos 0)))
 
 -- "a bad height, width, colour or clue in one is 5"
-unfoldable pub cellsIn : ℕ → List ℕ → List ℤ → Bool
-cellsIn n cs ks = coloursRight cs n && cluesRight ks n
+unfoldable pub puzzleRight : ℕ → List ℕ → List ℤ → Bool
+puzzleRight n cs ks = coloursRight cs n && cluesRight ks n
 
 -- "the stack of decided borders"
 unfoldable pub decisionsIn : ℕ → List ℕ → List ℕ → ℕ → Bool
@@ -112,7 +112,7 @@ abbrev pub borderCountOf : Board → ℕ
 borderCountOf b = borderCount (b .height) (b .width)
 
 abbrev pub cellsRight : Board → Bool
-cellsRight b = cellsIn (cellCountOf b) (b .colours) (b .clues)
+cellsRight b = puzzleRight (cellCountOf b) (b .colours) (b .clues)
 
 abbrev pub decisionsRight : Board → Bool
 decisionsRight b = decisionsIn (borderCountOf b) (b .borders) (b .stack) (b .count)

@@ -14,7 +14,7 @@
 --   countAfter o n   the count of a board after a decide with the outcome o, where it was n
 --   undoRefusal n    how an undo ends, where the stack has n borders: refused, or done
 --   undoOf b         what an undo returns
---   Small ks         the clues fit 32 bits
+--   SmallClues ks    the clues fit 32 bits
 --   Typed b          what every value of the code's type Board has
 use mathlib.Core.Path.{_≡_}
 use mathlib.Core.Bool.{true, cond, _&&_}
@@ -110,8 +110,8 @@ undoRefusal n = cond (eqb n 0) Bare Done
 unfoldable pub undoOf : Board → Returned
 undoOf b = cond (isAlien b) (returned Alien b) (endedBy b (popped b) (undoRefusal (b .count)))
 
-abbrev pub Small : List ℤ → Type 0
-Small ks = (i : ℕ) → leZ (getD ks i (pos 0)) (pos 2147483647) ≡ true
+abbrev pub SmallClues : List ℤ → Type 0
+SmallClues ks = (i : ℕ) → leZ (getD ks i (pos 0)) (pos 2147483647) ≡ true
 
 -- the lengths of its arrays, and clues of 32 bits
 pub record Typed (b : Board) : Type 0 where
@@ -119,4 +119,4 @@ pub record Typed (b : Board) : Type 0 where
   pub clues : length (b .clues) ≡ 1024
   pub borders : length (b .borders) ≡ 1984
   pub stack : length (b .stack) ≡ 1984
-  pub small : Small (b .clues)
+  pub small : SmallClues (b .clues)

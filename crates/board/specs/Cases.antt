@@ -17,13 +17,13 @@ use Rattle.board.specs.declared.Outcome.{Outcome}
 use Rattle.board.specs.declared.Outcome.the-variants.{Done, Size, Ragged, Colour, Clue}
 use Rattle.board.specs.declared.Outcome.the-variants.{Alien, Border, Taken, Bare}
 use Rattle.board.specs.Alien.{sizeRight, coloursRight, cluesRight, entriesRight, onceEach, borderRight}
-use Rattle.board.specs.Alien.{bordersRight, bordersBy, Flags, zerosFrom, zeroCluesFrom, cellsIn}
+use Rattle.board.specs.Alien.{bordersRight, bordersBy, Flags, zerosFrom, zeroCluesFrom, puzzleRight}
 use Rattle.board.specs.Alien.{decisionsIn, unusedIn, cellCountOf, borderCountOf, isAlien}
 use Rattle.board.specs.Board.{numberOf, zeroBoard, freshBoard, returned, puzzleRefusal, freshOf, pushed, popped}
 use Rattle.board.specs.Board.{decideRefusal, decideOf, undoRefusal, undoOf}
 
 -- a puzzle whose board can be made, where the page has n cells
-pub record Fit (n : ℕ) (cs : List ℕ) (ks : List ℤ) : Type 0 where
+pub record PuzzleFit (n : ℕ) (cs : List ℕ) (ks : List ℤ) : Type 0 where
   pub colours : length cs ≡ n
   pub clues : length ks ≡ n
   pub colour : coloursRight cs n ≡ true
@@ -31,12 +31,12 @@ pub record Fit (n : ℕ) (cs : List ℕ) (ks : List ℤ) : Type 0 where
 
 -- ---- the alien test
 module _ (n : ℕ) (cs : List ℕ) (ks : List ℤ) where
-  pub cells-colours : coloursRight cs n ≡ false → false ≡ cellsIn n cs ks
-  unfolding cellsIn
+  pub cells-colours : coloursRight cs n ≡ false → false ≡ puzzleRight n cs ks
+  unfolding puzzleRight
   cells-colours r = rw r
 
-  pub cells-clues : (a : Bool) → coloursRight cs n ≡ true → a ≡ cluesRight ks n → a ≡ cellsIn n cs ks
-  unfolding cellsIn
+  pub cells-clues : (a : Bool) → coloursRight cs n ≡ true → a ≡ cluesRight ks n → a ≡ puzzleRight n cs ks
+  unfolding puzzleRight
   cells-clues a r s = rw r s
 
 module _ (m : ℕ) (bs st : List ℕ) (count : ℕ) where
@@ -88,11 +88,11 @@ module _ (b : Board) where
   -- where its page has n cells and m borders
   module _ (p : sizeRight (b .height) (b .width) ≡ true) (n m : ℕ) (q : n ≡ cellCountOf b)
       (r : m ≡ borderCountOf b) where
-    pub alien-cells : cellsIn n (b .colours) (b .clues) ≡ false → true ≡ isAlien b
+    pub alien-cells : puzzleRight n (b .colours) (b .clues) ≡ false → true ≡ isAlien b
     unfolding isAlien
     alien-cells s = rw (p, ← q, s)
 
-    module _ (s : cellsIn n (b .colours) (b .clues) ≡ true) where
+    module _ (s : puzzleRight n (b .colours) (b .clues) ≡ true) where
       pub alien-decisions : decisionsIn m (b .borders) (b .stack) (b .count) ≡ false → true ≡ isAlien b
       unfolding isAlien
       alien-decisions t = rw (p, ← q, s, ← r, t)
@@ -209,12 +209,12 @@ module _ (n : ℕ) (cs : List ℕ) (ks : List ℤ) where
         puzzle-none u = rw (eq-eqb (length cs) n r, eq-eqb (length ks) n s, t, u)
 
   -- a puzzle that is not refused
-  pub puzzle-free : numberOf (puzzleRefusal n cs ks) ≡ 0 → Fit n cs ks
+  pub puzzle-free : numberOf (puzzleRefusal n cs ks) ≡ 0 → PuzzleFit n cs ks
   unfolding puzzleRefusal
   puzzle-free = go (ℕ-discrete (length cs) n) (ℕ-discrete (length ks) n) (coloursRight cs n) (cluesRight ks n) refl refl
     where
       go : Dec (length cs ≡ n) → Dec (length ks ≡ n) → (c k : Bool) → coloursRight cs n ≡ c → cluesRight ks n ≡ k
-          → numberOf (puzzleRefusal n cs ks) ≡ 0 → Fit n cs ks
+          → numberOf (puzzleRefusal n cs ks) ≡ 0 → PuzzleFit n cs ks
       go (no y) z c k p q e = absurd (let v : 2 ≡ 0 = ap numberOf (puzzle-colours y) ∙ e in omega arith)
       go (yes y) (no z) c k p q e = absurd (let v : 2 ≡ 0 = ap numberOf (puzzle-clues y z) ∙ e in omega arith)
       go (yes y) (yes z) false k p q e =

@@ -25,7 +25,7 @@ use Rattle.board.specs.Board.{numberOf, returned, pushed, popped, decide
 use Rattle.board.specs.ConditionLaws.{stacked-more}
 use Rattle.board.specs.Cases.{refusal-free, decide-alien, decide-refused, decide-done}
 use Rattle.board.specs.Cases.{undo-alien, undo-bare, undo-done}
-use Rattle.board.specs.NativeLaws.{Native, native-has, native-of, borders-fit, free-unstacked, room}
+use Rattle.board.specs.NativeLaws.{Native, native-has, native-of, borders-fit, free-unstacked, stack-room}
 
 pub side-code : (d : Side) → (1 ≤ codeOf d) × (codeOf d ≤ 2)
 side-code Wall = (omega arith, omega arith)
@@ -117,7 +117,7 @@ module _ (b : Board) (N : Native b) (T : Typed b) (n v : ℕ) (k : n < borderCou
   s = set (b .stack) (b .count) n
 
   place : b .count < length (b .stack)
-  place = omega (arith, room b N n k p, borders-fit b N, T .stack)
+  place = omega (arith, stack-room b N n k p, borders-fit b N, T .stack)
 
   index : n < length (b .borders)
   index = omega (arith, borders-fit b N, T .borders)
@@ -137,7 +137,7 @@ module _ (b : Board) (N : Native b) (T : Typed b) (n v : ℕ) (k : n < borderCou
         size = N .size;
         colour = N .colour;
         clue = N .clue;
-        few = omega (arith, room b N n k p);
+        few = omega (arith, stack-room b N n k p);
         entry = λ i h. entry i h (ℕ-discrete i (b .count));
         once = λ i h. once i h (ℕ-discrete i (b .count));
         code = λ x h. code x h (ℕ-discrete x n);

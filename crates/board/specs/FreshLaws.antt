@@ -18,9 +18,10 @@ use Rattle.board.specs.declared.Outcome.{Outcome}
 use Rattle.board.specs.declared.Outcome.the-variants.{Done}
 use Rattle.board.specs.declared.Returned.{Returned}
 use Rattle.board.specs.Alien.{sizeRight, coloursRight, clueRight, cluesRight, isAlien}
-use Rattle.board.specs.Board.{numberOf, zeroBoard, freshBoard, returned, puzzleRefusal, freshOf, Small, Typed}
+use Rattle.board.specs.Board.{numberOf, zeroBoard, freshBoard, returned, puzzleRefusal, freshOf, SmallClues}
+use Rattle.board.specs.Board.{Typed}
 use Rattle.board.specs.ConditionLaws.{sized, stacked-none}
-use Rattle.board.specs.Cases.{Fit, puzzle-free, fresh-size, fresh-refused, fresh-free, alien-size}
+use Rattle.board.specs.Cases.{PuzzleFit, puzzle-free, fresh-size, fresh-refused, fresh-free, alien-size}
 use Rattle.board.specs.NativeLaws.{Native, native-of}
 use Rattle.board.specs.DecideLaws.{one-number}
 
@@ -32,7 +33,7 @@ zero-alien = sym (alien-size zeroBoard refl)
 -- making a board of that puzzle gave d
 pub record Made (h w : ℕ) (cs : List ℕ) (ks : List ℤ) (d : Board) : Type 0 where
   pub size : Sized h w
-  pub fit : Fit (h * w) cs ks
+  pub fit : PuzzleFit (h * w) cs ks
   pub is : d ≡ freshBoard h w cs ks
 
 pub made-is : {h w : ℕ} {cs : List ℕ} {ks : List ℤ} {d : Board} → freshOf h w cs ks ≡ returned Done d → Made h w cs ks d
@@ -81,7 +82,7 @@ module _ {h w : ℕ} {cs : List ℕ} {ks : List ℤ} {d : Board} (M : Made h w c
   pub made-keeps : isAlien d ≡ false
   made-keeps = ap isAlien (M .is) ∙ native-of _ fresh-native
 
-  pub made-typed : Small ks → Typed d
+  pub made-typed : SmallClues ks → Typed d
   made-typed s =
       let c = counts (M .size) in
       let p = M .fit .colours in

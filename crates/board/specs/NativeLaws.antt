@@ -18,7 +18,7 @@ use Rattle.rules.specs.Flat.{Sized}
 use Rattle.laws.specs.FlatLaws.{counts, borders-le}
 use Rattle.board.specs.declared.Board.{Board}
 use Rattle.board.specs.Alien.{sizeRight, coloursRight, clueRight, cluesRight, stacked, entriesRight, onceEach}
-use Rattle.board.specs.Alien.{borderRight, bordersRight, zerosFrom, clueZero, zeroCluesFrom, cellsIn}
+use Rattle.board.specs.Alien.{borderRight, bordersRight, zerosFrom, clueZero, zeroCluesFrom, puzzleRight}
 use Rattle.board.specs.Alien.{decisionsIn, unusedIn, cellCountOf, borderCountOf, cellsRight, decisionsRight}
 use Rattle.board.specs.Alien.{unusedZero, isAlien}
 use Rattle.board.specs.Board.{numberOf, decideRefusal}
@@ -83,7 +83,7 @@ module _ (b : Board) where
 
   has-cells : sizeRight (b .height) (b .width) ≡ true → cellsRight b ≡ true → decisionsRight b ≡ true
       → unusedZero b ≡ true → Native b
-  unfolding cellsIn decisionsIn unusedIn coloursRight cluesRight entriesRight onceEach bordersRight cells m
+  unfolding puzzleRight decisionsIn unusedIn coloursRight cluesRight entriesRight onceEach bordersRight cells m
   has-cells s c d u =
       let few : Bool = leb (b .count) m in
       let entries : Bool = entriesRight (b .stack) m (b .count) in
@@ -142,7 +142,7 @@ module _ (b : Board) where
 
   module _ (N : Native b) where
     cells-hold : cellsRight b ≡ true
-    unfolding cellsIn coloursRight cluesRight
+    unfolding puzzleRight coloursRight cluesRight
     cells-hold =
         rw (
           all-every (cellCountOf b) (λ i. leb (getD (b .colours) i 0) 1)
@@ -208,9 +208,9 @@ module _ (b : Board) (N : Native b) where
       not-true (stacked (b .stack) (b .count) x) (sym (N .held x h) ∙ eq-eqb (getD (b .borders) x 0) 0 p)
 
   -- and leaves room for one more entry
-  pub room : (x : ℕ) → x < borderCountOf b → getD (b .borders) x 0 ≡ 0
+  pub stack-room : (x : ℕ) → x < borderCountOf b → getD (b .borders) x 0 ≡ 0
       → b .count < borderCountOf b
-  room x h p =
+  stack-room x h p =
       omega (
         arith,
         stack-counts (b .count) (omega arith),
@@ -223,7 +223,7 @@ module _ (b : Board) (N : Native b) where
   free-places n e =
       let f = refusal-free (borderCountOf b) (b .borders) n e in
       let k = borders-fit in
-      (omega (arith, f .0), omega (arith, room n (f .0) (f .1)))
+      (omega (arith, f .0), omega (arith, stack-room n (f .0) (f .1)))
 
   -- the undecided borders are those that are not on the stack
   pub free-count : countBelow (borderCountOf b) (λ x. eqb (getD (b .borders) x 0) 0)

@@ -28,7 +28,7 @@ use Rattle.board.specs.ViewLaws.{names-decided, decided-puzzle, undone-p
 use Rattle.board.specs.LiteralLaws.{pushed-literals, literals-undone}
 
 -- the board d keeps what the next call needs
-pub record Kept (b d : Board) : Type 0 where
+pub record BoardKept (b d : Board) : Type 0 where
   pub known : isAlien d ≡ false
   pub typed : Typed d
   pub puzzle : puzzleOf d ≡ puzzleOf b
@@ -71,7 +71,7 @@ module _ (b : Board) (t : isAlien b ≡ false) where
           go false true p q = refl
           go false false p q = refl
 
-      pub decide-kept : Kept b (decideOf b l .board)
+      pub decide-kept : BoardKept b (decideOf b l .board)
       unfolding decideOf decideRefusal
       decide-kept =
           rw t (go (ltb (l .border) m) (eqb (getD (b .borders) (l .border) 0) 0) refl refl)
@@ -79,11 +79,12 @@ module _ (b : Board) (t : isAlien b ≡ false) where
           m : ℕ
           m = borderCountOf b
 
-          same : Kept b b
+          same : BoardKept b b
           same = record { known = t; typed = T; puzzle = refl }
 
           go : (x y : Bool) → ltb (l .border) m ≡ x → eqb (getD (b .borders) (l .border) 0) 0 ≡ y
-              → Kept b (endedBy b (pushed b (l .border) (codeOf (l .side))) (cond x (cond y Done Taken) Border) .board)
+              → BoardKept b (endedBy b (pushed b (l .border) (codeOf (l .side))) (cond x (cond y Done Taken) Border)
+              .board)
           go true true p q =
               let e =
               sym (decide-done b l t (ltb-true (l .border) m p) (eqb-true (getD (b .borders) (l .border) 0) 0 q)) in
@@ -127,10 +128,10 @@ module _ (b : Board) (t : isAlien b ≡ false) where
       go (yes h) = rw (← (undo-bare b t h), none h)
       go (no h) = rw (← (undo-done b t h)) (literals-undone b (sym (undo-done b t h)))
 
-  pub undo-kept : Typed b → Kept b (undoOf b .board)
+  pub undo-kept : Typed b → BoardKept b (undoOf b .board)
   undo-kept T = go (ℕ-discrete (b .count) 0)
     where
-      go : Dec (b .count ≡ 0) → Kept b (undoOf b .board)
+      go : Dec (b .count ≡ 0) → BoardKept b (undoOf b .board)
       go (yes h) = rw (← (undo-bare b t h)) (record { known = t; typed = T; puzzle = refl })
       go (no h) =
           let e = sym (undo-done b t h) in

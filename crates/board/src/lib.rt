@@ -5,7 +5,7 @@ ghost use lib.ListN.{getD};
 ghost use Rattle.rules.specs.Codes.{codeOf};
 ghost use Rattle.board.specs.Board.{numberOf, zeroBoard, returned, freshOf};
 ghost use Rattle.board.specs.Board.{pushed, popped, decideOf, countAfter, undoOf};
-ghost use Rattle.board.specs.Alien.{sizeRight, cellsOf, bordersOf, cellsIn, decisionsIn, unusedIn, boardOf};
+ghost use Rattle.board.specs.Alien.{sizeRight, cellsOf, bordersOf, puzzleRight, decisionsIn, unusedIn, boardOf};
 ghost use Rattle.board.specs.Alien.{isAlien};
 use rules::Literal;
 use rules::Side;
@@ -123,7 +123,7 @@ fn cells_right<'a>(
     clues: &'a [i32; Board::CELL_LIMIT],
 ) -> bool
     requires { ⌜ cells ≤ 1024 ⌝ }
-    ensures { λ r. ⌜ r ≡ cellsIn cells (now (colours .entry)) (now (clues .entry)) ⌝ }
+    ensures { λ r. ⌜ r ≡ puzzleRight cells (now (colours .entry)) (now (clues .entry)) ⌝ }
 {
     if conditions::colours_right(colours, cells) {
         conditions::clues_right(clues, cells)

@@ -1,8 +1,8 @@
 -- What the search for a hit finds over a board's arrays is the answer of a check.
 --
 --   drawn-of, stack-few, left-free   what the search and the count of a pass need of a board that is not alien
---   same-found          what Check gives of a board is what it gives of the board's arrays
---   nothing-found, reason-found   what the search found, as the answer of a check
+--   same-found                       what Check gives of a board is what it gives of the board's arrays
+--   nothing-found, reason-found      what the search found, as the answer of a check
 use mathlib.Core.Path.{_≡_, refl, sym, ap, _∙_}
 use mathlib.Core.Bool.{false}
 use mathlib.Core.List.{List}
@@ -19,9 +19,9 @@ use Rattle.board.specs.View.{puzzleOf, statesOf}
 use Rattle.board.specs.ConditionLaws.{borders-of}
 use Rattle.board.specs.NativeLaws.{native-has}
 use Rattle.board.specs.ViewLaws.{undecided-is}
-use Rattle.search.specs.Placing.{Drawn}
-use Rattle.hits.specs.declared.Found.the-variants.{Nothing, Reason as Given}
-use Rattle.hits.specs.Found.{foundOf, writtenBy, Answers}
+use Rattle.groups.specs.Pages.{Drawn}
+use Rattle.steps.specs.declared.Found.the-variants.{Nothing, Reason as Given}
+use Rattle.steps.specs.Found.{foundOf, writtenBy, Answers}
 use Rattle.calls.specs.declared.Answer.the-variants.{Pass, Conflict}
 use Rattle.calls.specs.Answers.{asAnswer, written}
 use Rattle.calls.specs.Known.{foundIn}

@@ -9,8 +9,8 @@ ghost use Rattle.calls.specs.Known.{KnownBoard, foundIn};
 use board::Board;
 use board::Outcome;
 use board::Returned;
-use hits::Found;
 use rules::Call;
+use steps::Found;
 
 // What a call answers: done, a pass with the count of undecided borders, a conflict with the count of literals of its
 // reason, or refused.
@@ -70,7 +70,7 @@ pub fn answer_known<'a>(
     // as slices, so that the proof knows their lengths
     let cells: &[u8] = colours;
     let states: &[u8] = borders;
-    let found = hits::find(h, w, colours, clues, borders, memory);
+    let found = steps::find(h, w, colours, clues, borders, memory);
     match found {
         Found::Nothing => Answer::Pass(board::border_count(h, w) - count),
         Found::Reason(n) => Answer::Conflict(n),

@@ -1,6 +1,6 @@
 -- Demand 3: a single claim about an accepted puzzle and a whole list of calls on its board.
 --
---   Standing start Z ls b   the board b is start with exactly the literals ls decided, of the puzzle Z
+--   Standing start Z ls b       the board b is start with exactly the literals ls decided, of the puzzle Z
 --   Answered start calls b f    somewhere in the list a check was answered with f, on the board b
 --   HandedOut start calls b r   somewhere in the list the reason r was handed out, on the board b
 --   RuledOut start calls σ      σ contains all literals of some reason handed out in the list

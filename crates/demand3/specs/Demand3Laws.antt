@@ -3,8 +3,8 @@
 --   answered-book, answered-run   what a check of the run answers is what the book answers, and back
 --   ruled-book, ruled-run         a setting is ruled out by the run exactly if it is by the book
 --   stood-book, stood-run         a setting stood at a check of the run exactly if it did in the book
---   from-book           demand 3 for the book gives demand 3 for the run
---   demand3             the claim, for every accepted puzzle and every list
+--   from-book                     demand 3 for the book gives demand 3 for the run
+--   demand3                       the claim, for every accepted puzzle and every list
 use mathlib.Core.Path.{_≡_, refl, ap, sym, subst, _∙_}
 use mathlib.Core.Logic.{_↔_}
 use mathlib.Core.List.{List, [], _∷_, _++_, map, map-append, append-assoc}

@@ -35,8 +35,8 @@ cs = 0 ∷ 1 ∷ []
 abbrev ks : List ℤ
 ks = pos 1 ∷ negsuc 0 ∷ []
 
-abbrev pub start : Board
-start = madeBoard 1 2 cs ks
+abbrev pub witnessBoard : Board
+witnessBoard = madeBoard 1 2 cs ks
 
 accepted : Accepted 1 2 cs ks
 unfolding all freshOf puzzleRefusal sizeRight coloursRight cluesRight allBelow
@@ -84,21 +84,21 @@ book-stood d =
     }
 
 module _ (m : List ℕ) (p : length m ≡ 16384) where
-  pub side-stood : (d : Side) → StoodAt start (deciding d m) (setting d) (found d)
+  pub side-stood : (d : Side) → StoodAt witnessBoard (deciding d m) (setting d) (found d)
   side-stood d =
-      stood-run start (start-bare 1 2 cs ks accepted) (deciding d m) (setting d) (found d)
+      stood-run witnessBoard (start-bare 1 2 cs ks accepted) (deciding d m) (setting d) (found d)
       (subst (λ (Z : Puzzle). BookStoodAt Z (asked d (length m)) (setting d) (found d))
       (sym (start-puzzle 1 2 cs ks accepted))
       (subst (λ n. BookStoodAt (puzzleIn 1 2 cs ks) (asked d n) (setting d) (found d)) (sym p) (book-stood d)))
 
   pub record RunWitness : Type 0 where
-    pub open-stood : StoodAt start (deciding Open m) (setting Open) (found Open)
+    pub open-stood : StoodAt witnessBoard (deciding Open m) (setting Open) (found Open)
     pub open-passed : Passes (found Open)
-    pub wall-stood : StoodAt start (deciding Wall m) (setting Wall) (found Wall)
-    pub wall-ruled : RuledOut start (deciding Wall m) (setting Wall)
+    pub wall-stood : StoodAt witnessBoard (deciding Wall m) (setting Wall) (found Wall)
+    pub wall-ruled : RuledOut witnessBoard (deciding Wall m) (setting Wall)
 
-  pub witness : RunWitness
-  witness =
+  pub run-witness : RunWitness
+  run-witness =
       let D = demand3 1 2 cs ks accepted in
       let s = side-stood Open in
       let t = side-stood Wall in

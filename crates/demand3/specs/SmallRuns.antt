@@ -36,7 +36,7 @@ use Rattle.rules.specs.Book.{Asked, ask, Reply, refused, done, answered, states
 use Rattle.rules.specs.Book.{decideAfter, replyTo, afterCall, repliesFrom, replies}
 use Rattle.board.specs.declared.Outcome.the-variants.{Done}
 use Rattle.board.specs.Alien.{sizeRight, coloursRight, cluesRight}
-use Rattle.board.specs.Board.{puzzleRefusal, freshOf, Small}
+use Rattle.board.specs.Board.{puzzleRefusal, freshOf, SmallClues}
 use Rattle.board.specs.Accepted.{madeBoard}
 use Rattle.demand3.specs.Runs.{lend, askedBy, toldBy, runFrom}
 use Rattle.demand3.specs.Demand3Laws.{demand3}
@@ -49,7 +49,7 @@ asked-lent : (m : List ℕ) (calls : List Call) → map askedBy (map (lend m) ca
 asked-lent m [] = refl
 asked-lent m (c ∷ calls) = ap (λ (asked : List Asked). ask (length m) c ∷ asked) (asked-lent m calls)
 
-pub small-clues : (ks : List ℤ) → all (λ k. leZ k (pos 2147483647)) ks ≡ true → Small ks
+pub small-clues : (ks : List ℤ) → all (λ k. leZ k (pos 2147483647)) ks ≡ true → SmallClues ks
 unfolding all
 small-clues [] e i = refl
 small-clues (k ∷ ks) e zero = and-left (leZ k (pos 2147483647)) (all (λ j. leZ j (pos 2147483647)) ks) e

@@ -9,7 +9,7 @@ use mathlib.Core.List.{List}
 use Prim.Native.Nat.{ℕ, _<_, _≤_}
 use lib.ListN.{length, getD}
 use Rattle.groups.specs.Forests.{Forest}
-use Rattle.groups.specs.Parts.{sizeOf}
+use Rattle.groups.specs.Parts.{sizeAmong}
 
 pub record Blank (N n : ℕ) (l : List ℕ) : Type 0 where
   pub long : length l ≡ N
@@ -22,7 +22,7 @@ pub record Stored (n : ℕ) (f : ℕ → ℕ) (l m : List ℕ) : Type 0 where
 
 pub record Ranked (n : ℕ) (f : ℕ → ℕ) (p : List ℕ) : Type 0 where
   pub forest : Forest p
-  pub at : (x : ℕ) → x < n → getD p x 0 ≡ sizeOf x f (f x)
+  pub at : (x : ℕ) → x < n → getD p x 0 ≡ sizeAmong x f (f x)
 
 pub record Numbering (n count : ℕ) (ids : List ℕ) : Type 0 where
   pub few : count ≤ n

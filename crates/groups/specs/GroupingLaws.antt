@@ -18,8 +18,8 @@ use Rattle.groups.specs.Grouping.{Filled, Vacant}
 use Rattle.groups.specs.NumberLaws.{blank-set}
 
 -- the numbers' section starts at 0
-pub number-at : (g : List ℕ) (x : ℕ) → x < 1024 → getD g x 0 ≡ getD (numbersIn g) x 0
-number-at g x h = front-at 1024 g x h
+pub grouping-number : (g : List ℕ) (x : ℕ) → x < 1024 → getD g x 0 ≡ getD (numbersIn g) x 0
+grouping-number g x h = front-at 1024 g x h
 
 pub number-set : (g : List ℕ) (x v : ℕ) → x < 1024 → numbersIn (set g x v) ≡ set (numbersIn g) x v
 number-set g x v h = front-set 1024 g x v h

@@ -13,7 +13,8 @@ use Rattle.rules.specs.Codes.{statesIn, coloursIn}
 use Rattle.laws.specs.CodeLaws.{wall-state, open-state}
 use Rattle.groups.specs.declared.Kind.{Kind}
 use Rattle.groups.specs.declared.Kind.the-variants.{Blocks, Units, Potential}
-use Rattle.groups.specs.Kinds.{linkOf, coloured, joinsIn, oneColourBy, joinsBy}
+use Rattle.groups.specs.Kinds.{linkOf, joinsIn, oneColourBy, joinsBy}
+use Rattle.rules.specs.Codes.{unclued}
 
 -- what the code computes for each kind
 module _ (v a b : ℕ) where
@@ -30,8 +31,8 @@ module _ (v a b : ℕ) where
   joins-potential = rw (wall-state v)
 
 one-colour-at : (h w : ℕ) (cs : List ℕ) (b : ℕ)
-    → oneColour (coloured h w cs) b ≡ oneColourBy (getD cs (flatFirst h w b) 0) (getD cs (flatSecond h w b) 0)
-unfolding oneColour coloured coloursIn oneColourBy flat
+    → oneColour (unclued h w cs) b ≡ oneColourBy (getD cs (flatFirst h w b) 0) (getD cs (flatSecond h w b) 0)
+unfolding oneColour coloursIn oneColourBy flat
 one-colour-at h w cs b = refl
 
 -- what joins, read over the arrays
@@ -45,7 +46,7 @@ joins-at Potential h w cs bs b = rw (one-colour-at h w cs b)
 -- a puzzle's clues do not matter
 pub link-in : (k : Kind) (Z : Puzzle) (h w : ℕ) (cs bs : List ℕ) → Z .page ≡ flat h w → Z .colour ≡ coloursIn cs
     → linkOf k Z (statesIn bs) ≡ joinsIn k h w cs bs
-unfolding joinsIn linkOf coloured joinsBlock joinsUnit joinsPotential oneColour
+unfolding joinsIn linkOf joinsBlock joinsUnit joinsPotential oneColour
 link-in Blocks Z h w cs bs p q = refl
 link-in Units Z h w cs bs p q = rw (p, q)
 link-in Potential Z h w cs bs p q = rw (p, q)

@@ -1,20 +1,17 @@
 -- The three kinds of groups, by the borders that join their cells.
 --
 --   linkOf kind Z s         the test of a border, for the puzzle Z with the borders s
---   coloured h w cs         the flat page with the colours that an array spells, and no clues
 --   joinsIn kind h w cs bs  the same test, for arrays of colours and borders
 --   oneColourBy a b         the colours a and b are one
 --   joinsBy kind v a b      the same of a border's number and its two cells' colours: what the code computes
 use mathlib.Core.Bool.{Bool, not, _&&_, Bool·beq}
 use mathlib.Core.List.{List}
-use mathlib.Core.Option.{none}
 use Prim.Native.Nat.{ℕ}
 use lib.Dec.{eqb}
 use Rattle.rules.specs.Page.{Puzzle, State, isOpen, isWall}
 use Rattle.rules.specs.Rules.{joinsBlock, joinsUnit}
 use Rattle.rules.specs.Groups.{joinsPotential}
-use Rattle.rules.specs.Flat.{flat}
-use Rattle.rules.specs.Codes.{stateOf, statesIn, coloursIn}
+use Rattle.rules.specs.Codes.{unclued, stateOf, statesIn}
 use Rattle.groups.specs.declared.Kind.{Kind}
 use Rattle.groups.specs.declared.Kind.the-variants.{Blocks, Units, Potential}
 
@@ -25,11 +22,8 @@ linkOf Blocks Z s = joinsBlock Z s
 linkOf Units Z s = joinsUnit Z s
 linkOf Potential Z s = joinsPotential Z s
 
-unfoldable pub coloured : ℕ → ℕ → List ℕ → Puzzle
-coloured h w cs = record { page = flat h w; colour = coloursIn cs; clue = λ c. none }
-
 unfoldable pub joinsIn : Kind → ℕ → ℕ → List ℕ → List ℕ → ℕ → Bool
-joinsIn kind h w cs bs = linkOf kind (coloured h w cs) (statesIn bs)
+joinsIn kind h w cs bs = linkOf kind (unclued h w cs) (statesIn bs)
 
 -- both are 1, or neither is
 unfoldable pub oneColourBy : ℕ → ℕ → Bool

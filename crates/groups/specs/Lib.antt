@@ -14,6 +14,8 @@ pub mod NumberLaws
 pub mod Grouping
 pub mod GroupingLaws
 pub mod PartLaws
+pub mod Pages
+pub mod PageLaws
 pub mod ResultLaws
 pub mod Asked
 pub mod AskedLaws

@@ -16,7 +16,7 @@ use Rattle.lists.specs.PaddedLaws.{getD-padded, length-padded}
 use Rattle.rules.specs.Page.{Page}
 use Rattle.rules.specs.Groups.{entry, numbers, groupCount, members}
 use Rattle.laws.specs.GroupLaws.{numbers-length, number-lt, groupCount-le, members-lt, members-none}
-use Rattle.groups.specs.Parts.{startOf, startsOf, cellsOf, listed, partOf, groupsOf}
+use Rattle.groups.specs.Parts.{startAmong, startsAmong, cellsAmong, listed, partOf, groupsOf}
 use Rattle.groups.specs.Arrays.{Blank}
 use Rattle.groups.specs.NumberLaws.{starts-at, starts-past, starts-length, starts-end, blank-padded}
 use Rattle.groups.specs.SortLaws.{cells-length, start-suc, start-up, start-le, listed-length}
@@ -28,12 +28,12 @@ unfolding entry
 entry-padded n l = fun-ext (λ x. getD-padded n 0 l x)
 
 module _ (G : Page) (number : ℕ → ℕ) where
-  pub members-cells : (g : ℕ) → members G number g ≡ cellsOf (G .cells) number g
-  unfolding members cellsOf
+  pub members-cells : (g : ℕ) → members G number g ≡ cellsAmong (G .cells) number g
+  unfolding members cellsAmong
   members-cells g = refl
 
   pub members-listed : (k : ℕ) → flatMap (members G number) (range k) ≡ listed (G .cells) number k
-  unfolding members cellsOf listed
+  unfolding members cellsAmong listed
   members-listed k = refl
 
 module _ (G : Page) (link : ℕ → Bool) (some : 1 ≤ G .cells) (few : G .cells ≤ 1024) where
@@ -59,12 +59,12 @@ module _ (G : Page) (link : ℕ → Bool) (some : 1 ≤ G .cells) (few : G .cell
   unfolding groupsOf entry
   ids-lt x h = rw (getD-padded 1024 0 (numbers G link) x) (number-lt G link some x h)
 
-  pub count-le : groupsOf G link .count ≤ G .cells
+  pub groups-le : groupsOf G link .count ≤ G .cells
   unfolding groupsOf
-  count-le = groupCount-le G link
+  groups-le = groupCount-le G link
 
   -- where a group's cells start, and where they end
-  pub offs-at : (g : ℕ) → g ≤ count → getD (groupsOf G link .offs) g 0 ≡ startOf (G .cells) number g
+  pub offs-at : (g : ℕ) → g ≤ count → getD (groupsOf G link .offs) g 0 ≡ startAmong (G .cells) number g
   unfolding groupsOf
   offs-at g h = starts-at (G .cells) number count g h
 
@@ -77,7 +77,7 @@ module _ (G : Page) (link : ℕ → Bool) (some : 1 ≤ G .cells) (few : G .cell
         offs-at g (omega arith),
         offs-at (g + 1) (omega arith),
         start-suc number (G .cells) g,
-        ap (startOf (G .cells) number) (add-one g),
+        ap (startAmong (G .cells) number) (add-one g),
         cells-length number (G .cells) g,
       ))
 
@@ -93,7 +93,7 @@ module _ (G : Page) (link : ℕ → Bool) (some : 1 ≤ G .cells) (few : G .cell
   offs-length = starts-length (G .cells) number count small
 
   -- the last group ends with the last cell
-  start-end : startOf (G .cells) number count ≡ G .cells
+  start-end : startAmong (G .cells) number count ≡ G .cells
   start-end = starts-end (G .cells) number count (number-lt G link some)
 
   pub listed-all : length (listed (G .cells) number count) ≡ G .cells
@@ -129,11 +129,11 @@ module _ (G : Page) (link : ℕ → Bool) (some : 1 ≤ G .cells) (few : G .cell
           → take (getD (groupsOf G link .offs) (g + 1) 0 - getD (groupsOf G link .offs) g 0)
           (drop (getD (groupsOf G link .offs) g 0) (groupsOf G link .cells)) ≡ members G number g
       go (yes h) =
-          let a = startOf (G .cells) number g in
-          let e = startOf (G .cells) number (suc g) in
+          let a = startAmong (G .cells) number g in
+          let e = startAmong (G .cells) number (suc g) in
           let l = listed (G .cells) number count in
           let o : getD (groupsOf G link .offs) (g + 1) 0 ≡ e =
-          offs-at (g + 1) (omega arith) ∙ ap (startOf (G .cells) number) (add-one g) in
+          offs-at (g + 1) (omega arith) ∙ ap (startAmong (G .cells) number) (add-one g) in
           let k : e ≤ length l = omega (arith, start-up number (G .cells) (suc g) count h, listed-all, start-end) in
           let b : a ≤ e = omega (arith, start-suc number (G .cells) g) in
           rw (offs-at g (omega arith), o, cells-are, drop-append-le a l _ (omega arith))
@@ -167,7 +167,7 @@ module _ (G : Page) (link : ℕ → Bool) (some : 1 ≤ G .cells) (few : G .cell
       (blank-padded 1024 (G .cells) (listed (G .cells) number count) few (omega (arith, listed-all)))
 
   pub filled-offs : Blank 1025 (G .cells + 1) (groupsOf G link .offs)
-  unfolding groupsOf startsOf
+  unfolding groupsOf startsAmong
   filled-offs =
-      blank-padded 1025 (G .cells + 1) (startsOf (G .cells) number count) (omega (arith, few))
-      (omega (arith, length-table (count + 1) (startOf (G .cells) number), groupCount-le G link))
+      blank-padded 1025 (G .cells + 1) (startsAmong (G .cells) number count) (omega (arith, few))
+      (omega (arith, length-table (count + 1) (startAmong (G .cells) number), groupCount-le G link))

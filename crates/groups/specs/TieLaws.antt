@@ -17,16 +17,16 @@ use Rattle.lists.specs.Booleans.{false-true}
 use Rattle.rules.specs.Flat.{Sized, flat, flatFirst, flatSecond, borderCount}
 use Rattle.rules.specs.Groups.{entry}
 use Rattle.laws.specs.FlatLaws.{counts}
-use Rattle.laws.specs.LabelLaws.{after, Labelled, labelled-after, labels-one, after-meets, after-sound}
+use Rattle.laws.specs.LabelLaws.{labelsAfter, Labelled, labelled-after, labels-one, after-meets, after-sound}
 use Rattle.groups.specs.Forests.{Forest, Rep}
-use Rattle.groups.specs.Ties.{leftAt, aboveAt, Flagged, Tied, Scanned, joined}
+use Rattle.groups.specs.Ties.{tiedLeft, aboveAt, TieFlags, Tied, Scanned, joined}
 use Rattle.groups.specs.GridLaws.{right-first, right-second, right-lt, below-first, below-second, below-lt}
 use Rattle.groups.specs.MergeLaws.{joined-labels, joined-keeps, joined-meets, joined-sound}
 
 -- one more flag
-pub flagged-more : (n m : ℕ) (f : ℕ → Bool) (flags : List Bool) (v : Bool) → n < 1024 → v ≡ f n → m ≡ n + 1
-    → Flagged n f flags → Flagged m f (set flags n v)
-flagged-more n m f flags v h e q s =
+pub tie-flags-more : (n m : ℕ) (f : ℕ → Bool) (flags : List Bool) (v : Bool) → n < 1024 → v ≡ f n → m ≡ n + 1
+    → TieFlags n f flags → TieFlags m f (set flags n v)
+tie-flags-more n m f flags v h e q s =
     rw q
     (record {
       long = length-set flags n v ∙ s .long;
@@ -34,28 +34,28 @@ flagged-more n m f flags v h e q s =
     })
 
 -- a flag past those that matter
-pub flagged-past : (n i : ℕ) (f : ℕ → Bool) (flags : List Bool) (v : Bool) → n ≤ i → Flagged n f flags
-    → Flagged n f (set flags i v)
+pub flagged-past : (n i : ℕ) (f : ℕ → Bool) (flags : List Bool) (v : Bool) → n ≤ i → TieFlags n f flags
+    → TieFlags n f (set flags i v)
 flagged-past n i f flags v h s =
     record {
       long = length-set flags i v ∙ s .long;
       at = λ x l. getD-set-other flags i x v false (λ e. omega arith) ∙ s .at x l;
     }
 
-pub flagged-none : (f : ℕ → Bool) (flags : List Bool) → length flags ≡ 1024 → Flagged 0 f flags
-flagged-none f flags e = record { long = e; at = λ x h. absurd (omega arith) }
+pub tie-flags-none : (f : ℕ → Bool) (flags : List Bool) → length flags ≡ 1024 → TieFlags 0 f flags
+tie-flags-none f flags e = record { long = e; at = λ x h. absurd (omega arith) }
 
 -- the flags at a place
 module _ (h w : ℕ) (link : ℕ → Bool) where
-  left-none : (c : ℕ) → c % w ≡ 0 → leftAt h w link c ≡ false
-  unfolding leftAt
+  left-none : (c : ℕ) → c % w ≡ 0 → tiedLeft h w link c ≡ false
+  unfolding tiedLeft
   left-none c e = rw (eq-eqb (c % w) 0 e)
 
-  pub left-start : (y : ℕ) → 1 ≤ w → leftAt h w link (y * w) ≡ false
+  pub left-start : (y : ℕ) → 1 ≤ w → tiedLeft h w link (y * w) ≡ false
   left-start y s = left-none (y * w) (rw add-zero at (digits-mod y {m = w} {r = 0} s))
 
-  pub left-at : (y x : ℕ) → x + 1 < w → leftAt h w link (y * w + x + 1) ≡ link (y * (w - 1) + x)
-  unfolding leftAt
+  pub left-at : (y x : ℕ) → x + 1 < w → tiedLeft h w link (y * w + x + 1) ≡ link (y * (w - 1) + x)
+  unfolding tiedLeft
   left-at y x hx =
       let e : y * w + x + 1 ≡ y * w + (x + 1) = omega arith in
       let z : x + 1 - 1 ≡ x = omega arith in
@@ -70,8 +70,8 @@ module _ (h w : ℕ) (link : ℕ → Bool) where
   above-at c = let e : c + w - w ≡ c = omega arith in rw (le-ltb (c + w) w (omega arith), e)
 
   -- the first row's flags are those of an array without flags
-  pub above-none : (flags : List Bool) → flags ≡ replicate 1024 false → Flagged w (aboveAt h w link) flags
-  above-none flags e =
+  pub tied-above-none : (flags : List Bool) → flags ≡ replicate 1024 false → TieFlags w (aboveAt h w link) flags
+  tied-above-none flags e =
       rw e (record {
         long = length-replicate 1024 false;
         at = λ x l. replicate-at false 1024 x ∙ sym (above-first x l);
@@ -125,7 +125,7 @@ module _ (h w : ℕ) (link : ℕ → Bool) (sized : Sized h w) where
           rw (r .is, below-first h w (r .cell), below-second h w (r .cell)) (omega arith, k)
 
   -- labels that part no joined cells have one label on both sides of each border that joins
-  closed : (M : List ℕ) → Tied (h * w) w (leftAt h w link) (aboveAt h w link) M → (b : ℕ) → b < borderCount h w
+  closed : (M : List ℕ) → Tied (h * w) w (tiedLeft h w link) (aboveAt h w link) M → (b : ℕ) → b < borderCount h w
       → link b ≡ true → getD M (flatFirst h w b) 0 ≡ getD M (flatSecond h w b) 0
   closed M t b l e = go (border-side h w b l)
     where
@@ -147,7 +147,7 @@ module _ (h w : ℕ) (link : ℕ → Bool) (sized : Sized h w) where
           (above-at h w link (r .cell) ∙ ap link (sym (r .is)) ∙ e)))
 
   abbrev all : List ℕ
-  all = after (flat h w) link (borderCount h w)
+  all = labelsAfter (flat h w) link (borderCount h w)
 
   meets : (b : ℕ) → b < borderCount h w → link b ≡ true
       → getD all (flatFirst h w b) 0 ≡ getD all (flatSecond h w b) 0
@@ -155,11 +155,11 @@ module _ (h w : ℕ) (link : ℕ → Bool) (sized : Sized h w) where
   meets = after-meets (flat h w) link (counts sized .some) inside (borderCount h w) (omega arith)
 
   -- the labels part no joined cells
-  tied : Tied (h * w) w (leftAt h w link) (aboveAt h w link) all
+  tied : Tied (h * w) w (tiedLeft h w link) (aboveAt h w link) all
   unfolding borderCount
   tied = record { beside = λ c l e. beside c l (ℕ-discrete (c % w) 0) e; over = over }
     where
-      beside : (c : ℕ) → c < h * w → Dec (c % w ≡ 0) → leftAt h w link c ≡ true → getD all (c - 1) 0 ≡ getD all c 0
+      beside : (c : ℕ) → c < h * w → Dec (c % w ≡ 0) → tiedLeft h w link c ≡ true → getD all (c - 1) 0 ≡ getD all c 0
       beside c l (yes z) e = false-true (left-none h w link c z) e
       beside c l (no z) e =
           let s : 0 < w = sized .columns in
@@ -169,7 +169,7 @@ module _ (h w : ℕ) (link : ℕ → Bool) (sized : Sized h w) where
           let q : c / w * w + x + 1 ≡ c = omega (arith, div-add-mod' c w) in
           let o : c / w * w + x ≡ c - 1 = omega arith in
           let on : link (c / w * (w - 1) + x) ≡ true =
-          sym (left-at h w link (c / w) x hx) ∙ ap (leftAt h w link) q ∙ e in
+          sym (left-at h w link (c / w) x hx) ∙ ap (tiedLeft h w link) q ∙ e in
           let m : getD all (c / w * w + x) 0 ≡ getD all (c / w * w + x + 1) 0 =
           rw (right-first h w (c / w) x hy hx, right-second h w (c / w) x hy hx) at
           (meets (c / w * (w - 1) + x) (omega (arith, right-lt h w (c / w) x hy hx)) on) in
@@ -188,7 +188,7 @@ module _ (h w : ℕ) (link : ℕ → Bool) (sized : Sized h w) where
 
   -- the parents that the pass gave, and the labels once the cells of its list are joined to those left of them
   module _ (p cs : List ℕ) (k : ℕ) (f : Forest p)
-      (s : Scanned (h * w) w (leftAt h w link) (aboveAt h w link) p cs k) where
+      (s : Scanned (h * w) w (tiedLeft h w link) (aboveAt h w link) p cs k) where
     abbrev first : List ℕ
     first = take (h * w) p
 
@@ -207,7 +207,7 @@ module _ (h w : ℕ) (link : ℕ → Bool) (sized : Sized h w) where
           root = λ x l e. at x l ∙ e;
         }
 
-    pub scan-labels : joined (take (h * w) p) (entry cs) k ≡ after (flat h w) link (borderCount h w)
+    pub scan-labels : joined (take (h * w) p) (entry cs) k ≡ labelsAfter (flat h w) link (borderCount h w)
     unfolding entry flat
     scan-labels =
         let some : 1 ≤ h * w = counts sized .some in
@@ -217,7 +217,7 @@ module _ (h w : ℕ) (link : ℕ → Bool) (sized : Sized h w) where
         let follows : (x : ℕ) → x < h * w → getD M (getD p x 0) 0 ≡ getD M x 0 =
         λ x l. joined-keeps (h * w) some first lab (entry cs) k few k (omega arith) (getD p x 0) x
         (omega (arith, f .down x)) l (scan-rep .same x l) in
-        let t : Tied (h * w) w (leftAt h w link) (aboveAt h w link) M =
+        let t : Tied (h * w) w (tiedLeft h w link) (aboveAt h w link) M =
         s .whole M follows (joined-meets (h * w) some first lab (entry cs) k few k (omega arith)) in
         labels-one (h * w) M all (joined-labels (h * w) some first lab (entry cs) k)
         (labelled-after (flat h w) link some (borderCount h w))

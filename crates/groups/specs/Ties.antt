@@ -1,9 +1,9 @@
 -- Which cells are joined, as flags for each cell, and the parents that one pass over the flags gives.
 --
---   leftAt h w link c       cell c is joined to the cell left of it
+--   tiedLeft h w link c     cell c is joined to the cell left of it
 --   aboveAt h w link c      cell c is joined to the cell above it
 --   flagAt flags c          flag c of a list of flags
---   Flagged n f flags       the list has 1,024 flags, and the first n are those of f
+--   TieFlags n f flags      the list has 1,024 flags, and the first n are those of f
 --   Tied n w left above L   of the first n cells, any two that are joined have one label in L
 --   Scanned n w left above p cs k   of the first n cells: each has a root for parent, no two cells that are not joined
 --                           step by step have the same, and any labels that follow the parents, and do not part the
@@ -17,8 +17,8 @@ use lib.Dec.{eqb, ltb}
 use lib.ListN.{length, getD}
 use Rattle.rules.specs.Groups.{entry, mergeIf}
 
-unfoldable pub leftAt : ℕ → ℕ → (ℕ → Bool) → ℕ → Bool
-leftAt h w link c = not (eqb (c % w) 0) && link (c / w * (w - 1) + (c % w - 1))
+unfoldable pub tiedLeft : ℕ → ℕ → (ℕ → Bool) → ℕ → Bool
+tiedLeft h w link c = not (eqb (c % w) 0) && link (c / w * (w - 1) + (c % w - 1))
 
 unfoldable pub aboveAt : ℕ → ℕ → (ℕ → Bool) → ℕ → Bool
 aboveAt h w link c = not (ltb c w) && link (h * (w - 1) + (c - w))
@@ -26,7 +26,7 @@ aboveAt h w link c = not (ltb c w) && link (h * (w - 1) + (c - w))
 unfoldable pub flagAt : List Bool → ℕ → Bool
 flagAt flags c = getD flags c false
 
-pub record Flagged (n : ℕ) (f : ℕ → Bool) (flags : List Bool) : Type 0 where
+pub record TieFlags (n : ℕ) (f : ℕ → Bool) (flags : List Bool) : Type 0 where
   pub long : length flags ≡ 1024
   pub at : (x : ℕ) → x < n → getD flags x false ≡ f x
 

@@ -9,8 +9,8 @@ ghost use Rattle.lists.specs.Count.{bit};
 ghost use Rattle.rules.specs.Flat.{Sized};
 ghost use Rattle.rules.specs.Groups.{entry, mergeIf};
 ghost use Rattle.groups.specs.Kinds.{oneColourBy, joinsBy, joinsIn};
-ghost use Rattle.groups.specs.Forests.{Forest, Rep, Linked};
-ghost use Rattle.groups.specs.Ties.{leftAt, aboveAt, flagAt, Flagged, Scanned, joined};
+ghost use Rattle.groups.specs.Forests.{Forest, Rep, ForestLinked};
+ghost use Rattle.groups.specs.Ties.{tiedLeft, aboveAt, flagAt, TieFlags, Scanned, joined};
 ghost use Rattle.groups.specs.Grouping.{cellsIn, Vacant};
 use crate::Grouping;
 use crate::Kind;
@@ -83,8 +83,9 @@ fn row<'a>(
     lefts: &mut [bool; Board::CELL_LIMIT],
 )
     requires { ⌜ Sized h w × (y < h) × (w ≤ count + 1) × (count ≤ w) × (y * w + count < h * w)
-        × Flagged (y * w) (leftAt h w (joinsIn kind h w (now colours) (now borders))) (now lefts) ⌝ }
-    ensures { λ r. ⌜ Flagged ((y + 1) * w) (leftAt h w (joinsIn kind h w (now (colours .entry)) (now (borders .entry))))
+        × TieFlags (y * w) (tiedLeft h w (joinsIn kind h w (now colours) (now borders))) (now lefts) ⌝ }
+    ensures { λ r. ⌜ TieFlags ((y + 1) * w)
+        (tiedLeft h w (joinsIn kind h w (now (colours .entry)) (now (borders .entry))))
         (now (lefts .exit)) ⌝ }
 {
     let c = y * w;
@@ -108,7 +109,7 @@ fn across<'a>(
     lefts: &mut [bool; Board::CELL_LIMIT],
 )
     requires { ⌜ Sized h w × (length (now lefts) ≡ 1024) ⌝ }
-    ensures { λ r. ⌜ Flagged (h * w) (leftAt h w (joinsIn kind h w (now (colours .entry)) (now (borders .entry))))
+    ensures { λ r. ⌜ TieFlags (h * w) (tiedLeft h w (joinsIn kind h w (now (colours .entry)) (now (borders .entry))))
         (now (lefts .exit)) ⌝ }
 {
     let mut y = 0;
@@ -129,7 +130,7 @@ fn down<'a>(
     aboves: &mut [bool; Board::CELL_LIMIT],
 )
     requires { ⌜ Sized h w × (now aboves ≡ replicate 1024 false) ⌝ }
-    ensures { λ r. ⌜ Flagged (h * w) (aboveAt h w (joinsIn kind h w (now (colours .entry)) (now (borders .entry))))
+    ensures { λ r. ⌜ TieFlags (h * w) (aboveAt h w (joinsIn kind h w (now (colours .entry)) (now (borders .entry))))
         (now (aboves .exit)) ⌝ }
 {
     let b = h * (w - 1);
@@ -232,7 +233,7 @@ pub fn link<'a>(
     grouping: &mut Grouping,
 )
     requires { ⌜ Sized h w × Forest (now p) × Vacant (h * w) (now grouping) ⌝ }
-    ensures { λ r. ⌜ Linked h w (joinsIn kind h w (now (colours .entry)) (now (borders .entry))) (now (p .exit))
+    ensures { λ r. ⌜ ForestLinked h w (joinsIn kind h w (now (colours .entry)) (now (borders .entry))) (now (p .exit))
         × Vacant (h * w) (now (grouping .exit)) ⌝ }
 {
     let mut lefts = [false; Board::CELL_LIMIT];

@@ -15,10 +15,10 @@ use Rattle.board.specs.declared.Returned.{Returned}
 use Rattle.board.specs.Alien.{borderCountOf, isAlien}
 use Rattle.board.specs.Board.{numberOf, returned, pushed, popped, decideRefusal, endedBy, decideOf, undoRefusal, undoOf}
 use Rattle.board.specs.Board.{Typed}
-use Rattle.board.specs.NativeLaws.{native-has, borders-fit, room}
+use Rattle.board.specs.NativeLaws.{native-has, borders-fit, stack-room}
 use Rattle.board.specs.DecideLaws.{Decided, decided-is, done-returned, Undone, undone-is}
 use Rattle.image.specs.Image.{spelledBoard, imageOf, rightLength, Bytes, sideOf, decideLiteral, ImageCall, decide}
-use Rattle.image.specs.Image.{undo, imageAlien, numberBy, boardBy, imageNumber, imageAfter, written}
+use Rattle.image.specs.Image.{undo, imageAlien, numberBy, boardBy, imageNumber, imageAfter, imageWritten}
 use Rattle.image.specs.LayoutLaws.{written-image}
 use Rattle.image.specs.RoundLaws.{image-board, board-typed, long-is}
 
@@ -75,9 +75,9 @@ alien-board s e = rw (long-is s e)
 
 -- ---- an image of the right length, whose board is b
 module _ (s : List ℕ) (h : Bytes s) (e : length s ≡ 11076) (b : Board) (q : b ≡ spelledBoard s) where
-  pub number-is : (a : ImageCall) → numberBy b a ≡ imageNumber s a
+  pub call-number-is : (a : ImageCall) → numberBy b a ≡ imageNumber s a
   unfolding imageNumber
-  number-is a = rw (long-is s e, q)
+  call-number-is a = rw (long-is s e, q)
 
   after-is : (a : ImageCall) → imageAfter s a ≡ imageOf (boardBy b a)
   unfolding imageAfter
@@ -91,40 +91,40 @@ module _ (s : List ℕ) (h : Bytes s) (e : length s ≡ 11076) (b : Board) (q : 
 
   pub after-refused : (a : ImageCall) → (imageNumber s a ≡ 0 → ⊥) → s ≡ imageAfter s a
   after-refused a f =
-      sym (after-is a ∙ ap imageOf (refused-board b a (λ z. f (sym (number-is a) ∙ z))) ∙ image-of)
+      sym (after-is a ∙ ap imageOf (refused-board b a (λ z. f (sym (call-number-is a) ∙ z))) ∙ image-of)
 
   -- a decide that is done
   module _ (n d : ℕ) (z : imageNumber s (decide n d) ≡ 0) where
     decided : Decided b (decideLiteral n d) (decideOf b (decideLiteral n d) .board)
-    decided = decided-is (done-returned (decideOf b (decideLiteral n d)) (number-is (decide n d) ∙ z))
+    decided = decided-is (done-returned (decideOf b (decideLiteral n d)) (call-number-is (decide n d) ∙ z))
 
     pub decide-fits : (n < 1984) × (b .count < 1984)
     decide-fits =
         let N = native-has b (decided .known) in
         let m = borders-fit b N in
         let k = decided .below in
-        (omega arith, omega (arith, room b N n k (decided .free)))
+        (omega arith, omega (arith, stack-room b N n k (decided .free)))
 
-    pub decide-written : written s n (codeOf (sideOf d)) (b .count + 1) (b .count) n ≡ imageAfter s (decide n d)
+    pub decide-written : imageWritten s n (codeOf (sideOf d)) (b .count + 1) (b .count) n ≡ imageAfter s (decide n d)
     decide-written =
-        ap (λ (x : List ℕ). written x n (codeOf (sideOf d)) (b .count + 1) (b .count) n) (sym image-of)
+        ap (λ (x : List ℕ). imageWritten x n (codeOf (sideOf d)) (b .count + 1) (b .count) n) (sym image-of)
         ∙ written-image b typed n (codeOf (sideOf d)) (b .count + 1) (b .count) n (decide-fits .0) (decide-fits .1)
         ∙ ap imageOf (sym (decided .is))
         ∙ sym (after-is (decide n d))
 
     -- the same, from what the code has
-    pub decide-after : (l : Literal) (v : ℕ) (t : List ℕ) → l ≡ decideLiteral n d → v ≡ codeOf (l .side)
-        → t ≡ written s (l .border) v (b .count + 1) (b .count) (l .border) → t ≡ imageAfter s (decide n d)
-    decide-after l v t x y w =
+    pub image-decide-after : (l : Literal) (v : ℕ) (t : List ℕ) → l ≡ decideLiteral n d → v ≡ codeOf (l .side)
+        → t ≡ imageWritten s (l .border) v (b .count + 1) (b .count) (l .border) → t ≡ imageAfter s (decide n d)
+    image-decide-after l v t x y w =
         w
-        ∙ ap (λ k. written s (l .border) k (b .count + 1) (b .count) (l .border)) y
-        ∙ ap (λ (j : Literal). written s (j .border) (codeOf (j .side)) (b .count + 1) (b .count) (j .border)) x
+        ∙ ap (λ k. imageWritten s (l .border) k (b .count + 1) (b .count) (l .border)) y
+        ∙ ap (λ (j : Literal). imageWritten s (j .border) (codeOf (j .side)) (b .count + 1) (b .count) (j .border)) x
         ∙ decide-written
 
   -- an undo that is done
   module _ (z : imageNumber s undo ≡ 0) where
     undone : Undone b (undoOf b .board)
-    undone = undone-is (done-returned (undoOf b) (number-is undo ∙ z))
+    undone = undone-is (done-returned (undoOf b) (call-number-is undo ∙ z))
 
     pub undo-fits : (0 < b .count) × (b .count ≤ 1984) × (getD (b .stack) (b .count - 1) 0 < 1984)
     undo-fits =
@@ -134,16 +134,16 @@ module _ (s : List ℕ) (h : Bytes s) (e : length s ≡ 11076) (b : Board) (q : 
         let p = undone .some in
         (p, omega arith, omega (arith, N .entry (b .count - 1) (omega arith)))
 
-    pub undo-written : written s (getD (b .stack) (b .count - 1) 0) 0 (b .count - 1) (b .count - 1) 0
+    pub undo-written : imageWritten s (getD (b .stack) (b .count - 1) 0) 0 (b .count - 1) (b .count - 1) 0
         ≡ imageAfter s undo
     undo-written =
         let f = undo-fits in
         let k = b .count - 1 in
-        ap (λ (x : List ℕ). written x (getD (b .stack) k 0) 0 k k 0) (sym image-of)
+        ap (λ (x : List ℕ). imageWritten x (getD (b .stack) k 0) 0 k k 0) (sym image-of)
         ∙ written-image b typed (getD (b .stack) k 0) 0 k k 0 (f .2) (omega arith)
         ∙ ap imageOf (sym (undone .is))
         ∙ sym (after-is undo)
 
-    pub undo-after : (n : ℕ) (t : List ℕ) → n ≡ getD (b .stack) (b .count - 1) 0
-        → t ≡ written s n 0 (b .count - 1) (b .count - 1) 0 → t ≡ imageAfter s undo
-    undo-after n t x w = w ∙ ap (λ j. written s j 0 (b .count - 1) (b .count - 1) 0) x ∙ undo-written
+    pub image-undo-after : (n : ℕ) (t : List ℕ) → n ≡ getD (b .stack) (b .count - 1) 0
+        → t ≡ imageWritten s n 0 (b .count - 1) (b .count - 1) 0 → t ≡ imageAfter s undo
+    image-undo-after n t x w = w ∙ ap (λ j. imageWritten s j 0 (b .count - 1) (b .count - 1) 0) x ∙ undo-written

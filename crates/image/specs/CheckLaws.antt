@@ -3,7 +3,7 @@
 --   other-number, other-bytes   an image of another length
 --   alien-checked, short-checked, found-checked   an alien board, short memory, and neither
 --   Quiet a             the answer a is no conflict
---   Fits n a            the literals of the answer a fit n places
+--   AnswerFits n a      the literals of the answer a fit n places
 --   Checks m codes f a  what the answer a of a check, with its codes, says where Check gives f and m is the memory
 --   checks              of a board that is not alien, with room for its reasons
 use mathlib.Core.Path.{_≡_, refl, ap, sym, _∙_}
@@ -28,7 +28,7 @@ use Rattle.calls.specs.AnswerLaws.{length-written}
 use Rattle.calls.specs.Known.{KnownBoard, foundIn}
 use Rattle.calls.specs.CheckLaws.{same-found}
 use Rattle.calls.specs.NumberLaws.{InRange, found-range}
-use Rattle.image.specs.Image.{spelledBoard, rightLength, putCodes, isShort, places, bytesAfter, bytesBy}
+use Rattle.image.specs.Image.{spelledBoard, rightLength, putCodes, isShort, placeCount, bytesAfter, bytesBy}
 use Rattle.image.specs.Image.{checkNumber}
 use Rattle.image.specs.Image.{checkBytes}
 use Rattle.image.specs.RoundLaws.{long-is}
@@ -50,7 +50,7 @@ module _ (s m : List ℕ) (h : length s ≡ 11076 → ⊥) where
 
 -- ---- an image of the right length, whose board is b
 module _ (s m : List ℕ) (e : length s ≡ 11076) (b : Board) (q : b ≡ spelledBoard s) where
-  number-is : answerNumber (checkAnswer b (places m)) ≡ checkNumber s m
+  number-is : answerNumber (checkAnswer b (placeCount m)) ≡ checkNumber s m
   unfolding checkNumber
   number-is = rw (long-is s e, q)
 
@@ -61,7 +61,7 @@ module _ (s m : List ℕ) (e : length s ≡ 11076) (b : Board) (q : b ≡ spelle
   pub alien-checked : isAlien b ≡ true → (5 ≡ checkNumber s m) × (m ≡ checkBytes s m)
   unfolding checkAnswer
   alien-checked a =
-      let n : 5 ≡ answerNumber (checkAnswer b (places m)) = rw a in
+      let n : 5 ≡ answerNumber (checkAnswer b (placeCount m)) = rw a in
       let k : m ≡ bytesBy b m = rw a in
       (n ∙ number-is, k ∙ bytes-is)
 
@@ -70,7 +70,7 @@ module _ (s m : List ℕ) (e : length s ≡ 11076) (b : Board) (q : b ≡ spelle
     unfolding checkAnswer isShort
     short-checked t =
         let few = lt-ltb (length m / 2) 16384 (omega (arith, ltb-true (length m) 32768 t)) in
-        let n : 9 ≡ answerNumber (checkAnswer b (places m)) = rw (a, few) in
+        let n : 9 ≡ answerNumber (checkAnswer b (placeCount m)) = rw (a, few) in
         let k : m ≡ bytesBy b m = rw (a, few) in
         (n ∙ number-is, k ∙ bytes-is)
 
@@ -82,7 +82,8 @@ module _ (s m : List ℕ) (e : length s ≡ 11076) (b : Board) (q : b ≡ spelle
     unfolding checkAnswer isShort
     found-checked t =
         let many = le-ltb (length m / 2) 16384 (omega (arith, ltb-false (length m) 32768 t)) in
-        let n : answerNumber (asAnswer found) ≡ answerNumber (checkAnswer b (places m)) = rw (a, many, same-found b) in
+        let n : answerNumber (asAnswer found)
+        ≡ answerNumber (checkAnswer b (placeCount m)) = rw (a, many, same-found b) in
         let k : bytesAfter m found ≡ bytesBy b m = rw (a, many, same-found b) in
         (n ∙ number-is, k ∙ bytes-is)
 
@@ -107,16 +108,16 @@ left-quiet m codes (Pass n) q = refl
 left-quiet m codes (Conflict n) q = absurd q
 left-quiet m codes (Refused o) q = refl
 
-abbrev pub Fits : ℕ → Answer → Type 0
-Fits k Done = Unit {0}
-Fits k (Pass n) = Unit {0}
-Fits k (Conflict n) = n ≤ k
-Fits k (Refused o) = Unit {0}
+abbrev pub AnswerFits : ℕ → Answer → Type 0
+AnswerFits k Done = Unit {0}
+AnswerFits k (Pass n) = Unit {0}
+AnswerFits k (Conflict n) = n ≤ k
+AnswerFits k (Refused o) = Unit {0}
 
 pub record Checks (m codes : List ℕ) (f : Verdict) (a : Answer) : Type 0 where
   pub number : (x : Answer) → a ≡ x → answerNumber x ≡ answerNumber (asAnswer f)
   pub range : (x : Answer) → a ≡ x → InRange x
-  pub fits : (x : Answer) → a ≡ x → Fits (length codes) x
+  pub fits : (x : Answer) → a ≡ x → AnswerFits (length codes) x
   pub quiet : (x : Answer) → a ≡ x → Quiet x → m ≡ bytesAfter m f
   pub reason : (n : ℕ) → a ≡ Conflict n → putCodes m codes n ≡ bytesAfter m f
 
@@ -131,7 +132,7 @@ module _ {h w : ℕ} {cs : List ℕ} {ks : List ℤ} {bs : List ℕ} {n : ℕ} (
   in-range : InRange (asAnswer f)
   in-range = rw (same-found b) (found-range b (K .native) (check (puzzleOf b) (statesOf b)) refl)
 
-  fit : (g : Verdict) → f ≡ g → Fits (length before) (asAnswer g)
+  fit : (g : Verdict) → f ≡ g → AnswerFits (length before) (asAnswer g)
   fit (pass x) e = tt
   fit (conflict r) e =
       let z = native-has b (K .native) .size in

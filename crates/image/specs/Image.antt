@@ -20,11 +20,11 @@
 --   boardBy b a        the board that it returns
 --   imageNumber s a    the number that the call a returns on the image s
 --   imageAfter s a     the image afterwards
---   written s ..       the image s with one border, the count and one entry of the stack rewritten
+--   imageWritten s ..  the image s with one border, the count and one entry of the stack rewritten
 --   putCodes m xs n    reason memory with the first n codes of xs written from its start, in two bytes each
 --   putBytes m ls      reason memory beside an image with the literals ls written from its start
 --   isShort m          reason memory below 16,384 literals
---   places m           how many literals reason memory of bytes holds
+--   placeCount m       how many literals reason memory of bytes holds
 --   bytesAfter m f     reason memory of bytes after the answer f of Check
 --   bytesBy b m        reason memory of bytes after a check of the board b
 --   checkNumber s m    the number that a check returns on the image s with the bytes m lent
@@ -141,8 +141,8 @@ unfoldable pub imageAfter : List ℕ → ImageCall → List ℕ
 imageAfter s a = cond (rightLength s) (imageOf (boardBy (spelledBoard s) a)) s
 
 -- the image s with the border n set to v, the count to c, and the entry i of the stack to e: five bytes
-unfoldable pub written : List ℕ → ℕ → ℕ → ℕ → ℕ → ℕ → List ℕ
-written s n v c i e = sets (sets (set s (5122 + n) v) 7106 (twoBytes c)) (7108 + 2 * i) (twoBytes e)
+unfoldable pub imageWritten : List ℕ → ℕ → ℕ → ℕ → ℕ → ℕ → List ℕ
+imageWritten s n v c i e = sets (sets (set s (5122 + n) v) 7106 (twoBytes c)) (7108 + 2 * i) (twoBytes e)
 
 -- ---- reason memory beside an image
 unfoldable pub putCodes : List ℕ → List ℕ → ℕ → List ℕ
@@ -157,8 +157,8 @@ unfoldable pub isShort : List ℕ → Bool
 isShort m = ltb (length m) 32768
 
 -- "In reason memory .. a literal is .. in 2 bytes"
-abbrev pub places : List ℕ → ℕ
-places m = length m / 2
+abbrev pub placeCount : List ℕ → ℕ
+placeCount m = length m / 2
 
 -- "An answered check writes its literals from the start of the memory and nothing beyond; a pass writes none"
 abbrev pub bytesAfter : List ℕ → Verdict → List ℕ
@@ -168,12 +168,12 @@ bytesAfter m (conflict ls) = putBytes m ls
 abbrev pub bytesBy : Board → List ℕ → List ℕ
 bytesBy b m =
     cond (isAlien b) m
-    (cond (ltb (places m) 16384) m
+    (cond (ltb (placeCount m) 16384) m
     (bytesAfter m (check (puzzleOf b) (statesOf b))))
 
 -- "the refusal number .. 32 plus the undecided count for a pass; 65,536 plus the literal count for a conflict"
 unfoldable pub checkNumber : List ℕ → List ℕ → ℕ
-checkNumber s m = cond (rightLength s) (answerNumber (checkAnswer (spelledBoard s) (places m))) 5
+checkNumber s m = cond (rightLength s) (answerNumber (checkAnswer (spelledBoard s) (placeCount m))) 5
 
 -- "lent memory stays"
 unfoldable pub checkBytes : List ℕ → List ℕ → List ℕ

@@ -13,7 +13,7 @@ use Rattle.lists.specs.Flats.{length-flat, getD-flat}
 use Rattle.board.specs.declared.Board.{Board}
 use Rattle.board.specs.Alien.{boardWith}
 use Rattle.board.specs.Board.{Typed}
-use Rattle.image.specs.Image.{twoBytes, fourBytes, bitsOf, clueBytes, imageOf, written}
+use Rattle.image.specs.Image.{twoBytes, fourBytes, bitsOf, clueBytes, imageOf, imageWritten}
 use Rattle.image.specs.ByteLaws.{two-long, four-long, two-over}
 
 -- ---- three parts, and then the rest, which starts at 5122
@@ -175,8 +175,8 @@ module _ (b : Board) (T : Typed b) where
 
 -- a border, the count and an entry of the stack
 pub written-image : (b : Board) → Typed b → (n v c i e : ℕ) → n < 1984 → i < 1984
-    → written (imageOf b) n v c i e ≡ imageOf (withEntry (withCount (withBorder b n v) c) i e)
-unfolding written
+    → imageWritten (imageOf b) n v c i e ≡ imageOf (withEntry (withCount (withBorder b n v) c) i e)
+unfolding imageWritten
 written-image b T n v c i e p q =
     let S : Typed (withBorder b n v) = record {
       colours = T .colours;
@@ -197,13 +197,14 @@ written-image b T n v c i e p q =
     ∙ entry-image (withCount (withBorder b n v) c) U i e q
 
 -- the byte k is none of the n from i on
-abbrev pub Apart : ℕ → ℕ → ℕ → Type 0
-Apart k i n = (k < i) ⊎ (i + n ≤ k)
+abbrev pub OutsideOf : ℕ → ℕ → ℕ → Type 0
+OutsideOf k i n = (k < i) ⊎ (i + n ≤ k)
 
 -- every other byte stays
-pub written-else : (s : List ℕ) (n v c i e k : ℕ) → Apart k (5122 + n) 1 → Apart k 7106 2 → Apart k (7108 + 2 * i) 2
-    → getD (written s n v c i e) k 0 ≡ getD s k 0
-unfolding written twoBytes
+pub written-else : (s : List ℕ) (n v c i e k : ℕ) → OutsideOf k (5122 + n) 1 → OutsideOf k 7106 2
+    → OutsideOf k (7108 + 2 * i) 2
+    → getD (imageWritten s n v c i e) k 0 ≡ getD s k 0
+unfolding imageWritten twoBytes
 written-else s n v c i e k p q r =
     let t = set s (5122 + n) v in
     getD-sets-apart (sets t 7106 (twoBytes c)) (7108 + 2 * i) (twoBytes e) k 0 r

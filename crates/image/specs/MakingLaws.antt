@@ -1,7 +1,7 @@
 -- Making a fresh image: what is stored is the image of the fresh board; when the number is 0; and demand 3 from there.
 --
 --   fresh-bytes      height, width, colours and clues stored over zeros are the image of the fresh board
---   number-refused, number-other, number-done, bytes-refused, bytes-done   the definitions by cases
+--   number-refused, making-other, number-done, bytes-refused, bytes-done   the definitions by cases
 --   fresh-exact      the number is 0 exactly if the puzzle is accepted and the bytes have an image's length
 --   fresh-image      then the bytes are the image of the fresh board that `host-demand` starts from
 --   fresh-known      and not alien
@@ -25,7 +25,7 @@ use Rattle.lists.specs.Appends.{flat-append}
 use Rattle.lists.specs.Flats.{length-flat, flat-replicate}
 use Rattle.rules.specs.Codes.{puzzleIn}
 use Rattle.board.specs.declared.Returned.{Returned}
-use Rattle.board.specs.Board.{numberOf, freshBoard, freshOf, Small}
+use Rattle.board.specs.Board.{numberOf, freshBoard, freshOf, SmallClues}
 use Rattle.board.specs.Accepted.{Accepted, madeBoard}
 use Rattle.board.specs.DecideLaws.{done-returned}
 use Rattle.board.specs.FreshLaws.{Made, made-is}
@@ -136,9 +136,9 @@ module _ (h w : ℕ) (cs : List ℕ) (ks : List ℤ) (s : List ℕ) where
   number-refused p = rw (ne-eqb made 0 p)
 
   module _ (p : made ≡ 0) where
-    pub number-other : (length s ≡ 11076 → ⊥) → freshNumber h w cs ks s ≡ 5
+    pub making-other : (length s ≡ 11076 → ⊥) → freshNumber h w cs ks s ≡ 5
     unfolding freshNumber rightLength
-    number-other q = rw (eq-eqb made 0 p, ne-eqb (length s) 11076 q)
+    making-other q = rw (eq-eqb made 0 p, ne-eqb (length s) 11076 q)
 
     pub number-done : length s ≡ 11076 → freshNumber h w cs ks s ≡ 0
     unfolding freshNumber
@@ -161,7 +161,7 @@ module _ (h w : ℕ) (cs : List ℕ) (ks : List ℤ) (s : List ℕ) where
     where
       go : Dec (made ≡ 0) → Dec (length s ≡ 11076) → (made ≡ 0) × (length s ≡ 11076)
       go (no p) q = absurd (p (sym (number-refused p) ∙ e))
-      go (yes p) (no q) = absurd (let z : 5 ≡ 0 = sym (number-other p q) ∙ e in omega arith)
+      go (yes p) (no q) = absurd (let z : 5 ≡ 0 = sym (making-other p q) ∙ e in omega arith)
       go (yes p) (yes q) = (p, q)
 
 -- ---- accepted puzzles
@@ -169,7 +169,7 @@ module _ (h w : ℕ) (cs : List ℕ) (ks : List ℤ) (s : List ℕ) where
   accepted-zero : Accepted h w cs ks → length s ≡ 11076 → freshNumber h w cs ks s ≡ 0
   accepted-zero A q = number-done h w cs ks s (ap numberOf (A .made)) q
 
-  pub fresh-exact : Small ks → (freshNumber h w cs ks s ≡ 0) ↔ (Accepted h w cs ks × (length s ≡ 11076))
+  pub fresh-exact : SmallClues ks → (freshNumber h w cs ks s ≡ 0) ↔ (Accepted h w cs ks × (length s ≡ 11076))
   fresh-exact f = (
     λ e.
         let z = zero-of h w cs ks s e in

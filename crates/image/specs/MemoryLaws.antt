@@ -17,9 +17,9 @@ pub codes-none : (m codes : List ℕ) → m ≡ putCodes m codes 0
 unfolding putCodes flatMap
 codes-none m codes = refl
 
-pub length-codes : (m codes : List ℕ) (i : ℕ) → length (putCodes m codes i) ≡ length m
+pub length-put-codes : (m codes : List ℕ) (i : ℕ) → length (putCodes m codes i) ≡ length m
 unfolding putCodes
-length-codes m codes i = length-sets m 0 (flatMap twoBytes (take i codes))
+length-put-codes m codes i = length-sets m 0 (flatMap twoBytes (take i codes))
 
 -- one code more is stored
 pub codes-more : (m codes : List ℕ) (i : ℕ) → i < length codes

@@ -7,10 +7,10 @@ use Prim.Native.Nat.{ℕ}
 use lib.IntN.{ℤ}
 use Rattle.board.specs.declared.Board.{Board}
 use Rattle.board.specs.declared.Outcome.the-variants.{Done}
-use Rattle.board.specs.Board.{returned, freshOf, Small}
+use Rattle.board.specs.Board.{returned, freshOf, SmallClues}
 use Rattle.image.specs.Image.{imageOf, ImageCall, imageNumber, imageAfter}
 
 pub data ImageProduced : List ℕ → Type 0 where
-  begun : (h w : ℕ) (cs : List ℕ) (ks : List ℤ) (b : Board) → Small ks → freshOf h w cs ks ≡ returned Done b
+  begun : (h w : ℕ) (cs : List ℕ) (ks : List ℤ) (b : Board) → SmallClues ks → freshOf h w cs ks ≡ returned Done b
       → ImageProduced (imageOf b)
   called : (s : List ℕ) (a : ImageCall) → ImageProduced s → imageNumber s a ≡ 0 → ImageProduced (imageAfter s a)

@@ -26,7 +26,7 @@ use Rattle.reach.specs.Reach.{produced-known, known-produced}
 use Rattle.calls.specs.declared.Answer.the-variants.{Refused}
 use Rattle.calls.specs.Answers.{answerNumber, asAnswer, checkAnswer}
 use Rattle.image.specs.Image.{spelledBoard, imageOf, imageAlien, Bytes, Proper, ImageCall, decide, undo}
-use Rattle.image.specs.Image.{rightLength, numberBy, boardBy, imageNumber, imageAfter, places}
+use Rattle.image.specs.Image.{rightLength, numberBy, boardBy, imageNumber, imageAfter, placeCount}
 use Rattle.image.specs.Image.{checkNumber}
 use Rattle.image.specs.Producing.{ImageProduced, begun, called}
 use Rattle.image.specs.RoundLaws.{long-is, known-board, alien-image}
@@ -116,7 +116,7 @@ unfolding imageAlien checkNumber checkAnswer
 check-alien s m k = go (rightLength s) (isAlien (spelledBoard s)) k
   where
     go : (x y : Bool) → cond x y true ≡ true
-        → cond x (answerNumber (cond y (Refused Alien) (cond (ltb (places m) 16384) (Refused Short)
+        → cond x (answerNumber (cond y (Refused Alien) (cond (ltb (placeCount m) 16384) (Refused Short)
         (asAnswer (check (puzzleOf (spelledBoard s)) (statesOf (spelledBoard s))))))) 5 ≡ 5
     go true true e = refl
     go true false e = absurd (false≢true e)
@@ -133,4 +133,4 @@ module _ (s : List ℕ) (h : Bytes s) where
   unfolding checkNumber
   check-five m =
       exactly-by s h (checkNumber s m) (check-alien s m)
-      (λ k. let r = known-board s k in rw (long-is s (r .0)) (check-else (spelledBoard s) (r .1 .known) (places m)))
+      (λ k. let r = known-board s k in rw (long-is s (r .0)) (check-else (spelledBoard s) (r .1 .known) (placeCount m)))

@@ -3,7 +3,7 @@
 --
 --   number-image, after-image   a decide or an undo on the image of a board
 --   step-number, step-codes, step-image   any call on it: its number, the memory, and the image afterwards
---   image-demand        demand 3 for a list of calls on images
+--   image-demand                demand 3 for a list of calls on images
 use mathlib.Core.Path.{_≡_, refl, ap, ap₂, sym, _∙_}
 use mathlib.Core.Bool.{Bool, true, false, cond}
 use mathlib.Core.List.{List, [], _∷_, map}
@@ -25,13 +25,13 @@ use Rattle.board.specs.declared.Outcome.the-variants.{Alien, Border, Taken, Bar
 use Rattle.board.specs.Board.{numberOf, decideOf, undoOf}
 use Rattle.board.specs.Accepted.{Accepted, madeBoard}
 use Rattle.board.specs.View.{puzzleOf, statesOf}
-use Rattle.board.specs.StepLaws.{Kept, decide-kept, undo-kept}
+use Rattle.board.specs.StepLaws.{BoardKept, decide-kept, undo-kept}
 use Rattle.calls.specs.Answers.{answerNumber, written, checkAnswer, checkMemory, ended, callOf, callMemory}
 use Rattle.calls.specs.CallLaws.{reason-short}
 use Rattle.demand3.specs.Runs.{Given, givenBy, nextBoard, boardAfter, runFrom}
 use Rattle.demand3.specs.Demand3Laws.{start-bare, demand3}
 use Rattle.image.specs.Image.{imageOf, Proper, sideOf, decideLiteral, ImageCall, decide, undo, numberBy}
-use Rattle.image.specs.Image.{boardBy, imageNumber, imageAfter, places, bytesAfter, bytesBy}
+use Rattle.image.specs.Image.{boardBy, imageNumber, imageAfter, placeCount, bytesAfter, bytesBy}
 use Rattle.image.specs.Image.{checkNumber, checkBytes}
 use Rattle.image.specs.Runs.{Sent, altering, checking, sentNumber, sentImage, sentBytes, imageRun, imageFrom}
 use Rattle.image.specs.Runs.{codesIn, lentFor, Coded, coded, codedGot, codedGiven, ImageDemand}
@@ -51,11 +51,11 @@ literal-of-code l = λ i. record { border = l .border; side = side-of-code (l .s
 pub proper-after : (b : Board) (a : ImageCall) → Proper b → Proper (boardBy b a)
 proper-after b a P = go (kept a)
   where
-    kept : (x : ImageCall) → Kept b (boardBy b x)
+    kept : (x : ImageCall) → BoardKept b (boardBy b x)
     kept (decide n d) = decide-kept b (P .known) (decideLiteral n d) (P .typed)
     kept undo = undo-kept b (P .known) (P .typed)
 
-    go : Kept b (boardBy b a) → Proper (boardBy b a)
+    go : BoardKept b (boardBy b a) → Proper (boardBy b a)
     go k = record { known = k .known; typed = k .typed }
 
 module _ (b : Board) (P : Proper b) (a : ImageCall) where
@@ -78,7 +78,7 @@ module _ (b : Board) (P : Proper b) where
   unfolding checkBytes
   bytes-image m = rw (long-is (imageOf b) (image-long b (P .typed)), board-image b P)
 
-  bytes-known : (m : List ℕ) (f : Verdict) → check (puzzleOf b) (statesOf b) ≡ f → 16384 ≤ places m
+  bytes-known : (m : List ℕ) (f : Verdict) → check (puzzleOf b) (statesOf b) ≡ f → 16384 ≤ placeCount m
       → codesIn (bytesAfter m f) ≡ written (codesIn m) f
   bytes-known m (pass n) e h = refl
   bytes-known m (conflict r) e h =

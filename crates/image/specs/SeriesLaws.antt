@@ -19,11 +19,12 @@ use Rattle.board.specs.Cases.{decide-alien, decide-ends, undo-alien, undo-ends}
 use Rattle.board.specs.ConditionLaws.{borders-of, borders-of-le}
 use Rattle.board.specs.NativeLaws.{native-has}
 use Rattle.image.specs.Image.{pair, spelledBoard, Bytes, Proper, decideLiteral, ImageCall, decide, undo, numberBy}
-use Rattle.image.specs.Image.{boardBy, rightLength, imageAlien, imageNumber, imageAfter, written}
+use Rattle.image.specs.Image.{boardBy, rightLength, imageAlien, imageNumber, imageAfter, imageWritten}
 use Rattle.image.specs.RoundLaws.{long-is, known-board, image-known}
-use Rattle.image.specs.CallLaws.{number-is, after-refused, decide-fits, decide-after, undo-fits, undo-after}
+use Rattle.image.specs.CallLaws.{call-number-is, after-refused, decide-fits, image-decide-after, undo-fits}
+use Rattle.image.specs.CallLaws.{image-undo-after}
 use Rattle.image.specs.RunLaws.{proper-after}
-use Rattle.image.specs.Series.{codeCall, doneOf, imageDone, Stepped}
+use Rattle.image.specs.Series.{codeCall, doneOf, imageDone, SeriesStepped}
 
 -- ---- an image that is not alien
 module _ (s : List ℕ) (h : Bytes s) (k : imageAlien s ≡ false) where
@@ -41,21 +42,21 @@ module _ (s : List ℕ) (h : Bytes s) (k : imageAlien s ≡ false) where
 
   -- the number of a call is that of what the board returns
   by-board : (a : ImageCall) → numberBy (spelledBoard s) a ≡ imageNumber s a
-  by-board a = number-is s h long (spelledBoard s) refl a
+  by-board a = call-number-is s h long (spelledBoard s) refl a
 
   borders-are : bordersOf (getD s 0 0) (getD s 1 0) ≡ borderCountOf (spelledBoard s)
   unfolding spelledBoard
   borders-are = borders-of (native-has (spelledBoard s) (proper .known) .size)
 
   -- the board's borders, as a part of the image
-  pub part-length : length (take 1984 (drop 5122 s)) ≡ 1984
-  part-length = let e = long in length-take-le 1984 (drop 5122 s) (omega (arith, length-drop 5122 s))
+  pub series-part-length : length (take 1984 (drop 5122 s)) ≡ 1984
+  series-part-length = let e = long in length-take-le 1984 (drop 5122 s) (omega (arith, length-drop 5122 s))
 
   borders-part : take 1984 (drop 5122 s) ≡ spelledBoard s .borders
   unfolding spelledBoard
   borders-part =
       let f : ℕ → ℕ = λ i. getD s (5122 + i) 0 in
-      let p = part-length in
+      let p = series-part-length in
       ext-getD 0 (take 1984 (drop 5122 s)) (table 1984 f) (p ∙ sym (length-table 1984 f))
       (λ i h.
       let l : i < 1984 = omega arith in
@@ -69,14 +70,14 @@ module _ (s : List ℕ) (h : Bytes s) (k : imageAlien s ≡ false) where
   unfolding spelledBoard
   entry-is i l = getD-table 1984 (λ j. pair s (7108 + 2 * j)) i 0 l
 
-  refused : (a : ImageCall) → (imageNumber s a ≡ 0 → ⊥) → Stepped s a s false
+  refused : (a : ImageCall) → (imageNumber s a ≡ 0 → ⊥) → SeriesStepped s a s false
   refused a f =
       record {
         done = sym (ne-eqb (imageNumber s a) 0 f);
         after = after-refused s h long (spelledBoard s) refl a f;
       }
 
-  stepped : {a : ImageCall} {t : List ℕ} → imageNumber s a ≡ 0 → t ≡ imageAfter s a → Stepped s a t true
+  stepped : {a : ImageCall} {t : List ℕ} → imageNumber s a ≡ 0 → t ≡ imageAfter s a → SeriesStepped s a t true
   stepped z e = record { done = sym (eq-eqb _ 0 z); after = e }
 
   -- a decide, from what the code has: its literal l, the count m of the page's borders, and how its tests end
@@ -99,7 +100,7 @@ module _ (s : List ℕ) (h : Bytes s) (k : imageAlien s ≡ false) where
           ∙ decide-ends b (decideLiteral n d) (proper .known))
           ∙ by-board (decide n d)
 
-      pub decide-not : (numberOf o ≡ 0 → ⊥) → Stepped s (decide n d) s false
+      pub decide-not : (numberOf o ≡ 0 → ⊥) → SeriesStepped s (decide n d) s false
       decide-not f = refused (decide n d) (λ z. f (decide-number ∙ z))
 
       -- one that is done
@@ -114,11 +115,11 @@ module _ (s : List ℕ) (h : Bytes s) (k : imageAlien s ≡ false) where
             (omega (arith, r .0), omega (arith, r .1, count-is))
 
         pub decide-step : {v : ℕ} {t : List ℕ} → v ≡ codeOf (l .side)
-            → t ≡ written s (l .border) v (c + 1) c (l .border) → Stepped s (decide n d) t true
+            → t ≡ imageWritten s (l .border) v (c + 1) c (l .border) → SeriesStepped s (decide n d) t true
         decide-step {v} {t} x w =
             stepped decided
-            (decide-after s h long (spelledBoard s) refl n d decided l v t y x
-            (w ∙ ap (λ j. written s (l .border) v (j + 1) j (l .border)) (e ∙ sym count-is)))
+            (image-decide-after s h long (spelledBoard s) refl n d decided l v t y x
+            (w ∙ ap (λ j. imageWritten s (l .border) v (j + 1) j (l .border)) (e ∙ sym count-is)))
 
   -- an undo, where the image has the count m, and how its test ends
   module _ (m : ℕ) (e : m ≡ pair s 7106) (o : Outcome) (r : o ≡ undoRefusal m) where
@@ -129,7 +130,7 @@ module _ (s : List ℕ) (h : Bytes s) (k : imageAlien s ≡ false) where
     undo-number =
         ap numberOf (r ∙ ap undoRefusal (sym counted) ∙ undo-ends (spelledBoard s) (proper .known)) ∙ by-board undo
 
-    pub undo-not : (numberOf o ≡ 0 → ⊥) → Stepped s undo s false
+    pub undo-not : (numberOf o ≡ 0 → ⊥) → SeriesStepped s undo s false
     undo-not f = refused undo (λ z. f (undo-number ∙ z))
 
     module _ (z : numberOf o ≡ 0) where
@@ -155,11 +156,11 @@ module _ (s : List ℕ) (h : Bytes s) (k : imageAlien s ≡ false) where
         pub undo-room : n < 1984
         undo-room = rw entry (undo-fits s h long (spelledBoard s) refl undone .2)
 
-        pub undo-step : {t : List ℕ} → t ≡ written s n 0 (m - 1) (m - 1) 0 → Stepped s undo t true
+        pub undo-step : {t : List ℕ} → t ≡ imageWritten s n 0 (m - 1) (m - 1) 0 → SeriesStepped s undo t true
         undo-step {t} w =
             stepped undone
-            (undo-after s h long (spelledBoard s) refl undone n t entry
-            (w ∙ ap (λ j. written s n 0 (j - 1) (j - 1) 0) (sym counted)))
+            (image-undo-after s h long (spelledBoard s) refl undone n t entry
+            (w ∙ ap (λ j. imageWritten s n 0 (j - 1) (j - 1) 0) (sym counted)))
 
 -- ---- a list of calls
 -- no call is done on an alien image
@@ -213,7 +214,7 @@ module _ {start codes : List ℕ} {i : ℕ} {s : List ℕ} (R : Running start co
   here : drop i codes ≡ getD codes i 0 ∷ drop (suc i) codes
   here = drop-cons codes i 0 l
 
-  pub running-next : {t : List ℕ} → Bytes t → Stepped s call t true → Running start codes (i + 1) t
+  pub running-next : {t : List ℕ} → Bytes t → SeriesStepped s call t true → Running start codes (i + 1) t
   unfolding doneOf imageDone
   running-next {t} h S =
       let e = sym (S .done) in
@@ -228,7 +229,8 @@ module _ {start codes : List ℕ} {i : ℕ} {s : List ℕ} (R : Running start co
         image = R .image ∙ rw (here, e, ← S .after);
       })
 
-  pub running-stop : {t : List ℕ} → Stepped s call t false → (i ≡ doneOf start codes) × (t ≡ imageDone start codes)
+  pub running-stop : {t : List ℕ} → SeriesStepped s call t false → (i ≡ doneOf start codes)
+      × (t ≡ imageDone start codes)
   unfolding doneOf imageDone
   running-stop S =
       let e = sym (S .done) in

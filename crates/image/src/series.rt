@@ -5,7 +5,7 @@ ghost use mathlib.Core.Bool.{false};
 ghost use lib.ListN.{length, getD};
 ghost use Rattle.board.specs.Alien.{bordersOf};
 ghost use Rattle.image.specs.Image.{imageAlien, decide, undo};
-ghost use Rattle.image.specs.Series.{Stepped, codeCall, doneOf, imageDone};
+ghost use Rattle.image.specs.Series.{SeriesStepped, codeCall, doneOf, imageDone};
 use crate::BORDERS;
 use crate::COUNT;
 use crate::STACK;
@@ -30,7 +30,7 @@ fn border_count(image: &[u8]) -> usize
 // Decides a border of an image that is not alien. Whether that is done.
 fn decided(image: &mut [u8], border: u32, side: u32) -> bool
     requires { ⌜ (length (now image) ≡ 11076) × (imageAlien (now image) ≡ false) ⌝ }
-    ensures { λ r. ⌜ Stepped (now (image .entry)) (decide border side) (now (image .exit)) r ⌝ }
+    ensures { λ r. ⌜ SeriesStepped (now (image .entry)) (decide border side) (now (image .exit)) r ⌝ }
 {
     let l = literal(border, side);
     let n = l.border;
@@ -47,7 +47,7 @@ fn decided(image: &mut [u8], border: u32, side: u32) -> bool
 // Takes the last decision of an image that is not alien back. Whether that is done.
 fn undone(image: &mut [u8]) -> bool
     requires { ⌜ (length (now image) ≡ 11076) × (imageAlien (now image) ≡ false) ⌝ }
-    ensures { λ r. ⌜ Stepped (now (image .entry)) undo (now (image .exit)) r ⌝ }
+    ensures { λ r. ⌜ SeriesStepped (now (image .entry)) undo (now (image .exit)) r ⌝ }
 {
     let count = index(two(image, COUNT));
     let outcome = board::refusals::undo_refusal(count);
@@ -63,7 +63,7 @@ fn undone(image: &mut [u8]) -> bool
 // Makes the call of a code on an image that is not alien. Whether that is done.
 fn step(image: &mut [u8], code: u16) -> bool
     requires { ⌜ (length (now image) ≡ 11076) × (imageAlien (now image) ≡ false) ⌝ }
-    ensures { λ r. ⌜ Stepped (now (image .entry)) (codeCall code) (now (image .exit)) r ⌝ }
+    ensures { λ r. ⌜ SeriesStepped (now (image .entry)) (codeCall code) (now (image .exit)) r ⌝ }
 {
     if code == UNDO {
         return undone(image);

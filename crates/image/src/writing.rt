@@ -3,7 +3,7 @@ ghost use mathlib.Core.Path.{_≡_};
 ghost use Prim.Native.Nat.{_+_, _*_, _<_, _≤_};
 ghost use lib.ListN.{length};
 ghost use lib.Seq.{sets};
-ghost use Rattle.image.specs.Image.{twoBytes, written, putCodes, isShort};
+ghost use Rattle.image.specs.Image.{twoBytes, imageWritten, putCodes, isShort};
 use crate::BORDERS;
 use crate::COUNT;
 use crate::STACK;
@@ -25,7 +25,7 @@ pub fn put_two(s: &mut [u8], k: usize, v: usize)
 // Sets the border n to v, the count to c and the entry i of the stack to e.
 pub fn rewrite(s: &mut [u8], n: usize, v: u8, c: usize, i: usize, e: usize)
     requires { ⌜ (length (now s) ≡ 11076) × (n < 1984) × (i < 1984) ⌝ }
-    ensures { λ _. ⌜ now (s .exit) ≡ written (now (s .entry)) n v c i e ⌝ }
+    ensures { λ _. ⌜ now (s .exit) ≡ imageWritten (now (s .entry)) n v c i e ⌝ }
 {
     s[BORDERS + n] = v;
     put_two(s, COUNT, c);

@@ -3,7 +3,7 @@
 --
 --   states-none         a border that the sequence does not name is undecided
 --   without-last        taking the last literal off undoes putting it last
---   bordersOf ls        the borders that a sequence names
+--   bordersNamed ls     the borders that a sequence names
 --   Clean Z ls          the sequence names borders of the page, none of them twice
 --   clean-none, clean-with, clean-without   the empty sequence is so; with a literal put last; with the last taken off
 --   decided-mem         a decided border has its literal in the sequence
@@ -51,25 +51,26 @@ without-last [] l = refl
 without-last (a ∷ []) l = refl
 without-last (a ∷ b ∷ ls) l = ap (λ (t : List Literal). a ∷ t) (without-last (b ∷ ls) l)
 
-abbrev pub bordersOf : List Literal → List ℕ
-bordersOf ls = map (λ l. l .border) ls
+abbrev pub bordersNamed : List Literal → List ℕ
+bordersNamed ls = map (λ l. l .border) ls
 
 pub record Clean (Z : Puzzle) (ls : List Literal) : Type 0 where
   pub below : (l : Literal) → l ∈ ls → l .border < Z .page .borders
-  pub once : Distinct (bordersOf ls)
+  pub once : Distinct (bordersNamed ls)
 
-names-mem : (ls : List Literal) (b : ℕ) → b ∈ bordersOf ls → T (names ls b)
+names-mem : (ls : List Literal) (b : ℕ) → b ∈ bordersNamed ls → T (names ls b)
 unfolding names
 names-mem ls b m =
     let r = map-find (λ (l : Literal). l .border) ls m in
     any-mem (λ (l : Literal). eqb (l .border) b) ls (r .1)
     (subst (λ (c : ℕ). T (eqb (r .0 .border) c)) (sym (r .2)) (eqb-refl (r .0 .border)))
 
-named-mem : (ls : List Literal) (b : ℕ) → T (names ls b) → b ∈ bordersOf ls
+named-mem : (ls : List Literal) (b : ℕ) → T (names ls b) → b ∈ bordersNamed ls
 unfolding names
 named-mem ls b t =
     let r = any-find (λ (l : Literal). eqb (l .border) b) ls t in
-    subst (λ (c : ℕ). c ∈ bordersOf ls) (eqb→eq (r .0 .border) b (r .2)) (mem-map (λ (l : Literal). l .border) (r .1))
+    subst (λ (c : ℕ). c ∈ bordersNamed ls) (eqb→eq (r .0 .border) b (r .2))
+    (mem-map (λ (l : Literal). l .border) (r .1))
 
 -- lists with one more element at the end
 distinct-last : (xs : List ℕ) (y : ℕ) → Distinct xs → (y ∈ xs → ⊥) → Distinct (xs ++ (y ∷ []))
@@ -88,7 +89,7 @@ without-mem (k ∷ []) l m = absurd (List·Memᴰ·not-nil m)
 without-mem (k ∷ j ∷ ls) l (List·Memᴰ·head q) = List·Memᴰ·head q
 without-mem (k ∷ j ∷ ls) l (List·Memᴰ·tail m) = List·Memᴰ·tail (without-mem (j ∷ ls) l m)
 
-without-once : (ls : List Literal) → Distinct (bordersOf ls) → Distinct (bordersOf (withoutLast ls))
+without-once : (ls : List Literal) → Distinct (bordersNamed ls) → Distinct (bordersNamed (withoutLast ls))
 unfolding withoutLast
 without-once [] d = tt
 without-once (k ∷ []) d = tt
@@ -99,7 +100,7 @@ without-once (k ∷ j ∷ ls) d = (
   where
     go : (l : Literal) × l ∈ withoutLast (j ∷ ls) × (k .border ≡ l .border) → ⊥
     go r =
-        d .0 (subst (λ (b : ℕ). b ∈ bordersOf (j ∷ ls)) (sym (r .2))
+        d .0 (subst (λ (b : ℕ). b ∈ bordersNamed (j ∷ ls)) (sym (r .2))
         (mem-map (λ (l : Literal). l .border) (without-mem (j ∷ ls) (r .0) (r .1))))
 
 module _ (Z : Puzzle) where
@@ -112,7 +113,7 @@ module _ (Z : Puzzle) where
     below = λ k m. go k (List·Memᴰ·append-cases ls m);
     once =
         subst Distinct (sym (map-append (λ (k : Literal). k .border) ls (l ∷ [])))
-        (distinct-last (bordersOf ls) (l .border) (c .once) (λ m. rw n at (names-mem ls (l .border) m)));
+        (distinct-last (bordersNamed ls) (l .border) (c .once) (λ m. rw n at (names-mem ls (l .border) m)));
   }
     where
       go : (k : Literal) → k ∈ ls ⊎ k ∈ (l ∷ []) → k .border < Z .page .borders
@@ -140,7 +141,7 @@ decided-mem (k ∷ ls) l e = go (eqb (k .border) (l .border)) refl e (decided-me
         List·Memᴰ·head (sym (λ i. record { border = b i; side = x i }))
     go false q f ih = List·Memᴰ·tail (ih f)
 
-mem-decided : (ls : List Literal) (l : Literal) → Distinct (bordersOf ls) → l ∈ ls → Has (states ls) l
+mem-decided : (ls : List Literal) (l : Literal) → Distinct (bordersNamed ls) → l ∈ ls → Has (states ls) l
 unfolding states
 mem-decided [] l d m = absurd (List·Memᴰ·not-nil m)
 mem-decided (k ∷ ls) l d (List·Memᴰ·head q) =
@@ -159,7 +160,7 @@ unfolding countBelow
 count-every zero = refl
 count-every (suc n) = let e = count-every n in omega arith
 
-one-decided : (l : Literal) (ls : List Literal) → Distinct (bordersOf (l ∷ ls)) → (b : ℕ)
+one-decided : (l : Literal) (ls : List Literal) → Distinct (bordersNamed (l ∷ ls)) → (b : ℕ)
     → isUndecided (states (l ∷ ls) b) || eqb (l .border) b ≡ isUndecided (states ls b)
 unfolding states
 one-decided l ls d b = go (eqb (l .border) b) refl
@@ -175,7 +176,7 @@ one-decided l ls d b = go (eqb (l .border) b) refl
         rw (← p, states-none ls (l .border) (unnamed (names ls (l .border)) refl))
     go false e = or-false (isUndecided (states ls b))
 
-left-count : (n : ℕ) (ls : List Literal) → Distinct (bordersOf ls) → ((l : Literal) → l ∈ ls → l .border < n)
+left-count : (n : ℕ) (ls : List Literal) → Distinct (bordersNamed ls) → ((l : Literal) → l ∈ ls → l .border < n)
     → countBelow n (λ b. isUndecided (states ls b)) + length ls ≡ n
 unfolding states
 left-count n [] d h = let e = count-every n in omega arith

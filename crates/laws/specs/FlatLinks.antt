@@ -20,7 +20,7 @@ use Rattle.rules.specs.Flat.{flat, cellAt, rightOf, belowOf, borderCount, hopIf
 use Rattle.rules.specs.Flat.{hopRight, aroundAt, aheadAt, flatFirst, flatSecond, flatPlace, flatReadsAt, flatReads}
 use Rattle.laws.specs.FlatLaws.{spot}
 use Rattle.laws.specs.PointLaws.{point-eq}
-use Rattle.laws.specs.PageLaws.{Near, at3}
+use Rattle.laws.specs.PageLaws.{OneStep, at3}
 use Rattle.laws.specs.Links.{Link, Linking, Linked}
 
 -- the hop, if there is one
@@ -49,7 +49,7 @@ pub step-back : (n : ℕ) → pos n ≡ pos (n + 1) +ℤ negsuc 0
 step-back n = sym (ap (λ z. pos z +ℤ negsuc 0) (add-one n) ∙ -ℤ-one (pos (suc n)))
 
 -- one step on, and back
-near-down : (y x : ℕ) → Near (at3 (pos 0) (pos y) (pos x)) (at3 (pos 0) (pos (y + 1)) (pos x))
+near-down : (y x : ℕ) → OneStep (at3 (pos 0) (pos y) (pos x)) (at3 (pos 0) (pos (y + 1)) (pos x))
 unfolding _⊕_
 near-down y x =
     record {
@@ -58,7 +58,7 @@ near-down y x =
       reach = point-eq refl refl (ap pos (plus-none x));
     }
 
-near-up : (y x : ℕ) → Near (at3 (pos 0) (pos (y + 1)) (pos x)) (at3 (pos 0) (pos y) (pos x))
+near-up : (y x : ℕ) → OneStep (at3 (pos 0) (pos (y + 1)) (pos x)) (at3 (pos 0) (pos y) (pos x))
 unfolding _⊕_
 near-up y x =
     record {
@@ -67,7 +67,7 @@ near-up y x =
       reach = point-eq refl (step-back y) (ap pos (plus-none x));
     }
 
-near-right : (y x : ℕ) → Near (at3 (pos 0) (pos y) (pos x)) (at3 (pos 0) (pos y) (pos (x + 1)))
+near-right : (y x : ℕ) → OneStep (at3 (pos 0) (pos y) (pos x)) (at3 (pos 0) (pos y) (pos (x + 1)))
 unfolding _⊕_
 near-right y x =
     record {
@@ -76,7 +76,7 @@ near-right y x =
       reach = point-eq refl (ap pos (plus-none y)) refl;
     }
 
-near-left : (y x : ℕ) → Near (at3 (pos 0) (pos y) (pos (x + 1))) (at3 (pos 0) (pos y) (pos x))
+near-left : (y x : ℕ) → OneStep (at3 (pos 0) (pos y) (pos (x + 1))) (at3 (pos 0) (pos y) (pos x))
 unfolding _⊕_
 near-left y x =
     record {

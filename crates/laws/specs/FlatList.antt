@@ -18,14 +18,14 @@ use Rattle.rules.specs.Turns.{Turn, apply, compose, keep, half, quarter, halfQu
 use Rattle.rules.specs.Turns.{flipHalfQuarter, flatTable}
 use Rattle.rules.specs.Shapes.{samePoint, sameShape, turned, withHalf, quarters, withQuarter, withFlip, flatTransforms}
 use Rattle.laws.specs.PointLaws.{origin, add-assoc, add-origin, add-opposite, swap4}
-use Rattle.laws.specs.PageLaws.{Moved, Turns, steps}
+use Rattle.laws.specs.PageLaws.{Moved, Turns, sixSteps}
 use Rattle.laws.specs.SameLaws.{samePoint→eq, samePoints→eq}
 use Rattle.laws.specs.ShapeLaws.{TurnedBy, turned-by}
 use Rattle.laws.specs.TurnLaws.{sameTurn, sameTurn→eq, hasTurn, has-turn, undone, apply-undo, apply-compose}
 use Rattle.laws.specs.TurnLaws.{apply-sum, apply-keep}
 
 abbrev toSteps : Turn → Bool
-toSteps a = all (λ e. any (samePoint (apply a e)) steps) steps
+toSteps a = all (λ e. any (samePoint (apply a e)) sixSteps) sixSteps
 
 -- what a table of turns has: two tests over its rows
 pub table-turns : (ts : List Turn) → T (all (undone ts) ts) → T (all toSteps ts) → Turns (map apply ts)
@@ -34,8 +34,8 @@ table-turns ts u v =
       sum = λ g m p q. let r = map-find apply ts m in rw (r .2) (apply-sum (r .0) p q);
       step = λ g m e n.
           let r = map-find apply ts m in
-          let f = all-mem (λ e. any (samePoint (apply (r .0) e)) steps) steps (all-mem toSteps ts v (r .1)) n in
-          let w = any-find (samePoint (apply (r .0) e)) steps f in
+          let f = all-mem (λ e. any (samePoint (apply (r .0) e)) sixSteps) sixSteps (all-mem toSteps ts v (r .1)) n in
+          let w = any-find (samePoint (apply (r .0) e)) sixSteps f in
           rw (r .2) (Memᴰ·cast (samePoint→eq (apply (r .0) e) (w .0) (w .2)) (w .1));
       inj = λ g m p q e.
           let r = map-find apply ts m in

@@ -99,7 +99,7 @@ module _ (t : Shape) (C : Canonical (t .cells)) where
           (ap c (sym k) ∙ f)
 
   -- the listed shapes by their rows, and the rows that are told apart from the shape itself
-  record Told (us : List Shape) : Type 0 where
+  record OnceTold (us : List Shape) : Type 0 where
     rows : List Turn
     bad : List Turn
     are : map (λ u. u .cells) us ≡ map c rows
@@ -145,12 +145,12 @@ module _ (t : Shape) (C : Canonical (t .cells)) where
   all-three e f r (List·Memᴰ·tail (List·Memᴰ·tail (List·Memᴰ·head m))) g = failed quarter f (g ∙ ap c m)
   all-three e f r (List·Memᴰ·tail (List·Memᴰ·tail (List·Memᴰ·tail m))) g = List·Memᴰ·not-nil m
 
-  told : Told (withQuarter t (withHalf t))
+  told : OnceTold (withQuarter t (withHalf t))
   unfolding withHalf withQuarter quarters all any pairwise xor
   told = go (sameShape t h) refl (sameShape t q) refl
     where
       go : (b : Bool) → sameShape t h ≡ b → (d : Bool) → sameShape t q ≡ d
-          → Told (cond d (cond b (t ∷ []) (t ∷ h ∷ [])) (cond b (t ∷ []) (t ∷ h ∷ [])
+          → OnceTold (cond d (cond b (t ∷ []) (t ∷ h ∷ [])) (cond b (t ∷ []) (t ∷ h ∷ [])
           ++ quarters q (cond b (t ∷ []) (t ∷ h ∷ []))))
       go true e true f =
           record {
@@ -246,7 +246,7 @@ module _ (t : Shape) (C : Canonical (t .cells)) where
   unfolding withFlip
   flipped-once = go (any (λ u. sameShape u f) us) refl
     where
-      K : Told us
+      K : OnceTold us
       K = told
 
       go : (b : Bool) → any (λ u. sameShape u f) us ≡ b

@@ -1,7 +1,7 @@
 -- A flat page of any height, and any width from 1 up, has what the argument asks: flat-bordered, flat-placed,
 -- flat-listed. From a cell, each of the six steps leads to a neighbour, or off the page.
 --
---   Next Y X e          the step e from (Y,X) leads over a border to a cell
+--   NextCell Y X e      the step e from (Y,X) leads over a border to a cell
 --   Off Y X e           no cell lies there, and the doubled place between reads as off the page
 --   Beside Y X e        the one or the other
 use mathlib.Core.Path.{_≡_, refl, sym, ap, _∙_, subst}
@@ -25,7 +25,7 @@ use Rattle.rules.specs.Flat.{hopAbove, hopBelow, hopLeft, hopRight, aheadAt, fl
 use Rattle.rules.specs.Flat.{flatPlace, flatReadsAt, flatReads}
 use Rattle.laws.specs.FlatLaws.{hop-le}
 use Rattle.laws.specs.PointLaws.{point-eq}
-use Rattle.laws.specs.PageLaws.{Near, steps, at3, Bordered, Placed, Listed, Moved}
+use Rattle.laws.specs.PageLaws.{OneStep, sixSteps, at3, Bordered, CellsPlaced, TurnsListed, Moved}
 use Rattle.laws.specs.Links.{Linking, linking-hop, linking-in, linking-reads, linked-bordered, linked-near}
 use Rattle.laws.specs.Links.{linked-reads}
 use Rattle.laws.specs.TurnLaws.{Swaps, table-swaps}
@@ -34,7 +34,7 @@ use Rattle.laws.specs.FlatLinks.{flat-linked, down-link, right-link, pla
 use Rattle.laws.specs.FlatLinks.{step-back, plus-none}
 
 module _ (h w : ℕ) where
-  record Next (Y X : ℕ) (e : Point) : Type 0 where
+  record NextCell (Y X : ℕ) (e : Point) : Type 0 where
     cell : ℕ
     over : ℕ
     link : Linking (flat h w) over (cellAt h w Y X) cell
@@ -45,7 +45,7 @@ module _ (h w : ℕ) where
     no-border : flatReads h w (at3 (pos 0) (pos Y) (pos X) ⊕ (at3 (pos 0) (pos Y) (pos X) ⊕ e)) ≡ none
 
   abbrev Beside : ℕ → ℕ → Point → Type 0
-  Beside Y X e = Next Y X e ⊎ Off Y X e
+  Beside Y X e = NextCell Y X e ⊎ Off Y X e
 
   too-low : (Y X : ℕ) → 2 * (h - 1) < Y → flatReadsAt h w Y X ≡ none
   unfolding flatReadsAt
@@ -160,7 +160,7 @@ module _ (h w : ℕ) (hw : 0 < w) where
         no-border = refl;
       }
 
-  beside : (Y X : ℕ) → Y < h → X < w → (e : Point) → e ∈ steps → Beside h w Y X e
+  beside : (Y X : ℕ) → Y < h → X < w → (e : Point) → e ∈ sixSteps → Beside h w Y X e
   beside Y X l k e (List·Memᴰ·head q) = rw q (right Y X l k)
   beside Y X l k e (List·Memᴰ·tail (List·Memᴰ·head q)) = rw q (left Y X l k)
   beside Y X l k e (List·Memᴰ·tail (List·Memᴰ·tail (List·Memᴰ·head q))) = rw q (down Y X l k)
@@ -179,10 +179,10 @@ module _ (h w : ℕ) (hw : 0 < w) where
   unfolding flatPlace
   place-is x = refl
 
-  from : (x : ℕ) → x < h * w → (e : Point) → e ∈ steps → Beside h w (x / w) (x % w) e
+  from : (x : ℕ) → x < h * w → (e : Point) → e ∈ sixSteps → Beside h w (x / w) (x % w) e
   from x l = beside (x / w) (x % w) (row-in h w hw x l) (column-in h w hw x)
 
-  link-from : (x : ℕ) (e : Point) (N : Next h w (x / w) (x % w) e) → Linking (flat h w) (N .over) x (N .cell)
+  link-from : (x : ℕ) (e : Point) (N : NextCell h w (x / w) (x % w) e) → Linking (flat h w) (N .over) x (N .cell)
   link-from x e N = subst (λ (p : ℕ). Linking (flat h w) (N .over) p (N .cell)) (cell-is h w x) (N .link)
 
   place-inj : (x y : ℕ) → x < h * w → y < h * w → flatPlace h w x ≡ flatPlace h w y → x ≡ y
@@ -194,7 +194,7 @@ module _ (h w : ℕ) (hw : 0 < w) where
       let v : x % w ≡ y % w = cc in
       sym (cell-is h w x) ∙ (ap (λ i. cellAt h w i (x % w)) u ∙ (ap (cellAt h w (y / w)) v ∙ cell-is h w y))
 
-  near-hop : (x y : ℕ) → x < h * w → y < h * w → Near (flatPlace h w x) (flatPlace h w y)
+  near-hop : (x y : ℕ) → x < h * w → y < h * w → OneStep (flatPlace h w x) (flatPlace h w y)
       → (j : Hop) × j ∈ aroundAt h w (x / w) (x % w) × (j .to ≡ y)
   unfolding flat
   near-hop x y l k n = go (from x l (n .by) (n .unit))
@@ -212,7 +212,7 @@ module _ (h w : ℕ) (hw : 0 < w) where
           )
       go (inr O) = absurd (O .no-cell y k there)
 
-  reads-hop : (x : ℕ) (p : Point) (b : ℕ) → x < h * w → Near (flatPlace h w x) p
+  reads-hop : (x : ℕ) (p : Point) (b : ℕ) → x < h * w → OneStep (flatPlace h w x) p
       → flatReads h w (flatPlace h w x ⊕ p) ≡ some b
       → (j : Hop) × j ∈ aroundAt h w (x / w) (x % w) × (j .border ≡ b) × (flatPlace h w (j .to) ≡ p)
   unfolding flat
@@ -242,7 +242,7 @@ module _ (h w : ℕ) (hw : 0 < w) where
   pub flat-bordered : Bordered (flat h w)
   flat-bordered = linked-bordered (flat h w) (flat-linked h w hw)
 
-  pub flat-placed : Placed (flat h w)
+  pub flat-placed : CellsPlaced (flat h w)
   unfolding flat
   flat-placed =
       record {
@@ -254,7 +254,7 @@ module _ (h w : ℕ) (hw : 0 < w) where
         turns-ok = flat-turns;
       }
 
-pub flat-listed : (h w : ℕ) → Listed (flat h w)
+pub flat-listed : (h w : ℕ) → TurnsListed (flat h w)
 unfolding flat
 flat-listed h w =
     record {

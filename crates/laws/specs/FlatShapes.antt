@@ -10,7 +10,7 @@ use native.Mathlib.Nat.{div-add-mod', mod-lt, mul-le-mul-right, suc-mul}
 use native.Mathlib.Omega.{arith}
 use lib.Dec.{T, eqb, eqb-refl, ltb, ltb→lt, lt→ltb, nltb→le}
 use lib.ListN.{length, length-append, length-map}
-use Rattle.lists.specs.Lists.{_∈_, Distinct, filter, keep, any, range, rangeFrom}
+use Rattle.lists.specs.Lists.{_∈_, Distinct, filter, keepIf, any, range, rangeFrom}
 use Rattle.lists.specs.Booleans.{T-and, T-or-l, T-or-r, T-dec}
 use Rattle.lists.specs.ListLaws.{map-find, filter-mem}
 use Rattle.lists.specs.Ranges.{rangeFrom-ge}
@@ -39,7 +39,7 @@ unfolding filter
 rising-filter p [] r = tt
 rising-filter p (x ∷ xs) r = go (p x) (rising-filter p xs (r .1))
   where
-    go : (b : Bool) → Rising (filter p xs) → Rising (keep b x (filter p xs))
+    go : (b : Bool) → Rising (filter p xs) → Rising (keepIf b x (filter p xs))
     go true s = (λ y m. r .0 y (filter-mem p xs m), s)
     go false s = s
 

@@ -1,7 +1,7 @@
 -- Laws of labels: what a merge does to them, those after each border, and that two cells have the same label exactly
 -- when they are joined, the first cell of the group.
 --
---   after G link k      the labels once the first k borders are taken
+--   labelsAfter G link k      the labels once the first k borders are taken
 --   Labelled n L        L has for each of n cells a label that is no later, and is its own label
 --   rename-hit, rename-miss, rename-same, renamed, labelled-renamed   one label renamed
 --   merge-earlier, merge-later, merge-same, labelled-merge   the merge of two cells, by how their labels stand
@@ -13,7 +13,7 @@
 --   labels-one          labels of the same groups are the same labels
 --   label-le, label-idem            a label is no later than its cell, and is its own label
 --   label-joined, joined-label      equal labels are joined cells, and the other way round
---   hop-label                       the two cells of a hop over a border that links have one label
+--   hop-label           the two cells of a hop over a border that links have one label
 use mathlib.Core.Path.{_≡_, refl, sym, ap, _∙_, subst}
 use mathlib.Core.Bool.{Bool, true, false}
 use mathlib.Core.List.{List, [], _∷_, _++_, map}
@@ -36,8 +36,8 @@ use Rattle.rules.specs.Groups.{entry, rename, merge, mergeIf, mergeAll, labels}
 use Rattle.laws.specs.PageLaws.{Bordered, second-in}
 use Rattle.laws.specs.RuleLaws.{join-trans, join-sym, border-join}
 
-unfoldable pub after : Page → (ℕ → Bool) → ℕ → List ℕ
-after G link k = mergeAll G link (range (G .cells)) (range k)
+unfoldable pub labelsAfter : Page → (ℕ → Bool) → ℕ → List ℕ
+labelsAfter G link k = mergeAll G link (range (G .cells)) (range k)
 
 pub record Labelled (n : ℕ) (L : List ℕ) : Type 0 where
   pub size : length L ≡ n
@@ -147,28 +147,29 @@ module _ (G : Page) (link : ℕ → Bool) where
   merge-append L (b ∷ xs) ys =
       merge-append (mergeIf (link b) (entry L (G .first b)) (entry L (G .second b)) L) xs ys
 
-  pub after-none : after G link 0 ≡ range (G .cells)
-  unfolding after
+  pub after-none : labelsAfter G link 0 ≡ range (G .cells)
+  unfolding labelsAfter
   after-none = refl
 
   -- one more border
-  pub after-more : (k : ℕ) → after G link (k + 1)
-      ≡ mergeIf (link k) (entry (after G link k) (G .first k)) (entry (after G link k) (G .second k)) (after G link k)
-  unfolding after
+  pub after-more : (k : ℕ) → labelsAfter G link (k + 1)
+      ≡ mergeIf (link k) (entry (labelsAfter G link k) (G .first k)) (entry (labelsAfter G link k) (G .second k))
+      (labelsAfter G link k)
+  unfolding labelsAfter
   after-more k =
       rw (add-one k, range-more k) (merge-append (range (G .cells)) (range k) (k ∷ []))
 
-  pub after-all : labels G link ≡ after G link (G .borders)
-  unfolding labels after
+  pub after-all : labels G link ≡ labelsAfter G link (G .borders)
+  unfolding labels labelsAfter
   after-all = refl
 
   module _ (some : 1 ≤ G .cells) where
-    pub labelled-after : (k : ℕ) → Labelled (G .cells) (after G link k)
+    pub labelled-after : (k : ℕ) → Labelled (G .cells) (labelsAfter G link k)
     labelled-after zero = rw after-none (labelled-range (G .cells))
     labelled-after (suc k) =
         let e : suc k ≡ k + 1 = omega arith in
         rw (e, after-more k)
-        (labelled-merge (G .cells) some (after G link k) (labelled-after k) (link k) (G .first k) (G .second k))
+        (labelled-merge (G .cells) some (labelsAfter G link k) (labelled-after k) (link k) (G .first k) (G .second k))
 
     pub labelled : Labelled (G .cells) (labels G link)
     labelled = rw after-all (labelled-after (G .borders))
@@ -276,7 +277,7 @@ module _ (G : Page) (link : ℕ → Bool) (some : 1 ≤ G .cells)
     (inside : (b : ℕ) → b < G .borders → (G .first b < G .cells) × (G .second b < G .cells)) where
   -- a border that joins has one label on both sides from then on
   pub after-meets : (k : ℕ) → k ≤ G .borders → (b : ℕ) → b < k → link b ≡ true
-      → getD (after G link k) (G .first b) 0 ≡ getD (after G link k) (G .second b) 0
+      → getD (labelsAfter G link k) (G .first b) 0 ≡ getD (labelsAfter G link k) (G .second b) 0
   after-meets zero h b l e = absurd (omega arith)
   after-meets (suc k) h b l e =
       let q : suc k ≡ k + 1 = omega arith in
@@ -284,7 +285,7 @@ module _ (G : Page) (link : ℕ → Bool) (some : 1 ≤ G .cells)
       (go (link k) refl (λ (m : b < k). after-meets k (omega arith) b m e) (ℕ-discrete b k))
     where
       L : List ℕ
-      L = after G link k
+      L = labelsAfter G link k
 
       different : true ≡ false → ⊥
       different z = let w : _≡_ {A = ℕ} 0 1 = cc in omega arith
@@ -306,7 +307,7 @@ module _ (G : Page) (link : ℕ → Bool) (some : 1 ≤ G .cells)
   pub after-within : (R : ℕ → ℕ → Type 0) → ((x : ℕ) → R x x) → ((x y : ℕ) → x < G .cells → R x y → R y x)
       → ((x y z : ℕ) → R x y → R y z → R x z) → (k : ℕ) → k ≤ G .borders
       → ((b : ℕ) → b < k → link b ≡ true → R (G .first b) (G .second b))
-      → (x : ℕ) → x < G .cells → R (getD (after G link k) x 0) x
+      → (x : ℕ) → x < G .cells → R (getD (labelsAfter G link k) x 0) x
   after-within R self turn join zero h f x l =
       subst (λ (i : ℕ). R i x) (sym (rw (after-none G link) (range-at (G .cells) x l))) (self x)
   after-within R self turn join (suc k) h f x l =
@@ -315,7 +316,7 @@ module _ (G : Page) (link : ℕ → Bool) (some : 1 ≤ G .cells)
       (go (link k) refl (after-within R self turn join k (omega arith) (λ b j. f b (omega arith))))
     where
       L : List ℕ
-      L = after G link k
+      L = labelsAfter G link k
 
       go : (t : Bool) → link k ≡ t → ((y : ℕ) → y < G .cells → R (getD L y 0) y)
           → R (getD (mergeIf t (entry L (G .first k)) (entry L (G .second k)) L) x 0) x
@@ -327,7 +328,7 @@ module _ (G : Page) (link : ℕ → Bool) (some : 1 ≤ G .cells)
   -- labels that part no joined cells part no cell from its label
   pub after-sound : (M : List ℕ) → (k : ℕ) → k ≤ G .borders
       → ((b : ℕ) → b < k → link b ≡ true → getD M (G .first b) 0 ≡ getD M (G .second b) 0)
-      → (x : ℕ) → x < G .cells → getD M (getD (after G link k) x 0) 0 ≡ getD M x 0
+      → (x : ℕ) → x < G .cells → getD M (getD (labelsAfter G link k) x 0) 0 ≡ getD M x 0
   after-sound M =
       after-within (λ x y. getD M x 0 ≡ getD M y 0) (λ x. refl) (λ x y h e. sym e) (λ x y z d e. d ∙ e)
 

@@ -10,7 +10,7 @@ use Prim.Native.Nat.{ℕ, _<_}
 use Rattle.lists.specs.Lists.{_∈_}
 use Rattle.rules.specs.Page.{Page, Hop, _⊕_}
 use Rattle.laws.specs.PointLaws.{add-comm}
-use Rattle.laws.specs.PageLaws.{Near, Bordered}
+use Rattle.laws.specs.PageLaws.{OneStep, Bordered}
 
 pub record Link (G : Page) (b p q : ℕ) : Type 0 where
   pub border-in : b < G .borders
@@ -21,8 +21,8 @@ pub record Link (G : Page) (b p q : ℕ) : Type 0 where
   pub forward : record { border = b; to = q } ∈ G .ahead p
   pub around-first : record { border = b; to = q } ∈ G .around p
   pub around-second : record { border = b; to = p } ∈ G .around q
-  pub near : Near (G .place p) (G .place q)
-  pub near-back : Near (G .place q) (G .place p)
+  pub near : OneStep (G .place p) (G .place q)
+  pub near-back : OneStep (G .place q) (G .place p)
   pub reads-it : G .reads (G .place p ⊕ G .place q) ≡ some b
 
 -- the two cells are the link's, one way round or the other
@@ -43,7 +43,7 @@ module _ (G : Page) where
   linking-reads b p q (inl l) = l .reads-it
   linking-reads b p q (inr l) = ap (G .reads) (add-comm (G .place p) (G .place q)) ∙ l .reads-it
 
-  linking-near : (b p q : ℕ) → Linking G b p q → Near (G .place p) (G .place q)
+  linking-near : (b p q : ℕ) → Linking G b p q → OneStep (G .place p) (G .place q)
   linking-near b p q (inl l) = l .near
   linking-near b p q (inr l) = l .near-back
 
@@ -85,7 +85,7 @@ module _ (G : Page) where
           ahead-all = λ x h l m. linking-ahead (h .border) x (h .to) (K .of-around x h l m);
         }
 
-    pub linked-near : (x : ℕ) (h : Hop) → x < G .cells → h ∈ G .around x → Near (G .place x) (G .place (h .to))
+    pub linked-near : (x : ℕ) (h : Hop) → x < G .cells → h ∈ G .around x → OneStep (G .place x) (G .place (h .to))
     linked-near x h l m = linking-near (h .border) x (h .to) (K .of-around x h l m)
 
     pub linked-reads : (x : ℕ) (h : Hop) → x < G .cells → h ∈ G .around x

@@ -2,8 +2,8 @@
 --
 --   less-irrefl, less-trans, less-total         the order of coordinates
 --   before-irrefl, before-trans, before-total   the order of places
---   before-cases        of two places one stands before the other, or they are one
---   before-shift        two places shifted alike are in the same order
+--   before-cases                                of two places one stands before the other, or they are one
+--   before-shift                                two places shifted alike are in the same order
 use mathlib.Core.Path.{_≡_, refl, sym, ap, _∙_}
 use mathlib.Core.Logic.{_⊎_, inl, inr}
 use mathlib.Core.Bool.{Bool, true, false, not, _&&_, _||_}

@@ -4,12 +4,12 @@
 --   Bordered G          neighbours stay on the page, and go both ways over the border between them
 --   second-in           so the second cell of a border is on the page
 --   at3 l y x           the place with the layer l, the row y and the column x
---   steps               the six steps to a neighbour
---   Near p q            q is one step from p
+--   sixSteps            the six steps to a neighbour
+--   OneStep p q         q is one step from p
 --   Turns ts            turns keep sums and steps, and no two places fall together
---   Placed G            cells have different places, and a doubled place reads the border between two near cells
+--   CellsPlaced G       cells have different places, and a doubled place reads the border between two near cells
 --   Moved g k ps qs     qs are the places ps turned by g and shifted by k
---   Listed G            every listed transform is the shape moved by a turn, and every turn is listed
+--   TurnsListed G       every listed transform is the shape moved by a turn, and every turn is listed
 --   near-turn, near-right, near-left   near places are near when turned; shifted, the shift on the right or on the left
 --   near-eq             places that are equal to near ones
 use mathlib.Core.Path.{_≡_, _∙_, ap, sym, subst}
@@ -45,28 +45,28 @@ abbrev pub at3 : ℤ → ℤ → ℤ → Point
 at3 l y x = record { layer = l; row = y; column = x }
 
 -- the six steps to a neighbour
-abbrev pub steps : List Point
-steps = at3 (pos 0) (pos 0) (pos 1) ∷ at3 (pos 0) (pos 0) (negsuc 0) ∷ at3 (pos 0) (pos 1) (pos 0) ∷ at3 (pos 0)
+abbrev pub sixSteps : List Point
+sixSteps = at3 (pos 0) (pos 0) (pos 1) ∷ at3 (pos 0) (pos 0) (negsuc 0) ∷ at3 (pos 0) (pos 1) (pos 0) ∷ at3 (pos 0)
     (negsuc 0) (pos 0) ∷ at3 (pos 1) (pos 0) (pos 0) ∷ at3 (negsuc 0) (pos 0) (pos 0) ∷ []
 
-pub record Near (p q : Point) : Type 0 where
+pub record OneStep (p q : Point) : Type 0 where
   pub by : Point
-  pub unit : by ∈ steps
+  pub unit : by ∈ sixSteps
   pub reach : q ≡ p ⊕ by
 
 pub record Turns (ts : List (Point → Point)) : Type 0 where
   pub sum : (g : Point → Point) → g ∈ ts → (p q : Point) → g (p ⊕ q) ≡ g p ⊕ g q
-  pub step : (g : Point → Point) → g ∈ ts → (e : Point) → e ∈ steps → g e ∈ steps
+  pub step : (g : Point → Point) → g ∈ ts → (e : Point) → e ∈ sixSteps → g e ∈ sixSteps
   pub inj : (g : Point → Point) → g ∈ ts → (p q : Point) → g p ≡ g q → p ≡ q
 
-pub record Placed (G : Page) : Type 0 where
+pub record CellsPlaced (G : Page) : Type 0 where
   pub place-inj : (x y : ℕ) → x < G .cells → y < G .cells → G .place x ≡ G .place y → x ≡ y
-  pub hop-near : (x : ℕ) (h : Hop) → x < G .cells → h ∈ G .around x → Near (G .place x) (G .place (h .to))
-  pub near-hop : (x y : ℕ) → x < G .cells → y < G .cells → Near (G .place x) (G .place y)
+  pub hop-near : (x : ℕ) (h : Hop) → x < G .cells → h ∈ G .around x → OneStep (G .place x) (G .place (h .to))
+  pub near-hop : (x y : ℕ) → x < G .cells → y < G .cells → OneStep (G .place x) (G .place y)
       → (h : Hop) × h ∈ G .around x × (h .to ≡ y)
   pub hop-reads : (x : ℕ) (h : Hop) → x < G .cells → h ∈ G .around x
       → G .reads (G .place x ⊕ G .place (h .to)) ≡ some (h .border)
-  pub reads-hop : (x : ℕ) (p : Point) (b : ℕ) → x < G .cells → Near (G .place x) p
+  pub reads-hop : (x : ℕ) (p : Point) (b : ℕ) → x < G .cells → OneStep (G .place x) p
       → G .reads (G .place x ⊕ p) ≡ some b →
       (h : Hop) × h ∈ G .around x × (h .border ≡ b) × (G .place (h .to) ≡ p)
   pub turns-ok : Turns (G .turns)
@@ -78,7 +78,7 @@ pub record Moved (g : Point → Point) (k : Point) (ps qs : List Point) : Type 0
 
 -- every listed transform is the shape turned, its connections shifted twice as far, and has a cell at the origin; every
 -- turn is listed
-pub record Listed (G : Page) : Type 0 where
+pub record TurnsListed (G : Page) : Type 0 where
   pub is-turned : (t u : Shape) → origin ∈ t .cells → u ∈ G .transforms t →
       (g : Point → Point) × (k : Point) × g ∈ G .turns × Moved g k (t .cells) (u .cells) × Moved g (k ⊕ k)
       (t .connections) (u .connections)
@@ -87,12 +87,12 @@ pub record Listed (G : Page) : Type 0 where
       → (u : Shape) × (k : Point) × u ∈ G .transforms t × Moved g k (t .cells) (u .cells)
 
 -- near places stay near when both are turned or shifted
-pub near-turn : (ts : List (Point → Point)) → Turns ts → (g : Point → Point) → g ∈ ts → {p q : Point} → Near p q
-    → Near (g p) (g q)
+pub near-turn : (ts : List (Point → Point)) → Turns ts → (g : Point → Point) → g ∈ ts → {p q : Point} → OneStep p q
+    → OneStep (g p) (g q)
 near-turn ts W g m {p} n = record
     { by = g (n .by); unit = W .step g m (n .by) (n .unit); reach = ap g (n .reach) ∙ W .sum g m p (n .by) }
 
-pub near-right : (v : Point) {p q : Point} → Near p q → Near (p ⊕ v) (q ⊕ v)
+pub near-right : (v : Point) {p q : Point} → OneStep p q → OneStep (p ⊕ v) (q ⊕ v)
 near-right v {p} {q} n = record {
   by = n .by;
   unit = n .unit;
@@ -100,7 +100,7 @@ near-right v {p} {q} n = record {
       ∙ (add-assoc p (n .by) v ∙ (ap (λ z. p ⊕ z) (add-comm (n .by) v) ∙ sym (add-assoc p v (n .by))));
 }
 
-pub near-left : (v : Point) {p q : Point} → Near p q → Near (v ⊕ p) (v ⊕ q)
+pub near-left : (v : Point) {p q : Point} → OneStep p q → OneStep (v ⊕ p) (v ⊕ q)
 near-left v {p} {q} n = record {
   by = n .by;
   unit = n .unit;
@@ -108,5 +108,6 @@ near-left v {p} {q} n = record {
       ∙ sym (add-assoc v p (n .by));
 }
 
-pub near-eq : {p q p′ q′ : Point} → p′ ≡ p → q′ ≡ q → Near p q → Near p′ q′
-near-eq {p} {q} {p′} {q′} e f n = subst (λ (z : Point). Near z q′) (sym e) (subst (λ (z : Point). Near p z) (sym f) n)
+pub near-eq : {p q p′ q′ : Point} → p′ ≡ p → q′ ≡ q → OneStep p q → OneStep p′ q′
+near-eq {p} {q} {p′} {q′} e f n = subst (λ (z : Point). OneStep z q′) (sym e)
+    (subst (λ (z : Point). OneStep p z) (sym f) n)

@@ -90,14 +90,14 @@ mem-found a f {x} m = rw (inside f m) (or-true (eqb x a))
     inside (e ∷ g) (List·Memᴰ·tail n) = rw (inside g n) (or-true (eqb x (e .cell)))
 
 -- a search whose cells are all below n, each found once
-record Fine (n : ℕ) (t : Search) : Type 0 where
+record QueueFine (n : ℕ) (t : Search) : Type 0 where
   waiting : (x : ℕ) → x ∈ t .queue → x < n
   below : (x : ℕ) → x ∈ cellsOf (t .found) → x < n
   once : Distinct (cellsOf (t .found))
 
 module _ (G : Page) (s : ℕ → State) (n a : ℕ) where
   fine-visit : (v : Bool) (x : ℕ) (k : Hop) (t : Search) → k .to < n
-      → (v ≡ true → isFound a (t .found) (k .to) ≡ false) → Fine n t → Fine n (visitIf v x k t)
+      → (v ≡ true → isFound a (t .found) (k .to) ≡ false) → QueueFine n t → QueueFine n (visitIf v x k t)
   fine-visit false x k t q e f = f
   fine-visit true x k t q e f =
       record {
@@ -117,8 +117,8 @@ module _ (G : Page) (s : ℕ → State) (n a : ℕ) where
       old y (inl r) = rw r q
       old y (inr m) = f .below y m
 
-  fine-look : (x : ℕ) (hs : List Hop) (t : Search) → ((k : Hop) → k ∈ hs → k .to < n) → Fine n t
-      → Fine n (look G s a x hs t)
+  fine-look : (x : ℕ) (hs : List Hop) (t : Search) → ((k : Hop) → k ∈ hs → k .to < n) → QueueFine n t
+      → QueueFine n (look G s a x hs t)
   unfolding look
   fine-look x [] t q f = f
   fine-look x (k ∷ hs) t q f =
@@ -132,14 +132,14 @@ module _ (G : Page) (s : ℕ → State) (n a : ℕ) where
       fresh false true e = let z : _≡_ {A = ℕ} 0 1 = cc in absurd (omega arith)
 
   module _ (near : (x : ℕ) → x < n → (k : Hop) → k ∈ G .around x → k .to < n) where
-    fine-hunt : (m : ℕ) (q : List ℕ) (f : List Found) → Fine n (record { queue = q; found = f })
+    fine-hunt : (m : ℕ) (q : List ℕ) (f : List Found) → QueueFine n (record { queue = q; found = f })
         → Distinct (cellsOf (hunt G s m a q f)) × ((x : ℕ) → x ∈ cellsOf (hunt G s m a q f) → x < n)
     unfolding hunt
     fine-hunt zero q f g = (g .once, g .below)
     fine-hunt (suc m) [] f g = (g .once, g .below)
     fine-hunt (suc m) (x ∷ q) f g =
         let t : Search = record { queue = q; found = f } in
-        let rest : Fine n t =
+        let rest : QueueFine n t =
         record { waiting = λ y k. g .waiting y (List·Memᴰ·tail k); below = g .below; once = g .once } in
         let u = look G s a x (G .around x) t in
         fine-hunt m (u .queue) (u .found)

@@ -2,8 +2,8 @@
 --
 --   contains-l, contains-r, has   what contains a reason contains its parts and its literals
 --   open-is, wall-is, open-not-wall   tests of a state
---   not-both, not-self, unlike-T   tests of two colours
---   colour-listed       both colours are tried
+--   not-both, not-self, unlike-T  tests of two colours
+--   colour-listed                 both colours are tried
 use mathlib.Core.Path.{_≡_, _∙_, refl}
 use mathlib.Core.Bool.{Bool, true, false, not, Bool·beq, true≢false, false≢true}
 use mathlib.Core.List.{List, [], _∷_, _++_, List·Memᴰ·head, List·Memᴰ·tail, Memᴰ·append-left, Memᴰ·append-right}

@@ -21,7 +21,7 @@ use Rattle.rules.specs.Flat.{flat}
 use Rattle.rules.specs.Groups.{members}
 use Rattle.rules.specs.Shapes.{sort, shiftBy, normal, turned, connectionsAt, shapeOf}
 use Rattle.laws.specs.PointLaws.{add-comm, add-back, twice-shift}
-use Rattle.laws.specs.PageLaws.{Bordered, Near, Placed, near-turn, near-right, near-eq}
+use Rattle.laws.specs.PageLaws.{Bordered, OneStep, CellsPlaced, near-turn, near-right, near-eq}
 use Rattle.laws.specs.TurnLaws.{apply-compose, apply-keep, apply-sum, table-rules}
 use Rattle.laws.specs.SortLaws.{mem-sort, sort-mem, mem-shift, shift-find}
 use Rattle.laws.specs.GroupLaws.{mem-members, members-lt, members-number}
@@ -29,8 +29,8 @@ use Rattle.laws.specs.FlatList.{flat-turns}
 use Rattle.laws.specs.FlatPage.{flat-bordered, flat-placed}
 
 pub record Sums (ps js : List Point) : Type 0 where
-  pub are : (d : Point) → d ∈ js → (p : Point) × (q : Point) × p ∈ ps × q ∈ ps × Near p q × (d ≡ p ⊕ q)
-  pub each : (p q : Point) → p ∈ ps → q ∈ ps → Near p q → (p ⊕ q) ∈ js
+  pub are : (d : Point) → d ∈ js → (p : Point) × (q : Point) × p ∈ ps × q ∈ ps × OneStep p q × (d ≡ p ⊕ q)
+  pub each : (p q : Point) → p ∈ ps → q ∈ ps → OneStep p q → (p ⊕ q) ∈ js
 
 pub sums-same : {ps js ks : List Point} → Sums ps js → Sums ps ks → (d : Point) → d ∈ js → d ∈ ks
 sums-same A B d m =
@@ -66,7 +66,7 @@ sums-shift v {ps} {js} S =
           (S .each (x .0) (y .0) (x .1) (y .1) (back (x .0) (y .0) (near-eq (sym (x .2)) (sym (y .2)) k))));
     }
   where
-    back : (x y : Point) → Near (x ⊕ v) (y ⊕ v) → Near x y
+    back : (x y : Point) → OneStep (x ⊕ v) (y ⊕ v) → OneStep x y
     back x y k = near-eq (sym (add-back x v)) (sym (add-back y v)) (near-right (opposite v) k)
 
 sums-turn : (a : Turn) → a ∈ flatTable → {ps js : List Point} → Sums ps js
@@ -91,7 +91,7 @@ sums-turn a t {ps} {js} S =
           (S .each (x .0) (y .0) (x .1) (y .1) (back (x .0) (y .0) (near-eq (sym (x .2)) (sym (y .2)) k))));
     }
   where
-    back : (x y : Point) → Near (apply a x) (apply a y) → Near x y
+    back : (x y : Point) → OneStep (apply a x) (apply a y) → OneStep x y
     back x y k =
         let b = table-rules .inverse a t in
         let undo : (z : Point) → z ≡ apply (b .0) (apply a z) =
@@ -110,7 +110,7 @@ unfolding turned
 turned-sums a m t S =
     sums-normal (sort (map (apply a) (t .cells))) (map (apply a) (t .connections)) (sums-sort (sums-turn a m S))
 
-module _ (G : Page) (K : Bordered G) (P : Placed G) (number : ℕ → ℕ) (g : ℕ) where
+module _ (G : Page) (K : Bordered G) (P : CellsPlaced G) (number : ℕ → ℕ) (g : ℕ) where
   abbrev own : Hop → Bool
   own j = eqb (number (j .to)) g
 
@@ -132,7 +132,7 @@ module _ (G : Page) (K : Bordered G) (P : Placed G) (number : ℕ → ℕ) (g : 
       (mem-filter own (G .ahead c) n (rw (members-number G number g (j .to) k) (eqb-refl g))))
 
   -- two near cells of the group are ends of a hop, and one of them sees the other ahead
-  near-sum : (x y : ℕ) → x ∈ ms → y ∈ ms → Near (G .place x) (G .place y)
+  near-sum : (x y : ℕ) → x ∈ ms → y ∈ ms → OneStep (G .place x) (G .place y)
       → (G .place x ⊕ G .place y) ∈ joints
   near-sum x y m n k =
       let l = members-lt G number g x m in

@@ -3,7 +3,7 @@ use mathlib.Core.Path.{_≡_, refl, ap, sym}
 use mathlib.Core.Bool.{Bool, true, false, _&&_, _||_, and-assoc, or-assoc}
 use mathlib.Core.List.{List, [], _∷_, _++_, append-assoc}
 use mathlib.Core.Option.{Option, some, none}
-use Rattle.lists.specs.Lists.{keep, filter, any, all, orElse, flatMap, firstHit}
+use Rattle.lists.specs.Lists.{keepIf, filter, any, all, orElse, flatMap, firstHit}
 
 module _ {A : Type 0} where
   pub filter-append : (p : A → Bool) (xs ys : List A) → filter p (xs ++ ys) ≡ filter p xs ++ filter p ys
@@ -12,7 +12,7 @@ module _ {A : Type 0} where
   filter-append p (x ∷ xs) ys = go (p x) (filter-append p xs ys)
     where
       go : (b : Bool) → filter p (xs ++ ys) ≡ filter p xs ++ filter p ys
-          → keep b x (filter p (xs ++ ys)) ≡ keep b x (filter p xs) ++ filter p ys
+          → keepIf b x (filter p (xs ++ ys)) ≡ keepIf b x (filter p xs) ++ filter p ys
       go true e = ap (λ (l : List A). x ∷ l) e
       go false e = e
 

@@ -7,7 +7,7 @@ use Prim.Native.Nat.{ℕ, zero, suc, _+_, _≤_, _<_}
 use native.Mathlib.Omega.{arith}
 use lib.Dec.{T, eqb, eqb→eq, eqb-refl}
 use lib.ListN.{length, length-append}
-use Rattle.lists.specs.Lists.{_∈_, Distinct, keep, filter, any, range}
+use Rattle.lists.specs.Lists.{_∈_, Distinct, keepIf, filter, any, range}
 use Rattle.lists.specs.Count.{bit, countBelow}
 use Rattle.lists.specs.Booleans.{same-test, false-true}
 use Rattle.lists.specs.ListLaws.{mem-filter, filter-mem, filter-test, any-mem, any-find}
@@ -20,7 +20,7 @@ module _ {A : Type 0} where
   length-filter p [] = omega arith
   length-filter p (x ∷ xs) = go (p x) (length-filter p xs)
     where
-      go : (b : Bool) → length (filter p xs) ≤ length xs → length (keep b x (filter p xs)) ≤ suc (length xs)
+      go : (b : Bool) → length (filter p xs) ≤ length xs → length (keepIf b x (filter p xs)) ≤ suc (length xs)
       go true h = omega arith
       go false h = omega arith
 
@@ -31,7 +31,7 @@ module _ {A : Type 0} where
   filter-less p (y ∷ xs) {x} m e = go (p y) refl (List·Memᴰ·cases-cons m) (λ n. filter-less p xs n e)
     where
       go : (b : Bool) → p y ≡ b → (x ≡ y) ⊎ x ∈ xs → (x ∈ xs → length (filter p xs) < length xs)
-          → length (keep b y (filter p xs)) < suc (length xs)
+          → length (keepIf b y (filter p xs)) < suc (length xs)
       go true f (inl q) ih = false-true (rw q at e) f
       go true f (inr n) ih = omega (arith, ih n)
       go false f c ih = omega (arith, length-filter p xs)
@@ -44,7 +44,7 @@ module _ {A : Type 0} where
   filter-two p q (x ∷ xs) h = go (p x) refl (q x) refl (filter-two p q xs h)
     where
       go : (a : Bool) → p x ≡ a → (b : Bool) → q x ≡ b → length (filter p xs) + length (filter q xs) ≤ length xs
-          → length (keep a x (filter p xs)) + length (keep b x (filter q xs)) ≤ suc (length xs)
+          → length (keepIf a x (filter p xs)) + length (keepIf b x (filter q xs)) ≤ suc (length xs)
       go true e true f k = absurd (h x (rw e tt) (rw f tt))
       go true e false f k = omega arith
       go false e true f k = omega arith
@@ -66,13 +66,13 @@ module _ {A : Type 0} where
   distinct-filter p [] d = tt
   distinct-filter p (x ∷ xs) d = go (p x) (distinct-filter p xs (d .1))
     where
-      go : (b : Bool) → Distinct (filter p xs) → Distinct (keep b x (filter p xs))
+      go : (b : Bool) → Distinct (filter p xs) → Distinct (keepIf b x (filter p xs))
       go true e = (λ m. d .0 (filter-mem p xs m), e)
       go false e = e
 
 -- ---- the numbers below n
 -- one more number is tested
-pub filter-more : (p : ℕ → Bool) (n : ℕ) → filter p (range (suc n)) ≡ filter p (range n) ++ keep (p n) n []
+pub filter-more : (p : ℕ → Bool) (n : ℕ) → filter p (range (suc n)) ≡ filter p (range n) ++ keepIf (p n) n []
 unfolding filter
 filter-more p n = ap (filter p) (range-more n) ∙ filter-append p (range n) (n ∷ [])
 
@@ -80,10 +80,10 @@ pub filter-length : (p : ℕ → Bool) (n : ℕ) → length (filter p (range n))
 unfolding filter countBelow
 filter-length p zero = refl
 filter-length p (suc n) =
-    ap length (filter-more p n) ∙ length-append (filter p (range n)) (keep (p n) n [])
+    ap length (filter-more p n) ∙ length-append (filter p (range n)) (keepIf (p n) n [])
     ∙ omega (arith, filter-length p n, one (p n))
   where
-    one : (b : Bool) → length (keep b n []) ≡ bit b
+    one : (b : Bool) → length (keepIf b n []) ≡ bit b
     one true = refl
     one false = refl
 

@@ -85,14 +85,14 @@ subset-full (x ∷ xs) ys d f h y m =
 -- an injection into a list that is no longer meets every element
 module _ (R : ℕ → ℕ → Type 0) (ys : List ℕ) where
   -- the elements that an injection meets: as many as it starts from
-  record Onto (xs zs : List ℕ) : Type 0 where
+  record MappedOnto (xs zs : List ℕ) : Type 0 where
     many : length zs ≡ length xs
     once : Distinct zs
     inside : (z : ℕ) → z ∈ zs → z ∈ ys
     from : (z : ℕ) → z ∈ zs → (x : ℕ) × x ∈ xs × R x z
 
   onto : (xs : List ℕ) → Distinct xs → ((x : ℕ) → x ∈ xs → (y : ℕ) × y ∈ ys × R x y)
-      → ((x z y : ℕ) → x ∈ xs → z ∈ xs → R x y → R z y → x ≡ z) → (zs : List ℕ) × Onto xs zs
+      → ((x z y : ℕ) → x ∈ xs → z ∈ xs → R x y → R z y → x ≡ z) → (zs : List ℕ) × MappedOnto xs zs
   onto [] d f i = (
     [],
     record {
@@ -107,7 +107,7 @@ module _ (R : ℕ → ℕ → Type 0) (ys : List ℕ) where
       (λ a b c m n. i a b c (List·Memᴰ·tail m) (List·Memᴰ·tail n)))
       (f x (List·Memᴰ·head refl))
     where
-      go : (zs : List ℕ) × Onto xs zs → (y : ℕ) × y ∈ ys × R x y → (zs : List ℕ) × Onto (x ∷ xs) zs
+      go : (zs : List ℕ) × MappedOnto xs zs → (y : ℕ) × y ∈ ys × R x y → (zs : List ℕ) × MappedOnto (x ∷ xs) zs
       go r y = (
         y .0 ∷ r .0,
         record {
@@ -136,7 +136,7 @@ module _ (R : ℕ → ℕ → Type 0) (ys : List ℕ) where
       → (y : ℕ) → y ∈ ys → (x : ℕ) × x ∈ xs × R x y
   inject-onto xs d f i l y m = go (onto xs d f i)
     where
-      go : (zs : List ℕ) × Onto xs zs → (x : ℕ) × x ∈ xs × R x y
+      go : (zs : List ℕ) × MappedOnto xs zs → (x : ℕ) × x ∈ xs × R x y
       go r =
           let n = r .1 .many in
           let q = subset-full (r .0) ys (r .1 .once) (r .1 .inside) (omega arith) y m in

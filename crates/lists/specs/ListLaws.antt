@@ -10,7 +10,7 @@ use native.Mathlib.Nat.{not-suc-le-zero, le-of-suc-le-suc}
 use native.Mathlib.Omega.{arith}
 use lib.Dec.{T}
 use lib.ListN.{length, getD}
-use Rattle.lists.specs.Lists.{_∈_, keep, filter, any, all, orElse, flatMap, firstHit}
+use Rattle.lists.specs.Lists.{_∈_, keepIf, filter, any, all, orElse, flatMap, firstHit}
 use Rattle.lists.specs.Booleans.{T-and-l, T-and-r, T-and, T-or, T-or-l, T-or-r}
 
 module _ {A : Type 0} where
@@ -19,7 +19,7 @@ module _ {A : Type 0} where
   mem-filter p [] m t = absurd (List·Memᴰ·not-nil m)
   mem-filter p (y ∷ ys) {x} m t = go (p y) refl (List·Memᴰ·cases-cons m) (λ m′. mem-filter p ys m′ t)
     where
-      go : (b : Bool) → p y ≡ b → (x ≡ y) ⊎ x ∈ ys → (x ∈ ys → x ∈ filter p ys) → x ∈ keep b y (filter p ys)
+      go : (b : Bool) → p y ≡ b → (x ≡ y) ⊎ x ∈ ys → (x ∈ ys → x ∈ filter p ys) → x ∈ keepIf b y (filter p ys)
       go true e (inl q) ih = List·Memᴰ·head q
       go true e (inr m′) ih = List·Memᴰ·tail (ih m′)
       go false e (inl q) ih = absurd (rw (q, e) at t)
@@ -30,7 +30,7 @@ module _ {A : Type 0} where
   filter-mem p [] m = m
   filter-mem p (y ∷ ys) {x} m = go (p y) m (λ m′. filter-mem p ys m′)
     where
-      go : (b : Bool) → x ∈ keep b y (filter p ys) → (x ∈ filter p ys → x ∈ ys) → x ∈ (y ∷ ys)
+      go : (b : Bool) → x ∈ keepIf b y (filter p ys) → (x ∈ filter p ys → x ∈ ys) → x ∈ (y ∷ ys)
       go true (List·Memᴰ·head q) ih = List·Memᴰ·head q
       go true (List·Memᴰ·tail m′) ih = List·Memᴰ·tail (ih m′)
       go false m′ ih = List·Memᴰ·tail (ih m′)
@@ -40,7 +40,7 @@ module _ {A : Type 0} where
   filter-test p [] m = absurd (List·Memᴰ·not-nil m)
   filter-test p (y ∷ ys) {x} m = go (p y) refl m (λ m′. filter-test p ys m′)
     where
-      go : (b : Bool) → p y ≡ b → x ∈ keep b y (filter p ys) → (x ∈ filter p ys → T (p x)) → T (p x)
+      go : (b : Bool) → p y ≡ b → x ∈ keepIf b y (filter p ys) → (x ∈ filter p ys → T (p x)) → T (p x)
       go true e (List·Memᴰ·head q) ih = rw (q, e) tt
       go true e (List·Memᴰ·tail m′) ih = ih m′
       go false e m′ ih = ih m′

@@ -1,7 +1,7 @@
 -- Lists: what the definitions of crate rules are written with. Every function computes.
 --
 --   x ∈ xs              x is an element of xs
---   keep test x xs      xs with x before it where the test holds, otherwise xs
+--   keepIf test x xs    xs with x before it where the test holds, otherwise xs
 --   filter p xs         the elements that pass the test, in order
 --   any p xs, all p xs  some element passes; every element passes
 --   orElse a b          a where it is some, otherwise b
@@ -21,13 +21,13 @@ abbrev pub _∈_ {ℓ} : {A : Type ℓ} → A → List A → Type ℓ
 x ∈ xs = List·Memᴰ x xs
 
 module _ {A : Type 0} where
-  abbrev pub keep : Bool → A → List A → List A
-  keep true x xs = x ∷ xs
-  keep false x xs = xs
+  abbrev pub keepIf : Bool → A → List A → List A
+  keepIf true x xs = x ∷ xs
+  keepIf false x xs = xs
 
   unfoldable pub filter : (A → Bool) → List A → List A
   filter p [] = []
-  filter p (x ∷ xs) = keep (p x) x (filter p xs)
+  filter p (x ∷ xs) = keepIf (p x) x (filter p xs)
 
   unfoldable pub any : (A → Bool) → List A → Bool
   any p [] = false

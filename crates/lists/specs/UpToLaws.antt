@@ -9,7 +9,7 @@ use native.Mathlib.Nat.{not-suc-le-zero, eq-or-lt-of-le, le-of-suc-le-suc}
 use native.Mathlib.Numerals.{add-one}
 use native.Mathlib.Omega.{arith}
 use lib.ListN.{length, getD, length-append}
-use Rattle.lists.specs.Lists.{_∈_, keep, filter, any, flatMap, range}
+use Rattle.lists.specs.Lists.{_∈_, keepIf, filter, any, flatMap, range}
 use Rattle.lists.specs.UpTo.{upTo}
 use Rattle.lists.specs.Arithmetic.{if-same}
 use Rattle.lists.specs.Appends.{any-append}
@@ -66,12 +66,12 @@ module _ {A : Type 0} where
 
   -- what a loop gathers that looks at one number after the other
   pub up-filter : (f : ℕ → A) (t : ℕ → Bool) (n : ℕ)
-      → upTo (λ i. map f (keep (t i) i [])) n ≡ map f (filter t (range n))
+      → upTo (λ i. map f (keepIf (t i) i [])) n ≡ map f (filter t (range n))
   unfolding upTo filter
   up-filter f t zero = refl
   up-filter f t (suc n) =
-      ap (λ xs. xs ++ map f (keep (t n) n [])) (up-filter f t n)
-      ∙ (sym (map-append f (filter t (range n)) (keep (t n) n []))
+      ap (λ xs. xs ++ map f (keepIf (t n) n [])) (up-filter f t n)
+      ∙ (sym (map-append f (filter t (range n)) (keepIf (t n) n []))
       ∙ ap (map f) (sym (filter-more t n)))
 
 -- a search through lists one after another

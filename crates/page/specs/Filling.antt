@@ -40,9 +40,9 @@ digits-cons s a e h =
         let k : a + 1 + i ≡ a + suc i = omega arith in
         getD-table (e - (a + 1)) (λ i. digitAt s (a + 1 + i)) i 0 (omega arith) ∙ ap (digitAt s) k
 
-pub digits-past : (s : List ℕ) (a e : ℕ) → e ≤ a → digitsIn s a e ≡ []
+pub filled-past : (s : List ℕ) (a e : ℕ) → e ≤ a → digitsIn s a e ≡ []
 unfolding digitsIn table
-digits-past s a e h = let k : e - a ≡ 0 = omega arith in rw k
+filled-past s a e h = let k : e - a ≡ 0 = omega arith in rw k
 
 -- the digits ds are laid after a as `out` has them, but for those of `rest`
 pub record Laying (a : Laid) (ds : List ℕ) (out : Laid) (rest : List ℕ) : Type 0 where
@@ -66,7 +66,7 @@ module _ {a : Laid} {ds : List ℕ} {out : Laid} (s : List ℕ) (p e : ℕ) (l :
   laying-more h = record { on = λ more. rw (add-one (out .count)) (rw (digits-cons s p e h) at (l .on more)) }
 
   pub laying-end : e ≤ p → Lays a ds out
-  laying-end h = record { on = λ more. rw (digits-past s p e h) at (l .on more) }
+  laying-end h = record { on = λ more. rw (filled-past s p e h) at (l .on more) }
 
 -- rows, one after the other
 module _ {rows : List (List ℕ)} (m : List ℕ) (n : ℕ) where

@@ -46,9 +46,9 @@ module _ {A : Type 0} {r : Parser A} (T : Takes 1 r) (s : List ℕ) (p : ℕ) wh
   end-more a q e = ap (λ (m : List A × List ℕ). m .1) (many-more T (rest s p) a (rest s q) e)
 
   -- the same, from what is left alone
-  pub left-none : afterRead (r (rest s p)) ≡ none → endFrom r s p ≡ rest s p
+  pub form-left-none : afterRead (r (rest s p)) ≡ none → endFrom r s p ≡ rest s p
   unfolding afterRead
-  left-none e = go (r (rest s p)) refl e
+  form-left-none e = go (r (rest s p)) refl e
     where
       go : (o : Option (A × List ℕ)) → r (rest s p) ≡ o → afterRead o ≡ none → endFrom r s p ≡ rest s p
       go none q f = end-none q
@@ -83,9 +83,9 @@ module _ (l : Line) (s : List ℕ) (p : ℕ) where
   lines-none e = go l e
     where
       go : (k : Line) → afterLine k (rest s p) ≡ none → endOf k s p ≡ rest s p
-      go Row = left-none row-takes s p
-      go ClueLine = left-none clue-takes s p
-      go Call = left-none call-takes s p
+      go Row = form-left-none row-takes s p
+      go ClueLine = form-left-none clue-takes s p
+      go Call = form-left-none call-takes s p
 
   pub lines-more : (q : ℕ) → afterLine l (rest s p) ≡ some (rest s q)
       → (endOf l s p ≡ endOf l s q) × (length s - q < length s - p)

@@ -101,9 +101,9 @@ module _ (p : Sheet) where
     ragged e = rw (a, e)
 
     module _ (b : rowsFit (p .height) (p .width) (p .rows) ≡ true) where
-      pub coloured : twoColours (p .rows) ≡ false → judgeSheet p ≡ rejected 3
+      pub discoloured : twoColours (p .rows) ≡ false → judgeSheet p ≡ rejected 3
       unfolding judgeSheet
-      coloured e = rw (a, b, e)
+      discoloured e = rw (a, b, e)
 
       module _ (c : twoColours (p .rows) ≡ true) where
         pub misprint : cluesLow (p .height * p .width / 2) (p .clues) ≡ false → judgeSheet p ≡ rejected 11

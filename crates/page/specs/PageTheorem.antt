@@ -66,9 +66,9 @@ pub record PagePuzzle (s : List ℕ) (p : Sheet) : Type 0 where
   pub clues : take (p .height * p .width) (clueArray (p .width) (p .clues)) ≡ cluesOf p
 
 -- an accepted page is well formed and makes a board, and its arrays begin with the puzzle's lists
-pub puzzle : (s : List ℕ) (p : Sheet) → judgementOf s ≡ accepted p → PagePuzzle s p
+pub page-puzzle : (s : List ℕ) (p : Sheet) → judgementOf s ≡ accepted p → PagePuzzle s p
 unfolding judgementOf judgeRead
-puzzle s p e = go (pageOf s) refl e
+page-puzzle s p e = go (pageOf s) refl e
   where
     all : pageOf s ≡ some p → Makes p → PagePuzzle s p
     all h m =

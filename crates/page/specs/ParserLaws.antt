@@ -16,8 +16,8 @@ use Rattle.page.specs.Parsers.{rest, strip, number, numberOn, mayFollow,
 use Rattle.page.specs.Places.{digitAt, digitsIn}
 
 -- what was answered says what the parser gives
-pub told : {R O : Type 0} (f : R → O) {r k : R} {o : O} → f r ≡ o → r ≡ k → o ≡ f k
-told f e h = sym e ∙ ap f h
+pub told-same : {R O : Type 0} (f : R → O) {r k : R} {o : O} → f r ≡ o → r ≡ k → o ≡ f k
+told-same f e h = sym e ∙ ap f h
 
 pub length-rest : (s : List ℕ) (p : ℕ) → length (rest s p) ≡ length s - p
 unfolding rest
@@ -128,10 +128,10 @@ module _ (s : List ℕ) (p stop : ℕ) where
   unfolding number
   number-not h e = rw (rest-more s p h, e)
 
-  pub number-first : p < length s → digit (getD s p 0) ≡ true
+  pub parse-number-first : p < length s → digit (getD s p 0) ≡ true
       → number stop (rest s p) ≡ numberOn stop (getD s p 0 - 48) (rest s (p + 1))
   unfolding number
-  number-first h e = rw (rest-more s p h, e)
+  parse-number-first h e = rw (rest-more s p h, e)
 
 -- digits: those that were passed stand in front of what is read on
 pub digits-in-more : (s : List ℕ) (a p : ℕ) → a ≤ p → digitsIn s a (p + 1) ≡ digitsIn s a p ++ (digitAt s p ∷ [])

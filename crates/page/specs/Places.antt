@@ -2,7 +2,7 @@
 --
 --   digitAt s p         the value of the digit at place p
 --   digitsIn s a e      the values of the digits from place a up to place e
---   placeOf s r         what is left at the place r
+--   leftFrom s r        what is left at the place r
 --   gotNumber, gotDigits, gotSize, gotRow, gotClue, gotCall   the value that was read, and what is left
 --   allFrom r s p       what r reads, one value after the other, from place p on
 --   endFrom r s p       what is left then
@@ -48,9 +48,9 @@ digitAt s p = getD s p 0 - 48
 unfoldable pub digitsIn : List ℕ → ℕ → ℕ → List ℕ
 digitsIn s a e = table (e - a) (λ i. digitAt s (a + i))
 
-unfoldable pub placeOf : List ℕ → Place → Option (List ℕ)
-placeOf s (place.At p) = some (rest s p)
-placeOf s place.No = none
+unfoldable pub leftFrom : List ℕ → Place → Option (List ℕ)
+leftFrom s (place.At p) = some (rest s p)
+leftFrom s place.No = none
 
 unfoldable pub gotNumber : List ℕ → Number → Option (ℕ × List ℕ)
 gotNumber s (num.Got v p) = some (v, rest s p)

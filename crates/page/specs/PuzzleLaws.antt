@@ -81,12 +81,12 @@ absent z c (d ∷ ds) e = go (eqb (c .y) (d .y) && eqb (c .x) (d .x)) (any (same
     go false b q ih = ih q
 
 -- the clues' test, part by part
-record Fits (h w : ℕ) (c : Clue) (cs : List Clue) : Type 0 where
+record ClueFits (h w : ℕ) (c : Clue) (cs : List Clue) : Type 0 where
   inside : c .x < w
   once : any (sameCell c) cs ≡ false
   others : cluesFit h w cs ≡ true
 
-fits : (h w : ℕ) (c : Clue) (cs : List Clue) → cluesFit h w (c ∷ cs) ≡ true → Fits h w c cs
+fits : (h w : ℕ) (c : Clue) (cs : List Clue) → cluesFit h w (c ∷ cs) ≡ true → ClueFits h w c cs
 unfolding cluesFit onPage
 fits h w c cs e =
     let a : ltb (c .y) h && ltb (c .x) w ≡ true = and-left _ (not (any (sameCell c) cs) && cluesFit h w cs) e in
@@ -116,12 +116,12 @@ module _ (h w : ℕ) where
   unfolding placed clueOn
   placed-at [] m i e l = refl
   placed-at (c ∷ cs) m i e l =
-      let f : Fits h w c cs = fits h w c cs e in
+      let f : ClueFits h w c cs = fits h w c cs e in
       let k : ℕ = c .y * w + c .x in
       go f (ℕ-discrete i k)
       (placed-at cs (set m k (pos (c .n))) i (f .others) (rw (length-set m k (pos (c .n))) l))
     where
-      go : Fits h w c cs → Dec (i ≡ c .y * w + c .x)
+      go : ClueFits h w c cs → Dec (i ≡ c .y * w + c .x)
           → getD (placed w (set m (c .y * w + c .x) (pos (c .n))) cs) i (pos 0)
           ≡ clueOn (getD (set m (c .y * w + c .x) (pos (c .n))) i (pos 0)) cs (i / w) (i % w)
           → getD (placed w (set m (c .y * w + c .x) (pos (c .n))) cs) i (pos 0)

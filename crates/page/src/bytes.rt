@@ -2,7 +2,7 @@
 ghost use mathlib.Core.Path.{_≡_};
 ghost use Prim.Native.Nat.{_≤_};
 ghost use Rattle.page.specs.Parsers.{rest, strip, number, numberOn, digit, digits};
-ghost use Rattle.page.specs.Places.{placeOf, gotNumber, gotDigits};
+ghost use Rattle.page.specs.Places.{leftFrom, gotNumber, gotDigits};
 use crate::Number;
 use crate::Place;
 use rules::index_byte;
@@ -19,7 +19,7 @@ fn is_digit(b: u8) -> bool
 
 // The place after the word, where it stands at `at`.
 pub fn word_at(s: &[u8], at: usize, word: &[u8]) -> Place
-    ensures { λ r. ⌜ placeOf (now (s .entry)) r ≡ strip (now (word .entry)) (rest (now (s .entry)) at) ⌝ }
+    ensures { λ r. ⌜ leftFrom (now (s .entry)) r ≡ strip (now (word .entry)) (rest (now (s .entry)) at) ⌝ }
 {
     let mut p = at;
     let mut i = 0;

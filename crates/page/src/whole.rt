@@ -4,7 +4,7 @@ ghost use mathlib.Core.Path.{_≡_};
 ghost use Rattle.lists.specs.Lists.{any};
 ghost use Rattle.page.specs.Parsers.{rest};
 ghost use Rattle.page.specs.Grammar.{clue, onPage, sameCell, cluesFit, pageOf};
-ghost use Rattle.page.specs.Places.{placeOf, allFrom, afterLine, endOf, formOf};
+ghost use Rattle.page.specs.Places.{leftFrom, allFrom, afterLine, endOf, formOf};
 use crate::CallRead;
 use crate::Clue;
 use crate::ClueRead;
@@ -19,7 +19,7 @@ use crate::lines;
 
 // The place after the line at `at`, if a line of that kind stands there.
 fn line_end(s: &[u8], at: usize, line: Line) -> Place
-    ensures { λ r. ⌜ placeOf (now (s .entry)) r ≡ afterLine line (rest (now (s .entry)) at) ⌝ }
+    ensures { λ r. ⌜ leftFrom (now (s .entry)) r ≡ afterLine line (rest (now (s .entry)) at) ⌝ }
 {
     match line {
         Line::Row => {

@@ -15,7 +15,7 @@ use lib.Pow.{pow-mono, shr-shr, pow-lt, shl-shr, shr-lt}
 use lib.Bits.{bitAnd, bitOr, and-step, and-shr, or-step, or-shr, shifted-even, shifted-half}
 use Rattle.lists.specs.Tests.{anyBelow}
 use Rattle.lists.specs.TestLaws.{any-cong, any-first}
-use Rattle.planes.specs.Bits.{bit, flag}
+use Rattle.planes.specs.Bits.{bitAt, flag}
 
 pub flag-lt : (b : Bool) → flag b < 2
 unfolding flag
@@ -55,8 +55,8 @@ max-bits = both (λ m n. eqb (max m n) 1 ≡ eqb m 1 || eqb n 1) refl refl refl 
 max-lt : (a b : ℕ) → max (a % 2) (b % 2) < 2
 max-lt = both (λ m n. max m n < 2) (omega arith) (omega arith) (omega arith) (omega arith)
 
-pub bit-and : (a b x : ℕ) → bit (bitAnd a b) x ≡ bit a x && bit b x
-unfolding bit
+pub bit-and : (a b x : ℕ) → bitAt (bitAnd a b) x ≡ bitAt a x && bitAt b x
+unfolding bitAt
 bit-and a b x =
     let c = a / 2 ^ x in
     let d = b / 2 ^ x in
@@ -65,8 +65,8 @@ bit-and a b x =
     (ap (λ (n : ℕ). n % 2) (and-step c d) ∙ digits-mod (bitAnd (c / 2) (d / 2)) (min-lt c d))
     ∙ min-bits c d)
 
-pub bit-or : (a b x : ℕ) → bit (bitOr a b) x ≡ bit a x || bit b x
-unfolding bit
+pub bit-or : (a b x : ℕ) → bitAt (bitOr a b) x ≡ bitAt a x || bitAt b x
+unfolding bitAt
 bit-or a b x =
     let c = a / 2 ^ x in
     let d = b / 2 ^ x in
@@ -75,65 +75,65 @@ bit-or a b x =
     (ap (λ (n : ℕ). n % 2) (or-step c d) ∙ digits-mod (bitOr (c / 2) (d / 2)) (max-lt c d))
     ∙ max-bits c d)
 
-pub bit-zero : (x : ℕ) → bit 0 x ≡ false
-unfolding bit
+pub bit-zero : (x : ℕ) → bitAt 0 x ≡ false
+unfolding bitAt
 bit-zero x = ap (λ (n : ℕ). eqb (n % 2) 1) (zero-div (2 ^ x))
 
 -- shifted to the right by s
-pub bit-shr : (w s x : ℕ) → bit (w / 2 ^ s) x ≡ bit w (s + x)
-unfolding bit
+pub bit-shr : (w s x : ℕ) → bitAt (w / 2 ^ s) x ≡ bitAt w (s + x)
+unfolding bitAt
 bit-shr w s x = ap (λ (n : ℕ). eqb (n % 2) 1) (shr-shr w s x)
 
-pub bit-high : (w k x : ℕ) → w < 2 ^ k → k ≤ x → bit w x ≡ false
-unfolding bit
+pub bit-high : (w k x : ℕ) → w < 2 ^ k → k ≤ x → bitAt w x ≡ false
+unfolding bitAt
 bit-high w k x h l = ap (λ (n : ℕ). eqb (n % 2) 1) (div-eq-of-lt (lt-of-lt-of-le h (pow-mono l)))
 
 -- shifted to the left by s
-pub bit-shl : (w s x : ℕ) → bit (w * 2 ^ s) (s + x) ≡ bit w x
-bit-shl w s x = sym (bit-shr (w * 2 ^ s) s x) ∙ ap (λ (n : ℕ). bit n x) (shl-shr w s)
+pub bit-shl : (w s x : ℕ) → bitAt (w * 2 ^ s) (s + x) ≡ bitAt w x
+bit-shl w s x = sym (bit-shr (w * 2 ^ s) s x) ∙ ap (λ (n : ℕ). bitAt n x) (shl-shr w s)
 
-first-odd : (w : ℕ) → bit w 0 ≡ eqb (w % 2) 1
-unfolding bit
+first-odd : (w : ℕ) → bitAt w 0 ≡ eqb (w % 2) 1
+unfolding bitAt
 first-odd w = ap (λ (n : ℕ). eqb (n % 2) 1) (div-one w)
 
-half-bit : (w x : ℕ) → bit w (suc x) ≡ bit (w / 2) x
-half-bit w x = sym (bit-shr w 1 x ∙ ap (bit w) (add-comm 1 x ∙ add-one x))
+half-bit : (w x : ℕ) → bitAt w (suc x) ≡ bitAt (w / 2) x
+half-bit w x = sym (bit-shr w 1 x ∙ ap (bitAt w) (add-comm 1 x ∙ add-one x))
 
-even-bit : (w s : ℕ) → bit (w * 2 ^ suc s) 0 ≡ false
+even-bit : (w s : ℕ) → bitAt (w * 2 ^ suc s) 0 ≡ false
 even-bit w s = first-odd (w * 2 ^ suc s) ∙ ap (λ (n : ℕ). eqb n 1) (shifted-even w s)
 
-pub bit-low : (w s x : ℕ) → x < s → bit (w * 2 ^ s) x ≡ false
+pub bit-low : (w s x : ℕ) → x < s → bitAt (w * 2 ^ s) x ≡ false
 bit-low w zero x h = absurd (not-suc-le-zero h)
 bit-low w (suc s) zero h = even-bit w s
 bit-low w (suc s) (suc x) h =
     half-bit (w * 2 ^ suc s) x
-    ∙ (ap (λ (n : ℕ). bit n x) (shifted-half w s) ∙ bit-low w s x (omega arith))
+    ∙ (ap (λ (n : ℕ). bitAt n x) (shifted-half w s) ∙ bit-low w s x (omega arith))
 
--- twice a word, and one bit more
-pub bit-first : (w : ℕ) (b : Bool) → bit (w * 2 + flag b) 0 ≡ b
+-- twice a word, and one bitAt more
+pub bit-first : (w : ℕ) (b : Bool) → bitAt (w * 2 + flag b) 0 ≡ b
 bit-first w b =
     first-odd (w * 2 + flag b) ∙ (ap (λ (n : ℕ). eqb n 1) (digits-mod w (flag-lt b)) ∙ eqb-flag b)
 
-pub bit-next : (w : ℕ) (b : Bool) (x : ℕ) → bit (w * 2 + flag b) (suc x) ≡ bit w x
-bit-next w b x = half-bit (w * 2 + flag b) x ∙ ap (λ (n : ℕ). bit n x) (digits-div w (flag-lt b))
+pub bit-next : (w : ℕ) (b : Bool) (x : ℕ) → bitAt (w * 2 + flag b) (suc x) ≡ bitAt w x
+bit-next w b x = half-bit (w * 2 + flag b) x ∙ ap (λ (n : ℕ). bitAt n x) (digits-div w (flag-lt b))
 
--- 2 ^ x has the bit x only
-bit-one : (x i : ℕ) → bit (1 * 2 ^ x) i ≡ eqb i x
+-- 2 ^ x has the bitAt x only
+bit-one : (x i : ℕ) → bitAt (1 * 2 ^ x) i ≡ eqb i x
 bit-one zero zero = first-odd 1
 bit-one zero (suc i) = bit-high 1 1 (suc i) (omega arith) (omega arith) ∙ sym (eqb·suc-zero i)
 bit-one (suc x) zero = even-bit 1 x ∙ sym (eqb·zero-suc x)
 bit-one (suc x) (suc i) =
     half-bit (1 * 2 ^ suc x) i
-    ∙ (ap (λ (n : ℕ). bit n i) (shifted-half 1 x) ∙ (bit-one x i ∙ sym (eqb·suc-suc i x)))
+    ∙ (ap (λ (n : ℕ). bitAt n i) (shifted-half 1 x) ∙ (bit-one x i ∙ sym (eqb·suc-suc i x)))
 
 one-shl : (x : ℕ) → x < 64 → (1 * 2 ^ x) % 2 ^ 64 ≡ 1 * 2 ^ x
 one-shl x h = let e : 1 * 2 ^ x ≡ 2 ^ x = omega arith in rw e (mod-eq-of-lt (pow-lt h))
 
--- a word with the bit x set
-pub bit-with : (w x i : ℕ) → x < 64 → bit (bitOr w ((1 * 2 ^ x) % 2 ^ 64)) i ≡ bit w i || eqb i x
+-- a word with the bitAt x set
+pub bit-with : (w x i : ℕ) → x < 64 → bitAt (bitOr w ((1 * 2 ^ x) % 2 ^ 64)) i ≡ bitAt w i || eqb i x
 bit-with w x i h =
     bit-or w ((1 * 2 ^ x) % 2 ^ 64) i
-    ∙ ap (λ (b : Bool). bit w i || b) (ap (λ (n : ℕ). bit n i) (one-shl x h) ∙ bit-one x i)
+    ∙ ap (λ (b : Bool). bitAt w i || b) (ap (λ (n : ℕ). bitAt n i) (one-shl x h) ∙ bit-one x i)
 
 -- a word is not 0 exactly if it has a bit
 not-zero : (w : ℕ) → eqb (w % 2) 1 || not (eqb (w / 2) 0) ≡ not (eqb w 0)
@@ -149,12 +149,12 @@ not-zero w =
         ne-eqb (suc w / 2) 0 (λ (e : suc w / 2 ≡ 0). omega arith)
         ∙ sym (ne-eqb (suc w) 0 (λ (e : suc w ≡ 0). omega arith))
 
-pub some-bit : (k w : ℕ) → w < 2 ^ k → anyBelow k (bit w) ≡ not (eqb w 0)
+pub some-bit : (k w : ℕ) → w < 2 ^ k → anyBelow k (bitAt w) ≡ not (eqb w 0)
 unfolding anyBelow
 some-bit zero w h = let e : w ≡ 0 = lt-one h in rw e
 some-bit (suc k) w h =
-    any-first k (bit w)
+    any-first k (bitAt w)
     ∙ (ap₂ (λ (a b : Bool). a || b) (first-odd w)
-    (any-cong k (λ x. bit w (suc x)) (bit (w / 2)) (λ x l. half-bit w x)
+    (any-cong k (λ x. bitAt w (suc x)) (bitAt (w / 2)) (λ x l. half-bit w x)
     ∙ some-bit k (w / 2) (shr-lt k 1 (rw add-one h)))
     ∙ not-zero w)

@@ -1,14 +1,14 @@
 -- Words as rows of bits.
 --
---   bit w x             bit x of the word w; bit 0 is the lowest
+--   bitAt w x           bit x of the word w; bit 0 is the lowest
 --   flag b              1 for true, 0 for false
 --   rowFrom k x f       the word of the k tests f x, f (x + 1), .., the first in the lowest bit
 use mathlib.Core.Bool.{Bool, true, false}
 use Prim.Native.Nat.{ℕ, zero, suc, _+_, _*_, _/_, _%_, _^_}
 use lib.Dec.{eqb}
 
-unfoldable pub bit : ℕ → ℕ → Bool
-bit w x = eqb (w / 2 ^ x % 2) 1
+unfoldable pub bitAt : ℕ → ℕ → Bool
+bitAt w x = eqb (w / 2 ^ x % 2) 1
 
 unfoldable pub flag : Bool → ℕ
 flag true = 1

@@ -23,37 +23,40 @@ use Rattle.rules.specs.Page.{Puzzle, State}
 use Rattle.rules.specs.Codes.{statesIn}
 use Rattle.rules.specs.Check.{isFit}
 use Rattle.reasons.specs.Arrays.{Cells}
-use Rattle.search.specs.declared.Reading.{Reading}
-use Rattle.search.specs.declared.Reading.the-variants.{Ends, Clear, Walled}
-use Rattle.search.specs.JudgeLaws.{after, blocked-never, readAt, readFrom, laid-after}
-use Rattle.search.specs.Placing.{Drawn, puzzle, bare, readRaised, readingOf, isClear, fitsOf}
+use Rattle.planes.specs.declared.Reading.{Reading}
+use Rattle.planes.specs.declared.Reading.the-variants.{Ends, Clear, Walled}
+use Rattle.planes.specs.JudgeLaws.{judgedAfter, blocked-never, readAt, readFrom, laid-after}
+use Rattle.groups.specs.Pages.{Drawn}
+use Rattle.rules.specs.Codes.{unclued}
+use Rattle.planes.specs.Placing.{bare, readRaised, readingOf, isClear, fitsOf}
 use Rattle.shapes.specs.Raising.{ysIn, xsIn, Raised, spelled}
-use Rattle.search.specs.SearchLaws.{cells-at}
-use Rattle.lists.specs.AnyAll.{any-flat}
-use Rattle.search.specs.Mates.{mateCount, matesIn}
-use Rattle.search.specs.Searching.{Beside, groupIn, fitsAmong, fitsBeside}
-use Rattle.planes.specs.Bits.{bit}
+use Rattle.reasons.specs.CellLaws.{cells-at}
+use Rattle.adjacent.specs.Mates.{mateCount, matesIn}
+use Rattle.adjacent.specs.Mates.{Beside}
+use Rattle.groups.specs.Parts.{partOf}
+use Rattle.planes.specs.Laying.{fitsAmong, fitsBeside}
+use Rattle.planes.specs.Bits.{bitAt}
 use Rattle.planes.specs.Planes.{planeWord, planesOf}
 use Rattle.planes.specs.PlaneLaws.{plane-clear}
-use Rattle.planes.specs.Masks.{cellIs, Masked, Answers, originsIn, spot, lineFits, maskFits}
+use Rattle.planes.specs.Masks.{cellIs, Masked, MaskAnswers, originsIn, planeBit, lineFits, maskFits}
 use Rattle.planes.specs.MaskLaws.{masked-here}
 
 -- a placement fits exactly if every connection is clear
-pub after-clear : (Z : Puzzle) (s : ℕ → State) (rs : List Reading) → isFit Z s (after Fits rs) ≡ all isClear rs
-unfolding after all
+pub after-clear : (Z : Puzzle) (s : ℕ → State) (rs : List Reading) → isFit Z s (judgedAfter Fits rs) ≡ all isClear rs
+unfolding judgedAfter all
 after-clear Z s [] = refl
 after-clear Z s (Ends ∷ rs) = refl
 after-clear Z s (Clear ∷ rs) = after-clear Z s rs
 after-clear Z s (Walled b ∷ rs) = blocked-never Z s b rs
 
 module _ (h w : ℕ) (cs : List ℕ) (s : ℕ → State) (ts : List ℕ) (o n : ℕ) where
-  fits-clear : fitsOf (puzzle h w cs) s (bare (spelled ts n)) o
+  fits-clear : fitsOf (unclued h w cs) s (bare (spelled ts n)) o
       ≡ allBelow n (λ j. isClear (readAt h w cs s ts o j))
   unfolding fitsOf readFrom
   fits-clear =
       let e : n - 0 ≡ n = omega arith in
-      ap (isFit (puzzle h w cs) s) (laid-after h w cs s ts o n)
-      ∙ (after-clear (puzzle h w cs) s (readFrom h w cs s ts o 0 (n - 0))
+      ap (isFit (unclued h w cs) s) (laid-after h w cs s ts o n)
+      ∙ (after-clear (unclued h w cs) s (readFrom h w cs s ts o 0 (n - 0))
       ∙ (ap (λ m. all isClear (readFrom h w cs s ts o 0 m)) e
       ∙ (all-range isClear (readAt h w cs s ts o) 0 n
       ∙ all-cong n (λ j. isClear (readAt h w cs s ts o (0 + j))) (λ j. isClear (readAt h w cs s ts o j))
@@ -61,7 +64,7 @@ module _ (h w : ℕ) (cs : List ℕ) (s : ℕ → State) (ts : List ℕ) (o n : 
 
 module _ {h w : ℕ} {cs : List ℕ} (d : Drawn h w cs) (bs ts : List ℕ) (n : ℕ) (r : Raised ts n) where
   abbrev Z : Puzzle
-  Z = puzzle h w cs
+  Z = unclued h w cs
 
   abbrev s : ℕ → State
   s = statesIn bs
@@ -71,7 +74,7 @@ module _ {h w : ℕ} {cs : List ℕ} (d : Drawn h w cs) (bs ts : List ℕ) (n : 
 
   -- connection j, laid with its origin at (y,x), is clear
   abbrev clear : ℕ → ℕ → ℕ → Bool
-  clear y x j = spot p (2 * y + getD (ysIn ts) j 0) (getD (xsIn ts) j 0 / 2 + x)
+  clear y x j = planeBit p (2 * y + getD (ysIn ts) j 0) (getD (xsIn ts) j 0 / 2 + x)
 
   pub spot-clear : (y x j : ℕ) → y < 32 → j < n
       → clear y x j ≡ isClear (readingOf Z s (readRaised h w (2 * y + getD (ysIn ts) j 0) (2 * x + getD (xsIn ts) j 0)))
@@ -79,7 +82,7 @@ module _ {h w : ℕ} {cs : List ℕ} (d : Drawn h w cs) (bs ts : List ℕ) (n : 
   spot-clear y x j l m =
       let a = r j m in
       let e : getD (xsIn ts) j 0 / 2 + x ≡ (2 * x + getD (xsIn ts) j 0) / 2 = omega arith in
-      ap₂ bit (getD-table 192 (planeWord h w cs bs) (2 * y + getD (ysIn ts) j 0) 0 (omega (arith, a .row))) e
+      ap₂ bitAt (getD-table 192 (planeWord h w cs bs) (2 * y + getD (ysIn ts) j 0) 0 (omega (arith, a .row))) e
       ∙ plane-clear h w cs bs d (2 * y + getD (ysIn ts) j 0) (2 * x + getD (xsIn ts) j 0) (omega (arith, a .odd))
 
   cell-fits : (o : ℕ) → o / w < 32
@@ -118,11 +121,11 @@ module _ {h w : ℕ} {cs : List ℕ} (d : Drawn h w cs) (bs ts : List ℕ) (n : 
         let a = any-witness h (λ y. lineFits p y ts n (getD m y 0)) e in
         let y = a .0 in
         let tall : y < 32 = omega (arith, a .1, d .sized .tall) in
-        let b = any-witness 64 (λ x. bit (getD m y 0) x && allBelow n (clear y x)) (a .2) in
+        let b = any-witness 64 (λ x. bitAt (getD m y 0) x && allBelow n (clear y x)) (a .2) in
         let x = b .0 in
         let q = any-holds (cellIs w y x) os
-        (sym (k .each y x tall) ∙ and-left (bit (getD m y 0) x) (allBelow n (clear y x)) (b .2)) in
-        sound-at y x (q .0) tall (q .1) (q .2) (and-right (bit (getD m y 0) x) (allBelow n (clear y x)) (b .2))
+        (sym (k .each y x tall) ∙ and-left (bitAt (getD m y 0) x) (allBelow n (clear y x)) (b .2)) in
+        sound-at y x (q .0) tall (q .1) (q .2) (and-right (bitAt (getD m y 0) x) (allBelow n (clear y x)) (b .2))
 
     complete : any fit os ≡ true → maskFits p m h ts n ≡ true
     unfolding maskFits lineFits
@@ -135,13 +138,13 @@ module _ {h w : ℕ} {cs : List ℕ} (d : Drawn h w cs) (bs ts : List ℕ) (n : 
         let tall : y < 32 = omega (arith, d .sized .tall) in
         let some : 0 < w = omega (arith, d .sized .columns) in
         let narrow : x < 64 = omega (arith, mod-lt c some, d .sized .broad) in
-        let here : bit (getD m y 0) x ≡ true = masked-here w c tall (q .1) k in
+        let here : bitAt (getD m y 0) x ≡ true = masked-here w c tall (q .1) k in
         let f : allBelow n (clear y x) ≡ true = cell-fits c tall ∙ q .2 in
         any-some h (λ y. lineFits p y ts n (getD m y 0)) y l
-        (any-some 64 (λ x. bit (getD m y 0) x && allBelow n (clear y x)) x narrow (rw (here, f)))
+        (any-some 64 (λ x. bitAt (getD m y 0) x && allBelow n (clear y x)) x narrow (rw (here, f)))
 
     pub mask-fits : maskFits (planesOf h w cs bs) m h ts n
-        ≡ any (fitsOf (puzzle h w cs) (statesIn bs) (bare (spelled ts n))) os
+        ≡ any (fitsOf (unclued h w cs) (statesIn bs) (bare (spelled ts n))) os
     mask-fits = same-true (maskFits p m h ts n) (any fit os) sound complete
 
 mem-index : (xs : List ℕ) {x : ℕ} → x ∈ xs → (i : ℕ) × (i < length xs) × (getD xs i 0 ≡ x)
@@ -168,9 +171,9 @@ module _ {h w : ℕ} {potential mates : List ℕ} (b : Beside h w potential mate
 
   -- the origins are cells of the page
   pub origins-on : (c : ℕ) → c ∈ originsIn (cellsIn potential) (startsIn potential) (matesIn mates) → c < h * w
-  unfolding originsIn groupIn
+  unfolding originsIn partOf
   origins-on c m =
-      let f = flat-find (groupIn cells offs) (matesIn mates) m in
+      let f = flat-find (partOf cells offs) (matesIn mates) m in
       let i = mem-part mates 0 (mateCount mates) (f .1) in
       let q = f .0 in
       let g : Cells h w cells (getD offs q 0) (getD offs (q + 1) 0) = rw (i .3) at (b .each (i .0) (i .2)) in
@@ -180,10 +183,10 @@ module _ {h w : ℕ} {potential mates : List ℕ} (b : Beside h w potential mate
   -- the planes of a page and the mask of the groups beside a unit answer whether some connections fit there
   pub beside-answers : {cs m : List ℕ} (bs : List ℕ) → Drawn h w cs
       → Masked w (originsIn (cellsIn potential) (startsIn potential) (matesIn mates)) m
-      → Answers h (planesOf h w cs bs) m
-      (λ js. fitsBeside (puzzle h w cs) (statesIn bs) (bare js) (cellsIn potential) (startsIn potential)
+      → MaskAnswers h (planesOf h w cs bs) m
+      (λ js. fitsBeside (unclued h w cs) (statesIn bs) (bare js) (cellsIn potential) (startsIn potential)
       (matesIn mates))
   unfolding fitsBeside fitsAmong originsIn
   beside-answers {cs} {m} bs d k ts n r =
       mask-fits d bs ts n r (originsIn cells offs (matesIn mates)) origins-on k
-      ∙ any-flat (fitsOf (puzzle h w cs) (statesIn bs) (bare (spelled ts n))) (groupIn cells offs) (matesIn mates)
+      ∙ any-flat (fitsOf (unclued h w cs) (statesIn bs) (bare (spelled ts n))) (partOf cells offs) (matesIn mates)

@@ -1,3 +1,8 @@
+pub mod Placing
+pub mod PlacingLaws
+pub mod JudgeLaws
+pub mod Laying
+pub mod LayingLaws
 pub mod Bits
 pub mod BitLaws
 pub mod RowLaws
@@ -8,6 +13,3 @@ pub mod Masks
 pub mod WordLaws
 pub mod MaskLaws
 pub mod FitLaws
-pub mod Survivors
-pub mod PlacedLaws
-pub mod SurvivorLaws

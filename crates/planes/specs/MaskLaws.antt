@@ -19,8 +19,8 @@ use Rattle.lists.specs.PartLaws.{part-none, part-one, part-split}
 use Rattle.lists.specs.Arithmetic.{eq-or-not, eqb-swap}
 use Rattle.lists.specs.AnyAll.{holds-any}
 use Rattle.rules.specs.Flat.{Sized}
-use Rattle.search.specs.Searching.{groupIn}
-use Rattle.planes.specs.Bits.{bit}
+use Rattle.groups.specs.Parts.{partOf}
+use Rattle.planes.specs.Bits.{bitAt}
 use Rattle.planes.specs.BitLaws.{bit-zero, bit-with}
 use Rattle.planes.specs.Masks.{cellIs, Masked, originsIn}
 
@@ -36,7 +36,7 @@ module _ (w : ℕ) where
       rw e
       (record {
         size = length-replicate 33 zero;
-        each = λ y x l. ap (λ (v : ℕ). bit v x) (zeros 33 y) ∙ bit-zero x;
+        each = λ y x l. ap (λ (v : ℕ). bitAt v x) (zeros 33 y) ∙ bit-zero x;
       })
 
   -- place 32 is no row
@@ -46,7 +46,7 @@ module _ (w : ℕ) where
         size = length-set m 32 v ∙ d .size;
         each =
             λ y x l.
-            ap (λ (k : ℕ). bit k x) (getD-set-other m 32 y v 0 (λ (e : y ≡ 32). omega arith)) ∙ d .each y x l;
+            ap (λ (k : ℕ). bitAt k x) (getD-set-other m 32 y v 0 (λ (e : y ≡ 32). omega arith)) ∙ d .each y x l;
       }
 
   cell-row : (y x c : ℕ) → y ≡ c / w → eqb x (c % w) ≡ cellIs w y x c
@@ -70,15 +70,15 @@ module _ (w : ℕ) where
             λ y x l.
             ⊎-elim
             (λ (e : y ≡ c / w).
-            ap (λ (k : ℕ). bit (getD (set m (c / w) v) k 0) x) e
-            ∙ (ap (λ (k : ℕ). bit k x) (getD-set-same m (c / w) v 0 (omega (arith, d .size)))
+            ap (λ (k : ℕ). bitAt (getD (set m (c / w) v) k 0) x) e
+            ∙ (ap (λ (k : ℕ). bitAt k x) (getD-set-same m (c / w) v 0 (omega (arith, d .size)))
             ∙ (bit-with (getD m (c / w) 0) (c % w) x q
             ∙ (ap₂ (λ (a b : Bool). a || b)
-            (ap (λ (k : ℕ). bit (getD m k 0) x) (sym e) ∙ d .each y x l)
+            (ap (λ (k : ℕ). bitAt (getD m k 0) x) (sym e) ∙ d .each y x l)
             (cell-row y x c e ∙ sym (or-false (cellIs w y x c)))
             ∙ sym (any-append (cellIs w y x) xs (c ∷ []))))))
             (λ (e : y ≢ c / w).
-            ap (λ (k : ℕ). bit k x) (getD-set-other m (c / w) y v 0 e)
+            ap (λ (k : ℕ). bitAt k x) (getD-set-other m (c / w) y v 0 e)
             ∙ (d .each y x l
             ∙ (sym (or-false (any (cellIs w y x) xs))
             ∙ (ap (λ (b : Bool). any (cellIs w y x) xs || b)
@@ -87,13 +87,13 @@ module _ (w : ℕ) where
             (eq-or-not y (c / w));
       }
 
-  -- the bit of a cell
+  -- the bitAt of a cell
   cell-here : (c : ℕ) → cellIs w (c / w) (c % w) c ≡ true
   unfolding cellIs
   cell-here c = rw (eq-eqb (c / w) (c / w) refl, eq-eqb (c % w) (c % w) refl)
 
   pub masked-here : {xs m : List ℕ} (c : ℕ) → c / w < 32 → c ∈ xs → Masked w xs m
-      → bit (getD m (c / w) 0) (c % w) ≡ true
+      → bitAt (getD m (c / w) 0) (c % w) ≡ true
   masked-here c l i k = k .each (c / w) (c % w) l ∙ holds-any (cellIs w (c / w) (c % w)) i (cell-here c)
 
 -- the cells of a group, one after the other
@@ -115,14 +115,14 @@ module _ (w : ℕ) (cells offs mates : List ℕ) (from : ℕ) where
   mates-none d = rw (part-none mates from from (omega arith)) d
 
   pub mates-more : {m : List ℕ} (i : ℕ) → from ≤ i → i < length mates
-      → Masked w (originsIn cells offs (part mates from i) ++ groupIn cells offs (getD mates i 0)) m
+      → Masked w (originsIn cells offs (part mates from i) ++ partOf cells offs (getD mates i 0)) m
       → Masked w (originsIn cells offs (part mates from (i + 1))) m
   unfolding originsIn flatMap
   mates-more i l k d =
       rw (
         part-split mates from i (i + 1) l (omega arith),
         part-one mates i k,
-        flat-append (groupIn cells offs),
-        append-nil (groupIn cells offs (getD mates i 0)),
+        flat-append (partOf cells offs),
+        append-nil (partOf cells offs (getD mates i 0)),
       )
       d

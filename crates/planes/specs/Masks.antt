@@ -3,13 +3,13 @@
 --   cellIs w y x c      the cell c is (y,x)
 --   Masked w xs m       the bit x of row y of the mask m says whether a cell of xs is (y,x)
 --   originsIn .. gs     the cells of the groups gs, by the list of cells and the places where the groups start
---   spot p r c          the bit c of row r of the planes
+--   planeBit p r c      the bit c of row r of the planes
 --   clearWord p y ts v j   the origins v of row y at which the first j connections are clear
 --   lineFits p y ts n v    all n are, at one of them
 --   maskFits p m h ts n    so it is in one of the h rows of the mask
 --   Sizes h p m         the mask has h rows, and planes and mask their lengths
 --   Span h m top end    the rows of the mask that have an origin lie from top to before end
---   Answers h p m F     the search over planes and mask answers F of any connections
+--   MaskAnswers h p m F     the search over planes and mask answers F of any connections
 use mathlib.Core.Path.{_≡_}
 use mathlib.Core.Bool.{Bool, _&&_}
 use mathlib.Core.List.{List}
@@ -21,21 +21,21 @@ use Rattle.lists.specs.Lists.{any, flatMap}
 use Rattle.lists.specs.Tests.{allBelow, anyBelow}
 use Rattle.rules.specs.Page.{Point}
 use Rattle.shapes.specs.Raising.{ysIn, xsIn, Raised, spelled}
-use Rattle.search.specs.Searching.{groupIn}
-use Rattle.planes.specs.Bits.{bit}
+use Rattle.groups.specs.Parts.{partOf}
+use Rattle.planes.specs.Bits.{bitAt}
 
 unfoldable pub cellIs : ℕ → ℕ → ℕ → ℕ → Bool
 cellIs w y x c = eqb (c / w) y && eqb (c % w) x
 
 pub record Masked (w : ℕ) (xs m : List ℕ) : Type 0 where
   pub size : length m ≡ 33
-  pub each : (y x : ℕ) → y < 32 → bit (getD m y 0) x ≡ any (cellIs w y x) xs
+  pub each : (y x : ℕ) → y < 32 → bitAt (getD m y 0) x ≡ any (cellIs w y x) xs
 
 unfoldable pub originsIn : List ℕ → List ℕ → List ℕ → List ℕ
-originsIn cells offs gs = flatMap (groupIn cells offs) gs
+originsIn cells offs gs = flatMap (partOf cells offs) gs
 
-abbrev pub spot : List ℕ → ℕ → ℕ → Bool
-spot p r c = bit (getD p r 0) c
+abbrev pub planeBit : List ℕ → ℕ → ℕ → Bool
+planeBit p r c = bitAt (getD p r 0) c
 
 -- connections are doubled and raised by 64, as in a placement
 module _ (p : List ℕ) (y : ℕ) (ts : List ℕ) where
@@ -45,7 +45,8 @@ module _ (p : List ℕ) (y : ℕ) (ts : List ℕ) where
 
   unfoldable pub lineFits : ℕ → ℕ → Bool
   lineFits n v =
-      anyBelow 64 (λ x. bit v x && allBelow n (λ j. spot p (2 * y + getD (ysIn ts) j 0) (getD (xsIn ts) j 0 / 2 + x)))
+      anyBelow 64 (λ x. bitAt v x && allBelow n
+      (λ j. planeBit p (2 * y + getD (ysIn ts) j 0) (getD (xsIn ts) j 0 / 2 + x)))
 
 unfoldable pub maskFits : List ℕ → List ℕ → ℕ → List ℕ → ℕ → Bool
 maskFits p m h ts n = anyBelow h (λ y. lineFits p y ts n (getD m y 0))
@@ -60,5 +61,5 @@ pub record Span (h : ℕ) (m : List ℕ) (top end : ℕ) : Type 0 where
   pub below : (y : ℕ) → end ≤ y → y < h → getD m y 0 ≡ 0
   pub low : (top ≤ h) × (end ≤ h)
 
-abbrev pub Answers : ℕ → List ℕ → List ℕ → (List Point → Bool) → Type 0
-Answers h p m F = (ts : List ℕ) (n : ℕ) → Raised ts n → maskFits p m h ts n ≡ F (spelled ts n)
+abbrev pub MaskAnswers : ℕ → List ℕ → List ℕ → (List Point → Bool) → Type 0
+MaskAnswers h p m F = (ts : List ℕ) (n : ℕ) → Raised ts n → maskFits p m h ts n ≡ F (spelled ts n)

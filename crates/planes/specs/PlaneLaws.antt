@@ -1,4 +1,4 @@
--- Laws of planes: a bit says whether the connection that lies there is clear; and the loop that draws them.
+-- Laws of planes: a bitAt says whether the connection that lies there is clear; and the loop that draws them.
 use mathlib.Core.Path.{_≡_, refl, ap, ap₂, sym, _∙_}
 use mathlib.Core.Bool.{Bool, true, false, not, _&&_, cond}
 use mathlib.Core.List.{List}
@@ -12,11 +12,14 @@ use lib.ListN.{getD}
 use Rattle.lists.specs.Arithmetic.{le-or-lt, eq-or-not}
 use Rattle.rules.specs.Codes.{coloursIn, statesIn}
 use Rattle.laws.specs.CodeLaws.{wall-state}
-use Rattle.search.specs.declared.Reading.the-variants.{Ends, Clear, Walled}
-use Rattle.search.specs.Placing.{Drawn, puzzle, readRaised, readingOf, between, isClear}
-use Rattle.search.specs.PlacingLaws.{bit-same, right-reading, below-reading, off-ends, off-above, off-left}
-use Rattle.search.specs.PlacingLaws.{off-below, off-right, reads-below, reads-right}
-use Rattle.planes.specs.Bits.{bit}
+use Rattle.planes.specs.declared.Reading.the-variants.{Ends, Clear, Walled}
+use Rattle.groups.specs.Pages.{Drawn}
+use Rattle.rules.specs.Codes.{unclued}
+use Rattle.planes.specs.Placing.{readRaised, readingOf, between, isClear}
+use Rattle.adjacent.specs.TouchLaws.{bit-same}
+use Rattle.planes.specs.PlacingLaws.{right-reading, below-reading, off-ends, off-above, off-left}
+use Rattle.planes.specs.PlacingLaws.{off-below, off-right, reads-below, reads-right}
+use Rattle.planes.specs.Bits.{bitAt}
 use Rattle.planes.specs.BitLaws.{bit-zero, bit-shl, bit-low}
 use Rattle.planes.specs.RowLaws.{row-bit}
 use Rattle.planes.specs.Planes.{clearAt, clearRow, lineWord, planeRow, planeWord}
@@ -34,13 +37,13 @@ clear-between cs bs f t b two =
     go false q = refl
 
 row-at : (cs bs : List ℕ) (c a b n x : ℕ) → x < n
-    → bit (clearRow cs bs c a b n) x ≡ clearAt cs bs (c + x) (c + x + a) (b + x)
+    → bitAt (clearRow cs bs c a b n) x ≡ clearAt cs bs (c + x) (c + x + a) (b + x)
 unfolding clearRow
 row-at cs bs c a b n x l =
     row-bit n 0 (λ i. clearAt cs bs (c + i) (c + i + a) (b + i)) x
     ∙ rw (lt-ltb x n l) (ap (λ i. clearAt cs bs (c + i) (c + i + a) (b + i)) (omega arith))
 
-row-past : (cs bs : List ℕ) (c a b n x : ℕ) → n ≤ x → bit (clearRow cs bs c a b n) x ≡ false
+row-past : (cs bs : List ℕ) (c a b n x : ℕ) → n ≤ x → bitAt (clearRow cs bs c a b n) x ≡ false
 unfolding clearRow
 row-past cs bs c a b n x l =
     row-bit n 0 (λ i. clearAt cs bs (c + i) (c + i + a) (b + i)) x ∙ rw (le-ltb x n l)
@@ -59,11 +62,11 @@ module _ (h w : ℕ) (cs bs : List ℕ) where
   unfolding planeRow
   plane-on n r l m = rw (le-leb 64 r l, lt-ltb r (64 + n) m)
 
-  plane-left : (n r x : ℕ) → x < 32 → bit (planeRow h w cs bs n r) x ≡ false
+  plane-left : (n r x : ℕ) → x < 32 → bitAt (planeRow h w cs bs n r) x ≡ false
   unfolding planeRow
   plane-left n r x l = go (leb 64 r && ltb r (64 + n))
     where
-      go : (b : Bool) → bit (cond b (lineWord h w cs bs (r - 64) * 2 ^ 32) 0) x ≡ false
+      go : (b : Bool) → bitAt (cond b (lineWord h w cs bs (r - 64) * 2 ^ 32) 0) x ≡ false
       go true = bit-low (lineWord h w cs bs (r - 64)) 32 x l
       go false = bit-zero x
 
@@ -80,10 +83,10 @@ module _ (h w : ℕ) (cs bs : List ℕ) where
 
   module _ (d : Drawn h w cs) (r c : ℕ) where
     abbrev reading : Bool
-    reading = isClear (readingOf (puzzle h w cs) (statesIn bs) (readRaised h w r c))
+    reading = isClear (readingOf (unclued h w cs) (statesIn bs) (readRaised h w r c))
 
     off : readRaised h w r c ≡ none → reading ≡ false
-    off e = ap isClear (sym (off-ends (puzzle h w cs) (statesIn bs) e))
+    off e = ap isClear (sym (off-ends (unclued h w cs) (statesIn bs) e))
 
     -- rows and columns on the page
     module _ (lr : 64 ≤ r) (lc : 64 ≤ c) (mr : r - 64 ≤ 2 * (h - 1)) where
@@ -93,17 +96,17 @@ module _ (h w : ℕ) (cs bs : List ℕ) where
       abbrev x : ℕ
       x = (c - 64) / 2
 
-      word : bit (planeWord h w cs bs r) (c / 2) ≡ bit (lineWord h w cs bs (r - 64)) x
+      word : bitAt (planeWord h w cs bs r) (c / 2) ≡ bitAt (lineWord h w cs bs (r - 64)) x
       unfolding planeWord
       word =
           let s = d .sized .rows in
           let e : c / 2 ≡ 32 + x = omega arith in
-          ap₂ bit (plane-on (2 * h - 1) r lr (omega arith)) e
+          ap₂ bitAt (plane-on (2 * h - 1) r lr (omega arith)) e
           ∙ bit-shl (lineWord h w cs bs (r - 64)) 32 x
 
-      odd-row : (r - 64) % 2 ≡ 1 → c % 2 ≡ 0 → bit (lineWord h w cs bs (r - 64)) x ≡ reading
+      odd-row : (r - 64) % 2 ≡ 1 → c % 2 ≡ 0 → bitAt (lineWord h w cs bs (r - 64)) x ≡ reading
       odd-row o z =
-          ap (λ v. bit v x) (line-odd (r - 64) o)
+          ap (λ v. bitAt v x) (line-odd (r - 64) o)
           ∙ ⊎-elim
           (λ (l : w ≤ x).
           row-past cs bs (y * w) w (h * (w - 1) + y * w) w x l
@@ -113,13 +116,13 @@ module _ (h w : ℕ) (cs bs : List ℕ) where
           ∙ (ap (clearAt cs bs (y * w + x) (y * w + x + w)) (omega arith)
           ∙ (sym (clear-between cs bs (y * w + x) (y * w + x + w) (h * (w - 1) + (y * w + x)) (d .two))
           ∙ ap isClear
-          (sym (ap (readingOf (puzzle h w cs) (statesIn bs)) (reads-below h w r c lr lc mr (omega arith) o)
+          (sym (ap (readingOf (unclued h w cs) (statesIn bs)) (reads-below h w r c lr lc mr (omega arith) o)
           ∙ below-reading h w y x cs (statesIn bs))))))
           (le-or-lt w x)
 
-      even-row : ((r - 64) % 2 ≡ 1 → ⊥) → c % 2 ≡ 1 → bit (lineWord h w cs bs (r - 64)) x ≡ reading
+      even-row : ((r - 64) % 2 ≡ 1 → ⊥) → c % 2 ≡ 1 → bitAt (lineWord h w cs bs (r - 64)) x ≡ reading
       even-row o z =
-          ap (λ v. bit v x) (line-even (r - 64) o)
+          ap (λ v. bitAt v x) (line-even (r - 64) o)
           ∙ ⊎-elim
           (λ (l : w - 1 ≤ x).
           row-past cs bs (y * w) 1 (y * (w - 1)) (w - 1) x l
@@ -128,11 +131,11 @@ module _ (h w : ℕ) (cs bs : List ℕ) where
           row-at cs bs (y * w) 1 (y * (w - 1)) (w - 1) x l
           ∙ (sym (clear-between cs bs (y * w + x) (y * w + x + 1) (y * (w - 1) + x) (d .two))
           ∙ ap isClear
-          (sym (ap (readingOf (puzzle h w cs) (statesIn bs)) (reads-right h w r c lr lc mr (omega arith) o)
+          (sym (ap (readingOf (unclued h w cs) (statesIn bs)) (reads-right h w r c lr lc mr (omega arith) o)
           ∙ right-reading h w y x cs (statesIn bs) (omega (arith, d .sized .rows)) l))))
           (le-or-lt (w - 1) x)
 
-      on-page : r % 2 + c % 2 ≡ 1 → bit (planeWord h w cs bs r) (c / 2) ≡ reading
+      on-page : r % 2 + c % 2 ≡ 1 → bitAt (planeWord h w cs bs r) (c / 2) ≡ reading
       on-page o =
           word
           ∙ ⊎-elim
@@ -140,8 +143,8 @@ module _ (h w : ℕ) (cs bs : List ℕ) where
           (λ (e : (r - 64) % 2 ≢ 1). even-row e (omega arith))
           (eq-or-not ((r - 64) % 2) 1)
 
-    -- "off the page .. or joining two colours", or wall: no bit; otherwise the bit is set
-    pub plane-clear : r % 2 + c % 2 ≡ 1 → bit (planeWord h w cs bs r) (c / 2) ≡ reading
+    -- "off the page .. or joining two colours", or wall: no bit; otherwise the bitAt is set
+    pub plane-clear : r % 2 + c % 2 ≡ 1 → bitAt (planeWord h w cs bs r) (c / 2) ≡ reading
     unfolding planeWord
     plane-clear o =
         ⊎-elim
@@ -151,13 +154,13 @@ module _ (h w : ℕ) (cs bs : List ℕ) where
         ⊎-elim
         (λ (mr : r - 64 ≤ 2 * (h - 1)). on-page lr lc mr o)
         (λ (m : 2 * (h - 1) < r - 64).
-        ap (λ v. bit v (c / 2)) (plane-below (2 * h - 1) r (omega arith))
+        ap (λ v. bitAt v (c / 2)) (plane-below (2 * h - 1) r (omega arith))
         ∙ (bit-zero (c / 2) ∙ sym (off (off-below h w r c lr lc m))))
         (le-or-lt (r - 64) (2 * (h - 1))))
         (λ (l : c < 64).
         plane-left (2 * h - 1) r (c / 2) (omega arith) ∙ sym (off (off-left h w r c lr l)))
         (le-or-lt 64 c))
         (λ (l : r < 64).
-        ap (λ v. bit v (c / 2)) (plane-above (2 * h - 1) r l)
+        ap (λ v. bitAt v (c / 2)) (plane-above (2 * h - 1) r l)
         ∙ (bit-zero (c / 2) ∙ sym (off (off-above h w r c l))))
         (le-or-lt 64 r)

@@ -8,7 +8,7 @@ use borrow.Author.Tests.{lt-ltb, le-ltb}
 use lib.Arith.{digits-lt}
 use lib.Dec.{ltb, leb·suc-suc}
 use lib.Pow.{pow-mono}
-use Rattle.planes.specs.Bits.{bit, flag, rowFrom}
+use Rattle.planes.specs.Bits.{bitAt, flag, rowFrom}
 use Rattle.planes.specs.BitLaws.{flag-lt, bit-zero, bit-first, bit-next}
 
 pub row-start : (n : ℕ) (f : ℕ → Bool) → 0 ≡ rowFrom (n - n) n f
@@ -38,7 +38,7 @@ row-lt (suc k) x f = rw pow-suc (digits-lt (row-lt k (suc x) f) (flag-lt (f x)))
 pub row-fits : (k x : ℕ) (f : ℕ → Bool) → k ≤ 32 → rowFrom k x f < 4294967296
 row-fits k x f l = let h : 2 ^ k ≤ 2 ^ 32 = pow-mono l in omega (arith, row-lt k x f)
 
-pub row-bit : (k x : ℕ) (f : ℕ → Bool) (i : ℕ) → bit (rowFrom k x f) i ≡ ltb i k && f (x + i)
+pub row-bit : (k x : ℕ) (f : ℕ → Bool) (i : ℕ) → bitAt (rowFrom k x f) i ≡ ltb i k && f (x + i)
 unfolding rowFrom
 row-bit zero x f i = rw (bit-zero, le-ltb i 0 (omega arith))
 row-bit (suc k) x f zero =

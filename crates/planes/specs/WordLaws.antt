@@ -13,9 +13,9 @@ use lib.ListN.{getD}
 use Rattle.lists.specs.Tests.{allBelow}
 use Rattle.lists.specs.TestLaws.{any-cong}
 use Rattle.shapes.specs.Raising.{ysIn, xsIn}
-use Rattle.planes.specs.Bits.{bit}
+use Rattle.planes.specs.Bits.{bitAt}
 use Rattle.planes.specs.BitLaws.{bit-and, bit-shr, some-bit}
-use Rattle.planes.specs.Masks.{spot, clearWord, lineFits}
+use Rattle.planes.specs.Masks.{planeBit, clearWord, lineFits}
 
 module _ (p : List ℕ) (y : ℕ) (ts : List ℕ) (v : ℕ) where
   abbrev left : ℕ → ℕ
@@ -27,7 +27,7 @@ module _ (p : List ℕ) (y : ℕ) (ts : List ℕ) (v : ℕ) where
 
   -- connection j is clear at column x
   abbrev clear : ℕ → ℕ → Bool
-  clear x j = spot p (2 * y + getD (ysIn ts) j 0) (getD (xsIn ts) j 0 / 2 + x)
+  clear x j = planeBit p (2 * y + getD (ysIn ts) j 0) (getD (xsIn ts) j 0 / 2 + x)
 
   pub clear-none : v ≡ clearWord p y ts v 0
   unfolding clearWord
@@ -53,28 +53,28 @@ module _ (p : List ℕ) (y : ℕ) (ts : List ℕ) (v : ℕ) where
   left-le zero = omega arith
   left-le (suc n) = omega (arith, left-le n, and-le-l (left n) (mask n))
 
-  pub left-bit : (n x : ℕ) → bit (left n) x ≡ bit v x && allBelow n (clear x)
+  pub left-bit : (n x : ℕ) → bitAt (left n) x ≡ bitAt v x && allBelow n (clear x)
   unfolding clearWord allBelow
-  left-bit zero x = sym (and-true (bit v x))
+  left-bit zero x = sym (and-true (bitAt v x))
   left-bit (suc n) x =
       bit-and (left n) (mask n) x
       ∙ (ap₂ (λ (a b : Bool). a && b) (left-bit n x)
       (bit-shr (getD p (2 * y + getD (ysIn ts) n 0) 0) (getD (xsIn ts) n 0 / 2) x)
-      ∙ and-assoc (bit v x) (allBelow n (clear x)) (clear x n))
+      ∙ and-assoc (bitAt v x) (allBelow n (clear x)) (clear x n))
 
   pub fits-word : (n : ℕ) → v < 18446744073709551616 → lineFits p y ts n v ≡ not (eqb (left n) 0)
   unfolding lineFits
   fits-word n h =
-      any-cong 64 (λ x. bit v x && allBelow n (clear x)) (bit (left n)) (λ x l. sym (left-bit n x))
+      any-cong 64 (λ x. bitAt v x && allBelow n (clear x)) (bitAt (left n)) (λ x l. sym (left-bit n x))
       ∙ some-bit 64 (left n) (lt-of-le-of-lt (left-le n) h)
 
   -- the exit in the loop
-  pub left-none : (n j : ℕ) {acc : ℕ} → acc ≡ clearWord p y ts v j → j ≤ n → acc ≡ 0
+  pub word-left-none : (n j : ℕ) {acc : ℕ} → acc ≡ clearWord p y ts v j → j ≤ n → acc ≡ 0
       → 0 ≡ clearWord p y ts v n
-  left-none n j e l z = sym (stays j n l (sym e ∙ z))
+  word-left-none n j e l z = sym (stays j n l (sym e ∙ z))
 
 -- a row without origins
 pub fits-empty : (p : List ℕ) (y : ℕ) (ts : List ℕ) (n : ℕ) {v : ℕ} → v ≡ 0 → lineFits p y ts n v ≡ false
 fits-empty p y ts n {v} e =
     fits-word p y ts v n (omega arith)
-    ∙ rw (← left-none p y ts v n 0 (clear-none p y ts v) (omega arith) e)
+    ∙ rw (← word-left-none p y ts v n 0 (clear-none p y ts v) (omega arith) e)

@@ -1,5 +1,4 @@
-// The borders that are clear as rows of bits: step 3's yes or no for all origins of a row at once, and the blockers of
-// a unit that fits nowhere.
+// The borders that are clear as rows of bits: whether a transform fits, asked for all origins of a row at once.
 ghost use mathlib.Core.Path.{_≡_};
 ghost use mathlib.Core.List.{List, [], _∷_, _++_};
 ghost use Prim.Native.Nat.{ℕ, _+_, _-_, _*_, _/_, _%_, _<_, _≤_, _^_};
@@ -10,19 +9,26 @@ ghost use Rattle.groups.specs.Grouping.{cellsIn, startsIn};
 ghost use Rattle.rules.specs.Flat.{Sized};
 ghost use Rattle.reasons.specs.Arrays.{Cells};
 ghost use Rattle.shapes.specs.Raising.{Raised};
-ghost use Rattle.search.specs.Mates.{matesIn};
-ghost use Rattle.search.specs.Searching.{Beside};
+ghost use Rattle.adjacent.specs.Mates.{matesIn};
+ghost use Rattle.adjacent.specs.Mates.{Beside};
 ghost use Rattle.planes.specs.Bits.{flag};
 ghost use Rattle.planes.specs.Planes.{clearAt, clearRow, lineWord, planesOf};
 ghost use Rattle.planes.specs.Masks.{Masked, Sizes, Span, originsIn, clearWord, lineFits, maskFits};
+use adjacent::Mates;
 use groups::Grouping;
 use groups::cell_at;
 use groups::start_of;
 use rules::index;
-use search::mates::Mates;
 use shapes::turned::Turned;
 
-pub mod survivors; // survivors.rt: the origins at which a transform lies on one colour, and the blockers there
+pub mod connection; // connection.rt: what one connection does to a placement
+
+// What a connection does to a placement: it ends it without blocker, is clear, or is a wall at a border.
+pub enum Reading {
+    Ends,
+    Clear,
+    Walled(usize),
+}
 
 // 1 if the border joins two cells of one colour and is not wall, otherwise 0.
 fn clear<'a>(
@@ -182,7 +188,13 @@ fn step(planes: &[u64; 192], acc: u64, y: usize, down: u8, across: u8) -> u64
 
 // The origins `word` of row y at which all n connections of a transform are clear. They stand in `turned`, raised
 // by 64.
-fn line_left<'a>(planes: &'a [u64; 192], word: u64, y: usize, turned: &'a Turned, n: usize) -> u64
+pub fn line_left<'a>(
+    planes: &'a [u64; 192],
+    word: u64,
+    y: usize,
+    turned: &'a Turned,
+    n: usize,
+) -> u64
     requires { ⌜ (length (now planes) ≡ 192) × (y < 32) × Raised (now turned) n ⌝ }
     ensures { λ r. ⌜ r ≡ clearWord (now (planes .entry)) y (now (turned .entry)) word n ⌝ }
 {

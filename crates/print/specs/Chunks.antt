@@ -4,7 +4,8 @@
 --   Putting ks a e m after next count   `after` is m with the texts of the literals from a up to next, count bytes
 --   Put ks a e m after r                so it is for the chunk r, and some literal is put where there is room
 --   show-append         the texts of two lists
---   codes-none, codes-more, codes-append, codes-front   no literal, one more, two parts, and the memory's front
+--   chunk-codes-none, chunk-codes-more, codes-append, codes-front   no literal, one more, two parts, and the memory's
+--                                                                   front
 --   putting-none, putting-more, putting-stop            no literal, one more, and the end
 --   put-none            where no literal is put, the memory is as it was
 use mathlib.Core.Path.{_≡_, refl, sym, ap, _∙_}
@@ -20,7 +21,8 @@ use Rattle.page.specs.Many.{showAll}
 use Rattle.print.specs.declared.Chunk.{Chunk}
 use Rattle.print.specs.declared.Line.{Line}
 use Rattle.print.specs.Answers.{codeText, textOf}
-use Rattle.print.specs.Lines.{Written, Holds, written-none, written-more, written-length, holds-text, holds-short}
+use Rattle.print.specs.Lines.{Written, LineHolds, written-none, written-more, written-length, holds-text}
+use Rattle.print.specs.Lines.{holds-short}
 
 unfoldable pub codesFrom : List ℕ → ℕ → ℕ → List ℕ
 codesFrom ks a e = table (e - a) (λ i. getD ks (a + i) 0)
@@ -42,13 +44,13 @@ unfolding showAll
 show-append f [] ys = refl
 show-append f (x ∷ xs) ys = rw (show-append f xs ys) (sym (append-assoc (f x) (showAll f xs) (showAll f ys)))
 
-pub codes-none : (ks : List ℕ) (a : ℕ) → codesFrom ks a a ≡ []
+pub chunk-codes-none : (ks : List ℕ) (a : ℕ) → codesFrom ks a a ≡ []
 unfolding codesFrom table
-codes-none ks a = let e : a - a ≡ 0 = omega arith in rw e
+chunk-codes-none ks a = let e : a - a ≡ 0 = omega arith in rw e
 
-pub codes-more : (ks : List ℕ) (a p : ℕ) → a ≤ p → codesFrom ks a (p + 1) ≡ codesFrom ks a p ++ (getD ks p 0 ∷ [])
+pub chunk-codes-more : (ks : List ℕ) (a p : ℕ) → a ≤ p → codesFrom ks a (p + 1) ≡ codesFrom ks a p ++ (getD ks p 0 ∷ [])
 unfolding codesFrom table
-codes-more ks a p h =
+chunk-codes-more ks a p h =
     let e : p + 1 - a ≡ suc (p - a) = omega arith in
     let f : a + (p - a) ≡ p = omega arith in
     rw (e, f)
@@ -58,13 +60,13 @@ pub codes-append : (ks : List ℕ) (a b n : ℕ) → a ≤ b
     → codesFrom ks a b ++ codesFrom ks b (b + n) ≡ codesFrom ks a (b + n)
 codes-append ks a b zero h =
     let e : b + 0 ≡ b = omega arith in
-    rw (e, codes-none ks b) (append-nil (codesFrom ks a b))
+    rw (e, chunk-codes-none ks b) (append-nil (codesFrom ks a b))
 codes-append ks a b (suc n) h =
     let e : b + suc n ≡ b + n + 1 = omega arith in
     let p : codesFrom ks b (b + n + 1) ≡ codesFrom ks b (b + n) ++ (getD ks (b + n) 0 ∷ []) =
-    codes-more ks b (b + n) (omega arith) in
+    chunk-codes-more ks b (b + n) (omega arith) in
     let q : codesFrom ks a (b + n + 1) ≡ codesFrom ks a (b + n) ++ (getD ks (b + n) 0 ∷ []) =
-    codes-more ks a (b + n) (omega arith) in
+    chunk-codes-more ks a (b + n) (omega arith) in
     rw (e, p, q, ← codes-append ks a b n h)
     (sym (append-assoc (codesFrom ks a b) (codesFrom ks b (b + n)) (getD ks (b + n) 0 ∷ [])))
 
@@ -83,7 +85,7 @@ show-one : (ks : List ℕ) (a p : ℕ) → a ≤ p
 unfolding showAll
 show-one ks a p h =
     rw (
-      codes-more ks a p h,
+      chunk-codes-more ks a p h,
       show-append codeText (codesFrom ks a p) (getD ks p 0 ∷ []),
       append-nil (codeText (getD ks p 0)),
     )
@@ -95,11 +97,11 @@ putting-none ks a e m =
       from = omega arith;
       within = λ h. absurd (omega arith);
       fits = omega arith;
-      written = rw (codes-none ks a) (written-none m 0);
+      written = rw (chunk-codes-none ks a) (written-none m 0);
     }
 
 pub putting-more : {ks m after more : List ℕ} {line : Line} {a e next count r : ℕ} → Putting ks a e m after next count
-    → next < e → next < length ks → Holds line (codeText (getD ks next 0)) → count + 32 ≤ length after
+    → next < e → next < length ks → LineHolds line (codeText (getD ks next 0)) → count + 32 ≤ length after
     → Written after count (textOf line) more r → Putting ks a e m more (next + 1) r
 putting-more {ks} {a = a} {next = next} p l k h o w =
     record {
@@ -113,7 +115,7 @@ putting-more {ks} {a = a} {next = next} p l k h o w =
 module _ {ks m after : List ℕ} {a e next count : ℕ} (p : Putting ks a e m after next count) (q : next ≡ a) where
   none-written : Written m 0 [] after count
   unfolding showAll
-  none-written = rw (q, codes-none ks a) at (p .written)
+  none-written = rw (q, chunk-codes-none ks a) at (p .written)
 
 pub putting-stop : {ks m after : List ℕ} {a e next count : ℕ} → Putting ks a e m after next count
     → (next ≡ a → count ≡ 0 → a < e → a < length ks → 32 ≤ length after → ⊥)

@@ -1,9 +1,9 @@
 -- Bytes written into memory, lines that grow, and their laws.
 --
 --   Written m at ds e r   the memory e is m with the bytes ds from `at` on, up to r, and no other byte changed
---   Longer a ds b       the line b is the line a with the bytes ds more
---   start               the line of no bytes
---   Holds l ds          the line l holds the bytes ds and is 0 beyond them
+--   Longer a ds b                              the line b is the line a with the bytes ds more
+--   start                                      the line of no bytes
+--   LineHolds l ds                             the line l holds the bytes ds and is 0 beyond them
 --   written-none, written-byte, written-more   no byte, one, and one text after another
 --   written-word, written-end                  a text, byte by byte
 --   written-length                             the length stays
@@ -12,7 +12,7 @@
 --   line-none, line-more, line-written         a line's bytes written: none, one more, all
 --   decimal-last, decimal-long                 a number's last digit
 --   tens k, decimal-short, decimal-64, decimal-16   the k-th power of ten, and how many digits a number has
---   numbered-text       a word, a number, a bracket and a newline
+--   numbered-text                              a word, a number, a bracket and a newline
 use mathlib.Core.Path.{_≡_, refl, sym, ap, ap₂, _∙_}
 use mathlib.Core.Bool.{Bool, true, false}
 use mathlib.Core.List.{List, [], _∷_, _++_, append-assoc}
@@ -39,7 +39,7 @@ Longer a ds b = Written (a .bytes) (a .count) ds (b .bytes) (b .count)
 abbrev pub start : Line
 start = record { bytes = replicate 32 0; count = 0 }
 
-pub record Holds (l : Line) (ds : List ℕ) : Type 0 where
+pub record LineHolds (l : Line) (ds : List ℕ) : Type 0 where
   pub written : Longer start ds l
   pub small : l .count ≤ 32
 
@@ -85,19 +85,19 @@ module _ {m ds e : List ℕ} {r : ℕ} (w : Written m 0 ds e r) (h : r ≤ lengt
   written-rest = ap (drop r) front-is ∙ drop-at ds (drop (0 + length ds) m) r as-long
       ∙ ap (λ (n : ℕ). drop n m) (sym (w .next))
 
-pub holds-as : {l : Line} {ds es : List ℕ} → Holds l ds → ds ≡ es → Holds l es
+pub holds-as : {l : Line} {ds es : List ℕ} → LineHolds l ds → ds ≡ es → LineHolds l es
 holds-as h q = rw q at h
 
 -- three parts of a line
 pub holds-more : {a b l : Line} {ds es fs : List ℕ} → Longer start ds a → Longer a es b → Longer b fs l → l .count ≤ 32
-    → Holds l (ds ++ es ++ fs)
+    → LineHolds l (ds ++ es ++ fs)
 holds-more p q w h = record { written = written-more (written-more p q) w; small = h }
 
-pub holds-text : {l : Line} {ds : List ℕ} → Holds l ds → textOf l ≡ ds
+pub holds-text : {l : Line} {ds : List ℕ} → LineHolds l ds → textOf l ≡ ds
 unfolding textOf
 holds-text h = written-front (h .written) (h .small)
 
-pub holds-short : {l : Line} {ds : List ℕ} → Holds l ds → length (textOf l) ≤ 32
+pub holds-short : {l : Line} {ds : List ℕ} → LineHolds l ds → length (textOf l) ≤ 32
 holds-short h = omega (arith, ap length (holds-text h), h .written .next, h .small)
 
 -- a line's bytes, up to its count

@@ -9,7 +9,7 @@ ghost use Rattle.page.specs.Decimal.{decimal};
 ghost use Rattle.page.specs.Grammar.{bracket, newline, endWord};
 ghost use Rattle.page.specs.PageText.{counted};
 ghost use Rattle.print.specs.Answers.{answersWord, conflictWord, showReply, codeText, textOf};
-ghost use Rattle.print.specs.Lines.{Longer, Holds, Written};
+ghost use Rattle.print.specs.Lines.{Longer, LineHolds, Written};
 ghost use Rattle.print.specs.Chunks.{Put};
 
 // The bytes of a line, or of a part of one, and how many they are.
@@ -59,7 +59,7 @@ fn with_number(line: Line, n: usize) -> Line
 // The word, the number, a bracket and a newline.
 fn numbered(word: &[u8], n: usize) -> Line
     requires { ⌜ length (now word) ≤ 9 ⌝ }
-    ensures { λ r. ⌜ Holds r (now (word .entry) ++ (counted n bracket ++ newline)) ⌝ }
+    ensures { λ r. ⌜ LineHolds r (now (word .entry) ++ (counted n bracket ++ newline)) ⌝ }
 {
     let start = Line {
         bytes: [0u8; 32],
@@ -72,14 +72,14 @@ fn numbered(word: &[u8], n: usize) -> Line
 
 // `(pass n)` and its newline.
 pub fn pass_line(n: usize) -> Line
-    ensures { λ r. ⌜ Holds r (showReply (answered (pass n))) ⌝ }
+    ensures { λ r. ⌜ LineHolds r (showReply (answered (pass n))) ⌝ }
 {
     numbered(b"(pass ", n)
 }
 
 // `(refused n)` and its newline.
 pub fn refused_line(n: usize) -> Line
-    ensures { λ r. ⌜ Holds r (showReply (refused n)) ⌝ }
+    ensures { λ r. ⌜ LineHolds r (showReply (refused n)) ⌝ }
 {
     numbered(b"(refused ", n)
 }
@@ -87,7 +87,7 @@ pub fn refused_line(n: usize) -> Line
 // A line that holds a word.
 fn word_line(word: &[u8]) -> Line
     requires { ⌜ length (now word) ≤ 32 ⌝ }
-    ensures { λ r. ⌜ Holds r (now (word .entry)) ⌝ }
+    ensures { λ r. ⌜ LineHolds r (now (word .entry)) ⌝ }
 {
     let start = Line {
         bytes: [0u8; 32],
@@ -98,28 +98,28 @@ fn word_line(word: &[u8]) -> Line
 
 // `(answers` and its newline: the output's first line.
 pub fn answers_line() -> Line
-    ensures { λ r. ⌜ Holds r answersWord ⌝ }
+    ensures { λ r. ⌜ LineHolds r answersWord ⌝ }
 {
     word_line(b"(answers\n")
 }
 
 // `(conflict`: what stands before the literals.
 pub fn conflict_start() -> Line
-    ensures { λ r. ⌜ Holds r conflictWord ⌝ }
+    ensures { λ r. ⌜ LineHolds r conflictWord ⌝ }
 {
     word_line(b"(conflict")
 }
 
 // `)` and its newline: what stands after the literals, and the output's last line.
 pub fn end_line() -> Line
-    ensures { λ r. ⌜ Holds r endWord ⌝ }
+    ensures { λ r. ⌜ LineHolds r endWord ⌝ }
 {
     word_line(b")\n")
 }
 
 // A space and the literal that reason memory holds as `code`.
 pub fn literal_text(code: u16) -> Line
-    ensures { λ r. ⌜ Holds r (codeText code) ⌝ }
+    ensures { λ r. ⌜ LineHolds r (codeText code) ⌝ }
 {
     let start = Line {
         bytes: [0u8; 32],

@@ -1,15 +1,15 @@
 -- What the probes write, and what they give.
 --
---   places n l            a list of n places: the list l, cut off or filled up with 0
---   isFit h w room        h and w are a page's, and the memory has 16,384 places
+--   placesOf n l          a list of n places: the list l, cut off or filled up with 0
+--   probeFits h w room    h and w are a page's, and the memory has 16,384 places
 --   kindOf k              the kind of groups with the number k: blocks, units, potential units
---   sideOf s              open for 0, otherwise wall
 --   kindGroups h w cs bs k   the groups of that kind, for lists of colours and borders
 --   reasonWords ..        Inside(G) (open) or Edge(G) (wall) of the group g, as literal codes
 --   pathWords ..          Path(a, b), as literal codes
---   Written m ws m′ r     the words ws were written into the memory m from its start: m′ is the memory afterwards, and
+--   ProbeWritten m ws m′ r     the words ws were written into the memory m from its start: m′ is the memory afterwards,
+--                              and
 --                         r their number
---   Answered h w m ws m′ r   the same where the call fits; otherwise m′ is m, and r is 65,535
+--   ProbeAnswered h w m ws m′ r   the same where the call fits; otherwise m′ is m, and r is 65,535
 use mathlib.Core.Path.{_≡_}
 use mathlib.Core.Bool.{Bool, _&&_, cond}
 use mathlib.Core.List.{List, map}
@@ -19,7 +19,6 @@ use lib.ListN.{length}
 use lib.Seq.{sets}
 use Rattle.lists.specs.Table.{table}
 use Rattle.rules.specs.declared.Side.{Side}
-use Rattle.rules.specs.declared.Side.the-variants.{Wall, Open}
 use Rattle.rules.specs.Flat.{flat}
 use Rattle.rules.specs.Codes.{literalCode}
 use Rattle.rules.specs.Groups.{entry}
@@ -31,33 +30,30 @@ use Rattle.groups.specs.Parts.{Groups, groupsOf}
 use Rattle.reasons.specs.Arrays.{groupReason}
 use Rattle.reasons.specs.Search.{pathIn}
 
-unfoldable pub places : ℕ → List ℕ → List ℕ
-places n l = table n (entry l)
+unfoldable pub placesOf : ℕ → List ℕ → List ℕ
+placesOf n l = table n (entry l)
 
 -- another size has 0 cells
-unfoldable pub isFit : ℕ → ℕ → ℕ → Bool
-isFit h w room = leb 1 (cellsOf h w) && leb 16384 room
+unfoldable pub probeFits : ℕ → ℕ → ℕ → Bool
+probeFits h w room = leb 1 (cellsOf h w) && leb 16384 room
 
 unfoldable pub kindOf : ℕ → Kind
 kindOf k = cond (eqb k 0) Blocks (cond (eqb k 1) Units Potential)
 
-unfoldable pub sideOf : ℕ → Side
-sideOf s = cond (eqb s 0) Open Wall
-
 module _ (h w : ℕ) (cs bs : List ℕ) (k : ℕ) where
   unfoldable pub kindGroups : Groups
-  kindGroups = groupsOf (flat h w) (joinsIn (kindOf k) h w (places 1024 cs) (places 1984 bs))
+  kindGroups = groupsOf (flat h w) (joinsIn (kindOf k) h w (placesOf 1024 cs) (placesOf 1984 bs))
 
   unfoldable pub reasonWords : Side → ℕ → List ℕ
-  reasonWords side g = map literalCode (groupReason h w (places 1024 cs) (places 1984 bs) (kindGroups .ids) side g)
+  reasonWords side g = map literalCode (groupReason h w (placesOf 1024 cs) (placesOf 1984 bs) (kindGroups .ids) side g)
 
 unfoldable pub pathWords : ℕ → ℕ → List ℕ → ℕ → ℕ → List ℕ
-pathWords h w bs a b = map literalCode (pathIn h w (places 1984 bs) a b)
+pathWords h w bs a b = map literalCode (pathIn h w (placesOf 1984 bs) a b)
 
-pub record Written (m words after : List ℕ) (r : ℕ) : Type 0 where
+pub record ProbeWritten (m words after : List ℕ) (r : ℕ) : Type 0 where
   pub memory : after ≡ sets m 0 words
   pub count : r ≡ length words
 
-pub record Answered (h w : ℕ) (m words after : List ℕ) (r : ℕ) : Type 0 where
-  pub memory : after ≡ cond (isFit h w (length m)) (sets m 0 words) m
-  pub count : r ≡ cond (isFit h w (length m)) (length words) 65535
+pub record ProbeAnswered (h w : ℕ) (m words after : List ℕ) (r : ℕ) : Type 0 where
+  pub memory : after ≡ cond (probeFits h w (length m)) (sets m 0 words) m
+  pub count : r ≡ cond (probeFits h w (length m)) (length words) 65535

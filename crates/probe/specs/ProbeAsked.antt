@@ -4,7 +4,8 @@
 --   askedIn s k         what the board that the image s spells gives, asked for its groups of the kind k; an image of
 --                       another length is alien
 --   partIn s which g    the cells of its group g, as the part of the chosen list
---   Told f m ws m′ r    f is the refusal's number, or 0. Where there is a refusal, r is its number; where the memory m
+--   AskedTold f m ws m′ r    f is the refusal's number, or 0. Where there is a refusal, r is its number; where the
+--                            memory m
 --                       has under 16,384 places, r is 65,535; otherwise the words ws were written from the start of m,
 --                       and r is their number. m′ is the memory afterwards
 use mathlib.Core.Path.{_≡_}
@@ -37,6 +38,6 @@ unfoldable pub partIn : List ℕ → Which → ℕ → List ℕ
 partIn s which g =
     partFrom which (groupCells (askedIn s kind.Units .groups) g) (groupCells (askedIn s kind.Potential .groups) g)
 
-pub record Told (f : ℕ) (m words after : List ℕ) (r : ℕ) : Type 0 where
+pub record AskedTold (f : ℕ) (m words after : List ℕ) (r : ℕ) : Type 0 where
   pub memory : after ≡ cond (eqb f 0 && leb 16384 (length m)) (sets m 0 words) m
   pub number : r ≡ cond (eqb f 0) (cond (leb 16384 (length m)) (length words) 65535) f

@@ -19,8 +19,8 @@ use Rattle.groups.specs.Grouping.{cellsIn, startIn, groupCells}
 use Rattle.groups.specs.Parts.{partFrom}
 use Rattle.image.specs.Image.{rightLength, spelledBoard}
 use Rattle.image.specs.RoundLaws.{long-is}
-use Rattle.probe.specs.Probe.{Written}
-use Rattle.probe.specs.ProbeAsked.{askedIn, partIn, Told}
+use Rattle.probe.specs.Probe.{ProbeWritten}
+use Rattle.probe.specs.ProbeAsked.{askedIn, partIn, AskedTold}
 
 -- ---- the two cases of an image's length
 module _ (s : List ℕ) (k : Kind) where
@@ -54,18 +54,18 @@ part-few s Potential g = part-le (askedIn s kind.Potential .groups) g
 
 -- ---- the cases of what is given
 module _ {f n : ℕ} {m words : List ℕ} (e : n ≡ f) where
-  pub told-refusal : (n ≡ 0 → ⊥) → Told f m words m n
+  pub told-refusal : (n ≡ 0 → ⊥) → AskedTold f m words m n
   told-refusal h =
       let z = ne-eqb f 0 (λ q. h (e ∙ q)) in
       record { memory = rw z; number = rw z e }
 
-  pub told-short : n ≡ 0 → length m < 16384 → Told f m words m 65535
+  pub told-short : n ≡ 0 → length m < 16384 → AskedTold f m words m 65535
   told-short h l =
       let z = eq-eqb f 0 (sym e ∙ h) in
       record { memory = rw (z, lt-leb 16384 (length m) l); number = rw (z, lt-leb 16384 (length m) l) }
 
-  pub told-words : {after : List ℕ} {r : ℕ} → n ≡ 0 → 16384 ≤ length m → Written m words after r
-      → Told f m words after r
+  pub told-words : {after : List ℕ} {r : ℕ} → n ≡ 0 → 16384 ≤ length m → ProbeWritten m words after r
+      → AskedTold f m words after r
   told-words h l w =
       let z = eq-eqb f 0 (sym e ∙ h) in
       record {

@@ -42,9 +42,10 @@ unfolding checksMemory
 checks-length b zero m = refl
 checks-length b (suc times) m = length-check b (checksMemory b times m) ∙ checks-length b times m
 
-pub memory-more : (b : Board) (i : ℕ) (m : List ℕ) → checkMemory b (checksMemory b i m) ≡ checksMemory b (i + 1) m
+pub checks-memory-more : (b : Board) (i : ℕ) (m : List ℕ) → checkMemory b (checksMemory b i m)
+    ≡ checksMemory b (i + 1) m
 unfolding checksMemory
-memory-more b i m = rw (add-one i)
+checks-memory-more b i m = rw (add-one i)
 
 pub number-more : (b : Board) (n i : ℕ) → answerNumber (checkAnswer b n) ≡ checksNumber b n (i + 1)
 unfolding checksNumber
@@ -74,9 +75,9 @@ decides-length each b (l ∷ ls) m =
 -- ---- the board is refused, or made
 module _ (h w : ℕ) (cs : List ℕ) (ks : List ℤ) (codes : List ℕ) (each times : ℕ) (m : List ℕ) where
   module _ (e : eqb (made h w cs ks) 0 ≡ false) where
-    pub number-refused : made h w cs ks ≡ checkedNumber h w cs ks codes times (length m)
+    pub checks-number-refused : made h w cs ks ≡ checkedNumber h w cs ks codes times (length m)
     unfolding checkedNumber
-    number-refused = rw e
+    checks-number-refused = rw e
 
     pub memory-refused : m ≡ checkedMemory h w cs ks codes each times m
     unfolding checkedMemory

@@ -28,15 +28,15 @@ use Rattle.groups.specs.Grouping.{countIn, Filled}
 use Rattle.groups.specs.Parts.{groupsOf}
 use Rattle.groups.specs.PartLaws.{ids-entry, members-cells}
 use Rattle.groups.specs.SortLaws.{cells-length, size-le}
-use Rattle.checker.specs.Bridges.{group-at}
+use Rattle.reasons.specs.GroupReasons.{group-at}
 use Rattle.reasons.specs.Arrays.{GroupAt, groupReason, insideIn, edgeIn}
 use Rattle.reasons.specs.Memory.{Wrote}
 use Rattle.reasons.specs.Search.{pathIn}
-use Rattle.probe.specs.Probe.{places, isFit, kindOf, kindGroups, reasonWords}
-use Rattle.probe.specs.Probe.{Written, Answered}
+use Rattle.probe.specs.Probe.{placesOf, probeFits, kindOf, kindGroups, reasonWords}
+use Rattle.probe.specs.Probe.{ProbeWritten, ProbeAnswered}
 
-pub places-length : (n : ℕ) (l : List ℕ) → length (places n l) ≡ n
-unfolding places
+pub places-length : (n : ℕ) (l : List ℕ) → length (placesOf n l) ≡ n
+unfolding placesOf
 places-length n l = length-table n (entry l)
 
 -- a size that has cells is a page's
@@ -49,30 +49,30 @@ sized-of {h} {w} l = sized (go (sizeRight h w) l)
     go false k = absurd (omega arith)
 
 -- what a fit call may count on
-pub record Fit (h w room : ℕ) : Type 0 where
+pub record ProbeFit (h w room : ℕ) : Type 0 where
   pub size : Sized h w
   pub large : 16384 ≤ room
 
-pub fit : {h w room : ℕ} → isFit h w room ≡ true → Fit h w room
-unfolding isFit
-fit {h} {w} {room} e = go (leb 1 (cellsOf h w)) (leb 16384 room) refl refl e
+pub probe-fit : {h w room : ℕ} → probeFits h w room ≡ true → ProbeFit h w room
+unfolding probeFits
+probe-fit {h} {w} {room} e = go (leb 1 (cellsOf h w)) (leb 16384 room) refl refl e
   where
-    go : (a b : Bool) → leb 1 (cellsOf h w) ≡ a → leb 16384 room ≡ b → (a && b) ≡ true → Fit h w room
+    go : (a b : Bool) → leb 1 (cellsOf h w) ≡ a → leb 16384 room ≡ b → (a && b) ≡ true → ProbeFit h w room
     go true true p q r = record { size = sized-of (leb-true _ _ p); large = leb-true _ _ q }
     go true false p q r = let z : _≡_ {A = ℕ} 0 1 = cc in absurd (omega arith)
     go false b p q r = let z : _≡_ {A = ℕ} 0 1 = cc in absurd (omega arith)
 
 module _ {h w : ℕ} {m words : List ℕ} where
-  pub unfit : isFit h w (length m) ≡ false → Answered h w m words m 65535
+  pub unfit : probeFits h w (length m) ≡ false → ProbeAnswered h w m words m 65535
   unfit e = record { memory = rw e; count = rw e }
 
-  pub done : {after : List ℕ} {r : ℕ} → isFit h w (length m) ≡ true → Written m words after r
-      → Answered h w m words after r
+  pub done : {after : List ℕ} {r : ℕ} → probeFits h w (length m) ≡ true → ProbeWritten m words after r
+      → ProbeAnswered h w m words after r
   done e a = record { memory = rw e (a .memory); count = rw e (a .count) }
 
 -- literals from the start of the memory
 pub literals : {m after : List ℕ} {r : ℕ} {ls : List Literal} → Wrote m 0 ls after r
-    → Written m (map literalCode ls) after r
+    → ProbeWritten m (map literalCode ls) after r
 unfolding put
 literals {ls = ls} a =
     record { memory = a .memory; count = omega (arith, a .place, length-map ls literalCode) }
@@ -80,7 +80,7 @@ literals {ls = ls} a =
 -- a page's groups
 module _ {h w : ℕ} (z : Sized h w) (cs bs : List ℕ) (k : ℕ) where
   abbrev link : ℕ → Bool
-  link = joinsIn (kindOf k) h w (places 1024 cs) (places 1984 bs)
+  link = joinsIn (kindOf k) h w (placesOf 1024 cs) (placesOf 1984 bs)
 
   some : 1 ≤ flat h w .cells
   unfolding flat
@@ -119,20 +119,20 @@ module _ {h w : ℕ} (z : Sized h w) (cs bs : List ℕ) (k : ℕ) where
       (omega (arith, cells-length number (flat h w .cells) g, size-le number (flat h w .cells) g, small))
 
   pub reason-few : (side : Side) (g : ℕ)
-      → length (groupReason h w (places 1024 cs) (places 1984 bs) (kindGroups h w cs bs k .ids) side g) ≤ 4096
+      → length (groupReason h w (placesOf 1024 cs) (placesOf 1984 bs) (kindGroups h w cs bs k .ids) side g) ≤ 4096
   unfolding insideIn edgeIn
   reason-few Wall g =
       omega (
         arith,
         members-few g,
-        flat-edge-le h w (statesIn (places 1984 bs)) (entry (kindGroups h w cs bs k .ids)) g
-            (coloursIn (places 1024 cs)),
+        flat-edge-le h w (statesIn (placesOf 1984 bs)) (entry (kindGroups h w cs bs k .ids)) g
+            (coloursIn (placesOf 1024 cs)),
       )
   reason-few Open g =
       omega (
         arith,
         members-few g,
-        flat-inside-le h w (statesIn (places 1984 bs)) (entry (kindGroups h w cs bs k .ids)) g,
+        flat-inside-le h w (statesIn (placesOf 1984 bs)) (entry (kindGroups h w cs bs k .ids)) g,
       )
 
 pub path-few : {h w : ℕ} → Sized h w → (bs : List ℕ) (a b : ℕ) → length (pathIn h w bs a b) ≤ 1024

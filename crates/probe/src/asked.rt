@@ -7,7 +7,7 @@ ghost use Rattle.board.specs.Board.{numberOf};
 ghost use Rattle.groups.specs.Grouping.{groupCells};
 ghost use Rattle.groups.specs.Parts.{partFrom};
 ghost use Rattle.probe.specs.Probe.{kindOf};
-ghost use Rattle.probe.specs.ProbeAsked.{whichOf, askedIn, partIn, Told};
+ghost use Rattle.probe.specs.ProbeAsked.{whichOf, askedIn, partIn, AskedTold};
 use crate::ROOM;
 use crate::UNFIT;
 use crate::kind_of;
@@ -42,7 +42,7 @@ fn asked_in(s: &[u8], kind: Kind) -> BoardGroups
 // The groups of one kind, as `probe_groups` writes them; of an alien image the refusal's number, and the memory stays.
 #[no_mangle]
 pub extern "C" fn probe_asked(s: &[u8], kind: u32, memory: &mut [u16]) -> usize
-    ensures { λ r. ⌜ Told (numberOf (askedIn (now (s .entry)) (kindOf kind) .outcome)) (now (memory .entry))
+    ensures { λ r. ⌜ AskedTold (numberOf (askedIn (now (s .entry)) (kindOf kind) .outcome)) (now (memory .entry))
         (askedIn (now (s .entry)) (kindOf kind) .groups) (now (memory .exit)) r ⌝ }
 {
     let a = asked_in(s, kind_of(kind));
@@ -78,7 +78,8 @@ fn part_in<'a>(units: &'a [u16], potential: &'a [u16], which: Which, g: usize) -
 // alien image.
 #[no_mangle]
 pub extern "C" fn probe_part(s: &[u8], which: u32, g: usize, memory: &mut [u16]) -> usize
-    ensures { λ r. ⌜ Told 0 (now (memory .entry)) (partIn (now (s .entry)) (whichOf which) g) (now (memory .exit)) r ⌝ }
+    ensures { λ r. ⌜ AskedTold 0 (now (memory .entry)) (partIn (now (s .entry)) (whichOf which) g) (now (memory .exit))
+        r ⌝ }
 {
     if memory.len() < ROOM {
         return UNFIT;

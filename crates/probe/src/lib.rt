@@ -8,8 +8,9 @@ ghost use lib.ListN.{length};
 ghost use Rattle.rules.specs.Flat.{Sized};
 ghost use Rattle.rules.specs.Groups.{entry};
 ghost use Rattle.groups.specs.Grouping.{arrayOf, Filled};
-ghost use Rattle.probe.specs.Probe.{places, isFit, kindOf, sideOf, kindGroups};
-ghost use Rattle.probe.specs.Probe.{reasonWords, pathWords, Written, Answered};
+ghost use Rattle.probe.specs.Probe.{placesOf, probeFits, kindOf, kindGroups};
+ghost use Rattle.image.specs.Image.{sideOf};
+ghost use Rattle.probe.specs.Probe.{reasonWords, pathWords, ProbeWritten, ProbeAnswered};
 use board::Board;
 use groups::Grouping;
 use groups::Kind;
@@ -37,7 +38,7 @@ fn byte(s: &[u8], i: usize) -> u8
 
 // Fills the list with the bytes of s, then with 0.
 fn copy(out: &mut [u8], s: &[u8])
-    ensures { λ _. ⌜ now (out .exit) ≡ places (length (now (out .entry))) (now (s .entry)) ⌝ }
+    ensures { λ _. ⌜ now (out .exit) ≡ placesOf (length (now (out .entry))) (now (s .entry)) ⌝ }
 {
     let mut i: usize = 0;
     while i < out.len() {
@@ -48,7 +49,7 @@ fn copy(out: &mut [u8], s: &[u8])
 
 // The colours of a page's cells.
 fn colours_in(s: &[u8]) -> [u8; Board::CELL_LIMIT]
-    ensures { λ r. ⌜ r ≡ places 1024 (now (s .entry)) ⌝ }
+    ensures { λ r. ⌜ r ≡ placesOf 1024 (now (s .entry)) ⌝ }
 {
     let mut out = [0u8; Board::CELL_LIMIT];
     copy(&mut out, s);
@@ -57,7 +58,7 @@ fn colours_in(s: &[u8]) -> [u8; Board::CELL_LIMIT]
 
 // A page's borders.
 fn borders_in(s: &[u8]) -> [u8; Board::BORDER_LIMIT]
-    ensures { λ r. ⌜ r ≡ places 1984 (now (s .entry)) ⌝ }
+    ensures { λ r. ⌜ r ≡ placesOf 1984 (now (s .entry)) ⌝ }
 {
     let mut out = [0u8; Board::BORDER_LIMIT];
     copy(&mut out, s);
@@ -67,7 +68,7 @@ fn borders_in(s: &[u8]) -> [u8; Board::BORDER_LIMIT]
 // Writes the words from the start of the memory; gives how many they are.
 fn write(memory: &mut [u16], words: &[u16]) -> usize
     requires { ⌜ length (now words) ≤ length (now memory) ⌝ }
-    ensures { λ r. ⌜ Written (now (memory .entry)) (now (words .entry)) (now (memory .exit)) r ⌝ }
+    ensures { λ r. ⌜ ProbeWritten (now (memory .entry)) (now (words .entry)) (now (memory .exit)) r ⌝ }
 {
     let mut i: usize = 0;
     while i < words.len() {
@@ -79,7 +80,7 @@ fn write(memory: &mut [u16], words: &[u16]) -> usize
 
 // Whether the size is a page's, and the memory is large enough.
 fn fits(h: usize, w: usize, room: usize) -> bool
-    ensures { λ r. ⌜ r ≡ isFit h w room ⌝ }
+    ensures { λ r. ⌜ r ≡ probeFits h w room ⌝ }
 {
     if board::cell_count(h, w) < 1 {
         return false;
@@ -122,7 +123,8 @@ fn put_reason(
     group: usize,
 ) -> usize
     requires { ⌜ Sized h w × (16384 ≤ length (now memory)) ⌝ }
-    ensures { λ r. ⌜ Written (now (memory .entry)) (reasonWords h w (now (colours .entry)) (now (borders .entry)) kind
+    ensures { λ r. ⌜ ProbeWritten (now (memory .entry))
+        (reasonWords h w (now (colours .entry)) (now (borders .entry)) kind
         (sideOf side) group) (now (memory .exit)) r ⌝ }
 {
     let grouping = grouped(h, w, colours, borders, kind);
@@ -140,7 +142,8 @@ fn put_reason(
 // Writes the path from cell a to cell b.
 fn put_path(memory: &mut [u16], h: usize, w: usize, borders: &[u8], a: usize, b: usize) -> usize
     requires { ⌜ Sized h w × (16384 ≤ length (now memory)) ⌝ }
-    ensures { λ r. ⌜ Written (now (memory .entry)) (pathWords h w (now (borders .entry)) a b) (now (memory .exit)) r ⌝ }
+    ensures { λ r. ⌜ ProbeWritten (now (memory .entry)) (pathWords h w (now (borders .entry)) a b) (now (memory .exit))
+        r ⌝ }
 {
     let states = borders_in(borders);
     reasons::paths::path(memory, 0, h, w, &states, a, b)
@@ -157,7 +160,7 @@ pub extern "C" fn probe_groups(
     kind: u32,
     memory: &mut [u16],
 ) -> usize
-    ensures { λ r. ⌜ Answered h w (now (memory .entry))
+    ensures { λ r. ⌜ ProbeAnswered h w (now (memory .entry))
         (arrayOf (kindGroups h w (now (colours .entry)) (now (borders .entry)) kind)) (now (memory .exit)) r ⌝ }
 {
     if fits(h, w, memory.len()) {
@@ -179,7 +182,8 @@ pub extern "C" fn probe_reason(
     group: usize,
     memory: &mut [u16],
 ) -> usize
-    ensures { λ r. ⌜ Answered h w (now (memory .entry)) (reasonWords h w (now (colours .entry)) (now (borders .entry))
+    ensures { λ r. ⌜ ProbeAnswered h w (now (memory .entry))
+        (reasonWords h w (now (colours .entry)) (now (borders .entry))
         kind (sideOf side) group) (now (memory .exit)) r ⌝ }
 {
     if fits(h, w, memory.len()) {
@@ -198,7 +202,7 @@ pub extern "C" fn probe_path(
     b: usize,
     memory: &mut [u16],
 ) -> usize
-    ensures { λ r. ⌜ Answered h w (now (memory .entry)) (pathWords h w (now (borders .entry)) a b)
+    ensures { λ r. ⌜ ProbeAnswered h w (now (memory .entry)) (pathWords h w (now (borders .entry)) a b)
         (now (memory .exit)) r ⌝ }
 {
     if fits(h, w, memory.len()) {

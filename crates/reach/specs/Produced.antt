@@ -13,10 +13,11 @@ use Rattle.rules.specs.declared.Literal.{Literal}
 use Rattle.board.specs.declared.Board.{Board}
 use Rattle.board.specs.declared.Outcome.the-variants.{Done}
 use Rattle.board.specs.declared.Returned.{Returned}
-use Rattle.board.specs.Board.{returned, freshOf, decideOf, undoOf, Small}
+use Rattle.board.specs.Board.{returned, freshOf, decideOf, undoOf, SmallClues}
 
 pub data Produced : Board → Type 0 where
-  made : (h w : ℕ) (cs : List ℕ) (ks : List ℤ) (b : Board) → Small ks → freshOf h w cs ks ≡ returned Done b → Produced b
+  made : (h w : ℕ) (cs : List ℕ) (ks : List ℤ) (b : Board) → SmallClues ks → freshOf h w cs ks ≡ returned Done b
+      → Produced b
   afterDecide : (b : Board) (l : Literal) (d : Board) → Produced b → decideOf b l ≡ returned Done d → Produced d
   afterUndo : (b d : Board) → Produced b → undoOf b ≡ returned Done d → Produced d
 
@@ -38,7 +39,7 @@ pub record Reached (b : Board) : Type 0 where
   pub width : ℕ
   pub colours : List ℕ
   pub clues : List ℤ
-  pub small : Small clues
+  pub small : SmallClues clues
   pub start : Board
   pub accepted : freshOf height width colours clues ≡ returned Done start
   pub moves : List Move

@@ -21,7 +21,7 @@ use Rattle.board.specs.declared.Board.{Board}
 use Rattle.board.specs.declared.Outcome.the-variants.{Done}
 use Rattle.board.specs.Alien.{coloursRight, clueRight, cluesRight, stacked, cellCountOf, borderCountOf}
 use Rattle.board.specs.Alien.{boardOf, boardWith, isAlien}
-use Rattle.board.specs.Board.{freshBoard, returned, pushed, freshOf, decideOf, Small, Typed}
+use Rattle.board.specs.Board.{freshBoard, returned, pushed, freshOf, decideOf, SmallClues, Typed}
 use Rattle.board.specs.View.{sideIn}
 use Rattle.board.specs.ConditionLaws.{size-is, stacked-none}
 use Rattle.board.specs.Cases.{fresh-done, decide-done}
@@ -64,7 +64,7 @@ module _ (b : Board) (N : Native b) (T : Typed b) (e : b .count ≡ 0) where
   unfolding ks
   ks-long = let f = few in let t = T .clues in length-take-le cells (b .clues) (omega arith)
 
-  ks-small : Small ks
+  ks-small : SmallClues ks
   unfolding ks
   ks-small i = go (decLt i cells)
     where

@@ -93,18 +93,18 @@ module _ (h w : ℕ) (bs : List ℕ) (a b : ℕ) where
   path-off-b p = rw (and-fails (ltb a (h * w)) (ltb b (h * w)) (le-ltb b (h * w) p))
 
 -- the start
-pub record Blank (Z : List ℕ) : Type 0 where
+pub record BlankList (Z : List ℕ) : Type 0 where
   pub long : length Z ≡ 1024
   pub zero : (i : ℕ) → i < 1024 → getD Z i 0 ≡ 0
 
-pub blank : (Z : List ℕ) → Z ≡ replicate 1024 0 → Blank Z
+pub blank : (Z : List ℕ) → Z ≡ replicate 1024 0 → BlankList Z
 blank Z e =
     record {
       long = ap length e ∙ length-replicate {A = ℕ} 1024 0;
       zero = λ i q. ap (λ (l : List ℕ). getD l i 0) e ∙ getD-replicate {A = ℕ} 1024 i 0 0 q;
     }
 
-module _ (n a : ℕ) (Z Y P O : List ℕ) (bz : Blank Z) (by : Blank Y) (ha : a < n) (hn : n ≤ 1024)
+module _ (n a : ℕ) (Z Y P O : List ℕ) (bz : BlankList Z) (by : BlankList Y) (ha : a < n) (hn : n ≤ 1024)
     (lp : length P ≡ 1024) (lo : length O ≡ 1024) where
   nothing : (c : ℕ) → c < n → getD Y c 0 ≡ 1 → ⊥
   nothing c q e = omega (arith, by .zero c (omega arith))
@@ -161,7 +161,7 @@ pub record Going (h w : ℕ) (bs : List ℕ) (a head : ℕ) (Q P O F : List ℕ)
       ≡ hunt (flat h w) (statesIn bs) (h * w) a (a ∷ []) []
 
 module _ (h w : ℕ) (bs : List ℕ) (a : ℕ) where
-  pub going-start : (Z Y P O : List ℕ) → Blank Z → Blank Y → a < h * w → h * w ≤ 1024 → length P ≡ 1024
+  pub going-start : (Z Y P O : List ℕ) → BlankList Z → BlankList Y → a < h * w → h * w ≤ 1024 → length P ≡ 1024
       → length O ≡ 1024 → Going h w bs a 0 (set Z 0 a) P O (set Y a 1) 1
   going-start Z Y P O bz by ha hn lp lo =
       let e : h * w - 0 ≡ h * w = omega arith in

@@ -4,7 +4,7 @@ ghost use mathlib.Core.Bool.{true, _&&_, Bool·beq};
 ghost use mathlib.Core.List.{[]};
 ghost use Prim.Native.Nat.{_+_, _*_, _<_, _≤_};
 ghost use lib.ListN.{length};
-ghost use Rattle.lists.specs.Lists.{keep};
+ghost use Rattle.lists.specs.Lists.{keepIf};
 ghost use Rattle.groups.specs.Grouping.{numbersIn};
 ghost use Rattle.rules.specs.Flat.{Sized};
 ghost use Rattle.rules.specs.Codes.{statesIn, coloursIn};
@@ -12,7 +12,7 @@ ghost use Rattle.rules.specs.Groups.{entry};
 ghost use Rattle.rules.specs.Reasons.{gather};
 ghost use Rattle.rules.specs.declared.Side.the-variants.{Wall, Open};
 ghost use Rattle.reasons.specs.Memory.{Wrote};
-ghost use Rattle.reasons.specs.Arrays.{Arrays, Fits, hopOf, hopsIn, isFlagged, openKept, wallKept, scanAt};
+ghost use Rattle.reasons.specs.Arrays.{Arrays, InArrays, hopOf, hopsIn, isFlagged, openKept, wallKept, scanAt};
 use crate::Neighbour;
 use crate::append;
 use crate::beside;
@@ -23,8 +23,9 @@ use rules::Side;
 
 // Writes a literal at the place `at`, where `kept`; otherwise nothing is written. Gives the next place.
 fn append_if(memory: &mut [u16], at: usize, kept: bool, literal: Literal) -> usize
-    requires { ⌜ (at + length (keep kept literal []) ≤ length (now memory)) × (kept ≡ true → literal .border < 1984) ⌝ }
-    ensures { λ r. ⌜ Wrote (now (memory .entry)) at (keep kept literal []) (now (memory .exit)) r ⌝ }
+    requires { ⌜ (at + length (keepIf kept literal []) ≤ length (now memory))
+        × (kept ≡ true → literal .border < 1984) ⌝ }
+    ensures { λ r. ⌜ Wrote (now (memory .entry)) at (keepIf kept literal []) (now (memory .exit)) r ⌝ }
 {
     if kept {
         return append(memory, at, literal);
@@ -62,7 +63,7 @@ fn open_kept<'a>(
     n: Neighbour,
 ) -> bool
     requires { ⌜ Arrays (now borders) (numbersIn (now grouping)) × (length (now flagged) ≡ 1024)
-        × (n .some ≡ true → Fits n) ⌝ }
+        × (n .some ≡ true → InArrays n) ⌝ }
     ensures { λ r. ⌜ r ≡ (n .some && openKept (statesIn (now (borders .entry)))
         (entry (numbersIn (now (grouping .entry))))
         (isFlagged (now (flagged .entry))) (hopOf n)) ⌝ }
@@ -91,7 +92,7 @@ fn wall_kept<'a>(
 ) -> bool
     requires { ⌜ Arrays (now borders) (numbersIn (now grouping)) × (length (now colours) ≡ 1024)
         × (length (now flagged) ≡ 1024)
-        × (c < 1024) × (n .some ≡ true → Fits n) ⌝ }
+        × (c < 1024) × (n .some ≡ true → InArrays n) ⌝ }
     ensures { λ r. ⌜ r ≡ (n .some && wallKept (coloursIn (now (colours .entry))) (statesIn (now (borders .entry)))
         (entry (numbersIn (now (grouping .entry)))) same (isFlagged (now (flagged .entry))) c (hopOf n)) ⌝ }
 {
@@ -119,7 +120,7 @@ fn open_hop<'a>(
     n: Neighbour,
 ) -> usize
     requires { ⌜ Arrays (now borders) (numbersIn (now grouping)) × (length (now flagged) ≡ 1024)
-        × (n .some ≡ true → Fits n)
+        × (n .some ≡ true → InArrays n)
         × (from + length (gather Open (openKept (statesIn (now borders)) (entry (numbersIn (now grouping)))
         (isFlagged (now flagged)))
         (hopsIn n)) ≤ length (now memory)) ⌝ }
@@ -153,7 +154,7 @@ fn wall_hop<'a>(
 ) -> usize
     requires { ⌜ Arrays (now borders) (numbersIn (now grouping)) × (length (now colours) ≡ 1024)
         × (length (now flagged) ≡ 1024)
-        × (c < 1024) × (n .some ≡ true → Fits n) × (from + length (gather Wall (wallKept (coloursIn (now colours))
+        × (c < 1024) × (n .some ≡ true → InArrays n) × (from + length (gather Wall (wallKept (coloursIn (now colours))
         (statesIn (now borders)) (entry (numbersIn (now grouping))) same (isFlagged (now flagged)) c) (hopsIn n))
         ≤ length (now memory)) ⌝ }
     ensures { λ r. ⌜ Wrote (now (memory .entry)) from (gather Wall (wallKept (coloursIn (now (colours .entry)))

@@ -6,6 +6,7 @@
 --   coloursIn cs        the colours that an array of numbers spells
 --   clueOf k            no clue below 0, otherwise the clue k
 --   cluesIn ks          the clues that an array of signed numbers spells
+--   unclued h w cs      the page of h rows and w columns with these colours, and no clues
 --   puzzleIn h w cs ks  the puzzle on a flat page that arrays of colours and clues spell
 --   sideCode side       what a literal's number adds for its side
 --   literalCode l       what reason memory holds for the literal l
@@ -49,6 +50,9 @@ cluesIn ks c = clueOf (getD ks c (pos 0))
 
 abbrev pub puzzleIn : ℕ → ℕ → List ℕ → List ℤ → Puzzle
 puzzleIn h w cs ks = record { page = flat h w; colour = coloursIn cs; clue = cluesIn ks }
+
+abbrev pub unclued : ℕ → ℕ → List ℕ → Puzzle
+unclued h w cs = record { page = flat h w; colour = coloursIn cs; clue = λ c. none }
 
 -- "a literal is 2·border, plus 1 for wall"
 abbrev pub sideCode : Side → ℕ

@@ -12,7 +12,7 @@ use lib.IntN.{pos, natAbs}
 use lib.ListN.{getD}
 use Rattle.groups.specs.Grouping.{numbersIn}
 use Rattle.lists.specs.Appends.{filter-append}
-use Rattle.lists.specs.Lists.{keep, filter}
+use Rattle.lists.specs.Lists.{keepIf, filter}
 use Rattle.lists.specs.Table.{table}
 use Rattle.lists.specs.TableLaws.{map-table}
 use Rattle.rules.specs.Page.{Point, _⊕_, Hop}
@@ -31,7 +31,7 @@ unfolding filter hopIf
 hop-joint p f false B C Y X e = refl
 hop-joint p f true B C Y X e = go (p C)
   where
-    go : (q : Bool) → map {A = Hop} (λ h. f (h .to)) (keep q (record { border = B; to = C }) []) ≡ jointIf q Y X
+    go : (q : Bool) → map {A = Hop} (λ h. f (h .to)) (keepIf q (record { border = B; to = C }) []) ≡ jointIf q Y X
     go true = ap (λ z. z ∷ []) (e refl)
     go false = refl
 

@@ -21,7 +21,7 @@ use Rattle.laws.specs.SortLaws.{shift-ascends, Ascending, mem-shift, shift-find
 use Rattle.laws.specs.TurnLaws.{apply-compose, apply-keep}
 use Rattle.laws.specs.ShapeLaws.{turned-normal, shift-shift}
 use Rattle.shapes.specs.Rows.{turnAt, image, fixes}
-use Rattle.shapes.specs.Spots.{leastImage, onto}
+use Rattle.shapes.specs.Spots.{leastImage, ontoShift}
 
 -- every row is undone by a row
 undoes : (r : ℕ) → (b : Turn) × (compose b (turnAt r) ≡ keep)
@@ -82,10 +82,10 @@ module _ (r : ℕ) (p : Point) (ps js : List Point) (s : Ascending (p ∷ ps)) w
   m = leastImage r L
 
   abbrev laid : Point → Point
-  laid q = g q ⊕ onto r L
+  laid q = g q ⊕ ontoShift r L
 
   onto-is : (q : Point) → g q ⊕ (opposite m ⊕ p) ≡ laid q
-  unfolding onto
+  unfolding ontoShift
   onto-is q = refl
 
   image-cells : image r (normal L js) .cells ≡ shiftBy (opposite m) (sort (map g L))
@@ -127,7 +127,7 @@ module _ (r : ℕ) (p : Point) (ps js : List Point) (s : Ascending (p ∷ ps)) w
           ∙ (onto-is (b .0) ∙ samePoint→eq (laid (b .0)) (c .0) (c .2))) in
           Memᴰ·cast k (c .1)
 
-  pub fixes-within : fixes (normal L js) r ≡ all (λ q. any (samePoint (apply (turnAt r) q ⊕ onto r L)) L) L
+  pub fixes-within : fixes (normal L js) r ≡ all (λ q. any (samePoint (apply (turnAt r) q ⊕ ontoShift r L)) L) L
   unfolding fixes
   fixes-within =
       same-test (samePoints (normal L js .cells) (image r (normal L js) .cells))

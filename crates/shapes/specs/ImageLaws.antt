@@ -26,12 +26,13 @@ use Rattle.shapes.specs.declared.Pair.{Pair}
 use Rattle.shapes.specs.declared.Signs.{Signs}
 use Rattle.shapes.specs.Pairs.{pointAt, pointOf, signOf, signsOf}
 use Rattle.shapes.specs.Rows.{turnAt, image}
-use Rattle.shapes.specs.Spots.{placeAt, spotAt, spots, cellSpots, jointSpots, leastImage, Near, Spotted, UnitAt}
+use Rattle.shapes.specs.Spots.{placeAt, spotAt, spots, cellSpots, jointSpots, leastImage, NearSpot, Spotted}
+use Rattle.shapes.specs.Spots.{UnitAt}
 use Rattle.shapes.specs.SpotLaws.{length-spots, near-least}
 use Rattle.laws.specs.SortLaws.{sort-mem}
 use Rattle.shapes.specs.FixLaws.{least-image}
 use Rattle.shapes.specs.UnitLaws.{image-joints}
-use Rattle.shapes.specs.Joints.{Joined}
+use Rattle.shapes.specs.Joints.{OutlineJoined}
 use Rattle.shapes.specs.JointLaws.{joint-in}
 use Rattle.shapes.specs.Raising.{lowered, raised, turnOf, movedBy, Lifts, Turnable}
 use Rattle.shapes.specs.Images.{raiseOf, imageJoints, Jointed}
@@ -133,8 +134,8 @@ one true y x h k = k
 one false y x h k = h
 
 module _ (r : ℕ) (o : List ℕ) (s : Spotted o) (p : Pair) (first : pointOf p ≡ leastImage r (cellSpots o)) where
-  near : Near (pointOf p)
-  near = subst Near (sym first) (near-least r o s)
+  near : NearSpot (pointOf p)
+  near = subst NearSpot (sym first) (near-least r o s)
 
   pub down-near : mag (p .y) < 33
   down-near = near .row
@@ -242,7 +243,7 @@ module _ (r : ℕ) (o : List ℕ) (s : Spotted o) (j : Jointed o) (p : Pair)
       ∙ sym (map-map (λ q. q ⊕ v) (apply (turnAt r)) (jointSpots o)))
 
 -- the connections of a unit's image
-pub image-is : {h w g : ℕ} {units o : List ℕ} → UnitAt h w units g o → Joined h w units g o
+pub image-is : {h w g : ℕ} {units o : List ℕ} → UnitAt h w units g o → OutlineJoined h w units g o
     → (r : ℕ) → image r (shapeOf (flat h w) (entry (numbersIn units)) g) .connections
     ≡ imageJoints r (cellSpots o) (jointSpots o)
 unfolding imageJoints
@@ -253,5 +254,5 @@ image-is {h} {w} {g} {units} {o} u j r =
     ∙ ap (λ js. shiftBy (opposite (leastImage r P) ⊕ opposite (leastImage r P)) (map (apply (turnAt r)) js))
     (sym (j .here))
 
-pub jointed : {h w g : ℕ} {units o : List ℕ} → UnitAt h w units g o → Joined h w units g o → Jointed o
+pub jointed : {h w g : ℕ} {units o : List ℕ} → UnitAt h w units g o → OutlineJoined h w units g o → Jointed o
 jointed u j = record { few = j .few; each = λ i l. joint-in i (u .sized) j l }

@@ -36,7 +36,7 @@ use Rattle.shapes.specs.Spots.{placeAt, spots, jointSpot, joints, UnitAt
 use Rattle.shapes.specs.SpotLaws.{spots-more, spots-cong, length-spots}
 use Rattle.shapes.specs.ConnectionLaws.{connections-at, unit-cells}
 use Rattle.laws.specs.FlatLaws.{counts, spot}
-use Rattle.shapes.specs.Joints.{jointIf, Room, Grown, Joining, Joined, JointIn}
+use Rattle.shapes.specs.Joints.{jointIf, JointRoom, Grown, Joining, OutlineJoined, JointIn}
 
 pub grown-none : (o : List ℕ) (k : ℕ) → Grown o k [] o k
 grown-none o k = record { only = only-none 2048 6144 o; here = sym (append-nil (spots (downIn o) (acrossIn o) k)) }
@@ -45,7 +45,7 @@ grown-none o k = record { only = only-none 2048 6144 o; here = sym (append-nil (
 abbrev pub noted : List ℕ → ℕ → ℕ → ℕ → List ℕ
 noted o k y x = set (set o (2048 + k) y) (4096 + k) x
 
-module _ (o : List ℕ) (k y x : ℕ) (r : Room o k) where
+module _ (o : List ℕ) (k y x : ℕ) (r : JointRoom o k) where
   abbrev D : List ℕ
   D = downIn o
 
@@ -101,7 +101,7 @@ joint-one false y x = omega arith
 
 -- the tests of the code, one law for each answer
 module _ (o : List ℕ) (k : ℕ) (on : Bool) (ids : List ℕ) (to g y x : ℕ) where
-  pub join-yes : {m : ℕ} → Room o k → on ≡ true → m ≡ getD ids to 0 → m ≡ g
+  pub join-yes : {m : ℕ} → JointRoom o k → on ≡ true → m ≡ getD ids to 0 → m ≡ g
       → Grown o k (jointIf (on && eqb (entry ids to) g) y x) (noted o k y x) (k + 1)
   unfolding entry
   join-yes {m} r a b c = rw (a, eq-eqb (getD ids to 0) g (sym b ∙ c)) (grown-one o k y x r)
@@ -204,7 +204,7 @@ module _ {h w g : ℕ} {units o₀ o : List ℕ} (u : UnitAt h w units g o₀) (
       }
 
 pub joining-all : {units o₀ o : List ℕ} {h w g k i : ℕ} → UnitAt h w units g o₀ → i ≤ cellCount o₀ → cellCount o₀ ≤ i
-    → Joining h w (entry (numbersIn units)) g o₀ o k i → Joined h w units g (set o 6145 k)
+    → Joining h w (entry (numbersIn units)) g o₀ o k i → OutlineJoined h w units g (set o 6145 k)
 unfolding joints
 joining-all {units} {o₀} {o} {h} {w} {g} {k} {i} u a b j =
     let e : i ≡ cellCount o₀ = omega arith in
@@ -259,7 +259,7 @@ near-joint h w number g y x Y X a b c m =
     go (inr n) = let e = joint-mem q (2 * y) (2 * x + 1) Y X n in
         (omega (arith, e .0), omega (arith, e .1), omega (arith, e .0, e .1))
 
-pub joint-in : {h w g : ℕ} {units o : List ℕ} (j : ℕ) → Sized h w → Joined h w units g o → j < jointCount o
+pub joint-in : {h w g : ℕ} {units o : List ℕ} (j : ℕ) → Sized h w → OutlineJoined h w units g o → j < jointCount o
     → JointIn o j
 unfolding joints members flat
 joint-in {h} {w} {g} {units} {o} j s n l =

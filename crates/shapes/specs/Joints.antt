@@ -1,9 +1,9 @@
 -- A unit's connections as written to the lent outline.
 --
 --   jointIf b y x       the doubled place (y,x), if b
---   Room o k            the outline has a place for connection k
+--   JointRoom o k       the outline has a place for connection k
 --   Grown o k js o′ r   o′ is the outline o with js written after its first k connections: r connections
---   Joined h w units g o   the outline's connections are those of group g
+--   OutlineJoined h w units g o   the outline's connections are those of group g
 --   Joining h w number g o₀ o k i   o is the outline o₀ with the k connections of its first i cells
 --   JointIn o j         the doubled place of connection j is on the largest page, and lies between two cells
 use mathlib.Core.Path.{_≡_}
@@ -26,7 +26,7 @@ abbrev pub jointIf : Bool → ℕ → ℕ → List Point
 jointIf true y x = placeAt y x ∷ []
 jointIf false y x = []
 
-pub record Room (o : List ℕ) (k : ℕ) : Type 0 where
+pub record JointRoom (o : List ℕ) (k : ℕ) : Type 0 where
   pub long : length o ≡ 6146
   pub space : k < 2048
 
@@ -34,7 +34,7 @@ pub record Grown (o : List ℕ) (k : ℕ) (js : List Point) (o′ : List ℕ) (r
   pub only : Only 2048 6144 o o′
   pub here : spots (downIn o′) (acrossIn o′) r ≡ spots (downIn o) (acrossIn o) k ++ js
 
-pub record Joined (h w : ℕ) (units : List ℕ) (g : ℕ) (o : List ℕ) : Type 0 where
+pub record OutlineJoined (h w : ℕ) (units : List ℕ) (g : ℕ) (o : List ℕ) : Type 0 where
   pub few : jointCount o ≤ 2048
   pub here : jointSpots o ≡ joints h w (entry (numbersIn units)) g
 

@@ -20,3 +20,4 @@ pub mod ConnectionLaws
 pub mod TableLaws
 pub mod RaiseLaws
 pub mod ImageLaws
+pub mod ListingLaws

@@ -23,7 +23,7 @@ use Rattle.shapes.specs.Outlines.{rowsIn, columnsIn, cellCount}
 use Rattle.shapes.specs.Spots.{placeAt, spotAt, spots, cellSpot, cellSpots, places, UnitAt}
 use Rattle.shapes.specs.SpotLaws.{length-spots}
 use Rattle.lists.specs.Maps.{getD-map}
-use Rattle.shapes.specs.Parts.{Part, placeOf, Placed}
+use Rattle.shapes.specs.Parts.{UnitPart, placeOf, OutlinePlaced}
 
 -- the row and the column of one cell more are stored
 module _ (o : List ℕ) (i a b : ℕ) (h : i < 1024) where
@@ -35,14 +35,14 @@ module _ (o : List ℕ) (i a b : ℕ) (h : i < 1024) where
       section-set 1024 1024 (set o i a) i b h ∙ ap (λ (l : List ℕ). set l i b) (section-low 1024 1024 o i a h)
 
 -- the outline as the loop leaves it, and then with the count of the cells
-module _ (units : List ℕ) (g w from n i : ℕ) (o : List ℕ) (p : Part units g w) (d : from ≡ startIn units g)
+module _ (units : List ℕ) (g w from n i : ℕ) (o : List ℕ) (p : UnitPart units g w) (d : from ≡ startIn units g)
     (c : n ≡ startIn units (g + 1) - startIn units g) (long : length o ≡ 6146) (m : n ≤ i)
     (f : (j : ℕ) → j < i → getD (rowsIn o) j 0 ≡ getD (cellsIn units) (from + j) 0 / w)
     (k : (j : ℕ) → j < i → getD (columnsIn o) j 0 ≡ getD (cellsIn units) (from + j) 0 % w) where
   count-is : cellCount (set o 6144 n) ≡ n
   count-is = getD-set-same o 6144 n 0 (omega arith)
 
-  pub placed-is : Placed w (groupCells units g) (set o 6144 n)
+  pub placed-is : OutlinePlaced w (groupCells units g) (set o 6144 n)
   unfolding spots
   placed-is =
       let L = cellsIn units in
@@ -72,7 +72,7 @@ mem-spots R C n i l =
 
 -- the places of a group's part are the group's unit
 pub unit-at : (h w : ℕ) (units : List ℕ) (g : ℕ) (L o : List ℕ) → Sized h w → length (numbersIn units) ≡ 1024
-    → L ≡ members (flat h w) (entry (numbersIn units)) g → Placed w L o → 1 ≤ cellCount o → cellCount o ≤ 1024
+    → L ≡ members (flat h w) (entry (numbersIn units)) g → OutlinePlaced w L o → 1 ≤ cellCount o → cellCount o ≤ 1024
     → UnitAt h w units g o
 unfolding places members flat flatPlace
 unit-at h w units g L o s long e p some most =

@@ -1,8 +1,8 @@
 -- A unit's part of the list of cells, and its places as written to the lent outline.
 --
---   Part units g w      the part of group g lies in the list of 1,024 cells, and the width is 1 to 32
---   placeOf w c         the place of cell c on a page of width w
---   Placed w L o        the outline's cells are the places of the cells L
+--   UnitPart units g w      the part of group g lies in the list of 1,024 cells, and the width is 1 to 32
+--   placeOf w c             the place of cell c on a page of width w
+--   OutlinePlaced w L o     the outline's cells are the places of the cells L
 use mathlib.Core.Path.{_≡_}
 use mathlib.Core.List.{List, map}
 use Prim.Native.Nat.{ℕ, _+_, _/_, _%_, _≤_, _<_}
@@ -11,7 +11,7 @@ use Rattle.groups.specs.Grouping.{cellsIn, startIn}
 use Rattle.rules.specs.Page.{Point}
 use Rattle.shapes.specs.Spots.{placeAt, cellSpots}
 
-pub record Part (units : List ℕ) (g w : ℕ) : Type 0 where
+pub record UnitPart (units : List ℕ) (g w : ℕ) : Type 0 where
   pub group : g < 1024
   pub long : length (cellsIn units) ≡ 1024
   pub order : startIn units g ≤ startIn units (g + 1)
@@ -22,6 +22,6 @@ pub record Part (units : List ℕ) (g w : ℕ) : Type 0 where
 abbrev pub placeOf : ℕ → ℕ → Point
 placeOf w c = placeAt (c / w) (c % w)
 
-pub record Placed (w : ℕ) (L o : List ℕ) : Type 0 where
+pub record OutlinePlaced (w : ℕ) (L o : List ℕ) : Type 0 where
   pub long : length o ≡ 6146
   pub here : cellSpots o ≡ map (placeOf w) L

@@ -11,7 +11,7 @@
 --   liftOf minus base a   the raised coordinate of a, its sign changed if minus, shifted by what base stands for
 --   turnOf swap r c     the row of the table: whether the coordinates change places, and the signs of the new ones
 --   movedBy g v js      the connections js turned by g and shifted by v
---   Lifts minus base k   the coordinate k, turned and shifted, stays a byte, raised
+--   Lifts minus base k  the coordinate k, turned and shifted, stays a byte, raised
 --   Turnable            so do all of a unit's connections
 use mathlib.Core.Path.{_≡_}
 use mathlib.Core.Bool.{Bool, true, false, cond}

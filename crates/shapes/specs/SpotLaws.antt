@@ -22,7 +22,7 @@ use Rattle.shapes.specs.Pairs.{pointOf, SmallPair}
 use Rattle.shapes.specs.Outlines.{rowsIn, columnsIn, cellCount}
 use Rattle.shapes.specs.Rows.{turnAt}
 use Rattle.shapes.specs.Spots.{placeAt, spotAt, spots, cellSpots, leastImage, firstOf}
-use Rattle.shapes.specs.Spots.{Near, SpotIn, Spotted}
+use Rattle.shapes.specs.Spots.{NearSpot, SpotIn, Spotted}
 use Rattle.shapes.specs.Order.{least}
 
 pub spots-more : (R C : List ℕ) (i : ℕ) → spots R C (i + 1) ≡ spots R C i ++ (spotAt R C i ∷ [])
@@ -95,7 +95,7 @@ least-has Q p (q ∷ ps) a f =
     go true = f q (List·Memᴰ·head refl)
     go false = a
 
-pub near-image : (r y x : ℕ) → y < 32 → x < 32 → Near (apply (turnAt r) (placeAt y x))
+pub near-image : (r y x : ℕ) → y < 32 → x < 32 → NearSpot (apply (turnAt r) (placeAt y x))
 unfolding apply
 near-image r y x a b =
     let t = turnAt r in
@@ -106,24 +106,24 @@ near-image r y x a b =
     }
 
 near-spots : (r : ℕ) (R C : List ℕ) (n : ℕ) → 1 ≤ n → ((i : ℕ) → i < n → getD R i 0 < 32)
-    → ((i : ℕ) → i < n → getD C i 0 < 32) → Near (leastImage r (spots R C n))
+    → ((i : ℕ) → i < n → getD C i 0 < 32) → NearSpot (leastImage r (spots R C n))
 unfolding leastImage spots
 near-spots r R C n some down across = go (spots R C n) (λ p m. m) (rw (length-spots R C n) some)
   where
-    near : (p : Point) → p ∈ spots R C n → Near (apply (turnAt r) p)
+    near : (p : Point) → p ∈ spots R C n → NearSpot (apply (turnAt r) p)
     near p m =
         let e = table-find n (spotAt R C) m in
-        subst (λ (q : Point). Near (apply (turnAt r) q)) (sym (e .2))
+        subst (λ (q : Point). NearSpot (apply (turnAt r) q)) (sym (e .2))
         (near-image r (getD R (e .0) 0) (getD C (e .0) 0) (down (e .0) (e .1)) (across (e .0) (e .1)))
 
-    go : (ps : List Point) → ((p : Point) → p ∈ ps → p ∈ spots R C n) → 1 ≤ length ps → Near (leastImage r ps)
+    go : (ps : List Point) → ((p : Point) → p ∈ ps → p ∈ spots R C n) → 1 ≤ length ps → NearSpot (leastImage r ps)
     go [] f l = absurd (omega arith)
     go (p ∷ ps) f l =
-        least-has Near (apply (turnAt r) p) (map (apply (turnAt r)) ps) (near p (f p (List·Memᴰ·head refl)))
+        least-has NearSpot (apply (turnAt r) p) (map (apply (turnAt r)) ps) (near p (f p (List·Memᴰ·head refl)))
         (λ q m. let e = map-find (apply (turnAt r)) ps m in
-        subst Near (sym (e .2)) (near (e .0) (f (e .0) (List·Memᴰ·tail (e .1)))))
+        subst NearSpot (sym (e .2)) (near (e .0) (f (e .0) (List·Memᴰ·tail (e .1)))))
 
-pub near-least : (r : ℕ) (o : List ℕ) → Spotted o → Near (leastImage r (cellSpots o))
+pub near-least : (r : ℕ) (o : List ℕ) → Spotted o → NearSpot (leastImage r (cellSpots o))
 near-least r o s = near-spots r (rowsIn o) (columnsIn o) (cellCount o) (s .some) (s .down) (s .across)
 
 pub spot-in : {o : List ℕ} {i : ℕ} → Spotted o → i < cellCount o → SpotIn o i
@@ -143,16 +143,16 @@ earlier-more r R C i p q e h a b c =
     go false = refl
 
 -- a place of the code that is near has small coordinates
-pub near-small : (p : Pair) {q : Point} → pointOf p ≡ q → Near q → SmallPair p
+pub near-small : (p : Pair) {q : Point} → pointOf p ≡ q → NearSpot q → SmallPair p
 near-small p e n =
-    let k = subst Near (sym e) n in
+    let k = subst NearSpot (sym e) n in
     record { down = omega (arith, k .row); across = omega (arith, k .column) }
 
 pub shift-small : (v m : Pair) {q : Point} (y x : ℕ) → pointOf v ≡ opposite (pointOf m) ⊕ placeAt y x → pointOf m ≡ q
-    → Near q → y < 32 → x < 32 → SmallPair v
+    → NearSpot q → y < 32 → x < 32 → SmallPair v
 unfolding _⊕_ opposite
 shift-small v m y x e d n a b =
-    let k = subst Near (sym d) n in
+    let k = subst NearSpot (sym d) n in
     let f : v .y ≡ negℤ (m .y) +ℤ pos y = ap (λ p. p .row) e in
     let g : v .x ≡ negℤ (m .x) +ℤ pos x = ap (λ p. p .column) e in
     record {

@@ -7,13 +7,13 @@
 --   jointSpot o j, jointSpots o   the doubled place of its connection j, and those of all its connections
 --   leastImage r ps     the first in order of the places ps turned by row r
 --   firstOf ps          the first of the places ps; the origin if there is none
---   onto r ps           the shift that lays the least image on the first of ps
+--   ontoShift r ps      the shift that lays the least image on the first of ps
 --   cellIn h w number g y x   (y,x) is a cell of the page, and of group g
 --   hasCellIn h w number g l y x   the same of signed coordinates, in the layer l
 --   hasCell h w number g p   p is a cell of the page, and of group g
 --   places, joints      a group's places, and its connections, both where they stand on the page
 --   within h w number g o r v   the images of the outline's cells by row r, shifted by v, are cells of group g
---   Near p              the place is on the largest page or a turn of it
+--   NearSpot p          the place is on the largest page or a turn of it
 --   SpotIn o i          the place of the outline's cell i is on the largest page
 --   Spotted o           the outline has cells, at least one, each on the largest page
 --   UnitAt h w units g o   they are the cells of group g of the grouping units
@@ -69,8 +69,8 @@ abbrev pub firstOf : List Point → Point
 firstOf [] = origin
 firstOf (p ∷ ps) = p
 
-unfoldable pub onto : ℕ → List Point → Point
-onto r ps = opposite (leastImage r ps) ⊕ firstOf ps
+unfoldable pub ontoShift : ℕ → List Point → Point
+ontoShift r ps = opposite (leastImage r ps) ⊕ firstOf ps
 
 module _ (h w : ℕ) (number : ℕ → ℕ) (g : ℕ) where
   unfoldable pub cellIn : ℕ → ℕ → Bool
@@ -98,7 +98,7 @@ unfoldable pub within : ℕ → ℕ → (ℕ → ℕ) → ℕ → List ℕ → �
 within h w number g o r v =
     allBelow (cellCount o) (λ i. hasCell h w number g (apply (turnAt r) (cellSpot o i) ⊕ v))
 
-pub record Near (p : Point) : Type 0 where
+pub record NearSpot (p : Point) : Type 0 where
   pub layer : mag (p .layer) < 33
   pub row : mag (p .row) < 33
   pub column : mag (p .column) < 33

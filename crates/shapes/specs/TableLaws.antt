@@ -1,7 +1,7 @@
 -- The composition rules of the table of eight rows, tested once over the table.
 --
 --   products            row a of this list has at b the row that does b, then a
---   product a b         that row's number
+--   productRow a b      that row's number
 use mathlib.Core.Path.{_≡_, ap, _∙_}
 use mathlib.Core.Bool.{xor}
 use mathlib.Core.List.{List, [], _∷_}
@@ -30,23 +30,24 @@ products =
     ∷ (7 ∷ 6 ∷ 4 ∷ 5 ∷ 2 ∷ 3 ∷ 1 ∷ 0 ∷ [])
     ∷ []
 
-abbrev pub product : ℕ → ℕ → ℕ
-product a b = getD (getD products a []) b 0
+abbrev pub productRow : ℕ → ℕ → ℕ
+productRow a b = getD (getD products a []) b 0
 
 -- the test over the table
-tested : T (all (λ a. all (λ b. sameTurn (compose (turnAt a) (turnAt b)) (turnAt (product a b))) (range 8)) (range 8))
+tested : T (all (λ a. all (λ b. sameTurn (compose (turnAt a) (turnAt b)) (turnAt (productRow a b))) (range 8))
+    (range 8))
 unfolding all xor
 tested = tt
 
-pub compose-rows : (a b : ℕ) → a < 8 → b < 8 → compose (turnAt a) (turnAt b) ≡ turnAt (product a b)
+pub compose-rows : (a b : ℕ) → a < 8 → b < 8 → compose (turnAt a) (turnAt b) ≡ turnAt (productRow a b)
 compose-rows a b h k =
-    sameTurn→eq (compose (turnAt a) (turnAt b)) (turnAt (product a b))
-    (all-mem (λ b. sameTurn (compose (turnAt a) (turnAt b)) (turnAt (product a b))) (range 8)
-    (all-mem (λ a. all (λ b. sameTurn (compose (turnAt a) (turnAt b)) (turnAt (product a b))) (range 8)) (range 8)
+    sameTurn→eq (compose (turnAt a) (turnAt b)) (turnAt (productRow a b))
+    (all-mem (λ b. sameTurn (compose (turnAt a) (turnAt b)) (turnAt (productRow a b))) (range 8)
+    (all-mem (λ a. all (λ b. sameTurn (compose (turnAt a) (turnAt b)) (turnAt (productRow a b))) (range 8)) (range 8)
     tested
     (mem-range 8 h)) (mem-range 8 k))
 
-pub image-image : (a b : ℕ) (t : Shape) → a < 8 → b < 8 → image a (image b t) ≡ image (product a b) t
+pub image-image : (a b : ℕ) (t : Shape) → a < 8 → b < 8 → image a (image b t) ≡ image (productRow a b) t
 unfolding image
 image-image a b t h k =
     turned-compose (turnAt a) (turnAt b) t ∙ ap (λ d. turned (apply d) t) (compose-rows a b h k)

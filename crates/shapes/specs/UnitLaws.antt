@@ -13,7 +13,7 @@ use lib.Signed.{nonNeg}
 use lib.ListN.{length}
 use Rattle.laws.specs.SameLaws.{samePoint→eq, samePoint-refl}
 use Rattle.groups.specs.Grouping.{numbersIn}
-use Rattle.lists.specs.Lists.{_∈_, keep, filter, any, all, range, rangeFrom}
+use Rattle.lists.specs.Lists.{_∈_, keepIf, filter, any, all, range, rangeFrom}
 use Rattle.lists.specs.ListLaws.{mem-map, map-find, any-mem, any-find, mem-filter, filter-mem, filter-test}
 use Rattle.lists.specs.Tests.{allBelow}
 use Rattle.lists.specs.Ranges.{mem-range, range-lt}
@@ -35,7 +35,8 @@ use Rattle.shapes.specs.RowLaws.{transforms-rows}
 use Rattle.shapes.specs.FixLaws.{fixes-within, image-normal}
 use Rattle.shapes.specs.Rows.{turnAt, image, fixes, rowsOf}
 use Rattle.shapes.specs.Outlines.{rowsIn, columnsIn, cellCount}
-use Rattle.shapes.specs.Spots.{placeAt, leastImage, onto, cellSpot, cellSpots, cellIn, hasCell, hasCellIn, within}
+use Rattle.shapes.specs.Spots.{placeAt, leastImage, ontoShift, cellSpot, cellSpots, cellIn, hasCell, hasCellIn}
+use Rattle.shapes.specs.Spots.{within}
 use Rattle.shapes.specs.Spots.{places, joints}
 use Rattle.shapes.specs.Spots.{UnitAt}
 use Rattle.shapes.specs.SpotLaws.{first-spot, length-spots, all-spots}
@@ -53,9 +54,9 @@ module _ (h w : ℕ) (number : ℕ → ℕ) (g : ℕ) (index : 1 ≤ w) where
   places-ascend = members-ascend h w index number g
 
   -- the place of a cell of the page
-  pub place-at : (y x : ℕ) → x < w → flatPlace h w (cellAt h w y x) ≡ placeAt y x
+  pub shape-place-at : (y x : ℕ) → x < w → flatPlace h w (cellAt h w y x) ≡ placeAt y x
   unfolding flatPlace cellAt
-  place-at y x l = rw (digits-div y l, digits-mod y l)
+  shape-place-at y x l = rw (digits-div y l, digits-mod y l)
 
   cell-lt : (y x : ℕ) → y < h → x < w → cellAt h w y x < h * w
   unfolding cellAt
@@ -91,7 +92,7 @@ module _ (h w : ℕ) (number : ℕ → ℕ) (g : ℕ) (index : 1 ≤ w) where
             cellAt h w y x,
             mem-filter own (range (h * w)) (mem-range (h * w) (cell-lt y x hy hx))
                 (T-and-r (ltb y h && ltb x w) (own (cellAt h w y x)) u),
-            e ∙ sym (place-at y x hx),
+            e ∙ sym (shape-place-at y x hx),
           )
 
       go : (l y x : ℤ) → z .layer ≡ l → z .row ≡ y → z .column ≡ x → T (hasCellIn h w number g l y x)
@@ -136,20 +137,20 @@ module _ (h w : ℕ) (number : ℕ → ℕ) (g : ℕ) (index : 1 ≤ w) where
 
   module _ (P : List Point) (here : P ≡ places h w number g) (full : 1 ≤ length P) where
     -- a row leaves the shape exactly if every image, laid on the first cell, is a cell of the group
-    pub fixes-cells : (r : ℕ) → fixes shape r ≡ all (λ q. hasCell h w number g (apply (turnAt r) q ⊕ onto r P)) P
+    pub fixes-cells : (r : ℕ) → fixes shape r ≡ all (λ q. hasCell h w number g (apply (turnAt r) q ⊕ ontoShift r P)) P
     fixes-cells r =
         ap (λ t. fixes t r) (shape-is ∙ ap (λ l. normal l (joints h w number g)) (sym here))
         ∙ go P here full
       where
         go : (qs : List Point) → qs ≡ places h w number g → 1 ≤ length qs
             → fixes (normal qs (joints h w number g)) r
-            ≡ all (λ q. hasCell h w number g (apply (turnAt r) q ⊕ onto r qs)) qs
+            ≡ all (λ q. hasCell h w number g (apply (turnAt r) q ⊕ ontoShift r qs)) qs
         go [] e l = absurd (omega arith)
         go (p ∷ ps) e l =
             fixes-within r p ps (joints h w number g) (subst Ascending (sym e) places-ascend)
             ∙ all-same _ _ (p ∷ ps)
-            (λ q m. ap (any (samePoint (apply (turnAt r) q ⊕ onto r (p ∷ ps)))) e
-            ∙ among-places (apply (turnAt r) q ⊕ onto r (p ∷ ps)))
+            (λ q m. ap (any (samePoint (apply (turnAt r) q ⊕ ontoShift r (p ∷ ps)))) e
+            ∙ among-places (apply (turnAt r) q ⊕ ontoShift r (p ∷ ps)))
 
     -- the cells of an image: turned, sorted, and shifted back by the first image
     pub image-places : (r : ℕ) → image r shape .cells
@@ -190,16 +191,16 @@ module _ (h w : ℕ) (number : ℕ → ℕ) (g : ℕ) where
   unfolding cellIn cellAt
   in-page y x n k l e = rw (lt-ltb y h k, lt-ltb x w l, e)
 
-  pub off-above : (y x : ℤ) → lessℤ y (pos 0) ≡ true → hasCell h w number g (pointAt y x) ≡ false
+  pub shape-off-above : (y x : ℤ) → lessℤ y (pos 0) ≡ true → hasCell h w number g (pointAt y x) ≡ false
   unfolding hasCell
-  off-above (pos y) x e = absurd (ltb-zero y e)
-  off-above (negsuc y) x e = refl
+  shape-off-above (pos y) x e = absurd (ltb-zero y e)
+  shape-off-above (negsuc y) x e = refl
 
-  pub off-left : (y x : ℤ) → lessℤ x (pos 0) ≡ true → hasCell h w number g (pointAt y x) ≡ false
+  pub shape-off-left : (y x : ℤ) → lessℤ x (pos 0) ≡ true → hasCell h w number g (pointAt y x) ≡ false
   unfolding hasCell
-  off-left (pos y) (pos x) e = absurd (ltb-zero x e)
-  off-left (pos y) (negsuc x) e = refl
-  off-left (negsuc y) x e = refl
+  shape-off-left (pos y) (pos x) e = absurd (ltb-zero x e)
+  shape-off-left (pos y) (negsuc x) e = refl
+  shape-off-left (negsuc y) x e = refl
 
   pub on-page : (y x : ℤ) → lessℤ y (pos 0) ≡ false → lessℤ x (pos 0) ≡ false
       → hasCell h w number g (pointAt y x) ≡ cellIn h w number g (natAbs y) (natAbs x)
@@ -228,7 +229,7 @@ module _ (h w : ℕ) (ids : List ℕ) (g : ℕ) (o : List ℕ) (r : ℕ) (v : Po
 pub within-fixes : (h w : ℕ) (units : List ℕ) (g : ℕ) (o : List ℕ) (r : ℕ) (v : Point) → UnitAt h w units g o
     → v ≡ opposite (leastImage r (cellSpots o)) ⊕ cellSpot o 0
     → within h w (entry (numbersIn units)) g o r v ≡ fixes (shapeOf (flat h w) (entry (numbersIn units)) g) r
-unfolding within onto
+unfolding within ontoShift
 within-fixes h w units g o r v u e =
     let s = u .spotted in
     let number = entry (numbersIn units) in
@@ -236,9 +237,9 @@ within-fixes h w units g o r v u e =
     let C = columnsIn o in
     let n = cellCount o in
     let P = cellSpots o in
-    let k : v ≡ onto r P = e ∙ ap (λ p. opposite (leastImage r P) ⊕ p) (sym (first-spot R C n (s .some))) in
+    let k : v ≡ ontoShift r P = e ∙ ap (λ p. opposite (leastImage r P) ⊕ p) (sym (first-spot R C n (s .some))) in
     sym (fixes-cells h w number g (u .sized .columns) P (u .here) (rw (length-spots R C n) (s .some)) r
-    ∙ (all-spots (λ q. hasCell h w number g (apply (turnAt r) q ⊕ onto r P)) R C n
+    ∙ (all-spots (λ q. hasCell h w number g (apply (turnAt r) q ⊕ ontoShift r P)) R C n
     ∙ ap (λ z. allBelow n (λ i. hasCell h w number g (apply (turnAt r) (cellSpot o i) ⊕ z))) (sym k)))
 
 pub landed : {b t : Bool} (h w : ℕ) (number : ℕ → ℕ) (g : ℕ) (p q v : Point) → b ≡ hasCell h w number g (p ⊕ v) → p ≡ q

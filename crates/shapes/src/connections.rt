@@ -12,8 +12,8 @@ ghost use Rattle.rules.specs.Turns.{apply};
 ghost use Rattle.rules.specs.Shapes.{connectionsAt};
 ghost use Rattle.shapes.specs.Rows.{turnAt};
 ghost use Rattle.shapes.specs.Outlines.{cellCount};
-ghost use Rattle.shapes.specs.Parts.{Part, Placed};
-ghost use Rattle.shapes.specs.Joints.{jointIf, Room, Grown, Joined, JointIn};
+ghost use Rattle.shapes.specs.Parts.{UnitPart, OutlinePlaced};
+ghost use Rattle.shapes.specs.Joints.{jointIf, JointRoom, Grown, OutlineJoined, JointIn};
 ghost use Rattle.shapes.specs.Pairs.{pointOf, SmallPair};
 ghost use Rattle.shapes.specs.Spots.{jointSpot, UnitAt};
 use crate::Outline;
@@ -27,8 +27,8 @@ use rules::index;
 
 // Writes the rows and columns of the cells of unit `g` into an outline, and how many there are.
 pub fn places(units: &Grouping, g: usize, w: usize, outline: &mut Outline)
-    requires { ⌜ Part (now units) g w × (length (now outline) ≡ 6146) ⌝ }
-    ensures { λ r. ⌜ Placed w (groupCells (now (units .entry)) g) (now (outline .exit))
+    requires { ⌜ UnitPart (now units) g w × (length (now outline) ≡ 6146) ⌝ }
+    ensures { λ r. ⌜ OutlinePlaced w (groupCells (now (units .entry)) g) (now (outline .exit))
         × (cellCount (now (outline .exit)) ≡ startIn (now (units .entry)) (g + 1) - startIn (now (units .entry)) g) ⌝ }
 {
     let width = w as u16;
@@ -56,7 +56,7 @@ fn join(
     outline: &mut Outline,
     k: usize,
 ) -> usize
-    requires { ⌜ (length (numbersIn (now units)) ≡ 1024) × (on ≡ true → to < 1024) × Room (now outline) k ⌝ }
+    requires { ⌜ (length (numbersIn (now units)) ≡ 1024) × (on ≡ true → to < 1024) × JointRoom (now outline) k ⌝ }
     ensures { λ r. ⌜ Grown (now (outline .entry)) k
         (jointIf (on && eqb (entry (numbersIn (now (units .entry))) to) g) y x) (now (outline .exit)) r ⌝ }
 {
@@ -82,7 +82,7 @@ fn joints_at(
     k: usize,
 ) -> usize
     requires { ⌜ Sized h w × (length (numbersIn (now units)) ≡ 1024) × (y < h) × (x < w)
-        × Room (now outline) (k + 1) ⌝ }
+        × JointRoom (now outline) (k + 1) ⌝ }
     ensures { λ r. ⌜ Grown (now (outline .entry)) k
         (connectionsAt (flat h w) (entry (numbersIn (now (units .entry)))) g (y * w + x)) (now (outline .exit)) r ⌝ }
 {
@@ -118,7 +118,7 @@ fn joints_at(
 pub fn joints(units: &Grouping, h: usize, w: usize, g: usize, outline: &mut Outline)
     requires { ⌜ UnitAt h w (now units) g (now outline) ⌝ }
     ensures { λ r. ⌜ UnitAt h w (now (units .entry)) g (now (outline .exit))
-        × Joined h w (now (units .entry)) g (now (outline .exit)) ⌝ }
+        × OutlineJoined h w (now (units .entry)) g (now (outline .exit)) ⌝ }
 {
     let n = index(outline[6144]);
     let mut k: usize = 0;

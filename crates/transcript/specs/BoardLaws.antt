@@ -50,7 +50,7 @@ clued-on most (c ∷ cs) y x e =
 
 module _ (s : List ℕ) (p : Sheet) (e : judgementOf s ≡ accepted p) where
   page : pages.PagePuzzle s p
-  page = pages.puzzle s p e
+  page = pages.page-puzzle s p e
 
   pub page-board : boardAt p ≡ startBoard p
   unfolding boardAt startBoard page

@@ -2,7 +2,7 @@
 --
 --   put-goes            a line was put
 --   literals-more, literals-none   some literals of a reason, or none, are left
---   lines-none, lines-more         no call is left, or one is read
+--   left-lines-none, left-lines-more         no call is left, or one is read
 --   memory-none, memory-more       the memory then
 --   line-left           the line of an answer and what is left after it
 --   turn-less           a call takes a step
@@ -49,8 +49,8 @@ use Rattle.page.specs.ParserLaws.{rest-past}
 use Rattle.print.specs.declared.Line.{Line}
 use Rattle.print.specs.declared.Chunk.{Chunk}
 use Rattle.print.specs.Answers.{letter, showLiteral, showReply, codeText, textOf, conflictWord}
-use Rattle.print.specs.Lines.{Holds, Written, written-length, written-front, written-rest, holds-text, holds-short}
-use Rattle.print.specs.Chunks.{codesFrom, Put, codes-none, codes-more, show-append, put-none}
+use Rattle.print.specs.Lines.{LineHolds, Written, written-length, written-front, written-rest, holds-text, holds-short}
+use Rattle.print.specs.Chunks.{codesFrom, Put, chunk-codes-none, chunk-codes-more, show-append, put-none}
 use Rattle.transcript.specs.declared.Stage.{Stage}
 use Rattle.transcript.specs.declared.Stage.the-variants.{Refused, Calls, Reason, Last, Over}
 use Rattle.transcript.specs.declared.Run.{Run}
@@ -59,7 +59,7 @@ use Rattle.transcript.specs.Left.{linesFrom, leftAt, left, stepsAt, step
 use Rattle.transcript.specs.Left.{firstMemory, memoryAt, memoryNext}
 use Rattle.transcript.specs.BoardLaws.{page-board}
 
-pub put-goes : (s : List ℕ) (r : Run) {line : Line} {ds text m before out : List ℕ} {most : ℕ} → Holds line ds
+pub put-goes : (s : List ℕ) (r : Run) {line : Line} {ds text m before out : List ℕ} {most : ℕ} → LineHolds line ds
     → Written before 0 (textOf line) out (r .count) → 32 ≤ length before → ds ++ left s r m ≡ text
     → steps s r < most → Goes s text most before r m out
 put-goes s r {m = m} {before} h w l e k =
@@ -76,12 +76,12 @@ literals-split : (m : List ℕ) (a e n : ℕ) → a + n ≤ e → a + n ≤ leng
     → codesFrom m a (a + n) ++ drop (a + n) (take e m) ≡ drop a (take e m)
 literals-split m a e zero h l =
     let z : a + 0 ≡ a = omega arith in
-    rw (z, codes-none m a)
+    rw (z, chunk-codes-none m a)
 literals-split m a e (suc n) h l =
     let z : a + suc n ≡ a + n + 1 = omega arith in
     let y : a + suc n ≡ suc (a + n) = omega arith in
     let c : codesFrom m a (a + suc n) ≡ codesFrom m a (a + n) ++ (getD m (a + n) 0 ∷ []) =
-    ap (codesFrom m a) z ∙ codes-more m a (a + n) (omega arith) in
+    ap (codesFrom m a) z ∙ chunk-codes-more m a (a + n) (omega arith) in
     let d : drop (a + n) (take e m) ≡ getD m (a + n) 0 ∷ drop (a + suc n) (take e m) =
     drop-cons (take e m) (a + n) 0 (simp length-take (omega arith))
     ∙ rw (getD-take e m (a + n) 0 (omega arith), y) in
@@ -124,15 +124,15 @@ codes-literals (k ∷ ks) = rw (code-literal k, codes-literals ks)
 
 -- ---- a call
 module _ (s : List ℕ) (b : Board) (at : ℕ) (m : List ℕ) where
-  pub lines-none : call (rest s at) ≡ none → linesFrom s b at m ≡ endWord
+  pub left-lines-none : call (rest s at) ≡ none → linesFrom s b at m ≡ endWord
   unfolding linesFrom callsText
-  lines-none e = rw (from-none call-takes s at e)
+  left-lines-none e = rw (from-none call-takes s at e)
 
-  pub lines-more : (c : Call) (next : ℕ) → call (rest s at) ≡ some (c, rest s next)
+  pub left-lines-more : (c : Call) (next : ℕ) → call (rest s at) ≡ some (c, rest s next)
       → linesFrom s b at m ≡ showReply (told (callOf b c m .answer) (callMemory b c m))
       ++ linesFrom s (callOf b c m .board) next (callMemory b c m)
   unfolding linesFrom callsText
-  lines-more c next e = rw (from-more call-takes s at c next e)
+  left-lines-more c next e = rw (from-more call-takes s at c next e)
 
   pub memory-none : call (rest s at) ≡ none → m ≡ firstMemory b m (allFrom call s at)
   unfolding firstMemory
@@ -234,7 +234,7 @@ module _ (s : List ℕ) (b : Board) (at : ℕ) (m : List ℕ) (from to : ℕ) wh
           less = omega arith;
         }
 
-    pub reason-end : {line : Line} {after : List ℕ} {n : ℕ} → p .next ≤ from → Holds line endWord
+    pub reason-end : {line : Line} {after : List ℕ} {n : ℕ} → p .next ≤ from → LineHolds line endWord
         → Written out 0 (textOf line) after n → 32 ≤ length before
         → Goes s (literalsText m from to ++ (endWord ++ linesFrom s b at m)) ((length s - at) * 20000 + 3 + (to - from))
         before (record { board = b; at = at; stage = Calls; count = n }) m after
@@ -251,13 +251,13 @@ module _ (s : List ℕ) (b : Board) (at : ℕ) (m : List ℕ) where
       × (m ≡ firstMemory b m (allFrom call s at))
   unfolding leftAt stepsAt
   turn-end out e = (
-    record { fits = omega arith; prints = sym (lines-none s b at m e); kept = refl; less = omega arith },
+    record { fits = omega arith; prints = sym (left-lines-none s b at m e); kept = refl; less = omega arith },
     memory-none s b at m e,
   )
 
   pub turn-goes : (c : Call) (next : ℕ) {t : Stepped} {after : List ℕ} {g : Stage} {line : Line} {before out : List ℕ}
       {n : ℕ} → call (rest s at) ≡ some (c, rest s next) → (t ≡ callOf b c m) × (after ≡ callMemory b c m)
-      → g ≡ stageOf (t .answer) → Holds line (lineOf (t .answer)) → Written before 0 (textOf line) out n
+      → g ≡ stageOf (t .answer) → LineHolds line (lineOf (t .answer)) → Written before 0 (textOf line) out n
       → 32 ≤ length before
       → Goes s (linesFrom s b at m) ((length s - at) * 20000 + 2) before
       (record { board = t .board; at = next; stage = g; count = n }) after out
@@ -270,7 +270,7 @@ module _ (s : List ℕ) (b : Board) (at : ℕ) (m : List ℕ) where
             ∙ line-left s (t .board) next after (t .answer)
             ∙ ap₂ (λ (u : Stepped) (k : List ℕ). showReply (told (u .answer) k) ++ linesFrom s (u .board) next k)
             (p .0) (p .1)
-            ∙ sym (lines-more s b at m c next e))
+            ∙ sym (left-lines-more s b at m c next e))
             (omega (arith, turn-less s b c m at next (passes call-takes s at next c e))),
         p .1 ∙ memory-more s b at m c next e,
       )

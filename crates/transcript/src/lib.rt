@@ -8,7 +8,7 @@ ghost use lib.ListN.{length};
 ghost use Rattle.rules.specs.Book.{refused};
 ghost use Rattle.board.specs.Board.{numberOf};
 ghost use Rattle.print.specs.Answers.{answersWord, showReply};
-ghost use Rattle.print.specs.Lines.{Holds};
+ghost use Rattle.print.specs.Lines.{LineHolds};
 ghost use Rattle.page.specs.Grammar.{endWord, call};
 ghost use Rattle.page.specs.Judge.{judgementOf};
 ghost use Rattle.page.specs.Places.{sheetAt, allFrom};
@@ -110,7 +110,7 @@ fn begin(s: &[u8], out: &mut [u8]) -> Run
 
 // `(refused n)` and its newline, for a refused call.
 fn refusal(o: Outcome) -> Line
-    ensures { λ r. ⌜ Holds r (showReply (refused (numberOf o))) ⌝ }
+    ensures { λ r. ⌜ LineHolds r (showReply (refused (numberOf o))) ⌝ }
 {
     let n = board::number(o);
     print::refused_line(n as usize)
@@ -118,7 +118,7 @@ fn refusal(o: Outcome) -> Line
 
 // The line of an answer, or its part before the literals; none for a call that is done.
 fn line_of(a: Answer) -> Line
-    ensures { λ r. ⌜ Holds r (lineOf a) ⌝ }
+    ensures { λ r. ⌜ LineHolds r (lineOf a) ⌝ }
 {
     match a {
         Answer::Done => Line {

@@ -25,13 +25,13 @@ use Rattle.groups.specs.declared.Kind.the-variants.{Units}
 use Rattle.groups.specs.Kinds.{joinsIn}
 use Rattle.groups.specs.Parts.{groupsOf}
 use Rattle.groups.specs.Grouping.{numbersIn, countIn, Filled}
-use Rattle.search.specs.Placing.{puzzle}
+use Rattle.rules.specs.Codes.{unclued}
 use Rattle.shapes.specs.declared.Listed.{Listed}
 use Rattle.shapes.specs.Listing.{listing}
 use Rattle.shapes.specs.Rows.{image, rowsOf}
 use Rattle.shapes.specs.UnitLaws.{transforms-flat}
-use Rattle.units.specs.Fitting.{UnitIn}
-use Rattle.units.specs.ReadyLaws.{own-part, own-count, own-transforms}
+use Rattle.adjacent.specs.Homes.{UnitIn}
+use Rattle.adjacent.specs.HomeLaws.{own-part, own-count, own-transforms}
 use Rattle.transforms.specs.Transforms.{nothing, kth, numbersOf, words, room}
 use Rattle.transforms.specs.Transforms.{transformed, kthAnswer, kthMemory, transformOf, memoryAfter}
 
@@ -96,13 +96,13 @@ module _ (h w : ℕ) (ids : List ℕ) (g : ℕ) (index : 1 ≤ w) {t : Listed}
 module _ {h w : ℕ} (z : Sized h w) (cs bs : List ℕ) {units : List ℕ}
     (all : Filled (groupsOf (flat h w) (joinsIn Units h w cs bs)) units) (u : ℕ) where
   -- "A unit number that no unit has gives no transforms"
-  pub no-unit : countIn units ≤ u → transformsOf (puzzle h w cs) (statesIn bs) u ≡ []
+  pub no-unit : countIn units ≤ u → transformsOf (unclued h w cs) (statesIn bs) u ≡ []
   unfolding transformsOf
   no-unit l =
-      rw (le-ltb u (unitCount (puzzle h w cs) (statesIn bs)) (rw (all .count ∙ own-count z cs bs) at l))
+      rw (le-ltb u (unitCount (unclued h w cs) (statesIn bs)) (rw (all .count ∙ own-count z cs bs) at l))
 
   module _ (l : u < countIn units) where
-    pub unit-transforms : transformsOf (puzzle h w cs) (statesIn bs) u
+    pub unit-transforms : transformsOf (unclued h w cs) (statesIn bs) u
         ≡ flatTransforms (shapeOf (flat h w) (entry (numbersIn units)) u)
     unit-transforms = rw (all .numbers) (own-transforms z cs bs u (rw (all .count) at l))
 
@@ -112,7 +112,7 @@ module _ {h w : ℕ} (z : Sized h w) (cs bs : List ℕ) {units : List ℕ}
 -- a board's answer
 module _ (b : Board) (u k : ℕ) (m : List ℤ) where
   -- the transforms ask no clue
-  pub board-transforms : transformsOf (puzzle (b .height) (b .width) (b .colours)) (statesIn (b .borders)) u
+  pub board-transforms : transformsOf (unclued (b .height) (b .width) (b .colours)) (statesIn (b .borders)) u
       ≡ transformsOf (puzzleOf b) (statesOf b) u
   unfolding transformsOf puzzleOf statesOf joinsUnit oneColour
   board-transforms = refl

@@ -37,16 +37,16 @@ use Rattle.shapes.specs.PairLaws.{one-times, minus-times}
 use Rattle.shapes.specs.FixLaws.{row-inj}
 use Rattle.shapes.specs.Rows.{turnAt}
 use Rattle.shapes.specs.Outlines.{rowsIn, columnsIn, cellCount}
-use Rattle.shapes.specs.Spots.{hasCell, spots, cellSpot, cellSpots, Near, UnitAt}
+use Rattle.shapes.specs.Spots.{hasCell, spots, cellSpot, cellSpots, NearSpot, UnitAt}
 use Rattle.shapes.specs.SpotLaws.{near-image}
 use Rattle.shapes.specs.UnitLaws.{among-places, places-ascend}
-use Rattle.transforms.specs.Box.{undone, reversed, corner, boxAt, boxSize, ofImage, cellAt, sweep}
+use Rattle.transforms.specs.Box.{undoneBy, reversed, corner, boxAt, boxSize, ofImage, boxCell, sweep}
 
 -- a row and the one that undoes it, either first; the layer stays
 abbrev Undoes : ℕ → Type 0
 Undoes r =
-    (compose (turnAt (undone r)) (turnAt r) ≡ keep)
-    × (compose (turnAt r) (turnAt (undone r)) ≡ keep)
+    (compose (turnAt (undoneBy r)) (turnAt r) ≡ keep)
+    × (compose (turnAt r) (turnAt (undoneBy r)) ≡ keep)
     × (turnAt r .layers ≡ plus layerward)
 
 undoes : (r : ℕ) → Undoes r
@@ -61,13 +61,13 @@ undoes (suc (suc (suc (suc (suc (suc zero)))))) = (refl, refl, refl)
 undoes (suc (suc (suc (suc (suc (suc (suc zero))))))) = (refl, refl, refl)
 undoes (suc (suc (suc (suc (suc (suc (suc (suc r)))))))) = (refl, refl, refl)
 
-pub undo-turn : (r : ℕ) (p : Point) → apply (turnAt (undone r)) (apply (turnAt r) p) ≡ p
+pub undo-turn : (r : ℕ) (p : Point) → apply (turnAt (undoneBy r)) (apply (turnAt r) p) ≡ p
 undo-turn r p =
-    sym (apply-compose (turnAt (undone r)) (turnAt r) p) ∙ (ap (λ t. apply t p) (undoes r .0) ∙ apply-keep p)
+    sym (apply-compose (turnAt (undoneBy r)) (turnAt r) p) ∙ (ap (λ t. apply t p) (undoes r .0) ∙ apply-keep p)
 
-turn-undo : (r : ℕ) (p : Point) → apply (turnAt r) (apply (turnAt (undone r)) p) ≡ p
+turn-undo : (r : ℕ) (p : Point) → apply (turnAt r) (apply (turnAt (undoneBy r)) p) ≡ p
 turn-undo r p =
-    sym (apply-compose (turnAt r) (turnAt (undone r)) p) ∙ (ap (λ t. apply t p) (undoes r .1) ∙ apply-keep p)
+    sym (apply-compose (turnAt r) (turnAt (undoneBy r)) p) ∙ (ap (λ t. apply t p) (undoes r .1) ∙ apply-keep p)
 
 -- the way back as the code has it
 sign-twice : (s z : ℤ) → Sign s → s *ℤ (s *ℤ z) ≡ z
@@ -107,7 +107,7 @@ raise (negsuc n) h =
     )
 
 -- a place near the page is in the box
-in-box : (p : Point) → p .layer ≡ pos 0 → Near p → (i : ℕ) × (i < boxSize) × (boxAt i ≡ p)
+in-box : (p : Point) → p .layer ≡ pos 0 → NearSpot p → (i : ℕ) × (i < boxSize) × (boxAt i ≡ p)
 unfolding boxAt flatPlace _⊕_
 in-box p e n =
     let a = raise (p .row) (n .row) in
@@ -155,7 +155,7 @@ module _ {h w : ℕ} {units : List ℕ} {g : ℕ} {o : List ℕ} (u : UnitAt h w
   found-image z m =
       let i = map-find boxAt (filter there (range boxSize)) m in
       let t = filter-test there (range boxSize) (i .1) in
-      let q = apply (turnAt (undone r)) (boxAt (i .0)) in
+      let q = apply (turnAt (undoneBy r)) (boxAt (i .0)) in
       let k = any-find (samePoint q) P (subst T (sym (own q)) t) in
       let e : z ≡ turn (k .0) = i .2 ∙ (sym (turn-undo r (boxAt (i .0))) ∙ ap turn (samePoint→eq q (k .0) (k .2))) in
       mem-sort (map turn P) (Memᴰ·cast e (mem-map turn (k .1)))
@@ -170,8 +170,8 @@ module _ {h w : ℕ} {units : List ℕ} {g : ℕ} {o : List ℕ} (u : UnitAt h w
       let b = in-box (turn (cellSpot o (j .0))) (same-layer r (cellSpot o (j .0)))
       (near-image r (getD (rowsIn o) (j .0) 0) (getD (columnsIn o) (j .0) 0) (s .down (j .0) (j .1))
       (s .across (j .0) (j .1))) in
-      let back : apply (turnAt (undone r)) (boxAt (b .0)) ≡ q .0 =
-      ap (apply (turnAt (undone r))) (b .2 ∙ ap turn (sym (j .2))) ∙ undo-turn r (q .0) in
+      let back : apply (turnAt (undoneBy r)) (boxAt (b .0)) ≡ q .0 =
+      ap (apply (turnAt (undoneBy r))) (b .2 ∙ ap turn (sym (j .2))) ∙ undo-turn r (q .0) in
       let has : T (hasCell h w number g (q .0)) =
       subst T (own (q .0)) (any-mem (samePoint (q .0)) P (q .1) (samePoint-refl (q .0))) in
       Memᴰ·cast (e ∙ sym (b .2))
@@ -184,7 +184,7 @@ module _ {h w : ℕ} {units : List ℕ} {g : ℕ} {o : List ℕ} (u : UnitAt h w
   -- what the loop gathers
   pub sweep-is : (m : Point) → sweep h w (entry (numbersIn units)) g r m boxSize
       ≡ shiftBy (opposite m) (sort (map turn P))
-  unfolding sweep cellAt shiftBy
+  unfolding sweep boxCell shiftBy
   sweep-is m =
       up-filter (λ j. boxAt j ⊕ opposite m) there boxSize
       ∙ (sym (map-map (λ p. p ⊕ opposite m) boxAt (filter there (range boxSize)))

@@ -25,11 +25,11 @@ use Rattle.shapes.specs.Outlines.{rowsIn, columnsIn, downIn, acrossIn, cellCoun
 use Rattle.shapes.specs.Spots.{spotAt, spots, cellSpots, jointSpots, leastImage, UnitAt}
 use Rattle.shapes.specs.SpotLaws.{length-spots, spots-more}
 use Rattle.shapes.specs.UnitLaws.{image-places}
-use Rattle.shapes.specs.Joints.{Joined}
+use Rattle.shapes.specs.Joints.{OutlineJoined}
 use Rattle.shapes.specs.Images.{imageJoints}
 use Rattle.shapes.specs.ImageLaws.{image-is}
 use Rattle.transforms.specs.Transforms.{numbersOf, words, Wrote}
-use Rattle.transforms.specs.Box.{boxAt, boxSize, ofImage, cellAt, sweep, movedBack}
+use Rattle.transforms.specs.Box.{boxAt, boxSize, ofImage, boxCell, sweep, movedBack}
 use Rattle.transforms.specs.BoxLaws.{sweep-is}
 
 -- places as numbers
@@ -80,15 +80,15 @@ module _ (h w : ℕ) (number : ℕ → ℕ) (g r : ℕ) (m : Point) where
   cells = sweep h w number g r m
 
   abbrev cell : ℕ → List Point
-  cell = cellAt h w number g r m
+  cell = boxCell h w number g r m
 
-  pub cell-yes : (i : ℕ) → ofImage h w number g r (boxAt i) ≡ true → cellAt h w number g r m i
+  pub cell-yes : (i : ℕ) → ofImage h w number g r (boxAt i) ≡ true → boxCell h w number g r m i
       ≡ (boxAt i ⊕ opposite m) ∷ []
-  unfolding cellAt
+  unfolding boxCell
   cell-yes i e = rw e
 
-  pub cell-no : (i : ℕ) → ofImage h w number g r (boxAt i) ≡ false → cellAt h w number g r m i ≡ []
-  unfolding cellAt
+  pub cell-no : (i : ℕ) → ofImage h w number g r (boxAt i) ≡ false → boxCell h w number g r m i ≡ []
+  unfolding boxCell
   cell-no i e = rw e
 
   pub sweep-start : (l : List ℤ) → Wrote l 0 (sweep h w number g r m 0) l 0
@@ -96,12 +96,12 @@ module _ (h w : ℕ) (number : ℕ → ℕ) (g r : ℕ) (m : Point) where
   sweep-start l = wrote-same (sym (up-none cell)) wrote-none
 
   pub sweep-step : {l l′ l″ : List ℤ} {a b : ℕ} (i : ℕ) → Wrote l 0 (sweep h w number g r m i) l′ a
-      → Wrote l′ a (cellAt h w number g r m i) l″ b → Wrote l 0 (sweep h w number g r m (i + 1)) l″ b
+      → Wrote l′ a (boxCell h w number g r m i) l″ b → Wrote l 0 (sweep h w number g r m (i + 1)) l″ b
   unfolding sweep
   sweep-step i x y = wrote-same (sym (up-more cell i)) (wrote-more x y)
 
   pub sweep-room : {l l′ : List ℤ} {a : ℕ} (i n : ℕ) → i < n → Wrote l 0 (sweep h w number g r m i) l′ a
-      → 2 * length (sweep h w number g r m n) ≤ length l → a + 2 * length (cellAt h w number g r m i) ≤ length l′
+      → 2 * length (sweep h w number g r m n) ≤ length l → a + 2 * length (boxCell h w number g r m i) ≤ length l′
   unfolding sweep
   sweep-room i n k x e = omega (arith, x .place, wrote-length x, up-fits cell n i k)
 
@@ -165,7 +165,7 @@ module _ {h w : ℕ} {units : List ℕ} {g : ℕ} {o : List ℕ} (u : UnitAt h w
     pub swept : sweep h w (entry (numbersIn units)) g r m boxSize ≡ image r shape .cells
     swept = sweep-is u r m ∙ (ap (λ p. shiftBy (opposite p) (sort images)) e ∙ sym cells-are)
 
-    module _ (j : Joined h w units g o) where
+    module _ (j : OutlineJoined h w units g o) where
       pub moved : movedBack r m (jointSpots o) ≡ image r shape .connections
       unfolding movedBack imageJoints
       moved = ap (λ p. movedBack r p (jointSpots o)) e ∙ sym (image-is u j r)
@@ -174,8 +174,9 @@ module _ {h w : ℕ} {units : List ℕ} {g : ℕ} {o : List ℕ} (u : UnitAt h w
       joint-count = ap length (sym moved) ∙ moved-length r m (downIn o) (acrossIn o) (jointCount o)
 
       -- both parts
-      pub written : {l l′ l″ : List ℤ} {a b : ℕ} → Wrote l 0 (sweep h w (entry (numbersIn units)) g r m boxSize) l′ a
+      pub image-written : {l l′ l″ : List ℤ} {a b : ℕ}
+          → Wrote l 0 (sweep h w (entry (numbersIn units)) g r m boxSize) l′ a
           → Wrote l′ a (movedBack r m (jointSpots o)) l″ b → l″ ≡ sets l 0 (words (image r shape))
       unfolding words
-      written {l} x y =
+      image-written {l} x y =
           wrote-more x y .memory ∙ ap₂ (λ ps qs. sets l 0 (numbersOf (ps ++ qs))) swept moved

@@ -12,8 +12,8 @@ ghost use Rattle.rules.specs.Turns.{apply};
 ghost use Rattle.rules.specs.Check.{transformsOf};
 ghost use Rattle.groups.specs.Grouping.{numbersIn};
 ghost use Rattle.rules.specs.Shapes.{shapeOf, flatTransforms};
-ghost use Rattle.search.specs.Placing.{puzzle};
-ghost use Rattle.shapes.specs.Joints.{Joined};
+ghost use Rattle.rules.specs.Codes.{unclued};
+ghost use Rattle.shapes.specs.Joints.{OutlineJoined};
 ghost use Rattle.shapes.specs.Pairs.{pointAt, pointOf, Small, SmallPair};
 ghost use Rattle.shapes.specs.Listing.{listing};
 ghost use Rattle.shapes.specs.Rows.{turnAt, image, rowsOf};
@@ -22,7 +22,7 @@ ghost use Rattle.shapes.specs.Images.{Jointed};
 ghost use Rattle.shapes.specs.Spots.{jointSpots, UnitAt};
 ghost use Rattle.transforms.specs.Transforms.{nothing, words, transformed, kthAnswer, kthMemory, Wrote};
 ghost use Rattle.transforms.specs.Transforms.{transformOf, memoryAfter};
-ghost use Rattle.transforms.specs.Box.{boxAt, reversed, ofImage, cellAt, sweep, movedBack};
+ghost use Rattle.transforms.specs.Box.{boxAt, reversed, ofImage, boxCell, sweep, movedBack};
 use board::Board;
 use board::Outcome;
 use groups::Grouping;
@@ -138,9 +138,9 @@ fn put_cell(
     i: usize,
 ) -> usize
     requires { ⌜ (row < 8) × Sized h w × (length (numbersIn (now units)) ≡ 1024) × SmallPair m × (i < 4356)
-        × (at + 2 * length (cellAt h w (entry (numbersIn (now units))) g row (pointOf m) i) ≤ length (now memory)) ⌝ }
+        × (at + 2 * length (boxCell h w (entry (numbersIn (now units))) g row (pointOf m) i) ≤ length (now memory)) ⌝ }
     ensures { λ r. ⌜ Wrote (now (memory .entry)) at
-        (cellAt h w (entry (numbersIn (now (units .entry)))) g row (pointOf m) i) (now (memory .exit)) r ⌝ }
+        (boxCell h w (entry (numbersIn (now (units .entry)))) g row (pointOf m) i) (now (memory .exit)) r ⌝ }
 {
     let p = box_place(i);
     if of_image(units, h, w, g, row, p) {
@@ -203,7 +203,7 @@ fn put_image<'a>(
     outline: &'a Outline,
     row: usize,
 )
-    requires { ⌜ (row < 8) × UnitAt h w (now units) g (now outline) × Joined h w (now units) g (now outline)
+    requires { ⌜ (row < 8) × UnitAt h w (now units) g (now outline) × OutlineJoined h w (now units) g (now outline)
         × (6144 ≤ length (now memory)) ⌝ }
     ensures { λ r. ⌜ now (memory .exit) ≡ sets (now (memory .entry)) 0
         (words (image row (shapeOf (flat h w) (entry (numbersIn (now (units .entry)))) g))) ⌝ }
@@ -236,7 +236,7 @@ fn put_listed<'a>(
     listed: Listed,
     k: usize,
 ) -> Transformed
-    requires { ⌜ UnitAt h w (now units) g (now outline) × Joined h w (now units) g (now outline)
+    requires { ⌜ UnitAt h w (now units) g (now outline) × OutlineJoined h w (now units) g (now outline)
         × (listed ≡ listing (rowsOf (shapeOf (flat h w) (entry (numbersIn (now units))) g)))
         × (6144 ≤ length (now memory)) ⌝ }
     ensures { λ r. ⌜ (r ≡ kthAnswer (flatTransforms (shapeOf (flat h w) (entry (numbersIn (now (units .entry)))) g)) k)
@@ -267,9 +267,9 @@ fn put_transform<'a>(
     k: usize,
 ) -> Transformed
     requires { ⌜ Sized h w × (6144 ≤ length (now memory)) ⌝ }
-    ensures { λ r. ⌜ (r ≡ kthAnswer (transformsOf (puzzle h w (now (colours .entry)))
+    ensures { λ r. ⌜ (r ≡ kthAnswer (transformsOf (unclued h w (now (colours .entry)))
         (statesIn (now (borders .entry))) u) k)
-        × (now (memory .exit) ≡ kthMemory (transformsOf (puzzle h w (now (colours .entry)))
+        × (now (memory .exit) ≡ kthMemory (transformsOf (unclued h w (now (colours .entry)))
         (statesIn (now (borders .entry))) u) k (now (memory .entry))) ⌝ }
 {
     let units = groups_of(h, w, colours, borders, Kind::Units);

@@ -9,8 +9,8 @@ use lib.ListN.{length}
 use Rattle.board.specs.Board.{decideOf, numberOf}
 use Rattle.board.specs.declared.Returned.{Returned}
 use Rattle.image.specs.Image.{ImageCall, decide, imageNumber, Bytes}
-use Rattle.image.specs.CallLaws.{length-number, length-after, number-is, after-refused}
-use Rattle.image.specs.CallLaws.{decide-fits, decide-after}
+use Rattle.image.specs.CallLaws.{length-number, length-after, call-number-is, after-refused}
+use Rattle.image.specs.CallLaws.{decide-fits, image-decide-after}
 use Rattle.image.proofs.dbchoco_decide.Statement.{statement}
 use Rattle.image.proofs.dbchoco_decide.Tie as tie
 
@@ -33,7 +33,7 @@ here c =
     c .number .ensures
     ∙ ap (λ (m : Returned). numberOf (m .outcome))
     (c .before .decide .ensures ∙ ap (decideOf (r .result)) (c .before .before .literal .ensures))
-    ∙ number-is (image c) (bytes c) (long c) (r .result) (r .ensures) (call c)
+    ∙ call-number-is (image c) (bytes c) (long c) (r .result) (r .ensures) (call c)
 
 -- and that it is 0
 zero : (c : tie.Then2) → imageNumber (image (c .before)) (call (c .before)) ≡ 0
@@ -85,7 +85,7 @@ returns-2 c =
     let l = k .before .before .literal in
     let v = c .before .before .before .before .code in (
       here k,
-      decide-after (image k) (bytes k) (long k) (r .result) (r .ensures) _ _ (zero t) (l .result) (v .result) _
+      image-decide-after (image k) (bytes k) (long k) (r .result) (r .ensures) _ _ (zero t) (l .result) (v .result) _
           (l .ensures) (v .ensures) (c .before .before .rewrite .ensures),
     )
 

@@ -8,8 +8,8 @@ use lib.ListN.{length, getD}
 use Rattle.board.specs.Board.{numberOf}
 use Rattle.board.specs.declared.Returned.{Returned}
 use Rattle.image.specs.Image.{undo, imageNumber, Bytes}
-use Rattle.image.specs.CallLaws.{length-number, length-after, number-is, after-refused}
-use Rattle.image.specs.CallLaws.{undo-fits, undo-after}
+use Rattle.image.specs.CallLaws.{length-number, length-after, call-number-is, after-refused}
+use Rattle.image.specs.CallLaws.{undo-fits, image-undo-after}
 use Rattle.image.proofs.dbchoco_undo.Statement.{statement}
 use Rattle.image.proofs.dbchoco_undo.Tie as tie
 
@@ -28,7 +28,7 @@ here c =
     let r = c .before .before .board in
     c .number .ensures
     ∙ ap (λ (m : Returned). numberOf (m .outcome)) (c .before .undo .ensures)
-    ∙ number-is (image c) (bytes c) (long c) (r .result) (r .ensures) undo
+    ∙ call-number-is (image c) (bytes c) (long c) (r .result) (r .ensures) undo
 
 -- and that it is 0
 zero : (c : tie.Then2) → imageNumber (image (c .before)) undo ≡ 0
@@ -81,7 +81,7 @@ returns-2 c =
     let r = k .before .before .board in
     let n = c .before .before .before .before .index in (
       here k,
-      undo-after (image k) (bytes k) (long k) (r .result) (r .ensures) (zero t) (n .result) _ (n .ensures)
+      image-undo-after (image k) (bytes k) (long k) (r .result) (r .ensures) (zero t) (n .result) _ (n .ensures)
           (c .before .before .rewrite .ensures),
     )
 

@@ -8,9 +8,9 @@ use borrow.Author.Needs.{needs}
 use Rattle.lists.specs.Parts.{part}
 use Rattle.groups.specs.Grouping.{cellsIn, startsIn, startIn}
 use Rattle.reasons.specs.Arrays.{Cells}
-use Rattle.search.specs.Mates.{mateCount}
-use Rattle.search.specs.SearchLaws.{mates-reach}
-use Rattle.search.specs.Searching.{groupIn}
+use Rattle.adjacent.specs.Mates.{mateCount}
+use Rattle.adjacent.specs.BesideLaws.{mates-reach}
+use Rattle.groups.specs.Parts.{partOf}
 use Rattle.planes.specs.Masks.{Masked, originsIn}
 use Rattle.planes.specs.MaskLaws.{masked-none, masked-tag, mates-none, mates-more}
 use Rattle.planes.proofs.draw_mask.Statement.{statement}
@@ -93,7 +93,7 @@ loop-less : tie.Need-loop-less Inv-loop μ-loop
 loop-less c = omega (arith, c .before .before .before .before .before .loop-test .taken)
 
 loop-again : tie.Need-loop-again Inv-loop μ-loop
-unfolding groupIn
+unfolding partOf
 loop-again c =
     let i = c .before .before .before .before .before in
     let l = i .before in

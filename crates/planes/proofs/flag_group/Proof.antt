@@ -5,7 +5,7 @@ use Prim.Native.Nat.{ℕ, _*_, _-_, _≤_, _<_}
 use native.Mathlib.Omega.{arith}
 use lib.ListN.{length, getD}
 use Rattle.groups.specs.Grouping.{cellsIn}
-use Rattle.search.specs.SearchLaws.{cells-at}
+use Rattle.reasons.specs.CellLaws.{cells-at}
 use Rattle.planes.specs.Masks.{Masked}
 use Rattle.planes.specs.MaskLaws.{group-none, group-more}
 use Rattle.lists.specs.Parts.{part}

@@ -6,7 +6,7 @@ use lib.ListN.{getD}
 use Rattle.lists.specs.SectionLaws.{section-at, front-at}
 use Rattle.shapes.specs.Raising.{ysIn, xsIn, RaisedAt}
 use Rattle.planes.specs.Masks.{clearWord}
-use Rattle.planes.specs.WordLaws.{clear-none, clear-more, left-none}
+use Rattle.planes.specs.WordLaws.{clear-none, clear-more, word-left-none}
 use Rattle.planes.proofs.line_left.Statement.{statement}
 use Rattle.planes.proofs.line_left.Tie as tie
 
@@ -27,7 +27,7 @@ returns : tie.Need-returns Inv-loop μ-loop
 returns c =
     let l = c .before .before in
     let s = l .before in
-    left-none (s .args .planes .now) (s .args .y) (s .args .turned .now) (s .args .word)
+    word-left-none (s .args .planes .now) (s .args .y) (s .args .turned .now) (s .args .word)
     (s .args .n) (l .loop .j) (l .loop .inv .1) (l .loop .inv .0) (c .if1 .taken)
 
 -- the next connection is small

@@ -7,7 +7,7 @@ use borrow.Author.Needs.{needs}
 use lib.ListN.{length, getD, length-set}
 use Rattle.lists.specs.TableLaws.{table-is, stored-more}
 use Rattle.rules.specs.Groups.{entry}
-use Rattle.probe.specs.Probe.{places}
+use Rattle.probe.specs.Probe.{placesOf}
 use Rattle.probe.proofs.copy.Statement.{statement}
 use Rattle.probe.proofs.copy.Tie as tie
 
@@ -46,7 +46,7 @@ same-length : tie.Need-same-length Inv-loop μ-loop
 same-length c = c .before .loop .inv .1
 
 returns : tie.Need-returns Inv-loop μ-loop
-unfolding places
+unfolding placesOf
 returns c =
     let r = c .before .loop in
     let e = r .inv .0 in

@@ -1,6 +1,6 @@
 -- Each return cites its tests.
 use borrow.Author.Tests.{lt-leb, le-leb}
-use Rattle.probe.specs.Probe.{isFit}
+use Rattle.probe.specs.Probe.{probeFits}
 use borrow.Author.Needs.{needs}
 use Rattle.probe.proofs.fits.Statement.{statement}
 use Rattle.probe.proofs.fits.Tie as tie
@@ -9,11 +9,11 @@ cell-count-requires : tie.Need-cell-count-requires
 cell-count-requires c κs = search needs
 
 returns : tie.Need-returns
-unfolding isFit
+unfolding probeFits
 returns c = simp (← (c .before .cell-count .ensures), lt-leb _ _ (c .if1 .taken))
 
 returns-2 : tie.Need-returns-2
-unfolding isFit
+unfolding probeFits
 returns-2 c = simp (← (c .before .cell-count .ensures), le-leb _ _ (c .if1 .left))
 
 pub fits-spec : {M : Type 1} → statement M

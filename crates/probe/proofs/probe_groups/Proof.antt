@@ -2,7 +2,7 @@
 use mathlib.Core.Path.{sym, _∙_}
 use native.Mathlib.Omega.{arith}
 use Rattle.groups.specs.GroupingLaws.{filled-array}
-use Rattle.probe.specs.ProbeLaws.{fit, unfit, done}
+use Rattle.probe.specs.ProbeLaws.{probe-fit, unfit, done}
 use borrow.Author.Needs.{needs}
 use Rattle.probe.proofs.probe_groups.Statement.{statement}
 use Rattle.probe.proofs.probe_groups.Tie as tie
@@ -11,7 +11,7 @@ fits-requires : tie.Need-fits-requires
 fits-requires c κs = search needs
 
 grouped-requires : tie.Need-grouped-requires
-grouped-requires c κs = fit (sym (c .before .fits2 .ensures) ∙ c .if1 .taken) .size
+grouped-requires c κs = probe-fit (sym (c .before .fits2 .ensures) ∙ c .if1 .taken) .size
 
 slice-aggregate-write : tie.Need-slice-aggregate-write
 slice-aggregate-write c = search needs
@@ -19,7 +19,7 @@ slice-aggregate-write c = search needs
 write-requires : tie.Need-write-requires
 write-requires c κs =
     let g = c .before .before in
-    let f = fit (sym (g .before .before .fits2 .ensures) ∙ g .before .if1 .taken) in
+    let f = probe-fit (sym (g .before .before .fits2 .ensures) ∙ g .before .if1 .taken) in
     omega (arith, g .grouped .ensures .long, f .large)
 
 same-length : tie.Need-same-length

@@ -1,6 +1,6 @@
 -- An unfit call is refused; any other is answered.
 use mathlib.Core.Path.{sym, _∙_}
-use Rattle.probe.specs.ProbeLaws.{fit, unfit, done}
+use Rattle.probe.specs.ProbeLaws.{probe-fit, unfit, done}
 use borrow.Author.Needs.{needs}
 use Rattle.probe.proofs.probe_path.Statement.{statement}
 use Rattle.probe.proofs.probe_path.Tie as tie
@@ -10,7 +10,7 @@ fits-requires c κs = search needs
 
 put-path-requires : tie.Need-put-path-requires
 put-path-requires c κs =
-    let f = fit (sym (c .before .before .fits2 .ensures) ∙ c .before .if1 .taken) in
+    let f = probe-fit (sym (c .before .before .fits2 .ensures) ∙ c .before .if1 .taken) in
     (f .size, f .large)
 
 same-length : tie.Need-same-length

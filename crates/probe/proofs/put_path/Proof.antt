@@ -1,7 +1,7 @@
 -- The path is written, and it fits.
 use native.Mathlib.Omega.{arith}
 use Rattle.probe.specs.ProbeLaws.{places-length, path-few, literals}
-use Rattle.probe.specs.Probe.{places, pathWords}
+use Rattle.probe.specs.Probe.{placesOf, pathWords}
 use borrow.Author.Needs.{needs}
 use Rattle.probe.proofs.put_path.Statement.{statement}
 use Rattle.probe.proofs.put_path.Tie as tie
@@ -19,7 +19,7 @@ path-requires c κs =
           (omega (
             arith,
             s .pre .1,
-            path-few (s .pre .0) (places 1984 (s .args .borders .now)) (s .args .a) (s .args .b),
+            path-few (s .pre .0) (placesOf 1984 (s .args .borders .now)) (s .args .a) (s .args .b),
           )),
     )
 

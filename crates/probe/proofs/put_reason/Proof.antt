@@ -8,7 +8,8 @@ use Rattle.rules.specs.declared.Side.{Side}
 use Rattle.rules.specs.declared.Side.the-variants.{Wall, Open}
 use Rattle.groups.specs.Grouping.{numbersIn}
 use Rattle.reasons.specs.Arrays.{GroupAt, groupReason}
-use Rattle.probe.specs.Probe.{places, sideOf, reasonWords}
+use Rattle.probe.specs.Probe.{placesOf, reasonWords}
+use Rattle.image.specs.Image.{sideOf}
 use Rattle.probe.specs.ProbeLaws.{places-length, group-is, no-reason, reason-few, literals}
 use borrow.Author.Needs.{needs}
 use Rattle.probe.proofs.put_reason.Statement.{statement}
@@ -26,7 +27,7 @@ group c =
 -- its reason fits
 room : (c : tie.After-borders-in) (side : Side)
     → let s = c .before .before .before .before .before .before .before .before in
-    0 + length (groupReason (s .args .h) (s .args .w) (places 1024 (s .args .colours .now)) (c .borders-in .result)
+    0 + length (groupReason (s .args .h) (s .args .w) (placesOf 1024 (s .args .colours .now)) (c .borders-in .result)
     (numbersIn (c .before .before .before .before .grouped .result)) side (s .args .group)) ≤ length
     (s .args .memory .now)
 room c side =
@@ -67,7 +68,7 @@ same-length : tie.Need-same-length
 same-length c = search needs
 
 returns-2 : tie.Need-returns-2
-unfolding reasonWords sideOf
+unfolding reasonWords
 returns-2 c =
     let k = c .before .before .before .before .before .before .before in
     rw (eq-eqb _ _ (c .before .before .before .before .before .before .if2 .taken))
@@ -94,7 +95,7 @@ same-length-2 : tie.Need-same-length-2
 same-length-2 c = search needs
 
 returns-3 : tie.Need-returns-3
-unfolding reasonWords sideOf
+unfolding reasonWords
 returns-3 c =
     let k = c .before .before .before .before .before .before .before .before .before in
     rw (ne-eqb _ _ (c .before .before .before .before .before .before .before .before .if2 .left))

@@ -9,7 +9,7 @@ use mir.Val.{SFits, toZ, ofZ}
 use mir.Facts.{toZ-ofZ, fits-natAbs}
 use Rattle.rules.specs.Shapes.{lessℤ}
 use Rattle.shapes.specs.PairLaws.{less-known}
-use Rattle.shapes.specs.UnitLaws.{off-above, off-left, on-page, non-neg}
+use Rattle.shapes.specs.UnitLaws.{shape-off-above, shape-off-left, on-page, non-neg}
 use borrow.Author.Needs.{needs}
 use Rattle.shapes.proofs.has_cell.Statement.{statement}
 use Rattle.shapes.proofs.has_cell.Tie as tie
@@ -20,12 +20,12 @@ below f e = less-known f (record { sfits = omega arith }) e
 
 returns : tie.Need-returns
 returns c =
-    sym (off-above _ _ _ _ (c .before .args .y) (c .before .args .x) (below (c .before .fits .y) (c .if1 .taken)))
+    sym (shape-off-above _ _ _ _ (c .before .args .y) (c .before .args .x) (below (c .before .fits .y) (c .if1 .taken)))
 
 returns-2 : tie.Need-returns-2
 returns-2 c =
     let s = c .before .before in
-    sym (off-left _ _ _ _ (s .args .y) (s .args .x) (below (s .fits .x) (c .if2 .taken)))
+    sym (shape-off-left _ _ _ _ (s .args .y) (s .args .x) (below (s .fits .x) (c .if2 .taken)))
 
 cast-cell-in : tie.Need-cast-cell-in
 cast-cell-in c =

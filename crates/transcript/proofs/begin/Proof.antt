@@ -4,7 +4,7 @@ use mathlib.Core.List.{List, _++_}
 use Prim.Native.Nat.{ℕ}
 use native.Mathlib.Omega.{arith}
 use Rattle.page.specs.Places.{judgedOf}
-use Rattle.page.specs.ParserLaws.{told}
+use Rattle.page.specs.ParserLaws.{told-same}
 use Rattle.print.specs.Answers.{answersWord}
 use Rattle.transcript.specs.Left.{leftAt, stepsAt}
 use Rattle.transcript.specs.LeftLaws.{put-goes, refused-left, accepted-left}
@@ -43,7 +43,8 @@ returns c = λ m.
     put-goes _ _ (d .before .before .before .before .answers-line .ensures)
     (d .before .before .before .put-line .ensures) (search needs)
     (ap (λ (t : List ℕ). answersWord ++ t)
-    (refused-left _ m _ (told (judgedOf _) (d .judge .ensures) (c .before .before .judged .given .1)))) (omega arith)
+    (refused-left _ m _ (told-same (judgedOf _) (d .judge .ensures) (c .before .before .judged .given .1))))
+    (omega arith)
 
 same-length-2 : tie.Need-same-length-2
 same-length-2 c = search needs
@@ -55,7 +56,7 @@ returns-2 c = λ m.
     put-goes _ _ (d .before .before .before .before .answers-line .ensures)
     (d .before .before .before .put-line .ensures) (search needs)
     (ap (λ (t : List ℕ). answersWord ++ t)
-    (accepted-left _ m _ _ (told (judgedOf _) (d .judge .ensures) (c .before .before .judged2 .given .1))
+    (accepted-left _ m _ _ (told-same (judgedOf _) (d .judge .ensures) (c .before .before .judged2 .given .1))
     (c .board-of .ensures)))
     (omega arith)
 

@@ -2,7 +2,7 @@
 use mathlib.Core.Path.{sym, ap}
 use mathlib.Core.List.{[]}
 use native.Mathlib.Omega.{arith}
-use Rattle.print.specs.Lines.{Holds, start, written-none, holds-as}
+use Rattle.print.specs.Lines.{LineHolds, start, written-none, holds-as}
 use Rattle.transcript.specs.Left.{lineOf}
 use borrow.Author.Needs.{needs}
 use Rattle.transcript.proofs.line_of.Statement.{statement}
@@ -32,7 +32,7 @@ refusal-requires c κs = search needs
 returns : tie.Need-returns
 unfolding lineOf
 returns c =
-    let h : Holds start [] = record { written = written-none _ _; small = omega arith } in
+    let h : LineHolds start [] = record { written = written-none _ _; small = omega arith } in
     holds-as h (sym (ap lineOf (c .enum-told .given .1)))
 
 returns-2 : tie.Need-returns-2

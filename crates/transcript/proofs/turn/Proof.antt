@@ -1,6 +1,6 @@
 -- `turn` meets its contract: no call is left, or the call's line begins.
 use Rattle.page.specs.Places.{gotCall}
-use Rattle.page.specs.ParserLaws.{told}
+use Rattle.page.specs.ParserLaws.{told-same}
 use Rattle.transcript.specs.LeftLaws.{turn-end, turn-goes}
 use borrow.Author.Needs.{needs}
 use Rattle.transcript.proofs.turn.Statement.{statement}
@@ -17,7 +17,7 @@ enum-told c = search needs
 
 returns : tie.Need-returns
 unfolding gotCall
-returns c = turn-end _ _ _ _ _ (told (gotCall _) (c .before .before .call-at .ensures) (c .enum-told .given .1))
+returns c = turn-end _ _ _ _ _ (told-same (gotCall _) (c .before .before .call-at .ensures) (c .enum-told .given .1))
 
 call-requires : tie.Need-call-requires
 call-requires c κs = search needs
@@ -41,7 +41,7 @@ returns-2 : tie.Need-returns-2
 unfolding gotCall
 returns-2 c =
     let d = c .before .before .before .before .before .before .before .before .before in
-    turn-goes _ _ _ _ _ _ (told (gotCall _) (d .before .before .before .before .before .call-at .ensures)
+    turn-goes _ _ _ _ _ _ (told-same (gotCall _) (d .before .before .before .before .before .call-at .ensures)
     (d .before .before .before .call .given .1)) (d .call2 .ensures)
     (c .before .before .before .before .before .stage-of .ensures) (c .before .before .before .line-of .ensures)
     (c .before .before .put-line .ensures) (search needs)

@@ -11,7 +11,7 @@ use Rattle.shapes.specs.Pairs.{pointAt, pointOf}
 use Rattle.shapes.specs.PairLaws.{small-back}
 use Rattle.shapes.specs.Rows.{turnAt}
 use Rattle.shapes.specs.Spots.{hasCell}
-use Rattle.transforms.specs.Box.{undone, ofImage}
+use Rattle.transforms.specs.Box.{undoneBy, ofImage}
 use Rattle.transforms.specs.BoxLaws.{undo-turn}
 use Rattle.transforms.proofs.of_image.Statement.{statement}
 use Rattle.transforms.proofs.of_image.Tie as tie
@@ -32,7 +32,7 @@ returns c =
     ∙ ap (hasCell (s .args .h) (s .args .w) (entry (numbersIn (s .args .units .now))) (s .args .g))
     (point-eq refl (toZ-ofZ {w = w32} (record { sfits = q .0 .1 })) (toZ-ofZ {w = w32} (record { sfits = q .1 .0 .1 }))
     ∙ (sym (undo-turn (s .args .row) (pointOf (a .result)))
-    ∙ ap (apply (turnAt (undone (s .args .row))))
+    ∙ ap (apply (turnAt (undoneBy (s .args .row))))
     (a .ensures
     ∙ ap₂ pointAt (small-back (s .args .p .y) (s .pre .3 .down)) (small-back (s .args .p .x) (s .pre .3 .across)))))
 

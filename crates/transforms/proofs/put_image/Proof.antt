@@ -6,7 +6,7 @@ use lib.ListN.{length}
 use Rattle.shapes.specs.Pairs.{SmallPair}
 use Rattle.shapes.specs.SpotLaws.{near-least, near-small}
 use Rattle.shapes.specs.ImageLaws.{jointed}
-use Rattle.transforms.specs.ImageLaws.{wrote-length, cell-count, swept, written}
+use Rattle.transforms.specs.ImageLaws.{wrote-length, cell-count, swept, image-written}
 use Rattle.transforms.proofs.put_image.Statement.{statement}
 use Rattle.transforms.proofs.put_image.Tie as tie
 
@@ -63,7 +63,7 @@ returns : tie.Need-returns
 returns c =
     let l = c .before .before .before .before .before .before in
     let s = l .before in
-    written (s .pre .1) (s .args .row) (l .least .ensures) (s .pre .2)
+    image-written (s .pre .1) (s .args .row) (l .least .ensures) (s .pre .2)
     (c .before .before .before .before .put-cells .ensures)
     (c .before .put-joints .ensures)
 

@@ -6,8 +6,8 @@ use Rattle.rules.specs.Flat.{flat}
 use Rattle.rules.specs.Groups.{entry}
 use Rattle.rules.specs.Shapes.{shapeOf, flatTransforms}
 use Rattle.groups.specs.Grouping.{numbersIn}
-use Rattle.units.specs.Fitting.{Rows}
-use Rattle.units.specs.FitLaws.{rows-listed}
+use Rattle.shapes.specs.Listing.{Rows}
+use Rattle.shapes.specs.ListingLaws.{rows-listed}
 use Rattle.transforms.specs.AnswerLaws.{listed-count, past-answer, past-memory, listed-answer, listed-memory}
 use Rattle.transforms.specs.ImageLaws.{cell-count, joint-count}
 use Rattle.transforms.proofs.put_listed.Statement.{statement}

@@ -7,9 +7,9 @@ use lib.ListN.{length}
 use Rattle.rules.specs.Codes.{statesIn}
 use Rattle.rules.specs.Check.{transformsOf}
 use Rattle.groups.specs.Grouping.{countIn}
-use Rattle.search.specs.Placing.{puzzle}
-use Rattle.units.specs.Fitting.{UnitIn}
-use Rattle.units.specs.FitLaws.{unit-part, unit-placed}
+use Rattle.rules.specs.Codes.{unclued}
+use Rattle.adjacent.specs.Homes.{UnitIn}
+use Rattle.adjacent.specs.HomeLaws.{unit-part, unit-placed}
 use Rattle.transforms.specs.Transforms.{kthAnswer, kthMemory}
 use Rattle.transforms.specs.AnswerLaws.{past-answer, past-memory, no-unit, unit-transforms, unit-part-in}
 use Rattle.transforms.proofs.put_transform.Statement.{statement}
@@ -31,7 +31,7 @@ returns c =
     let s = f .before in
     let cs = s .args .colours .now in
     let bs = s .args .borders .now in
-    let ts = transformsOf (puzzle (s .args .h) (s .args .w) cs) (statesIn bs) (s .args .u) in
+    let ts = transformsOf (unclued (s .args .h) (s .args .w) cs) (statesIn bs) (s .args .u) in
     let e : length ts ≡ 0 =
     ap length (no-unit (s .pre .0) cs bs (f .groups-of .ensures) (s .args .u)
     (omega (arith, a .count-of .ensures, c .before .if1 .taken))) in (

@@ -7,7 +7,7 @@ use borrow.Author.Needs.{needs}
 use Rattle.laws.specs.FlatLaws.{counts}
 use Rattle.board.specs.Alien.{sizeRight}
 use Rattle.board.specs.Board.{numberOf, puzzleRefusal}
-use Rattle.board.specs.Cases.{Fit, fresh-free, fresh-refused, fresh-size, puzzle-free}
+use Rattle.board.specs.Cases.{PuzzleFit, fresh-free, fresh-refused, fresh-size, puzzle-free}
 use Rattle.board.specs.ConditionLaws.{cells-of, sized}
 use Rattle.board.proofs.Board.fresh.Statement.{statement}
 use Rattle.board.proofs.Board.fresh.Tie as tie
@@ -32,7 +32,7 @@ zero c = sym (c .before .number .ensures) ∙ c .if2 .left
 -- the colours and the clues fit the arrays
 fit : (c : tie.Else2)
     → let a = c .before .before .before .before .before .before .before .args in
-    Fit (a .height * a .width) (a .colours .now) (a .clues .now) × (a .height * a .width ≤ 1024)
+    PuzzleFit (a .height * a .width) (a .colours .now) (a .clues .now) × (a .height * a .width ≤ 1024)
 fit c =
     let k = c .before .before in (
       puzzle-free _ _ _ (ap numberOf (sym (ends k)) ∙ zero c),

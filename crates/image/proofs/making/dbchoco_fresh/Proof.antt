@@ -8,7 +8,7 @@ use Rattle.board.specs.FreshLaws.{Made}
 use Rattle.board.specs.declared.Returned.{Returned}
 use Rattle.board.specs.Accepted.{madeBoard}
 use Rattle.image.specs.Image.{imageOf}
-use Rattle.image.specs.MakingLaws.{number-refused, number-other, number-done, made-of, bytes-refused, bytes-done}
+use Rattle.image.specs.MakingLaws.{number-refused, making-other, number-done, made-of, bytes-refused, bytes-done}
 use Rattle.image.proofs.making.dbchoco_fresh.Statement.{statement}
 use Rattle.image.proofs.making.dbchoco_fresh.Tie as tie
 
@@ -42,7 +42,7 @@ returns-2 : tie.Need-returns-2
 returns-2 c =
     let k = c .before .before in
     let a = k .before .before .before .before .args in
-    let e = number-other _ _ _ _ (a .image .now) (sym (here k) ∙ c .before .if1 .left) (c .if2 .taken) in
+    let e = making-other _ _ _ _ (a .image .now) (sym (here k) ∙ c .before .if1 .left) (c .if2 .taken) in
     (sym e, sym (bytes-refused _ _ _ _ _ (λ z. let y : 5 ≡ 0 = sym e ∙ z in omega arith)))
 
 cast-put-fresh : tie.Need-cast-put-fresh

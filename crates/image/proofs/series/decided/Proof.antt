@@ -7,7 +7,7 @@ use native.Mathlib.Omega.{arith}
 use borrow.Author.Needs.{needs}
 use Rattle.board.specs.Board.{numberOf}
 use Rattle.image.specs.Image.{Bytes, imageAlien}
-use Rattle.image.specs.SeriesLaws.{part-length, few, decide-not, decide-room, decide-step}
+use Rattle.image.specs.SeriesLaws.{series-part-length, few, decide-not, decide-room, decide-step}
 use Rattle.image.proofs.series.decided.Statement.{statement}
 use Rattle.image.proofs.series.decided.Tie as tie
 
@@ -51,7 +51,7 @@ decide-refusal-requires c κs =
     let l = k .before .before .literal in
     omega (
       arith,
-      part-length (image k) (bytes k) (known k),
+      series-part-length (image k) (bytes k) (known k),
       few (image k) (bytes k) (known k) (border k) (side k) (l .result) (l .ensures) (k .border-count .result)
           (k .border-count .ensures),
     )

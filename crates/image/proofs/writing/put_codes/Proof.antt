@@ -5,7 +5,7 @@ use native.Mathlib.Omega.{arith}
 use borrow.Author.Needs.{needs}
 use lib.ListN.{length}
 use Rattle.image.specs.Image.{putCodes}
-use Rattle.image.specs.MemoryLaws.{codes-none, length-codes, codes-more}
+use Rattle.image.specs.MemoryLaws.{codes-none, length-put-codes, codes-more}
 use Rattle.image.proofs.writing.put_codes.Statement.{statement}
 use Rattle.image.proofs.writing.put_codes.Tie as tie
 
@@ -35,7 +35,7 @@ put-two-requires c κs =
     let p = c .before .before .before .before .before .before .before .pre in
     let a = c .before .before .before .before .before .before .before .args in
     let r = c .before .before .before .before .loop in
-    let l = ap length (r .inv .1) ∙ length-codes (a .memory .now) (a .codes .now) (r .i) in
+    let l = ap length (r .inv .1) ∙ length-put-codes (a .memory .now) (a .codes .now) (r .i) in
     omega arith
 
 add-i : tie.Need-add-i Inv-loop μ-loop
@@ -58,7 +58,7 @@ loop-again c =
 same-length : tie.Need-same-length Inv-loop μ-loop
 same-length c =
     let a = c .before .before .before .before .args in
-    ap length (c .before .loop .inv .1) ∙ length-codes (a .memory .now) (a .codes .now) (c .before .loop .i)
+    ap length (c .before .loop .inv .1) ∙ length-put-codes (a .memory .now) (a .codes .now) (c .before .loop .i)
 
 returns : tie.Need-returns Inv-loop μ-loop
 returns c =

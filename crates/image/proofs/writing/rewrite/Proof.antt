@@ -3,7 +3,7 @@ use mathlib.Core.Path.{_∙_}
 use native.Mathlib.Omega.{arith}
 use borrow.Author.Needs.{needs}
 use lib.ListN.{length-set}
-use Rattle.image.specs.Image.{written}
+use Rattle.image.specs.Image.{imageWritten}
 use Rattle.image.proofs.writing.rewrite.Statement.{statement}
 use Rattle.image.proofs.writing.rewrite.Tie as tie
 
@@ -35,7 +35,7 @@ same-length c = c .before .before .put-two2 .kept .0
     ∙ simp length-set at (c .before .before .before .before .before .before .put-two .kept .0)
 
 returns : tie.Need-returns
-unfolding written
+unfolding imageWritten
 returns c = c .before .before .put-two2 .ensures
     ∙ rw (c .before .before .before .before .before .before .put-two .ensures)
 

@@ -1,6 +1,6 @@
 -- `number_at` meets its contract: the first digit, then `number_on`.
 use Rattle.page.specs.Places.{gotNumber}
-use Rattle.page.specs.ParserLaws.{digit-low, digit-high, number-past, number-not, number-first}
+use Rattle.page.specs.ParserLaws.{digit-low, digit-high, number-past, number-not, parse-number-first}
 use borrow.Author.Needs.{needs}
 use mathlib.Core.Path.{sym, _∙_}
 use native.Mathlib.Omega.{arith}
@@ -37,7 +37,7 @@ number-on-requires c κs = omega
 returns-2 : tie.Need-returns-2
 returns-2 c = c .number-on .ensures
     ∙ rw (c .before .index-byte .ensures)
-    (sym (number-first _ _ _ (search needs)
+    (sym (parse-number-first _ _ _ (search needs)
     (sym (c .before .before .before .is-digit .ensures) ∙ c .before .before .if2 .taken)))
 
 returns-3 : tie.Need-returns-3

@@ -1,6 +1,6 @@
 -- `word_at` meets its contract: what is left of the word stands or fails at p as the whole did at `at`.
 use Prim.Native.Nat.{_≤_, _-_}
-use Rattle.page.specs.Places.{placeOf}
+use Rattle.page.specs.Places.{leftFrom}
 use Rattle.page.specs.ParserLaws.{rest-all, strip-end, strip-past, strip-not, strip-more}
 use Rattle.page.specs.Parsers.{strip, rest}
 use borrow.Author.Needs.{needs}
@@ -19,7 +19,7 @@ loop-holds : tie.Need-loop-holds Inv-loop μ-loop
 loop-holds c = (search needs, rw rest-all)
 
 returns : tie.Need-returns Inv-loop μ-loop
-unfolding placeOf
+unfolding leftFrom
 returns c = sym (c .before .before .loop .inv .1 ∙ strip-past _ _ _ _ (search needs) (search needs))
 
 shared-slice-read-if2 : tie.Need-shared-slice-read-if2 Inv-loop μ-loop
@@ -29,7 +29,7 @@ shared-slice-read-if2-2 : tie.Need-shared-slice-read-if2-2 Inv-loop μ-loop
 shared-slice-read-if2-2 c = search needs
 
 returns-2 : tie.Need-returns-2 Inv-loop μ-loop
-unfolding placeOf
+unfolding leftFrom
 returns-2 c = sym (c .before .before .before .before .before .loop .inv .1
     ∙ strip-not _ _ _ _ (search needs) (search needs) (c .if2 .taken))
 
@@ -50,7 +50,7 @@ loop-again c = (
 )
 
 returns-3 : tie.Need-returns-3 Inv-loop μ-loop
-unfolding placeOf
+unfolding leftFrom
 returns-3 c = sym (c .before .loop .inv .1 ∙ strip-end _ _ _ _ (search needs))
 
 pub word-at-spec : {M : Type 1} → statement M

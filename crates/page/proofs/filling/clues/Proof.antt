@@ -7,7 +7,7 @@ use Rattle.page.specs.Judge.{placed}
 use Rattle.page.specs.Many.{passes}
 use Rattle.page.specs.PageText.{clue-takes}
 use Rattle.page.specs.Places.{allFrom, gotClue}
-use Rattle.page.specs.ParserLaws.{told}
+use Rattle.page.specs.ParserLaws.{told-same}
 use borrow.Author.Needs.{needs}
 use lib.IntN.{negsuc}
 use lib.ListN.{length, length-set, replicate}
@@ -30,7 +30,7 @@ fits : (c : tie.After-known-told Inv-loop μ-loop)
 unfolding gotClue
 fits c =
     stores _ _ _ _ (c .before .before .before .before .before .before .before .pre)
-    (told (gotClue _) (c .before .before .before .clue-at .ensures) (c .before .c .given .1))
+    (told-same (gotClue _) (c .before .before .before .clue-at .ensures) (c .before .c .given .1))
 
 loop-holds : tie.Need-loop-holds Inv-loop μ-loop
 loop-holds c = (search needs, refl)
@@ -48,7 +48,7 @@ returns : tie.Need-returns Inv-loop μ-loop
 unfolding gotClue
 returns c = sym (c .before .before .before .before .loop .inv .1
     ∙ placed-none _ _ (from-none clue-takes _ _
-    (told (gotClue _) (c .before .before .clue-at .ensures) (c .enum-told .given .1))))
+    (told-same (gotClue _) (c .before .before .clue-at .ensures) (c .enum-told .given .1))))
 
 mul-cell : tie.Need-mul-cell Inv-loop μ-loop
 mul-cell c = omega (arith, fits (c .before) .product)
@@ -68,7 +68,7 @@ array-set-from-out c = search needs
 loop-less : tie.Need-loop-less Inv-loop μ-loop
 unfolding gotClue
 loop-less c = passes clue-takes _ _ _ _
-    (told (gotClue _) (c .before .before .before .before .before .before .before .clue-at .ensures)
+    (told-same (gotClue _) (c .before .before .before .before .before .before .before .clue-at .ensures)
     (c .before .before .before .before .before .c .given .1))
 
 loop-again : tie.Need-loop-again Inv-loop μ-loop
@@ -79,14 +79,14 @@ loop-again c =
       c .before .before .before .before .before .before .before .before .before .loop .inv .1 ∙
           rw (toZ-pos w32 {n = c .before .before .before .before .before .c .given .0 .0 .n} (omega arith))
           (placed-more _ _ (from-more clue-takes _ _ _ _
-          (told (gotClue _) (c .before .before .before .before .before .before .before .clue-at .ensures)
+          (told-same (gotClue _) (c .before .before .before .before .before .before .before .clue-at .ensures)
           (c .before .before .before .before .before .c .given .1)))),
     )
 
 loop-less-2 : tie.Need-loop-less-2 Inv-loop μ-loop
 unfolding gotClue
 loop-less-2 c = passes clue-takes _ _ _ _
-    (told (gotClue _) (c .before .before .before .before .before .before .clue-at .ensures)
+    (told-same (gotClue _) (c .before .before .before .before .before .before .clue-at .ensures)
     (c .before .before .before .before .c .given .1))
 
 loop-again-2 : tie.Need-loop-again-2 Inv-loop μ-loop
@@ -95,7 +95,7 @@ loop-again-2 c = (
   search needs,
   c .before .before .before .before .before .before .before .before .loop .inv .1
       ∙ placed-off _ _ (from-more clue-takes _ _ _ _
-      (told (gotClue _) (c .before .before .before .before .before .before .clue-at .ensures)
+      (told-same (gotClue _) (c .before .before .before .before .before .before .clue-at .ensures)
       (c .before .before .before .before .c .given .1))) (search needs),
 )
 

@@ -8,7 +8,7 @@ use Rattle.page.specs.Judge.{colourArray}
 use Rattle.page.specs.Many.{passes}
 use Rattle.page.specs.PageText.{row-takes}
 use Rattle.page.specs.Places.{allFrom, gotRow}
-use Rattle.page.specs.ParserLaws.{told}
+use Rattle.page.specs.ParserLaws.{told-same}
 use borrow.Author.Needs.{needs}
 use lib.ListN.{length}
 use lib.Seq.{sets}
@@ -42,7 +42,7 @@ returns c =
     sym
     (c .before .before .before .before .before .loop .inv
     ∙ rows-end _ _ (from-none row-takes _ _
-    (told (gotRow _) (c .before .before .before .row-at .ensures) (c .before .enum-told .given .1))))
+    (told-same (gotRow _) (c .before .before .before .row-at .ensures) (c .before .enum-told .given .1))))
 
 with-digits-requires : tie.Need-with-digits-requires Inv-loop μ-loop
 with-digits-requires c κs = search needs
@@ -50,14 +50,14 @@ with-digits-requires c κs = search needs
 loop-less : tie.Need-loop-less Inv-loop μ-loop
 unfolding gotRow
 loop-less c = passes row-takes _ _ _ _
-    (told (gotRow _) (c .before .before .before .before .row-at .ensures) (c .before .before .from .given .1))
+    (told-same (gotRow _) (c .before .before .before .before .row-at .ensures) (c .before .before .from .given .1))
 
 loop-again : tie.Need-loop-again Inv-loop μ-loop
 unfolding gotRow
 loop-again c =
     c .before .before .before .before .before .before .loop .inv ∙
     rows-on (from-more row-takes _ _ _ _
-    (told (gotRow _) (c .before .before .before .before .row-at .ensures) (c .before .before .from .given .1)))
+    (told-same (gotRow _) (c .before .before .before .before .row-at .ensures) (c .before .before .from .given .1)))
     (c .with-digits .ensures)
 
 returns-2 : tie.Need-returns-2 Inv-loop μ-loop

@@ -7,7 +7,7 @@ use Rattle.page.specs.Judge.{cluesLow}
 use Rattle.page.specs.Many.{passes}
 use Rattle.page.specs.PageText.{clue-takes}
 use Rattle.page.specs.Places.{allFrom, gotClue}
-use Rattle.page.specs.ParserLaws.{told}
+use Rattle.page.specs.ParserLaws.{told-same}
 use borrow.Author.Needs.{needs}
 use borrow.Author.Tests.{le-leb, lt-leb}
 use lib.ListN.{length}
@@ -39,7 +39,7 @@ returns c =
     sym
     (c .before .before .before .before .loop .inv ∙
     all-nil _ (from-none clue-takes _ _
-    (told (gotClue _) (c .before .before .clue-at .ensures) (c .enum-told .given .1))))
+    (told-same (gotClue _) (c .before .before .clue-at .ensures) (c .enum-told .given .1))))
 
 returns-2 : tie.Need-returns-2 Inv-loop μ-loop
 unfolding gotClue cluesLow
@@ -47,14 +47,14 @@ returns-2 c =
     sym
     (c .before .before .before .before .before .before .before .loop .inv ∙
     all-miss _ (from-more clue-takes _ _ _ _
-    (told (gotClue _) (c .before .before .before .before .before .clue-at .ensures)
+    (told-same (gotClue _) (c .before .before .before .before .before .clue-at .ensures)
     (c .before .before .before .c .given .1)))
     (lt-leb _ _ (c .if1 .taken)))
 
 loop-less : tie.Need-loop-less Inv-loop μ-loop
 unfolding gotClue
 loop-less c = passes clue-takes _ _ _ _
-    (told (gotClue _) (c .before .before .before .before .before .clue-at .ensures)
+    (told-same (gotClue _) (c .before .before .before .before .before .clue-at .ensures)
     (c .before .before .before .c .given .1))
 
 loop-again : tie.Need-loop-again Inv-loop μ-loop
@@ -62,7 +62,7 @@ unfolding gotClue cluesLow
 loop-again c =
     c .before .before .before .before .before .before .before .loop .inv ∙
     all-skip _ (from-more clue-takes _ _ _ _
-    (told (gotClue _) (c .before .before .before .before .before .clue-at .ensures)
+    (told-same (gotClue _) (c .before .before .before .before .before .clue-at .ensures)
     (c .before .before .before .c .given .1)))
     (le-leb _ _ (c .if1 .left))
 

@@ -1,6 +1,6 @@
 -- `judge_parts` meets its contract, test by test.
 use Rattle.board.specs.ConditionLaws.{sized}
-use Rattle.page.specs.JudgeLaws.{not-sized, ragged, coloured, misprint, right}
+use Rattle.page.specs.JudgeLaws.{not-sized, ragged, discoloured, misprint, right}
 use Rattle.page.specs.Places.{judgedOf, sheetAt}
 use borrow.Author.Needs.{needs}
 use mathlib.Core.Path.{sym, _∙_}
@@ -49,7 +49,7 @@ returns-3 : tie.Need-returns-3
 unfolding judgedOf sheetAt
 returns-3 c =
     sym
-    (coloured _ (sym (c .before .before .before .before .before .size-right .ensures)
+    (discoloured _ (sym (c .before .before .before .before .before .size-right .ensures)
     ∙ c .before .before .before .before .if1 .taken)
     (sym (c .before .before .before .rows-fit .ensures) ∙ c .before .before .if2 .taken)
     (sym (c .before .two-colours .ensures) ∙ c .if3 .left))

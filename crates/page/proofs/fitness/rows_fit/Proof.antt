@@ -7,7 +7,7 @@ use Rattle.page.specs.JudgeLaws.{length-digits, rows-none, rows-many, ro
 use Rattle.page.specs.Many.{passes}
 use Rattle.page.specs.PageText.{row-takes}
 use Rattle.page.specs.Places.{allFrom, gotRow}
-use Rattle.page.specs.ParserLaws.{told}
+use Rattle.page.specs.ParserLaws.{told-same}
 use borrow.Author.Needs.{needs}
 use lib.ListN.{length}
 use mathlib.Core.Path.{_≡_, refl, sym, _∙_}
@@ -38,7 +38,7 @@ returns c =
     sym
     (c .before .before .before .before .loop .inv ∙
     rows-none _ _ (from-none row-takes _ _
-    (told (gotRow _) (c .before .before .row-at .ensures) (c .enum-told .given .1))))
+    (told-same (gotRow _) (c .before .before .row-at .ensures) (c .enum-told .given .1))))
 
 returns-2 : tie.Need-returns-2 Inv-loop μ-loop
 unfolding gotRow
@@ -46,7 +46,7 @@ returns-2 c =
     sym
     (c .before .before .before .before .before .before .loop .inv ∙
     rows-many _ _ (from-more row-takes _ _ _ _
-    (told (gotRow _) (c .before .before .before .before .row-at .ensures) (c .before .before .from .given .1)))
+    (told-same (gotRow _) (c .before .before .before .before .row-at .ensures) (c .before .before .from .given .1)))
     (c .if1 .taken))
 
 places-requires : tie.Need-places-requires Inv-loop μ-loop
@@ -58,7 +58,7 @@ returns-3 c =
     sym
     (c .before .before .before .before .before .before .before .before .loop .inv ∙
     rows-other _ _ (from-more row-takes _ _ _ _
-    (told (gotRow _) (c .before .before .before .before .before .before .row-at .ensures)
+    (told-same (gotRow _) (c .before .before .before .before .before .before .row-at .ensures)
     (c .before .before .before .before .from .given .1)))
     (λ q. c .if2 .taken (c .before .places .ensures ∙ sym (length-digits _ _ _) ∙ q)))
 
@@ -68,7 +68,7 @@ sub-left c = search needs
 loop-less : tie.Need-loop-less Inv-loop μ-loop
 unfolding gotRow
 loop-less c = passes row-takes _ _ _ _
-    (told (gotRow _) (c .before .before .before .before .before .before .row-at .ensures)
+    (told-same (gotRow _) (c .before .before .before .before .before .before .row-at .ensures)
     (c .before .before .before .before .from .given .1))
 
 loop-again : tie.Need-loop-again Inv-loop μ-loop
@@ -76,7 +76,7 @@ unfolding gotRow
 loop-again c =
     c .before .before .before .before .before .before .before .before .loop .inv ∙
     rows-more _ _ (from-more row-takes _ _ _ _
-    (told (gotRow _) (c .before .before .before .before .before .before .row-at .ensures)
+    (told-same (gotRow _) (c .before .before .before .before .before .before .row-at .ensures)
     (c .before .before .before .before .from .given .1)))
     (search needs) (length-digits _ _ _ ∙ sym (c .before .places .ensures) ∙ c .if2 .left)
 

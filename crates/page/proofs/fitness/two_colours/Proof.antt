@@ -7,7 +7,7 @@ use Rattle.page.specs.Judge.{twoColours}
 use Rattle.page.specs.Many.{passes}
 use Rattle.page.specs.PageText.{row-takes}
 use Rattle.page.specs.Places.{allFrom, gotRow}
-use Rattle.page.specs.ParserLaws.{told}
+use Rattle.page.specs.ParserLaws.{told-same}
 use borrow.Author.Needs.{needs}
 use lib.ListN.{length}
 use mathlib.Core.Path.{_≡_, refl, sym, _∙_}
@@ -37,7 +37,8 @@ unfolding gotRow twoColours
 returns c =
     sym
     (c .before .before .before .before .loop .inv ∙
-    all-nil _ (from-none row-takes _ _ (told (gotRow _) (c .before .before .row-at .ensures) (c .enum-told .given .1))))
+    all-nil _ (from-none row-takes _ _
+    (told-same (gotRow _) (c .before .before .row-at .ensures) (c .enum-told .given .1))))
 
 digits-low-requires : tie.Need-digits-low-requires Inv-loop μ-loop
 digits-low-requires c κs = search needs
@@ -45,7 +46,7 @@ digits-low-requires c κs = search needs
 loop-less : tie.Need-loop-less Inv-loop μ-loop
 unfolding gotRow
 loop-less c = passes row-takes _ _ _ _
-    (told (gotRow _) (c .before .before .before .before .before .row-at .ensures)
+    (told-same (gotRow _) (c .before .before .before .before .before .row-at .ensures)
     (c .before .before .before .from .given .1))
 
 loop-again : tie.Need-loop-again Inv-loop μ-loop
@@ -53,7 +54,7 @@ unfolding gotRow twoColours
 loop-again c =
     c .before .before .before .before .before .before .before .loop .inv ∙
     all-skip _ (from-more row-takes _ _ _ _
-    (told (gotRow _) (c .before .before .before .before .before .row-at .ensures)
+    (told-same (gotRow _) (c .before .before .before .before .before .row-at .ensures)
     (c .before .before .before .from .given .1)))
     (sym (c .before .digits-low .ensures) ∙ c .if1 .taken)
 
@@ -63,7 +64,7 @@ returns-2 c =
     sym
     (c .before .before .before .before .before .before .before .loop .inv ∙
     all-miss _ (from-more row-takes _ _ _ _
-    (told (gotRow _) (c .before .before .before .before .before .row-at .ensures)
+    (told-same (gotRow _) (c .before .before .before .before .before .row-at .ensures)
     (c .before .before .before .from .given .1)))
     (sym (c .before .digits-low .ensures) ∙ c .if1 .left))
 

@@ -1,8 +1,8 @@
 -- `call_at` meets its contract: each word read is what the parser reads there.
 use Rattle.lists.specs.Lists.{orElse}
 use Rattle.page.specs.Grammar.{call}
-use Rattle.page.specs.Places.{gotCall, placeOf}
-use Rattle.page.specs.ParserLaws.{told}
+use Rattle.page.specs.Places.{gotCall, leftFrom}
+use Rattle.page.specs.ParserLaws.{told-same}
 use Rattle.page.specs.Parsers.{either, lead, onto, give}
 use borrow.Author.Needs.{needs}
 use Rattle.page.proofs.lines.call_at.Statement.{statement}
@@ -36,25 +36,25 @@ decide-at-requires : tie.Need-decide-at-requires
 decide-at-requires c κs = search needs
 
 returns : tie.Need-returns
-unfolding call either orElse lead onto give gotCall placeOf
+unfolding call either orElse lead onto give gotCall leftFrom
 returns c = rw (
-  told (placeOf _) (c .before .before .before .before .before .before .before .word-at .ensures)
+  told-same (leftFrom _) (c .before .before .before .before .before .before .before .word-at .ensures)
       (c .before .before .before .before .before .enum-told .given .1),
-  told (placeOf _) (c .before .before .before .word-at2 .ensures) (c .before .enum-told2 .given .1),
+  told-same (leftFrom _) (c .before .before .before .word-at2 .ensures) (c .before .enum-told2 .given .1),
   c .decide-at .ensures,
 )
 
 returns-2 : tie.Need-returns-2
-unfolding call either orElse lead onto give gotCall placeOf
+unfolding call either orElse lead onto give gotCall leftFrom
 returns-2 c = rw (
-  told (placeOf _) (c .before .before .before .before .before .before .before .word-at .ensures)
+  told-same (leftFrom _) (c .before .before .before .before .before .before .before .word-at .ensures)
       (c .before .before .before .before .before .enum-told .given .1),
-  told (placeOf _) (c .before .before .before .word-at2 .ensures) (c .before .b .given .1),
+  told-same (leftFrom _) (c .before .before .before .word-at2 .ensures) (c .before .b .given .1),
 )
 
 returns-3 : tie.Need-returns-3
-unfolding call either orElse lead onto give gotCall placeOf
-returns-3 c = rw (told (placeOf _) (c .before .before .before .word-at .ensures) (c .before .a .given .1))
+unfolding call either orElse lead onto give gotCall leftFrom
+returns-3 c = rw (told-same (leftFrom _) (c .before .before .before .word-at .ensures) (c .before .a .given .1))
 
 pub call-at-spec : {M : Type 1} → statement M
 call-at-spec =

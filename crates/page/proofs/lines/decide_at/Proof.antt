@@ -1,8 +1,8 @@
 -- `decide_at` meets its contract: each word and number read is what the parser reads there.
 use Rattle.lists.specs.Lists.{orElse}
 use Rattle.page.specs.Grammar.{decideCall, side}
-use Rattle.page.specs.Places.{gotCall, placeOf, gotNumber}
-use Rattle.page.specs.ParserLaws.{told}
+use Rattle.page.specs.Places.{gotCall, leftFrom, gotNumber}
+use Rattle.page.specs.ParserLaws.{told-same}
 use Rattle.page.specs.Parsers.{mapR, either, lead, onto, both, also, give}
 use borrow.Author.Needs.{needs}
 use Rattle.page.proofs.lines.decide_at.Statement.{statement}
@@ -21,8 +21,8 @@ enum-told : tie.Need-enum-told
 enum-told c = search needs
 
 returns : tie.Need-returns
-unfolding decideCall side mapR either orElse lead onto both also give gotCall placeOf gotNumber
-returns c = rw (told (placeOf _) (c .before .before .word-at .ensures) (c .enum-told .given .1))
+unfolding decideCall side mapR either orElse lead onto both also give gotCall leftFrom gotNumber
+returns c = rw (told-same (leftFrom _) (c .before .before .word-at .ensures) (c .enum-told .given .1))
 
 number-at-requires : tie.Need-number-at-requires
 number-at-requires c κs = search needs
@@ -34,11 +34,11 @@ enum-told-2 : tie.Need-enum-told-2
 enum-told-2 c = search needs
 
 returns-2 : tie.Need-returns-2
-unfolding decideCall side mapR either orElse lead onto both also give gotCall placeOf gotNumber
+unfolding decideCall side mapR either orElse lead onto both also give gotCall leftFrom gotNumber
 returns-2 c = rw (
-  told (placeOf _) (c .before .before .before .before .before .before .word-at .ensures)
+  told-same (leftFrom _) (c .before .before .before .before .before .before .word-at .ensures)
       (c .before .before .before .before .a .given .1),
-  told (gotNumber _) (c .before .before .number-at .ensures) (c .enum-told2 .given .1),
+  told-same (gotNumber _) (c .before .before .number-at .ensures) (c .enum-told2 .given .1),
 )
 
 slice-aggregate-word-at-2 : tie.Need-slice-aggregate-word-at-2
@@ -66,45 +66,45 @@ enum-told-4 : tie.Need-enum-told-4
 enum-told-4 c = search needs
 
 returns-3 : tie.Need-returns-3
-unfolding decideCall side mapR either orElse lead onto both also give gotCall placeOf gotNumber
+unfolding decideCall side mapR either orElse lead onto both also give gotCall leftFrom gotNumber
 returns-3 c = rw (
-  told (placeOf _)
+  told-same (leftFrom _)
       (c .before .before .before .before .before .before .before .before .before .before .before .before .before .before
       .before .word-at .ensures) (c .before .before .before .before .before .before .before .before .before .before
       .before .before .before .a .given .1),
-  told (gotNumber _) (c .before .before .before .before .before .before .before .before .before .before .before
+  told-same (gotNumber _) (c .before .before .before .before .before .before .before .before .before .before .before
       .number-at .ensures) (c .before .before .before .before .before .before .before .before .before .border .given
       .1),
-  told (placeOf _) (c .before .before .before .before .before .before .word-at2 .ensures)
+  told-same (leftFrom _) (c .before .before .before .before .before .before .word-at2 .ensures)
       (c .before .before .before .before .enum-told3 .given .1),
-  told (placeOf _) (c .before .before .word-at3 .ensures) (c .enum-told4 .given .1),
+  told-same (leftFrom _) (c .before .before .word-at3 .ensures) (c .enum-told4 .given .1),
 )
 
 returns-4 : tie.Need-returns-4
-unfolding decideCall side mapR either orElse lead onto both also give gotCall placeOf gotNumber
+unfolding decideCall side mapR either orElse lead onto both also give gotCall leftFrom gotNumber
 returns-4 c = rw (
-  told (placeOf _)
+  told-same (leftFrom _)
       (c .before .before .before .before .before .before .before .before .before .before .before .before .before .before
       .before .before .word-at .ensures)
       (c .before .before .before .before .before .before .before .before .before .before .before .before .before .before
       .a .given .1),
-  told (gotNumber _) (c .before .before .before .before .before .before .before .before .before .before .before
+  told-same (gotNumber _) (c .before .before .before .before .before .before .before .before .before .before .before
       .before .number-at .ensures) (c .before .before .before .before .before .before .before .before .before .before
       .border .given .1),
-  told (placeOf _) (c .before .before .before .before .before .before .before .word-at2 .ensures)
+  told-same (leftFrom _) (c .before .before .before .before .before .before .before .word-at2 .ensures)
       (c .before .before .before .before .before .enum-told3 .given .1),
-  told (placeOf _) (c .before .before .before .word-at3 .ensures) (c .before .e .given .1),
+  told-same (leftFrom _) (c .before .before .before .word-at3 .ensures) (c .before .e .given .1),
 )
 
 returns-5 : tie.Need-returns-5
-unfolding decideCall side mapR either orElse lead onto both also give gotCall placeOf gotNumber
+unfolding decideCall side mapR either orElse lead onto both also give gotCall leftFrom gotNumber
 returns-5 c = rw (
-  told (placeOf _)
+  told-same (leftFrom _)
       (c .before .before .before .before .before .before .before .before .before .before .before .before .word-at
       .ensures) (c .before .before .before .before .before .before .before .before .before .before .a .given .1),
-  told (gotNumber _) (c .before .before .before .before .before .before .before .before .number-at .ensures)
+  told-same (gotNumber _) (c .before .before .before .before .before .before .before .before .number-at .ensures)
       (c .before .before .before .before .before .before .border .given .1),
-  told (placeOf _) (c .before .before .before .word-at2 .ensures) (c .before .d .given .1),
+  told-same (leftFrom _) (c .before .before .before .word-at2 .ensures) (c .before .d .given .1),
 )
 
 pub decide-at-spec : {M : Type 1} → statement M

@@ -1,7 +1,7 @@
 -- `size_at` meets its contract: each word and number read is what the parser reads there.
 use Rattle.page.specs.Grammar.{size}
-use Rattle.page.specs.Places.{gotSize, placeOf, gotNumber}
-use Rattle.page.specs.ParserLaws.{told}
+use Rattle.page.specs.Places.{gotSize, leftFrom, gotNumber}
+use Rattle.page.specs.ParserLaws.{told-same}
 use Rattle.page.specs.Parsers.{lead, both, followed, give, onto, also}
 use borrow.Author.Needs.{needs}
 use Rattle.page.proofs.lines.size_at.Statement.{statement}
@@ -20,8 +20,8 @@ enum-told : tie.Need-enum-told
 enum-told c = search needs
 
 returns : tie.Need-returns
-unfolding size lead both followed give onto also gotSize placeOf gotNumber
-returns c = rw (told (placeOf _) (c .before .before .word-at .ensures) (c .enum-told .given .1))
+unfolding size lead both followed give onto also gotSize leftFrom gotNumber
+returns c = rw (told-same (leftFrom _) (c .before .before .word-at .ensures) (c .enum-told .given .1))
 
 number-at-requires : tie.Need-number-at-requires
 number-at-requires c κs = search needs
@@ -33,11 +33,11 @@ enum-told-2 : tie.Need-enum-told-2
 enum-told-2 c = search needs
 
 returns-2 : tie.Need-returns-2
-unfolding size lead both followed give onto also gotSize placeOf gotNumber
+unfolding size lead both followed give onto also gotSize leftFrom gotNumber
 returns-2 c = rw (
-  told (placeOf _) (c .before .before .before .before .before .before .word-at .ensures)
+  told-same (leftFrom _) (c .before .before .before .before .before .before .word-at .ensures)
       (c .before .before .before .before .a .given .1),
-  told (gotNumber _) (c .before .before .number-at .ensures) (c .enum-told2 .given .1),
+  told-same (gotNumber _) (c .before .before .number-at .ensures) (c .enum-told2 .given .1),
 )
 
 number-at-requires-2 : tie.Need-number-at-requires-2
@@ -50,14 +50,14 @@ enum-told-3 : tie.Need-enum-told-3
 enum-told-3 c = search needs
 
 returns-3 : tie.Need-returns-3
-unfolding size lead both followed give onto also gotSize placeOf gotNumber
+unfolding size lead both followed give onto also gotSize leftFrom gotNumber
 returns-3 c = rw (
-  told (placeOf _)
+  told-same (leftFrom _)
       (c .before .before .before .before .before .before .before .before .before .before .word-at .ensures)
       (c .before .before .before .before .before .before .before .before .a .given .1),
-  told (gotNumber _) (c .before .before .before .before .before .before .number-at .ensures)
+  told-same (gotNumber _) (c .before .before .before .before .before .before .number-at .ensures)
       (c .before .before .before .before .h .given .1),
-  told (gotNumber _) (c .before .before .number-at2 .ensures) (c .enum-told3 .given .1),
+  told-same (gotNumber _) (c .before .before .number-at2 .ensures) (c .enum-told3 .given .1),
 )
 
 slice-aggregate-word-at-2 : tie.Need-slice-aggregate-word-at-2
@@ -73,33 +73,33 @@ enum-told-4 : tie.Need-enum-told-4
 enum-told-4 c = search needs
 
 returns-4 : tie.Need-returns-4
-unfolding size lead both followed give onto also gotSize placeOf gotNumber
+unfolding size lead both followed give onto also gotSize leftFrom gotNumber
 returns-4 c = rw (
-  told (placeOf _)
+  told-same (leftFrom _)
       (c .before .before .before .before .before .before .before .before .before .before .before .before .before .before
       .before .word-at .ensures) (c .before .before .before .before .before .before .before .before .before .before
       .before .before .before .a .given .1),
-  told (gotNumber _) (c .before .before .before .before .before .before .before .before .before .before .before
+  told-same (gotNumber _) (c .before .before .before .before .before .before .before .before .before .before .before
       .number-at .ensures) (c .before .before .before .before .before .before .before .before .before .h .given .1),
-  told (gotNumber _) (c .before .before .before .before .before .before .before .number-at2 .ensures)
+  told-same (gotNumber _) (c .before .before .before .before .before .before .before .number-at2 .ensures)
       (c .before .before .before .before .before .w .given .1),
-  told (placeOf _) (c .before .before .word-at2 .ensures) (c .enum-told4 .given .1),
+  told-same (leftFrom _) (c .before .before .word-at2 .ensures) (c .enum-told4 .given .1),
 )
 
 returns-5 : tie.Need-returns-5
-unfolding size lead both followed give onto also gotSize placeOf gotNumber
+unfolding size lead both followed give onto also gotSize leftFrom gotNumber
 returns-5 c = rw (
-  told (placeOf _)
+  told-same (leftFrom _)
       (c .before .before .before .before .before .before .before .before .before .before .before .before .before .before
       .before .before .word-at .ensures)
       (c .before .before .before .before .before .before .before .before .before .before .before .before .before .before
       .a .given .1),
-  told (gotNumber _) (c .before .before .before .before .before .before .before .before .before .before .before
+  told-same (gotNumber _) (c .before .before .before .before .before .before .before .before .before .before .before
       .before .number-at .ensures) (c .before .before .before .before .before .before .before .before .before .before
       .h .given .1),
-  told (gotNumber _) (c .before .before .before .before .before .before .before .before .number-at2 .ensures)
+  told-same (gotNumber _) (c .before .before .before .before .before .before .before .before .number-at2 .ensures)
       (c .before .before .before .before .before .before .w .given .1),
-  told (placeOf _) (c .before .before .before .word-at2 .ensures) (c .before .next .given .1),
+  told-same (leftFrom _) (c .before .before .before .word-at2 .ensures) (c .before .next .given .1),
 )
 
 pub size-at-spec : {M : Type 1} → statement M

@@ -7,7 +7,7 @@ use Rattle.page.specs.Grammar.{clue, sameCell}
 use Rattle.page.specs.Many.{passes}
 use Rattle.page.specs.PageText.{clue-takes}
 use Rattle.page.specs.Places.{allFrom, gotClue}
-use Rattle.page.specs.ParserLaws.{told}
+use Rattle.page.specs.ParserLaws.{told-same}
 use borrow.Author.Needs.{needs}
 use lib.ListN.{length}
 use mathlib.Core.Path.{_≡_, refl, sym, _∙_}
@@ -38,7 +38,7 @@ returns c =
     sym
     (c .before .before .before .before .loop .inv ∙
     any-nil _ (from-none clue-takes _ _
-    (told (gotClue _) (c .before .before .clue-at .ensures) (c .enum-told .given .1))))
+    (told-same (gotClue _) (c .before .before .clue-at .ensures) (c .enum-told .given .1))))
 
 same-cell-requires : tie.Need-same-cell-requires Inv-loop μ-loop
 same-cell-requires c κs = search needs
@@ -49,14 +49,14 @@ returns-2 c =
     sym
     (c .before .before .before .before .before .before .before .loop .inv ∙
     any-hit _ (from-more clue-takes _ _ _ _
-    (told (gotClue _) (c .before .before .before .before .before .clue-at .ensures)
+    (told-same (gotClue _) (c .before .before .before .before .before .clue-at .ensures)
     (c .before .before .before .d .given .1)))
     (sym (c .before .same-cell .ensures) ∙ c .if1 .taken))
 
 loop-less : tie.Need-loop-less Inv-loop μ-loop
 unfolding gotClue
 loop-less c = passes clue-takes _ _ _ _
-    (told (gotClue _) (c .before .before .before .before .before .clue-at .ensures)
+    (told-same (gotClue _) (c .before .before .before .before .before .clue-at .ensures)
     (c .before .before .before .d .given .1))
 
 loop-again : tie.Need-loop-again Inv-loop μ-loop
@@ -64,7 +64,7 @@ unfolding gotClue
 loop-again c =
     c .before .before .before .before .before .before .before .loop .inv ∙
     any-skip _ (from-more clue-takes _ _ _ _
-    (told (gotClue _) (c .before .before .before .before .before .clue-at .ensures)
+    (told-same (gotClue _) (c .before .before .before .before .before .clue-at .ensures)
     (c .before .before .before .d .given .1)))
     (sym (c .before .same-cell .ensures) ∙ c .if1 .left)
 

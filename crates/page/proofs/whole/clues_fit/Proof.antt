@@ -5,7 +5,7 @@ use Rattle.page.specs.Grammar.{clue, cluesFit}
 use Rattle.page.specs.Many.{passes}
 use Rattle.page.specs.PageText.{clue-takes}
 use Rattle.page.specs.Places.{allFrom, gotClue}
-use Rattle.page.specs.ParserLaws.{told}
+use Rattle.page.specs.ParserLaws.{told-same}
 use borrow.Author.Needs.{needs}
 use lib.ListN.{length}
 use mathlib.Core.Path.{_≡_, refl, sym, _∙_}
@@ -36,7 +36,7 @@ returns c =
     sym
     (c .before .before .before .before .loop .inv ∙
     fit-none _ _ (from-none clue-takes _ _
-    (told (gotClue _) (c .before .before .clue-at .ensures) (c .enum-told .given .1))))
+    (told-same (gotClue _) (c .before .before .clue-at .ensures) (c .enum-told .given .1))))
 
 on-page-requires : tie.Need-on-page-requires Inv-loop μ-loop
 on-page-requires c κs = search needs
@@ -50,7 +50,7 @@ returns-2 c =
     sym
     (c .before .before .before .before .before .before .before .before .before .loop .inv ∙
     fit-twice _ _ _ _ (from-more clue-takes _ _ _ _
-    (told (gotClue _) (c .before .before .before .before .before .before .before .clue-at .ensures)
+    (told-same (gotClue _) (c .before .before .before .before .before .before .before .clue-at .ensures)
     (c .before .before .before .before .before .c .given .1)))
     (sym (c .before .before .before .on-page .ensures) ∙ c .before .before .if1 .taken)
     (sym (c .before .clue-again .ensures) ∙ c .if2 .taken))
@@ -58,7 +58,7 @@ returns-2 c =
 loop-less : tie.Need-loop-less Inv-loop μ-loop
 unfolding gotClue
 loop-less c = passes clue-takes _ _ _ _
-    (told (gotClue _) (c .before .before .before .before .before .before .before .clue-at .ensures)
+    (told-same (gotClue _) (c .before .before .before .before .before .before .before .clue-at .ensures)
     (c .before .before .before .before .before .c .given .1))
 
 loop-again : tie.Need-loop-again Inv-loop μ-loop
@@ -66,7 +66,7 @@ unfolding gotClue
 loop-again c =
     c .before .before .before .before .before .before .before .before .before .loop .inv ∙
     fit-more _ _ _ _ (from-more clue-takes _ _ _ _
-    (told (gotClue _) (c .before .before .before .before .before .before .before .clue-at .ensures)
+    (told-same (gotClue _) (c .before .before .before .before .before .before .before .clue-at .ensures)
     (c .before .before .before .before .before .c .given .1)))
     (sym (c .before .before .before .on-page .ensures) ∙ c .before .before .if1 .taken)
     (sym (c .before .clue-again .ensures) ∙ c .if2 .left)
@@ -77,7 +77,7 @@ returns-3 c =
     sym
     (c .before .before .before .before .before .before .before .loop .inv ∙
     fit-off _ _ _ _ (from-more clue-takes _ _ _ _
-    (told (gotClue _) (c .before .before .before .before .before .clue-at .ensures)
+    (told-same (gotClue _) (c .before .before .before .before .before .clue-at .ensures)
     (c .before .before .before .c .given .1)))
     (sym (c .before .on-page .ensures) ∙ c .if1 .left))
 

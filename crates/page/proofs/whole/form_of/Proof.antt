@@ -1,7 +1,7 @@
 -- `form_of` meets its contract: the words and the lines read are what the parsers read there.
 use Rattle.page.specs.FormLaws.{Body, too-long, no-page, no-size, no-end, more-left, misfit, good}
-use Rattle.page.specs.Places.{formOf, placeOf, gotSize, endOf, sheetAt}
-use Rattle.page.specs.ParserLaws.{told, rest-all}
+use Rattle.page.specs.Places.{formOf, leftFrom, gotSize, endOf, sheetAt}
+use Rattle.page.specs.ParserLaws.{told-same, rest-all}
 use borrow.Author.Needs.{needs}
 use mathlib.Core.Path.{sym, _∙_}
 use Rattle.page.proofs.whole.form_of.Statement.{statement}
@@ -19,14 +19,15 @@ body : (c : tie.After-lines-end3)
     → Body (at-word c .before .before .before .before .before .before .args .s .now)
     (at-size c .height .given .0 .0) (at-size c .height .given .0 .1 .0) (at-size c .height .given .0 .1 .1 .0)
     (c .before .before .lines-end .result) (c .before .lines-end2 .result) (c .lines-end3 .result)
-unfolding placeOf gotSize endOf
+unfolding leftFrom gotSize endOf
 body c =
     record {
       short = at-word c .before .before .before .before .if1 .left;
       start = _;
       paged =
-          rw rest-all at (told (placeOf _) (at-word c .before .before .word-at .ensures) (at-word c .a .given .1));
-      sized = told (gotSize _) (at-size c .before .before .size-at .ensures) (at-size c .height .given .1);
+          rw rest-all at (told-same (leftFrom _) (at-word c .before .before .word-at .ensures)
+          (at-word c .a .given .1));
+      sized = told-same (gotSize _) (at-size c .before .before .size-at .ensures) (at-size c .height .given .1);
       rowed = c .before .before .lines-end .ensures;
       clued = c .before .lines-end2 .ensures;
       called = c .lines-end3 .ensures;
@@ -49,9 +50,9 @@ enum-told : tie.Need-enum-told
 enum-told c = search needs
 
 returns-2 : tie.Need-returns-2
-unfolding formOf placeOf
+unfolding formOf leftFrom
 returns-2 c = sym (no-page _ (c .before .before .before .before .if1 .left)
-    (rw rest-all at (told (placeOf _) (c .before .before .word-at .ensures) (c .enum-told .given .1))))
+    (rw rest-all at (told-same (leftFrom _) (c .before .before .word-at .ensures) (c .enum-told .given .1))))
 
 size-at-requires : tie.Need-size-at-requires
 size-at-requires c κs = search needs
@@ -63,13 +64,13 @@ enum-told-2 : tie.Need-enum-told-2
 enum-told-2 c = search needs
 
 returns-3 : tie.Need-returns-3
-unfolding formOf placeOf gotSize
+unfolding formOf leftFrom gotSize
 returns-3 c =
     sym
     (no-size _ (c .before .before .before .before .before .before .before .before .if1 .left) _
-    (rw rest-all at (told (placeOf _) (c .before .before .before .before .before .before .word-at .ensures)
+    (rw rest-all at (told-same (leftFrom _) (c .before .before .before .before .before .before .word-at .ensures)
     (c .before .before .before .before .a .given .1)))
-    (told (gotSize _) (c .before .before .size-at .ensures) (c .enum-told2 .given .1)))
+    (told-same (gotSize _) (c .before .before .size-at .ensures) (c .enum-told2 .given .1)))
 
 lines-end-requires : tie.Need-lines-end-requires
 lines-end-requires c κs = search needs
@@ -93,36 +94,36 @@ enum-told-3 : tie.Need-enum-told-3
 enum-told-3 c = search needs
 
 returns-4 : tie.Need-returns-4
-unfolding formOf placeOf
+unfolding formOf leftFrom
 returns-4 c = sym (no-end (body (c .before .before .before .before))
-    (told (placeOf _) (c .before .before .word-at2 .ensures) (c .enum-told3 .given .1)))
+    (told-same (leftFrom _) (c .before .before .word-at2 .ensures) (c .enum-told3 .given .1)))
 
 returns-5 : tie.Need-returns-5
-unfolding formOf placeOf
+unfolding formOf leftFrom
 returns-5 c =
     sym
     (more-left (body (c .before .before .before .before .before .before)) _
-    (told (placeOf _) (c .before .before .before .before .word-at2 .ensures) (c .before .before .last .given .1))
+    (told-same (leftFrom _) (c .before .before .before .before .word-at2 .ensures) (c .before .before .last .given .1))
     (c .if2 .taken))
 
 clues-fit-requires : tie.Need-clues-fit-requires
 clues-fit-requires c κs = search needs
 
 returns-6 : tie.Need-returns-6
-unfolding formOf placeOf sheetAt
+unfolding formOf leftFrom sheetAt
 returns-6 c =
     sym
     (good (body (c .before .before .before .before .before .before .before .before)) _
-    (told (placeOf _) (c .before .before .before .before .before .before .word-at2 .ensures)
+    (told-same (leftFrom _) (c .before .before .before .before .before .before .word-at2 .ensures)
     (c .before .before .before .before .last .given .1)) (c .before .before .if2 .left)
     (sym (c .before .clues-fit .ensures) ∙ c .if3 .taken))
 
 returns-7 : tie.Need-returns-7
-unfolding formOf placeOf
+unfolding formOf leftFrom
 returns-7 c =
     sym
     (misfit (body (c .before .before .before .before .before .before .before .before)) _
-    (told (placeOf _) (c .before .before .before .before .before .before .word-at2 .ensures)
+    (told-same (leftFrom _) (c .before .before .before .before .before .before .word-at2 .ensures)
     (c .before .before .before .before .last .given .1)) (c .before .before .if2 .left)
     (sym (c .before .clues-fit .ensures) ∙ c .if3 .left))
 

@@ -1,8 +1,8 @@
 -- `lines_end` meets its contract: what is left after the lines from p on is what is left after those from `at` on.
 use Prim.Native.Nat.{_-_}
 use Rattle.page.specs.FormLaws.{lines-past, lines-none, lines-more}
-use Rattle.page.specs.Places.{endOf, placeOf}
-use Rattle.page.specs.ParserLaws.{told}
+use Rattle.page.specs.Places.{endOf, leftFrom}
+use Rattle.page.specs.ParserLaws.{told-same}
 use borrow.Author.Needs.{needs}
 use lib.ListN.{length}
 use mathlib.Core.Path.{_≡_, refl, sym, _∙_}
@@ -28,19 +28,19 @@ enum-told : tie.Need-enum-told Inv-loop μ-loop
 enum-told c = search needs
 
 returns : tie.Need-returns Inv-loop μ-loop
-unfolding placeOf
+unfolding leftFrom
 returns c = sym (c .before .before .before .before .loop .inv
-    ∙ lines-none _ _ _ (told (placeOf _) (c .before .before .line-end .ensures) (c .enum-told .given .1)))
+    ∙ lines-none _ _ _ (told-same (leftFrom _) (c .before .before .line-end .ensures) (c .enum-told .given .1)))
 
 loop-less : tie.Need-loop-less Inv-loop μ-loop
-unfolding placeOf
+unfolding leftFrom
 loop-less c = lines-more _ _ _ _
-    (told (placeOf _) (c .before .before .before .line-end .ensures) (c .before .next .given .1)) .1
+    (told-same (leftFrom _) (c .before .before .before .line-end .ensures) (c .before .next .given .1)) .1
 
 loop-again : tie.Need-loop-again Inv-loop μ-loop
-unfolding placeOf
+unfolding leftFrom
 loop-again c = c .before .before .before .before .before .loop .inv
-    ∙ lines-more _ _ _ _ (told (placeOf _) (c .before .before .before .line-end .ensures)
+    ∙ lines-more _ _ _ _ (told-same (leftFrom _) (c .before .before .before .line-end .ensures)
     (c .before .next .given .1)) .0
 
 returns-2 : tie.Need-returns-2 Inv-loop μ-loop

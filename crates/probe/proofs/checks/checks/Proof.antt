@@ -8,7 +8,7 @@ use Rattle.board.specs.declared.Board.{Board}
 use Rattle.board.specs.Alien.{boardOf}
 use Rattle.calls.specs.Answers.{answerNumber, checkAnswer, checkMemory}
 use Rattle.probe.specs.ProbeChecks.{checksNumber, checksMemory}
-use Rattle.probe.specs.ProbeChecksLaws.{checks-length, memory-more, number-more}
+use Rattle.probe.specs.ProbeChecksLaws.{checks-length, checks-memory-more, number-more}
 use Rattle.probe.proofs.checks.checks.Statement.{statement}
 use Rattle.probe.proofs.checks.checks.Tie as tie
 
@@ -49,7 +49,7 @@ loop-again c =
       omega arith,
       e .0 ∙ ap (λ n. answerNumber (checkAnswer b n)) (ap length (p .loop .inv .2) ∙ checks-length b (p .loop .i) m)
           ∙ number-more b (length m) (p .loop .i),
-      e .1 ∙ ap (checkMemory b) (p .loop .inv .2) ∙ memory-more b (p .loop .i) m,
+      e .1 ∙ ap (checkMemory b) (p .loop .inv .2) ∙ checks-memory-more b (p .loop .i) m,
     )
 
 same-length : tie.Need-same-length Inv-loop μ-loop

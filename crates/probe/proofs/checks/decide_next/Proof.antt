@@ -6,7 +6,7 @@ use borrow.Author.Tests.{eq-eqb, ne-eqb}
 use Rattle.board.specs.declared.Returned.{Returned}
 use Rattle.board.specs.Board.{numberOf}
 use Rattle.board.specs.DecideLaws.{decided-is, done-returned}
-use Rattle.board.specs.NativeLaws.{borders-fit, native-has, room}
+use Rattle.board.specs.NativeLaws.{borders-fit, native-has, stack-room}
 use Rattle.probe.proofs.checks.decide_next.Statement.{statement}
 use Rattle.probe.proofs.checks.decide_next.Tie as tie
 
@@ -30,7 +30,7 @@ add-result c =
     let e = c .before .before .decide-lent .ensures in
     let d = decided-is (done-returned _ (ap (λ (r : Returned). numberOf (r .outcome)) (sym e) ∙ done c)) in
     let N = native-has _ (d .known) in
-    omega (arith, room _ N _ (d .below) (d .free), borders-fit _ N)
+    omega (arith, stack-room _ N _ (d .below) (d .free), borders-fit _ N)
 
 returns : tie.Need-returns
 returns c =

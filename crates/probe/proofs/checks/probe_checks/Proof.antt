@@ -11,7 +11,8 @@ use Rattle.board.specs.Board.{numberOf}
 use Rattle.board.specs.Accepted.{madeBoard, decidesOf}
 use Rattle.calls.specs.Answers.{literalOf}
 use Rattle.probe.specs.ProbeChecks.{checksNumber, checksMemory, decidesMemory, made, boardIn}
-use Rattle.probe.specs.ProbeChecksLaws.{decides-length, number-refused, memory-refused, number-made, memory-made}
+use Rattle.probe.specs.ProbeChecksLaws.{decides-length, checks-number-refused, memory-refused, number-made}
+use Rattle.probe.specs.ProbeChecksLaws.{memory-made}
 use Rattle.probe.proofs.checks.probe_checks.Statement.{statement}
 use Rattle.probe.proofs.checks.probe_checks.Tie as tie
 
@@ -31,7 +32,7 @@ returns c =
     let a = c .before .before .before .before .before .before .args in
     let e = made-is (c .before) in
     let f = ne-eqb _ _ (λ q. c .if1 .taken (e ∙ q)) in (
-      e ∙ number-refused _ _ _ _ (a .codes .now) (a .each) (a .times) (a .memory .now) f,
+      e ∙ checks-number-refused _ _ _ _ (a .codes .now) (a .each) (a .times) (a .memory .now) f,
       memory-refused _ _ _ _ (a .codes .now) (a .each) (a .times) (a .memory .now) f,
     )
 

@@ -3,7 +3,7 @@ use mathlib.Core.Path.{_≡_}
 use mathlib.Core.Bool.{Bool}
 use mathlib.Core.List.{[]}
 use Rattle.groups.specs.Grouping.{numbersIn}
-use Rattle.lists.specs.Lists.{keep}
+use Rattle.lists.specs.Lists.{keepIf}
 use Rattle.rules.specs.declared.Side.the-variants.{Open}
 use Rattle.rules.specs.Page.{Hop}
 use Rattle.rules.specs.Codes.{statesIn}
@@ -23,7 +23,7 @@ test s =
 kept : (c : tie.After-open-kept) →
     let s = c .before .before in
     gather Open (test s) (hopsIn (s .args .n))
-    ≡ keep (c .open-kept .result) (record { border = s .args .n .border; side = Open }) []
+    ≡ keepIf (c .open-kept .result) (record { border = s .args .n .border; side = Open }) []
 kept c = gather-hops Open (test (c .before .before)) (c .before .before .args .n) (c .open-kept .ensures)
 
 open-kept-requires : tie.Need-open-kept-requires

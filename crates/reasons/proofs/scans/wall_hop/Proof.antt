@@ -3,7 +3,7 @@ use mathlib.Core.Path.{_≡_}
 use mathlib.Core.Bool.{Bool}
 use mathlib.Core.List.{[]}
 use Rattle.groups.specs.Grouping.{numbersIn}
-use Rattle.lists.specs.Lists.{keep}
+use Rattle.lists.specs.Lists.{keepIf}
 use Rattle.rules.specs.declared.Side.the-variants.{Wall}
 use Rattle.rules.specs.Page.{Hop}
 use Rattle.rules.specs.Codes.{statesIn, coloursIn}
@@ -24,7 +24,7 @@ test s =
 kept : (c : tie.After-wall-kept) →
     let s = c .before .before in
     gather Wall (test s) (hopsIn (s .args .n))
-    ≡ keep (c .wall-kept .result) (record { border = s .args .n .border; side = Wall }) []
+    ≡ keepIf (c .wall-kept .result) (record { border = s .args .n .border; side = Wall }) []
 kept c = gather-hops Wall (test (c .before .before)) (c .before .before .args .n) (c .wall-kept .ensures)
 
 wall-kept-requires : tie.Need-wall-kept-requires

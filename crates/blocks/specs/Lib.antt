@@ -1,0 +1,16 @@
+pub mod Arrays
+pub mod Censuses
+pub mod Scan
+pub mod Faults
+pub mod BlockCases
+pub mod Surveyed
+pub mod FaultCases
+pub mod LoneCases
+pub mod Looks
+pub mod Looked
+pub mod Faulty
+pub mod Bridges
+pub mod Written
+pub mod WriteCases
+pub mod Bounds
+pub mod BlockHits

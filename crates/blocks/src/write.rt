@@ -1,0 +1,50 @@
+// Step 1's reason, written into lent reason memory.
+ghost use mathlib.Core.Path.{_≡_};
+ghost use Prim.Native.Nat.{_≤_};
+ghost use lib.ListN.{length};
+ghost use Rattle.groups.specs.Grouping.{numbersIn};
+ghost use Rattle.rules.specs.Flat.{Sized};
+ghost use Rattle.reasons.specs.Memory.{Wrote};
+ghost use Rattle.reasons.specs.Arrays.{GroupAt};
+ghost use Rattle.blocks.specs.Written.{faultUnit, faultyLiterals};
+use crate::Fault;
+use crate::Faulty;
+use groups::Grouping;
+use reasons::edge;
+use reasons::inside;
+
+// The reason of a faulty block, from the start of the memory; gives the number of literals.
+pub fn write_fault<'a>(
+    memory: &mut [u16],
+    h: usize,
+    w: usize,
+    colours: &'a [u8; 1024],
+    borders: &'a [u8; 1984],
+    blocks: &'a Grouping,
+    potential: &'a Grouping,
+    faulty: Faulty,
+) -> usize
+    requires { ⌜ Sized h w × (length (now borders) ≡ 1984) × (length (now colours) ≡ 1024)
+        × GroupAt h w (now blocks) (faulty .block) × GroupAt h w (now potential) (faultUnit (faulty .fault))
+        × (length (faultyLiterals h w (now colours) (now borders) (numbersIn (now blocks)) (numbersIn (now potential))
+        faulty)
+        ≤ length (now memory)) ⌝ }
+    ensures { λ r. ⌜ Wrote (now (memory .entry)) 0 (faultyLiterals h w (now (colours .entry)) (now (borders .entry))
+        (numbersIn (now (blocks .entry))) (numbersIn (now (potential .entry))) faulty) (now (memory .exit)) r ⌝ }
+{
+    let b = faulty.block;
+    let fault = faulty.fault;
+    match fault {
+        Fault::Clear => 0,
+        Fault::InsideEdge(p) => {
+            let at = inside(memory, 0, h, w, borders, blocks, b);
+            edge(memory, at, h, w, colours, borders, potential, p)
+        }
+        Fault::Inside => inside(memory, 0, h, w, borders, blocks, b),
+        Fault::Edge(p) => edge(memory, 0, h, w, colours, borders, potential, p),
+        Fault::EdgeInside(p) => {
+            let at = edge(memory, 0, h, w, colours, borders, potential, p);
+            inside(memory, at, h, w, borders, blocks, b)
+        }
+    }
+}

@@ -1,0 +1,12 @@
+pub mod SameCells
+pub mod Fitting
+pub mod FitLaws
+pub mod Copies
+pub mod CopyLaws
+pub mod SingleLaws
+pub mod Held
+pub mod HeldLaws
+pub mod FirstStuck
+pub mod FirstStuckLaws
+pub mod ReadyLaws
+pub mod ClueLaws

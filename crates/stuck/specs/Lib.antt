@@ -1,0 +1,9 @@
+pub mod Survivors
+pub mod PlacedLaws
+pub mod SurvivorLaws
+pub mod Writing
+pub mod FlagLaws
+pub mod BlockLaws
+pub mod ClueLaws
+pub mod ReasonLaws
+pub mod AskedLaws

@@ -1,0 +1,132 @@
+// The walls in the reason of a unit: those of its potential unit, of the adjacent ones, and to the others.
+ghost use mathlib.Core.Path.{_≡_};
+ghost use Prim.Native.Nat.{_+_, _≤_};
+ghost use lib.ListN.{length};
+ghost use Rattle.rules.specs.Flat.{Sized};
+ghost use Rattle.groups.specs.Grouping.{numbersIn, cellsIn, startIn, groupCells};
+ghost use Rattle.reasons.specs.Arrays.{Cells, GroupAt};
+ghost use Rattle.reasons.specs.Memory.{Wrote};
+ghost use Rattle.adjacent.specs.Mates.{matesIn};
+ghost use Rattle.stuck.specs.Writing.{Low, Mated, flagsOf, edgesIn, farIn, wallsIn};
+use adjacent::Mates;
+use board::Board;
+use groups::Grouping;
+use groups::start_of;
+use reasons::edge;
+use reasons::scan;
+use rules::Side;
+use rules::index;
+
+// Writes Edge of each of the groups in the list of mates; gives the next place.
+fn edges_of<'a>(
+    memory: &mut [u16],
+    start: usize,
+    h: usize,
+    w: usize,
+    colours: &'a [u8; Board::CELL_LIMIT],
+    borders: &'a [u8; Board::BORDER_LIMIT],
+    potential: &'a Grouping,
+    mates: &'a Mates,
+) -> usize
+    requires { ⌜ Sized h w × (length (now borders) ≡ 1984) × (length (now colours) ≡ 1024)
+        × Mated h w (now potential) (now mates)
+        × (start + length (edgesIn h w (now colours) (now borders) (numbersIn (now potential)) (matesIn (now mates)))
+        ≤ length (now memory)) ⌝ }
+    ensures { λ r. ⌜ Wrote (now (memory .entry)) start
+        (edgesIn h w (now (colours .entry)) (now (borders .entry)) (numbersIn (now (potential .entry)))
+        (matesIn (now (mates .entry)))) (now (memory .exit)) r ⌝ }
+{
+    let count = index(mates[1024]);
+    let mut at = start;
+    let mut i = 0;
+    while i < count {
+        let q = index(mates[i]);
+        at = edge(memory, at, h, w, colours, borders, potential, q);
+        i += 1;
+    }
+    at
+}
+
+// 1 at the number of each group in the list of mates, 0 elsewhere.
+fn flags_of(mates: &Mates) -> [u8; Board::CELL_LIMIT]
+    requires { ⌜ Low (now mates) ⌝ }
+    ensures { λ r. ⌜ r ≡ flagsOf (matesIn (now (mates .entry))) ⌝ }
+{
+    let mut flagged = [0u8; Board::CELL_LIMIT];
+    let count = index(mates[1024]);
+    let mut i = 0;
+    while i < count {
+        let q = index(mates[i]);
+        flagged[q] = 1;
+        i += 1;
+    }
+    flagged
+}
+
+// Writes the walls from the cells of the potential unit p to cells of the other colour in groups that are not in the
+// list of mates; gives the next place.
+fn far_walls<'a>(
+    memory: &mut [u16],
+    start: usize,
+    h: usize,
+    w: usize,
+    colours: &'a [u8; Board::CELL_LIMIT],
+    borders: &'a [u8; Board::BORDER_LIMIT],
+    potential: &'a Grouping,
+    p: usize,
+    mates: &'a Mates,
+) -> usize
+    requires { ⌜ Sized h w × (length (now borders) ≡ 1984) × (length (now colours) ≡ 1024)
+        × GroupAt h w (now potential) p × Cells h w (cellsIn (now potential)) (startIn (now potential) p)
+        (startIn (now potential) (p + 1)) × Low (now mates)
+        × (start + length (farIn h w (now colours) (now borders) (numbersIn (now potential)) (matesIn (now mates))
+        (groupCells (now potential) p)) ≤ length (now memory)) ⌝ }
+    ensures { λ r. ⌜ Wrote (now (memory .entry)) start
+        (farIn h w (now (colours .entry)) (now (borders .entry)) (numbersIn (now (potential .entry)))
+        (matesIn (now (mates .entry))) (groupCells (now (potential .entry)) p)) (now (memory .exit)) r ⌝ }
+{
+    let flagged = flags_of(mates);
+    let from = start_of(potential, p);
+    let to = start_of(potential, p + 1);
+    scan(
+        memory,
+        start,
+        h,
+        w,
+        colours,
+        borders,
+        potential,
+        from,
+        to,
+        Side::Wall,
+        false,
+        &flagged,
+    )
+}
+
+// Writes the walls of the potential unit p: its Edge, Edge of each potential unit adjacent to it, and its walls to
+// cells of the other colour in units that are not adjacent to it. Gives the next place.
+pub fn walls_of<'a>(
+    memory: &mut [u16],
+    start: usize,
+    h: usize,
+    w: usize,
+    colours: &'a [u8; Board::CELL_LIMIT],
+    borders: &'a [u8; Board::BORDER_LIMIT],
+    potential: &'a Grouping,
+    p: usize,
+    mates: &'a Mates,
+) -> usize
+    requires { ⌜ Sized h w × (length (now borders) ≡ 1984) × (length (now colours) ≡ 1024)
+        × Mated h w (now potential) (now mates) × GroupAt h w (now potential) p
+        × Cells h w (cellsIn (now potential)) (startIn (now potential) p) (startIn (now potential) (p + 1))
+        × (start + length (wallsIn h w (now colours) (now borders) (numbersIn (now potential)) p
+        (matesIn (now mates)) (groupCells (now potential) p)) ≤ length (now memory)) ⌝ }
+    ensures { λ r. ⌜ Wrote (now (memory .entry)) start
+        (wallsIn h w (now (colours .entry)) (now (borders .entry)) (numbersIn (now (potential .entry))) p
+        (matesIn (now (mates .entry))) (groupCells (now (potential .entry)) p)) (now (memory .exit)) r ⌝ }
+{
+    let own = edge(memory, start, h, w, colours, borders, potential, p);
+    let all = edges_of(memory, own, h, w, colours, borders, potential, mates);
+    far_walls(memory, all, h, w, colours, borders, potential, p, mates)
+}
