@@ -2,6 +2,7 @@
 use mathlib.Core.Path.{_≡_, refl, sym, ap, _∙_}
 use mathlib.Core.Bool.{Bool}
 use mathlib.Core.List.{List, List·Memᴰ·head}
+use mathlib.Core.Option.{none}
 use Prim.Native.Nat.{ℕ, _+_, _*_, _<_, _≤_}
 use native.Mathlib.Omega.{arith}
 use borrow.Author.Tests.{lt-ltb}
@@ -38,7 +39,7 @@ use Rattle.shapes.specs.PartLaws.{unit-at}
 use Rattle.groups.specs.Grouping.{startIn, groupCells}
 use Rattle.shapes.specs.Outlines.{cellCount}
 use Rattle.shapes.specs.Spots.{UnitAt}
-use Rattle.groups.specs.PageLaws.{cells-some, cells-few, full, rises, ends, head-at}
+use Rattle.groups.specs.PageLaws.{cells-some, cells-few, full, rises, ends, head-at, kind-ids, kind-count}
 use Rattle.reasons.specs.GroupReasons.{group-cells}
 
 -- the groups of a flat page, by any test of its borders
@@ -126,14 +127,6 @@ module _ {h w : ℕ} (z : Sized h w) (cs bs : List ℕ) where
   abbrev mine : ℕ → Bool
   mine = joinsIn Units h w cs bs
 
-  pub own-numbers : entry (groupsOf (flat h w) mine .ids) ≡ unitOf (unclued h w cs) (statesIn bs)
-  unfolding joinsIn linkOf
-  own-numbers = ids-entry (flat h w) mine (cells-some z) (cells-few z)
-
-  pub own-count : groupsOf (flat h w) mine .count ≡ unitCount (unclued h w cs) (statesIn bs)
-  unfolding groupsOf joinsIn linkOf
-  own-count = refl
-
   pub own-few : groupsOf (flat h w) mine .count ≤ 1024
   unfolding flat
   own-few = omega (arith, groups-le (flat h w) mine (cells-some z) (cells-few z), counts z .cells)
@@ -143,8 +136,8 @@ module _ {h w : ℕ} (z : Sized h w) (cs bs : List ℕ) where
       ≡ flatTransforms (shapeOf (flat h w) (entry (groupsOf (flat h w) mine .ids)) u)
   unfolding transformsOf flat
   own-transforms u l =
-      rw (lt-ltb u (unitCount (unclued h w cs) (statesIn bs)) (rw own-count at l))
-      (ap (λ f. flatTransforms (shapeOf (flat h w) f u)) (sym own-numbers))
+      rw (lt-ltb u (unitCount (unclued h w cs) (statesIn bs)) (rw (kind-count z cs (λ c. none) bs Units) at l))
+      (ap (λ f. flatTransforms (shapeOf (flat h w) f u)) (sym (kind-ids z cs (λ c. none) bs Units)))
 
 -- the arrays together
 module _ {h w : ℕ} {cs bs us ps : List ℕ} (r : Sorted h w cs bs us ps) where
@@ -179,7 +172,7 @@ module _ {h w : ℕ} {cs bs us ps : List ℕ} (r : Sorted h w cs bs us ps) where
   possible = joinsIn Potential h w cs bs
 
   pub units-are : entry ids ≡ unitOf Z s
-  units-are = ap entry (r .units .numbers) ∙ own-numbers size cs bs
+  units-are = ap entry (r .units .numbers) ∙ kind-ids size cs (λ c. none) bs Units
 
   pub unit-few : countIn us ≤ 1024
   unit-few = rw (r .units .count) (own-few size cs bs)

@@ -104,7 +104,7 @@ module _ {h w : ℕ} (z : Sized h w) (cs : List ℕ) (ks : List ℤ) (bs : List 
       → sizeIn (groupsIn kind h w cs bs .offs) ≡ (λ g. length (members (flat h w) (kindNumber kind Z s) g))
   sizes-are kind =
       sizes-of z (joinsIn kind h w cs bs)
-      ∙ ap (λ (f : ℕ → ℕ). λ (g : ℕ). length (members (flat h w) f g)) (kind-number z cs ks bs kind)
+      ∙ ap (λ (f : ℕ → ℕ). λ (g : ℕ). length (members (flat h w) f g)) (kind-number z cs (cluesIn ks) bs kind)
 
   -- step 1: what `first_faulty` finds with these arrays is the first faulty block
   abbrev pub faultIn : ℕ → Fault
@@ -119,12 +119,12 @@ module _ {h w : ℕ} (z : Sized h w) (cs : List ℕ) (ks : List ℤ) (bs : List 
       ap (λ (f : ℕ → ℕ). λ (B : ℕ). faultOn (coloursIn cs) (cluesIn ks) f
       (sizeIn (groupsIn Potential h w cs bs .offs))
       (partOf (groupsIn Blocks h w cs bs .cells) (groupsIn Blocks h w cs bs .offs) B))
-      (kind-ids z cs ks bs Potential)
+      (kind-ids z cs (cluesIn ks) bs Potential)
       ∙ ap (λ (f : ℕ → ℕ). λ (B : ℕ). faultOn (coloursIn cs) (cluesIn ks) (potentialOf Z s) f
       (partOf (groupsIn Blocks h w cs bs .cells) (groupsIn Blocks h w cs bs .offs) B))
       (sizes-are Potential)
       ∙ ap (λ (f : ℕ → List ℕ). λ (B : ℕ). faultOn (coloursIn cs) (cluesIn ks) (potentialOf Z s) (sizeOf Z s) (f B))
-      (kind-cells z cs ks bs Blocks)
+      (kind-cells z cs (cluesIn ks) bs Blocks)
 
   pub faulty-is : firstFaulty faultIn (groupsIn Blocks h w cs bs .count) ≡ firstFaulty (blockFault Z s) (blockCount Z s)
-  faulty-is = rw (fault-is, kind-count z cs ks bs Blocks)
+  faulty-is = rw (fault-is, kind-count z cs (cluesIn ks) bs Blocks)

@@ -8,7 +8,7 @@ use Rattle.rules.specs.declared.Placement.{Placement}
 use Rattle.rules.specs.declared.Placement.the-variants.{Fits, Blocked, Cannot}
 use Rattle.rules.specs.Page.{Puzzle, State}
 use Rattle.rules.specs.Flat.{flat}
-use Rattle.rules.specs.Codes.{coloursIn}
+use Rattle.rules.specs.Codes.{cluedBy}
 use Rattle.rules.specs.Rules.{oneColour, joinsUnit}
 use Rattle.rules.specs.Groups.{members, joinsPotential, unitOf, potentialOf}
 use Rattle.rules.specs.Check.{isFit, placements, transformsOf, touches, adjacent, mates, unitHit}
@@ -21,15 +21,12 @@ module _ (h w : ℕ) (cs : List ℕ) (k : ℕ → Option ℕ) (s : ℕ → State
   abbrev Z : Puzzle
   Z = unclued h w cs
 
-  abbrev clued : Puzzle
-  clued = record { page = flat h w; colour = coloursIn cs; clue = k }
-
-  fit-clue : (x : Placement) → isFit clued s x ≡ isFit Z s x
+  fit-clue : (x : Placement) → isFit (cluedBy h w cs k) s x ≡ isFit Z s x
   fit-clue Fits = refl
   fit-clue Cannot = refl
   fit-clue (Blocked b) = refl
 
-  on-clue : (u : ℕ) (xs : List ℕ) → fitsOn clued s u xs ≡ fitsOn Z s u xs
+  on-clue : (u : ℕ) (xs : List ℕ) → fitsOn (cluedBy h w cs k) s u xs ≡ fitsOn Z s u xs
   unfolding fitsOn placements transformsOf touches adjacent mates joinsUnit joinsPotential oneColour
   on-clue u [] = refl
   on-clue u (x ∷ xs) =
@@ -40,11 +37,11 @@ module _ (h w : ℕ) (cs : List ℕ) (k : ℕ → Option ℕ) (s : ℕ → State
       flatMap (λ Q. map (λ o. laid-clue h w cs k s t o i) (members (flat h w) (potentialOf Z s) Q))
       (mates Z s (potentialOf Z s x))) (transformsOf Z s u))
 
-  pub fits-clue : (u : ℕ) → fitsUnit clued s u ≡ fitsUnit Z s u
+  pub fits-clue : (u : ℕ) → fitsUnit (cluedBy h w cs k) s u ≡ fitsUnit Z s u
   unfolding fitsUnit joinsUnit oneColour
   fits-clue u = on-clue u (members (flat h w) (unitOf Z s) u)
 
   -- step 3 of a puzzle with clues, by the search that reads none
-  pub stuck-clue : (n : ℕ) → firstHit (unitHit clued s) (range n)
-      ≡ stuckHit clued s n (firstFail (fitsUnit (unclued h w cs) s) n)
-  stuck-clue n = stuck-hit clued s n ∙ ap (λ f. stuckHit clued s n (firstFail f n)) (fun-ext fits-clue)
+  pub stuck-clue : (n : ℕ) → firstHit (unitHit (cluedBy h w cs k) s) (range n)
+      ≡ stuckHit (cluedBy h w cs k) s n (firstFail (fitsUnit (unclued h w cs) s) n)
+  stuck-clue n = stuck-hit (cluedBy h w cs k) s n ∙ ap (λ f. stuckHit (cluedBy h w cs k) s n (firstFail f n)) (fun-ext fits-clue)

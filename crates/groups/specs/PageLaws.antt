@@ -2,14 +2,14 @@
 use mathlib.Core.Path.{_≡_, refl, ap, fun-ext, _∙_}
 use mathlib.Core.Bool.{Bool}
 use mathlib.Core.List.{List}
+use mathlib.Core.Option.{Option}
 use Prim.Native.Nat.{ℕ, _+_, _<_, _≤_}
 use native.Mathlib.Decide.{decLt}
 use native.Mathlib.Omega.{arith}
-use lib.IntN.{ℤ}
 use lib.ListN.{length, getD, List·getD-eq-default}
 use Rattle.rules.specs.Page.{Puzzle, State}
 use Rattle.rules.specs.Flat.{Sized, flat}
-use Rattle.rules.specs.Codes.{statesIn, puzzleIn}
+use Rattle.rules.specs.Codes.{statesIn, cluedBy}
 use Rattle.rules.specs.Rules.{oneColour, joinsBlock, joinsUnit}
 use Rattle.rules.specs.Groups.{entry, numbers, groupCount, members, joinsPotential}
 use Rattle.laws.specs.FlatLaws.{counts}
@@ -100,10 +100,10 @@ module _ {h w : ℕ} (z : Sized h w) (link : ℕ → Bool) where
   pub parts-are : partOf (groups .cells) (groups .offs) ≡ members (flat h w) number
   parts-are = fun-ext (λ g. part-members (flat h w) link (cells-some z) (cells-few z) g)
 
--- what they mean
-module _ {h w : ℕ} (z : Sized h w) (cs : List ℕ) (ks : List ℤ) (bs : List ℕ) where
+-- what they mean, whatever the clues
+module _ {h w : ℕ} (z : Sized h w) (cs : List ℕ) (k : ℕ → Option ℕ) (bs : List ℕ) where
   abbrev Z : Puzzle
-  Z = puzzleIn h w cs ks
+  Z = cluedBy h w cs k
 
   abbrev s : ℕ → State
   s = statesIn bs

@@ -12,7 +12,7 @@ use Rattle.rules.specs.declared.Placement.{Placement}
 use Rattle.rules.specs.declared.Placement.the-variants.{Fits, Blocked, Cannot}
 use Rattle.rules.specs.Page.{Puzzle, State, Point, Shape, _⊕_, isWall}
 use Rattle.rules.specs.Rules.{oneColour}
-use Rattle.rules.specs.Codes.{coloursIn}
+use Rattle.rules.specs.Codes.{cluedBy}
 use Rattle.rules.specs.Flat.{flat, flatPlace, flatReads}
 use Rattle.rules.specs.Check.{judge, byLastWall, laid, isFit}
 use Rattle.planes.specs.declared.Reading.{Reading}
@@ -99,19 +99,16 @@ module _ (h w : ℕ) (cs : List ℕ) (s : ℕ → State) (t : List ℕ) (o : ℕ
 
 -- clues change no placement
 module _ (h w : ℕ) (cs : List ℕ) (k : ℕ → Option ℕ) (s : ℕ → State) where
-  abbrev clued : Puzzle
-  clued = record { page = flat h w; colour = coloursIn cs; clue = k }
-
-  reading-clue : (o : Option ℕ) → readingOf clued s o ≡ readingOf (unclued h w cs) s o
+  reading-clue : (o : Option ℕ) → readingOf (cluedBy h w cs k) s o ≡ readingOf (unclued h w cs) s o
   unfolding readingOf oneColour
   reading-clue none = refl
   reading-clue (some b) = refl
 
   pub laid-clue : (t : Shape) (o : ℕ)
-      → laid (record { page = flat h w; colour = coloursIn cs; clue = k }) s t o ≡ laid (unclued h w cs) s t o
+      → laid (cluedBy h w cs k) s t o ≡ laid (unclued h w cs) s t o
   unfolding laid
   laid-clue t o =
       let os = map (λ d. flat h w .reads (flat h w .place o ⊕ flat h w .place o ⊕ d)) (t .connections) in
-      judge-after clued s none os
+      judge-after (cluedBy h w cs k) s none os
       ∙ (λ i. judgedAfter Fits (map (λ a. reading-clue a i) os))
       ∙ sym (judge-after (unclued h w cs) s none os)

@@ -6,7 +6,7 @@ use Prim.Native.Nat.{ℕ, _+_, _<_}
 use native.Mathlib.Omega.{arith}
 use lib.IntN.{ℤ}
 use Rattle.rules.specs.Flat.{Sized, flat}
-use Rattle.rules.specs.Codes.{statesIn, coloursIn, puzzleIn}
+use Rattle.rules.specs.Codes.{cluesIn, statesIn, coloursIn, puzzleIn}
 use Rattle.rules.specs.Groups.{numbers, members}
 use Rattle.groups.specs.declared.Kind.the-variants.{Blocks, Potential}
 use Rattle.groups.specs.Parts.{Groups}
@@ -21,7 +21,6 @@ use Rattle.reasons.specs.Arrays.{insideIn, edgeIn}
 use Rattle.groups.specs.Pages.{groupsIn}
 use Rattle.groups.specs.PageLaws.{cells-some, cells-few, starts-step, starts-few, kind-ids}
 use lib.ListN.{getD}
-use Rattle.groups.specs.PageLaws.{starts-step}
 use Rattle.laws.specs.FlatLaws.{counts}
 use Rattle.reasons.specs.Arrays.{Cells}
 use Rattle.groups.specs.PartLaws.{cells-lt}
@@ -68,10 +67,10 @@ module _ {h w : ℕ} (z : Sized h w) (cs : List ℕ) (ks : List ℤ) (bs : List 
   pub inside-is : (B : ℕ)
       → insideIn h w bs (groupsIn Blocks h w cs bs .ids) B ≡ insideBlock (puzzleIn h w cs ks) (statesIn bs) B
   unfolding insideIn insideBlock
-  inside-is B = ap (λ (f : ℕ → ℕ). inside (flat h w) (statesIn bs) f B) (kind-ids z cs ks bs Blocks)
+  inside-is B = ap (λ (f : ℕ → ℕ). inside (flat h w) (statesIn bs) f B) (kind-ids z cs (cluesIn ks) bs Blocks)
 
   pub edge-is : edgeIn h w cs bs (groupsIn Potential h w cs bs .ids) ≡ edgeOf (puzzleIn h w cs ks) (statesIn bs)
   unfolding edgeIn edgeOf
   edge-is =
       fun-ext (λ P. ap (λ (f : ℕ → ℕ). edge (flat h w) (coloursIn cs) (statesIn bs) f P)
-      (kind-ids z cs ks bs Potential))
+      (kind-ids z cs (cluesIn ks) bs Potential))

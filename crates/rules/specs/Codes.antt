@@ -6,8 +6,9 @@
 --   coloursIn cs        the colours that an array of numbers spells
 --   clueOf k            no clue below 0, otherwise the clue k
 --   cluesIn ks          the clues that an array of signed numbers spells
---   unclued h w cs      the page of h rows and w columns with these colours, and no clues
---   puzzleIn h w cs ks  the puzzle on a flat page that arrays of colours and clues spell
+--   cluedBy h w cs k    the puzzle on a flat page with the colours that an array spells, and the clues k
+--   puzzleIn h w cs ks  the same with the clues that an array spells
+--   unclued h w cs      the same without clues
 --   sideCode side       what a literal's number adds for its side
 --   literalCode l       what reason memory holds for the literal l
 --   put m from ls       reason memory m with the literals ls written from the place `from`
@@ -48,11 +49,14 @@ clueOf (negsuc n) = none
 unfoldable pub cluesIn : List ℤ → ℕ → Option ℕ
 cluesIn ks c = clueOf (getD ks c (pos 0))
 
+abbrev pub cluedBy : ℕ → ℕ → List ℕ → (ℕ → Option ℕ) → Puzzle
+cluedBy h w cs k = record { page = flat h w; colour = coloursIn cs; clue = k }
+
 abbrev pub puzzleIn : ℕ → ℕ → List ℕ → List ℤ → Puzzle
-puzzleIn h w cs ks = record { page = flat h w; colour = coloursIn cs; clue = cluesIn ks }
+puzzleIn h w cs ks = cluedBy h w cs (cluesIn ks)
 
 abbrev pub unclued : ℕ → ℕ → List ℕ → Puzzle
-unclued h w cs = record { page = flat h w; colour = coloursIn cs; clue = λ c. none }
+unclued h w cs = cluedBy h w cs (λ c. none)
 
 -- "a literal is 2·border, plus 1 for wall"
 abbrev pub sideCode : Side → ℕ

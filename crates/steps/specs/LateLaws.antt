@@ -53,12 +53,12 @@ module _ {h w : ℕ} (z : Sized h w) (cs : List ℕ) (bs : List ℕ) (u : ℕ)
   units-are =
       stuck-clue h w cs (cluesIn ks) (statesIn bs) (unitCount (puzzleIn h w cs ks) (statesIn bs))
       ∙ ap (stuckHit (puzzleIn h w cs ks) (statesIn bs) (unitCount (puzzleIn h w cs ks) (statesIn bs)))
-      (ap (firstFail (fitsUnit (unclued h w cs) (statesIn bs))) (sym (kind-count z cs ks bs Units)) ∙ sym is)
+      (ap (firstFail (fitsUnit (unclued h w cs) (statesIn bs))) (sym (kind-count z cs (cluesIn ks) bs Units)) ∙ sym is)
 
   pub units-clear : groupsIn Units h w cs bs .count ≤ u → unitsHit (puzzleIn h w cs ks) (statesIn bs) ≡ none
   unfolding stuckHit
   units-clear l =
-      let c = kind-count z cs ks bs Units in
+      let c = kind-count z cs (cluesIn ks) bs Units in
       units-are ∙ rw (le-ltb u (unitCount (puzzleIn h w cs ks) (statesIn bs)) (omega arith))
 
   pub units-stuck : u < groupsIn Units h w cs bs .count
@@ -66,7 +66,7 @@ module _ {h w : ℕ} (z : Sized h w) (cs : List ℕ) (bs : List ℕ) (u : ℕ)
       ≡ some (unitReason (puzzleIn h w cs ks) (statesIn bs) u (potentialIn (puzzleIn h w cs ks) (statesIn bs) u))
   unfolding stuckHit
   units-stuck l =
-      let c = kind-count z cs ks bs Units in
+      let c = kind-count z cs (cluesIn ks) bs Units in
       units-are ∙ rw (lt-ltb u (unitCount (puzzleIn h w cs ks) (statesIn bs)) (omega arith))
 
 -- "First hit is the reason": steps 1 and 2, then step 3

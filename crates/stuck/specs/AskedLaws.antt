@@ -5,6 +5,7 @@ use mathlib.Core.Option.{Option}
 use Prim.Native.Nat.{ℕ, _<_, _≤_}
 use native.Mathlib.Omega.{arith}
 use lib.ListN.{length, getD}
+use Rattle.rules.specs.Codes.{cluedBy}
 use Rattle.rules.specs.Page.{Puzzle, State}
 use Rattle.rules.specs.Flat.{flat}
 use Rattle.rules.specs.Codes.{statesIn}
@@ -29,11 +30,11 @@ use Rattle.adjacent.specs.Homes.{Home}
 use Rattle.groups.specs.Pages.{potentialIn}
 use Rattle.groups.specs.PageLaws.{cells-some, cells-few}
 use Rattle.adjacent.specs.HomeLaws.{units-are, unit-few, unit-in, home-is, home-of, head-of, transforms-are}
-use Rattle.stuck.specs.Writing.{Arranged, Imaged, StuckAt, clued}
+use Rattle.stuck.specs.Writing.{Arranged, Imaged, StuckAt}
 
 -- the units and the potential unit of a unit ask no clue
 module _ (h w : ℕ) (cs : List ℕ) (c : ℕ → Option ℕ) (s : ℕ → State) where
-  pub potential-clue : (u : ℕ) → potentialIn (clued h w cs c) s u ≡ potentialIn (unclued h w cs) s u
+  pub potential-clue : (u : ℕ) → potentialIn (cluedBy h w cs c) s u ≡ potentialIn (unclued h w cs) s u
   unfolding potentialIn joinsUnit joinsPotential oneColour
   potential-clue u = refl
 
@@ -105,6 +106,6 @@ module _ {h w : ℕ} {cs bs us ps : List ℕ} {u : ℕ} (q : StuckAt h w cs bs u
   room-home m e l = rw (e, home-in) l
 
   pub home-written : {p : ℕ} (c : ℕ → Option ℕ) {m m′ : List ℕ} {r : ℕ} → p ≡ home
-      → Wrote m 0 (unitReason (clued h w cs c) s u p) m′ r
-      → Wrote m 0 (unitReason (clued h w cs c) s u (potentialIn (clued h w cs c) s u)) m′ r
+      → Wrote m 0 (unitReason (cluedBy h w cs c) s u p) m′ r
+      → Wrote m 0 (unitReason (cluedBy h w cs c) s u (potentialIn (cluedBy h w cs c) s u)) m′ r
   home-written c e x = rw (potential-clue h w cs c s u) (rw (e ∙ home-in) at x)

@@ -4,6 +4,7 @@ use mathlib.Core.List.{List, _++_, map}
 use mathlib.Core.Option.{Option}
 use Prim.Native.Nat.{ℕ}
 use Rattle.lists.specs.Lists.{flatMap}
+use Rattle.rules.specs.Codes.{cluedBy}
 use Rattle.rules.specs.declared.Placement.{Placement}
 use Rattle.rules.specs.declared.Placement.the-variants.{Fits, Blocked, Cannot}
 use Rattle.rules.specs.Page.{Puzzle, State}
@@ -13,18 +14,17 @@ use Rattle.rules.specs.Check.{blockers, placements, transformsOf, insideUnit, e
 use Rattle.rules.specs.Check.{farWallsAt, farWalls, unitReason}
 use Rattle.planes.specs.JudgeLaws.{laid-clue}
 use Rattle.rules.specs.Codes.{unclued}
-use Rattle.stuck.specs.Writing.{clued}
 
 module _ (h w : ℕ) (cs : List ℕ) (k : ℕ → Option ℕ) (s : ℕ → State) where
   abbrev Z : Puzzle
   Z = unclued h w cs
 
-  block-clue : (x : Placement) → blockers (clued h w cs k) s x ≡ blockers Z s x
+  block-clue : (x : Placement) → blockers (cluedBy h w cs k) s x ≡ blockers Z s x
   block-clue Fits = refl
   block-clue Cannot = refl
   block-clue (Blocked b) = refl
 
-  pub reason-clue : (u p : ℕ) → unitReason (clued h w cs k) s u p ≡ unitReason Z s u p
+  pub reason-clue : (u p : ℕ) → unitReason (cluedBy h w cs k) s u p ≡ unitReason Z s u p
   unfolding unitReason placements transformsOf insideUnit edgeOf touches adjacent mates farWallsAt farWalls
       joinsUnit joinsPotential oneColour
   reason-clue u p =

@@ -8,6 +8,7 @@ use lib.ListN.{length, getD, List·getD-append}
 use Rattle.lists.specs.Lists.{flatMap}
 use Rattle.lists.specs.Flats.{flat-map, flat-flat, flat-same}
 use Rattle.lists.specs.UpToLaws.{flat-up, up-same}
+use Rattle.rules.specs.Codes.{cluedBy}
 use Rattle.rules.specs.declared.Literal.{Literal}
 use Rattle.rules.specs.Page.{Puzzle, Point, Shape, State}
 use Rattle.rules.specs.Flat.{flat}
@@ -34,7 +35,7 @@ use Rattle.shapes.specs.Rows.{image, rowsOf}
 use Rattle.shapes.specs.Spots.{cellSpots, jointSpots}
 use Rattle.shapes.specs.UnitLaws.{transforms-flat}
 use Rattle.shapes.specs.ImageLaws.{image-is}
-use Rattle.stuck.specs.Writing.{Mated, flagsOf, edgesIn, farIn, wallsIn, clued, Arranged}
+use Rattle.stuck.specs.Writing.{Mated, flagsOf, edgesIn, farIn, wallsIn, Arranged}
 use Rattle.stuck.specs.Writing.{blocksBy, blocksListed, Imaged}
 use Rattle.stuck.specs.FlagLaws.{flagged-is}
 use Rattle.reasons.specs.MemoryLaws.{room-first, room-second, room-third}
@@ -229,6 +230,6 @@ module _ {h w : ℕ} {cs bs us ps list : List ℕ} {u p : ℕ} (a : Arranged h w
       room-walls y = room-third blocked inner walls (room (length m) l) x y
 
     pub reason-written : (c : ℕ → Option ℕ) {m m′ m″ m‴ : List ℕ} {i j r : ℕ} → Wrote m 0 blocked m′ i
-        → Wrote m′ i inner m″ j → Wrote m″ j walls m‴ r → Wrote m 0 (unitReason (clued h w cs c) s u p) m‴ r
+        → Wrote m′ i inner m″ j → Wrote m″ j walls m‴ r → Wrote m 0 (unitReason (cluedBy h w cs c) s u p) m‴ r
     reason-written c x y z =
         rw (reason-clue h w cs c s u p, reason-is) (wrote-more x (wrote-more y z))

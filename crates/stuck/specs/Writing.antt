@@ -6,7 +6,6 @@
 --   edgesIn gs           Edge of each of the groups gs, over the arrays
 --   farIn gs xs          the walls from the cells xs to other-coloured cells whose potential unit is not one of gs
 --   wallsIn              Edge(P), Edge of each adjacent unit, then the walls to units that are not adjacent
---   clued h w cs k       the puzzle with the colours that an array spells, and any clues k
 --   Arranged .. us ps    the groupings of the units and the potential units, and the list of P's mates
 --   blocksBy r           the blockers of the placements of the unit's image by row r of the table
 --   blocksListed l       those of its images by the listed rows
@@ -15,7 +14,6 @@
 use mathlib.Core.Path.{_≡_}
 use mathlib.Core.Bool.{false}
 use mathlib.Core.List.{List, _++_}
-use mathlib.Core.Option.{Option}
 use Prim.Native.Nat.{ℕ, _+_, _*_, _<_, _≤_}
 use lib.Dec.{eqb}
 use lib.ListN.{length, getD}
@@ -27,7 +25,7 @@ use Rattle.rules.specs.declared.Side.the-variants.{Wall}
 use Rattle.rules.specs.declared.Literal.{Literal}
 use Rattle.rules.specs.Page.{Puzzle, Point, State}
 use Rattle.rules.specs.Flat.{flat}
-use Rattle.rules.specs.Codes.{statesIn, coloursIn}
+use Rattle.rules.specs.Codes.{statesIn}
 use Rattle.rules.specs.Groups.{entry, unitOf, potentialCount}
 use Rattle.rules.specs.Shapes.{shapeOf, flatTransforms}
 use Rattle.rules.specs.Check.{mates, transformsOf}
@@ -70,10 +68,6 @@ module _ (h w : ℕ) (cs bs ids : List ℕ) where
   -- "Edge(P), Edge of each adjacent unit, then" those walls
   unfoldable pub wallsIn : ℕ → List ℕ → List ℕ → List Literal
   wallsIn p gs xs = edgeIn h w cs bs ids p ++ (edgesIn gs ++ farIn gs xs)
-
--- with any clues: no reason of a unit asks them
-abbrev pub clued : ℕ → ℕ → List ℕ → (ℕ → Option ℕ) → Puzzle
-clued h w cs k = record { page = flat h w; colour = coloursIn cs; clue = k }
 
 pub record Arranged (h w : ℕ) (cs bs us ps list : List ℕ) (u p : ℕ) : Type 0 where
   pub drawn : Drawn h w cs

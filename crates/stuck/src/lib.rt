@@ -3,6 +3,7 @@ ghost use mathlib.Core.Option.{Option};
 ghost use Prim.Native.Nat.{ℕ, _≤_};
 ghost use lib.ListN.{length};
 ghost use Rattle.groups.specs.Grouping.{cellsIn, startsIn};
+ghost use Rattle.rules.specs.Codes.{cluedBy};
 ghost use Rattle.rules.specs.Codes.{statesIn};
 ghost use Rattle.rules.specs.Check.{unitReason};
 ghost use Rattle.reasons.specs.Memory.{Wrote};
@@ -14,7 +15,7 @@ ghost use Rattle.shapes.specs.Images.{Jointed};
 ghost use Rattle.shapes.specs.Spots.{Spotted, cellSpots, jointSpots};
 ghost use Rattle.shapes.specs.Listing.{Rows};
 ghost use Rattle.groups.specs.Pages.{potentialIn};
-ghost use Rattle.stuck.specs.Writing.{Arranged, Imaged, StuckAt, blocksListed, clued};
+ghost use Rattle.stuck.specs.Writing.{Arranged, Imaged, StuckAt, blocksListed};
 use crate::survivors::block_mates;
 use crate::survivors::draw_colours;
 use crate::survivors::draw_places;
@@ -119,7 +120,7 @@ fn write_unit<'a>(
         × Imaged h w (now colours) (now borders) (now units) (now outline) listed u
         × (length (unitReason (unclued h w (now colours)) (statesIn (now borders)) u p) ≤ length (now memory)) ⌝ }
     ensures { λ r. ⌜ ((c : ℕ → Option ℕ) → Wrote (now (memory .entry)) 0
-        (unitReason (clued h w (now (colours .entry)) c) (statesIn (now (borders .entry))) u p)
+        (unitReason (cluedBy h w (now (colours .entry)) c) (statesIn (now (borders .entry))) u p)
         (now (memory .exit)) r) ⌝ }
 {
     let blocked = block_rows(
@@ -152,8 +153,8 @@ pub fn write_stuck<'a>(
         × (length (unitReason (unclued h w (now colours)) (statesIn (now borders)) u
         (potentialIn (unclued h w (now colours)) (statesIn (now borders)) u)) ≤ length (now memory)) ⌝ }
     ensures { λ r. ⌜ ((c : ℕ → Option ℕ) → Wrote (now (memory .entry)) 0
-        (unitReason (clued h w (now (colours .entry)) c) (statesIn (now (borders .entry))) u
-        (potentialIn (clued h w (now (colours .entry)) c) (statesIn (now (borders .entry))) u))
+        (unitReason (cluedBy h w (now (colours .entry)) c) (statesIn (now (borders .entry))) u
+        (potentialIn (cluedBy h w (now (colours .entry)) c) (statesIn (now (borders .entry))) u))
         (now (memory .exit)) r) ⌝ }
 {
     let p = group_of(potential, cell_at(units, start_of(units, u)));

@@ -2,6 +2,7 @@
 use mathlib.Core.Path.{_≡_, refl, sym, ap, ap₂, _∙_}
 use mathlib.Core.Bool.{true, false}
 use mathlib.Core.List.{List, [], map}
+use mathlib.Core.Option.{none}
 use Prim.Native.Nat.{ℕ, _-_, _<_, _≤_}
 use native.Mathlib.Omega.{arith}
 use borrow.Author.Tests.{lt-ltb, le-ltb}
@@ -31,7 +32,8 @@ use Rattle.shapes.specs.Listing.{listing}
 use Rattle.shapes.specs.Rows.{image, rowsOf}
 use Rattle.shapes.specs.UnitLaws.{transforms-flat}
 use Rattle.adjacent.specs.Homes.{UnitIn}
-use Rattle.adjacent.specs.HomeLaws.{own-part, own-count, own-transforms}
+use Rattle.groups.specs.PageLaws.{kind-count}
+use Rattle.adjacent.specs.HomeLaws.{own-part, own-transforms}
 use Rattle.transforms.specs.Transforms.{nothing, kth, numbersOf, words, room}
 use Rattle.transforms.specs.Transforms.{transformed, kthAnswer, kthMemory, transformOf, memoryAfter}
 
@@ -99,7 +101,7 @@ module _ {h w : ℕ} (z : Sized h w) (cs bs : List ℕ) {units : List ℕ}
   pub no-unit : countIn units ≤ u → transformsOf (unclued h w cs) (statesIn bs) u ≡ []
   unfolding transformsOf
   no-unit l =
-      rw (le-ltb u (unitCount (unclued h w cs) (statesIn bs)) (rw (all .count ∙ own-count z cs bs) at l))
+      rw (le-ltb u (unitCount (unclued h w cs) (statesIn bs)) (rw (all .count ∙ kind-count z cs (λ c. none) bs Units) at l))
 
   module _ (l : u < countIn units) where
     pub unit-transforms : transformsOf (unclued h w cs) (statesIn bs) u

@@ -10,7 +10,7 @@ use Prim.Native.Nat.{ℕ}
 use lib.IntN.{ℤ}
 use Rattle.lists.specs.Lists.{firstHit, range}
 use Rattle.rules.specs.Flat.{Sized, flat}
-use Rattle.rules.specs.Codes.{statesIn, puzzleIn}
+use Rattle.rules.specs.Codes.{cluesIn, statesIn, puzzleIn}
 use Rattle.rules.specs.Groups.{entry}
 use Rattle.rules.specs.Check.{hitIf, wallHits}
 use Rattle.groups.specs.declared.Kind.the-variants.{Blocks}
@@ -26,7 +26,7 @@ module _ {h w : ℕ} (z : Sized h w) (cs : List ℕ) (ks : List ℤ) (bs : List 
   breachIn = firstBreach (flat h w) (statesIn bs) (entry (groupsIn Blocks h w cs bs .ids))
 
   breach-is : breachIn ≡ firstBreach (flat h w) (statesIn bs) (blockOf (puzzleIn h w cs ks) (statesIn bs))
-  breach-is = ap (firstBreach (flat h w) (statesIn bs)) (kind-ids z cs ks bs Blocks)
+  breach-is = ap (firstBreach (flat h w) (statesIn bs)) (kind-ids z cs (cluesIn ks) bs Blocks)
 
   step-two : firstHit (wallHits (puzzleIn h w cs ks) (statesIn bs)) (range (flat h w .cells))
       ≡ breachReason (puzzleIn h w cs ks) (statesIn bs) breachIn
