@@ -5,11 +5,12 @@ use native.Mathlib.Omega.{arith}
 use lib.ListN.{length, length-append}
 use Rattle.rules.specs.declared.Literal.{Literal}
 use Rattle.reasons.specs.Memory.{Wrote}
-use Rattle.reasons.specs.MemoryLaws.{wrote-length}
+use Rattle.reasons.specs.MemoryLaws.{wrote-next}
+use Rattle.lists.specs.WroteLaws.{wrote-length}
 
 pub fits-first : (ls ks : List Literal) (n : ℕ) → length (ls ++ ks) ≤ n → 0 + length ls ≤ n
 fits-first ls ks n h = omega (arith, length-append ls ks)
 
 pub fits-second : {m : List ℕ} {ls : List Literal} {m′ : List ℕ} {j : ℕ} → Wrote m 0 ls m′ j → (ks : List Literal)
     → length (ls ++ ks) ≤ length m → j + length ks ≤ length m′
-fits-second {m} {ls} a ks h = omega (arith, a .place, wrote-length a, length-append ls ks)
+fits-second {m} {ls} a ks h = omega (arith, wrote-next a, wrote-length a, length-append ls ks)

@@ -32,6 +32,12 @@ module _ {A B : Type 0} where
   unfolding flatMap
   flat-one f x = append-nil (f x)
 
+  -- one element for each
+  pub flat-each : (f : A → B) (xs : List A) → flatMap (λ x. f x ∷ []) xs ≡ map f xs
+  unfolding flatMap
+  flat-each f [] = refl
+  flat-each f (x ∷ xs) = ap (λ (l : List B). f x ∷ l) (flat-each f xs)
+
   -- one more element, at the end
   pub flat-last : (f : A → List B) (xs : List A) (x : A) → flatMap f (xs ++ (x ∷ [])) ≡ flatMap f xs ++ f x
   flat-last f xs x =

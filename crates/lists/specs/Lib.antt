@@ -5,6 +5,7 @@ pub mod Table
 pub mod Padded
 pub mod Parts
 pub mod UpTo
+pub mod Wrote
 pub mod Booleans
 pub mod Arithmetic
 pub mod ListLaws
@@ -22,6 +23,7 @@ pub mod PaddedLaws
 pub mod PartLaws
 pub mod UpToLaws
 pub mod Stores
+pub mod WroteLaws
 pub mod Pairs
 pub mod Sections
 pub mod SectionLaws

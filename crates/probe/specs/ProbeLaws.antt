@@ -31,6 +31,7 @@ use Rattle.groups.specs.SortLaws.{cells-length, size-le}
 use Rattle.reasons.specs.GroupReasons.{group-at}
 use Rattle.reasons.specs.Arrays.{GroupAt, groupReason, insideIn, edgeIn}
 use Rattle.reasons.specs.Memory.{Wrote}
+use Rattle.reasons.specs.MemoryLaws.{wrote-put, wrote-next}
 use Rattle.reasons.specs.Search.{pathIn}
 use Rattle.probe.specs.Probe.{placesOf, probeFits, kindOf, kindGroups, reasonWords}
 use Rattle.probe.specs.Probe.{ProbeWritten, ProbeAnswered}
@@ -75,7 +76,7 @@ pub literals : {m after : List ℕ} {r : ℕ} {ls : List Literal} → Wrote m 0 
     → ProbeWritten m (map literalCode ls) after r
 unfolding put
 literals {ls = ls} a =
-    record { memory = a .memory; count = omega (arith, a .place, length-map ls literalCode) }
+    record { memory = wrote-put a; count = omega (arith, wrote-next a, length-map ls literalCode) }
 
 -- a page's groups
 module _ {h w : ℕ} (z : Sized h w) (cs bs : List ℕ) (k : ℕ) where

@@ -20,7 +20,8 @@ use Rattle.rules.specs.Flat.{flat}
 use Rattle.rules.specs.Codes.{statesIn}
 use Rattle.rules.specs.Reasons.{Found, Search, isFound, visitIf, look, hunt, trace, path}
 use Rattle.reasons.specs.Memory.{Wrote}
-use Rattle.reasons.specs.MemoryLaws.{wrote-none, wrote-more, wrote-length}
+use Rattle.lists.specs.WroteLaws.{wrote-none, wrote-more, wrote-length}
+use Rattle.reasons.specs.MemoryLaws.{wrote-next}
 use Rattle.reasons.specs.Arrays.{isFlagged}
 use Rattle.reasons.specs.Search.{pathIn, Lined, Holds, Looked, Ended}
 use Rattle.reasons.specs.SearchLaws.{trace-other, found-other, count-set, unflagged}
@@ -298,7 +299,7 @@ module _ {h w : ℕ} {bs : List ℕ} {a b : ℕ} {P O F m : List ℕ} {from c : 
         ∙ t .whole
 
     pub tracing-left : at < from + length (pathIn h w bs a b)
-    tracing-left = omega (arith, t .wrote .place, simp length-append at (ap length one))
+    tracing-left = omega (arith, wrote-next (t .wrote), simp length-append at (ap length one))
 
     pub tracing-room : from + length (pathIn h w bs a b) ≤ length m → at < length m′
     tracing-room q = omega (arith, tracing-left, wrote-length (t .wrote))

@@ -13,6 +13,7 @@ use Rattle.rules.specs.Codes.{statesIn, puzzleIn}
 use Rattle.rules.specs.Check.{Reason}
 use Rattle.reasons.specs.Arrays.{Arrays, GroupAt}
 use Rattle.reasons.specs.Memory.{Wrote}
+use Rattle.reasons.specs.MemoryLaws.{wrote-put, wrote-next}
 use Rattle.groups.specs.declared.Kind.the-variants.{Blocks, Potential}
 use Rattle.groups.specs.Parts.{groupsOf}
 use Rattle.groups.specs.Grouping.{numbersIn, Filled, Vacant}
@@ -37,7 +38,7 @@ answers-none m e = record { found = rw e; memory = rw e }
 pub answers-some : {o : Option Reason} {m after : List ℕ} {r : Reason} {n : ℕ} → o ≡ some r → Wrote m 0 r after n
     → Answers o m after (Given n)
 unfolding foundOf writtenBy
-answers-some e w = record { found = rw (e, w .place) (ap Given (omega arith)); memory = rw e (w .memory) }
+answers-some e w = record { found = rw (e, wrote-next w) (ap Given (omega arith)); memory = rw e (wrote-put w) }
 
 -- one search after another: the first one's hit stands, and where there was none the memory is still the old one
 pub answers-first : (a b : Option Reason) {m after : List ℕ} {r : Found} (n : ℕ) → r ≡ Given n → Answers a m after r

@@ -20,7 +20,7 @@ use Rattle.rules.specs.Check.{adjacent as isAdjacent}
 use Rattle.reasons.specs.Arrays.{Cells, GroupAt, insideIn, edgeIn, isFlagged}
 use Rattle.reasons.specs.FarLaws.{far-walls}
 use Rattle.reasons.specs.Memory.{Wrote}
-use Rattle.reasons.specs.MemoryLaws.{wrote-more}
+use Rattle.lists.specs.WroteLaws.{wrote-more}
 use Rattle.groups.specs.Grouping.{numbersIn, cellsIn, startsIn, startIn, groupCells}
 use Rattle.adjacent.specs.Mates.{matesIn}
 use Rattle.rules.specs.Codes.{unclued}

@@ -34,7 +34,7 @@ use Rattle.shapes.specs.UnitLaws.{transforms-flat}
 use Rattle.adjacent.specs.Homes.{UnitIn}
 use Rattle.groups.specs.PageLaws.{kind-count}
 use Rattle.adjacent.specs.HomeLaws.{own-part, own-transforms}
-use Rattle.transforms.specs.Transforms.{nothing, kth, numbersOf, words, room}
+use Rattle.transforms.specs.Transforms.{nothing, kth, words, room}
 use Rattle.transforms.specs.Transforms.{transformed, kthAnswer, kthMemory, transformOf, memoryAfter}
 
 -- no transform
@@ -48,7 +48,7 @@ module _ (ts : List Shape) (k : ℕ) (l : length ts ≤ k) where
   past-answer e = ap₂ (transformed Done) e (sym past)
 
   pub past-memory : (m : List ℤ) → m ≡ kthMemory ts k m
-  unfolding kthMemory words numbersOf flatMap
+  unfolding kthMemory words flatMap
   past-memory m = rw past
 
 -- a unit's listed rows

@@ -1,18 +1,18 @@
 -- Writing places one after the other, and an image as the code writes it.
-use mathlib.Core.Path.{_≡_, refl, sym, ap, ap₂, _∙_, subst}
+use mathlib.Core.Path.{_≡_, refl, sym, ap, ap₂, _∙_}
 use mathlib.Core.Bool.{true, false}
 use mathlib.Core.List.{List, [], _∷_, _++_, map, map-append}
 use Prim.Native.Nat.{ℕ, _+_, _*_, _<_, _≤_}
 use native.Mathlib.Numerals.{add-one}
 use native.Mathlib.Omega.{arith}
 use lib.IntN.{ℤ}
-use lib.ListN.{length, set, length-append, length-map}
-use lib.Seq.{sets, length-sets}
+use lib.ListN.{length, set, length-map}
+use lib.Seq.{sets}
 use Rattle.lists.specs.Lists.{flatMap}
-use Rattle.lists.specs.Appends.{flat-append}
 use Rattle.lists.specs.Table.{table}
-use Rattle.lists.specs.Stores.{sets-append}
-use Rattle.lists.specs.UpToLaws.{up-none, up-more, up-fits}
+use Rattle.lists.specs.UpToLaws.{up-fits}
+use Rattle.lists.specs.WroteLaws.{wrote-none, wrote-one, wrote-same, wrote-more, wrote-length, wrote-place}
+use Rattle.lists.specs.WroteLaws.{loop-none, loop-more}
 use Rattle.rules.specs.Page.{Point, _⊕_, opposite, Shape}
 use Rattle.rules.specs.Flat.{flat}
 use Rattle.rules.specs.Groups.{entry}
@@ -28,51 +28,18 @@ use Rattle.shapes.specs.UnitLaws.{image-places}
 use Rattle.shapes.specs.Joints.{OutlineJoined}
 use Rattle.shapes.specs.Images.{imageJoints}
 use Rattle.shapes.specs.ImageLaws.{image-is}
-use Rattle.transforms.specs.Transforms.{numbersOf, words, Wrote}
+use Rattle.transforms.specs.Transforms.{downAcross, words, WrotePoints}
 use Rattle.transforms.specs.Box.{boxAt, boxSize, ofImage, boxCell, sweep, movedBack}
 use Rattle.transforms.specs.BoxLaws.{sweep-is}
 
--- places as numbers
-numbers-append : (ps qs : List Point) → numbersOf (ps ++ qs) ≡ numbersOf ps ++ numbersOf qs
-unfolding numbersOf
-numbers-append ps qs = flat-append (λ p. p .row ∷ p .column ∷ []) ps qs
+-- one place, and the next number's place
+pub wrote-point : (m : List ℤ) (from : ℕ) {y x : ℤ} (p : Point) → y ≡ p .row → x ≡ p .column
+    → WrotePoints m from (p ∷ []) (set (set m from y) (from + 1) x) (from + 2)
+wrote-point m from p d e = rw (d, e, add-one from) (wrote-one m from p)
 
-numbers-length : (ps : List Point) → length (numbersOf ps) ≡ 2 * length ps
-unfolding numbersOf flatMap
-numbers-length [] = refl
-numbers-length (p ∷ ps) = let e = numbers-length ps in omega arith
-
--- one after the other
-pub wrote-none : {m : List ℤ} {from : ℕ} → Wrote m from [] m from
-unfolding numbersOf flatMap
-wrote-none = record { memory = refl; place = omega arith }
-
-pub wrote-same : {m m′ : List ℤ} {from a : ℕ} {ps qs : List Point} → ps ≡ qs → Wrote m from ps m′ a
-    → Wrote m from qs m′ a
-wrote-same {m} {m′} {from} {a} e x = subst (λ (l : List Point). Wrote m from l m′ a) e x
-
-pub wrote-one : (m : List ℤ) (from : ℕ) {y x : ℤ} (p : Point) → y ≡ p .row → x ≡ p .column
-    → Wrote m from (p ∷ []) (set (set m from y) (from + 1) x) (from + 2)
-unfolding numbersOf flatMap
-wrote-one m from p d e =
-    record {
-      memory = ap₂ (λ a b. set (set m from a) (from + 1) b) d e ∙ rw (add-one from);
-      place = omega arith;
-    }
-
-pub wrote-more : {m m′ m″ : List ℤ} {from a b : ℕ} {ps qs : List Point} → Wrote m from ps m′ a → Wrote m′ a qs m″ b
-    → Wrote m from (ps ++ qs) m″ b
-wrote-more {m} {m′} {m″} {from} {a} {b} {ps} {qs} x y =
-    record {
-      memory =
-          y .memory
-          ∙ (ap₂ (λ l i. sets l i (numbersOf qs)) (x .memory) (x .place ∙ ap (λ k. from + k) (sym (numbers-length ps)))
-          ∙ (sym (sets-append m from (numbersOf ps) (numbersOf qs)) ∙ ap (sets m from) (sym (numbers-append ps qs))));
-      place = omega (arith, x .place, y .place, length-append ps qs);
-    }
-
-pub wrote-length : {m m′ : List ℤ} {from a : ℕ} {ps : List Point} → Wrote m from ps m′ a → length m′ ≡ length m
-wrote-length {m} {m′} {from} {a} {ps} x = ap length (x .memory) ∙ length-sets m from (numbersOf ps)
+pub points-next : {m m′ : List ℤ} {from a : ℕ} {ps : List Point} → WrotePoints m from ps m′ a
+    → a ≡ from + 2 * length ps
+points-next w = wrote-place w 2 (λ p. refl)
 
 -- the loop over the box
 module _ (h w : ℕ) (number : ℕ → ℕ) (g r : ℕ) (m : Point) where
@@ -91,19 +58,19 @@ module _ (h w : ℕ) (number : ℕ → ℕ) (g r : ℕ) (m : Point) where
   unfolding boxCell
   cell-no i e = rw e
 
-  pub sweep-start : (l : List ℤ) → Wrote l 0 (sweep h w number g r m 0) l 0
+  pub sweep-start : (l : List ℤ) → WrotePoints l 0 (sweep h w number g r m 0) l 0
   unfolding sweep
-  sweep-start l = wrote-same (sym (up-none cell)) wrote-none
+  sweep-start l = loop-none cell
 
-  pub sweep-step : {l l′ l″ : List ℤ} {a b : ℕ} (i : ℕ) → Wrote l 0 (sweep h w number g r m i) l′ a
-      → Wrote l′ a (boxCell h w number g r m i) l″ b → Wrote l 0 (sweep h w number g r m (i + 1)) l″ b
+  pub sweep-step : {l l′ l″ : List ℤ} {a b : ℕ} (i : ℕ) → WrotePoints l 0 (sweep h w number g r m i) l′ a
+      → WrotePoints l′ a (boxCell h w number g r m i) l″ b → WrotePoints l 0 (sweep h w number g r m (i + 1)) l″ b
   unfolding sweep
-  sweep-step i x y = wrote-same (sym (up-more cell i)) (wrote-more x y)
+  sweep-step i x y = loop-more cell i x y
 
-  pub sweep-room : {l l′ : List ℤ} {a : ℕ} (i n : ℕ) → i < n → Wrote l 0 (sweep h w number g r m i) l′ a
+  pub sweep-room : {l l′ : List ℤ} {a : ℕ} (i n : ℕ) → i < n → WrotePoints l 0 (sweep h w number g r m i) l′ a
       → 2 * length (sweep h w number g r m n) ≤ length l → a + 2 * length (boxCell h w number g r m i) ≤ length l′
   unfolding sweep
-  sweep-room i n k x e = omega (arith, x .place, wrote-length x, up-fits cell n i k)
+  sweep-room i n k x e = omega (arith, points-next x, wrote-length x, up-fits cell n i k)
 
 -- the loop over the connections
 module _ (r : ℕ) (m : Point) (D A : List ℕ) where
@@ -125,19 +92,19 @@ module _ (r : ℕ) (m : Point) (D A : List ℕ) where
       ∙ (ap (map (λ p. p ⊕ v)) (map-append (apply (turnAt r)) (spots D A j) (spotAt D A j ∷ []))
       ∙ map-append (λ p. p ⊕ v) (map (apply (turnAt r)) (spots D A j)) (apply (turnAt r) (spotAt D A j) ∷ []))
 
-  pub moved-start : (l : List ℤ) (from : ℕ) → Wrote l from (movedBack r m (spots D A 0)) l from
+  pub moved-start : (l : List ℤ) (from : ℕ) → WrotePoints l from (movedBack r m (spots D A 0)) l from
   unfolding movedBack shiftBy spots table
-  moved-start l from = wrote-none
+  moved-start l from = wrote-none l from
 
   pub moved-step : {l l′ l″ : List ℤ} {from a b : ℕ} {p : Point} (j : ℕ)
-      → Wrote l from (movedBack r m (spots D A j)) l′ a
-      → p ≡ apply (turnAt r) (spotAt D A j) ⊕ (opposite m ⊕ opposite m) → Wrote l′ a (p ∷ []) l″ b
-      → Wrote l from (movedBack r m (spots D A (j + 1))) l″ b
+      → WrotePoints l from (movedBack r m (spots D A j)) l′ a
+      → p ≡ apply (turnAt r) (spotAt D A j) ⊕ (opposite m ⊕ opposite m) → WrotePoints l′ a (p ∷ []) l″ b
+      → WrotePoints l from (movedBack r m (spots D A (j + 1))) l″ b
   moved-step j x e y = wrote-same (ap (λ q. moves j ++ (q ∷ [])) e ∙ sym (moved-more j)) (wrote-more x y)
 
-  pub moved-room : {l l′ : List ℤ} {from a : ℕ} (j k : ℕ) → j < k → Wrote l from (movedBack r m (spots D A j)) l′ a
-      → from + 2 * k ≤ length l → a + 2 ≤ length l′
-  moved-room j k h x e = omega (arith, x .place, wrote-length x, moved-length j)
+  pub moved-room : {l l′ : List ℤ} {from a : ℕ} (j k : ℕ) → j < k
+      → WrotePoints l from (movedBack r m (spots D A j)) l′ a → from + 2 * k ≤ length l → a + 2 ≤ length l′
+  moved-room j k h x e = omega (arith, points-next x, wrote-length x, moved-length j)
 
 -- the image of a unit
 module _ {h w : ℕ} {units : List ℕ} {g : ℕ} {o : List ℕ} (u : UnitAt h w units g o) (r : ℕ) where
@@ -175,8 +142,8 @@ module _ {h w : ℕ} {units : List ℕ} {g : ℕ} {o : List ℕ} (u : UnitAt h w
 
       -- both parts
       pub image-written : {l l′ l″ : List ℤ} {a b : ℕ}
-          → Wrote l 0 (sweep h w (entry (numbersIn units)) g r m boxSize) l′ a
-          → Wrote l′ a (movedBack r m (jointSpots o)) l″ b → l″ ≡ sets l 0 (words (image r shape))
+          → WrotePoints l 0 (sweep h w (entry (numbersIn units)) g r m boxSize) l′ a
+          → WrotePoints l′ a (movedBack r m (jointSpots o)) l″ b → l″ ≡ sets l 0 (words (image r shape))
       unfolding words
       image-written {l} x y =
-          wrote-more x y .memory ∙ ap₂ (λ ps qs. sets l 0 (numbersOf (ps ++ qs))) swept moved
+          wrote-more x y .memory ∙ ap₂ (λ ps qs. sets l 0 (flatMap downAcross (ps ++ qs))) swept moved

@@ -2,7 +2,7 @@
 --
 --   nothing             the shape without cells
 --   kth ts k            transform k of a list, counted from 0; nothing past its end
---   numbersOf ps        places as numbers: down and across, one place after the other
+--   downAcross p        a place as numbers: down and across
 --   words t             a shape as numbers: its cells, then its connections
 --   room                the least memory that is lent: 1,024 cells and 2,048 connections, two numbers each
 --   transformed o n t   an outcome, how many transforms the unit has, and the counts of one of them
@@ -10,17 +10,17 @@
 --   kthMemory ts k m    the lent memory m after it is written
 --   transformOf b u k n   what asking a board for transform k of unit u returns, where n numbers of memory are lent
 --   memoryAfter b u k m   the lent memory m afterwards
---   Wrote m from ps after next   the places ps were written into m from the number `from`: `after` is the memory
---                       afterwards, and `next` the place after the last number
-use mathlib.Core.Path.{_≡_}
+--   WrotePoints m from ps after next   the places ps were written into m from the number `from`: `after` is the
+--                       memory afterwards, and `next` the place after the last number
 use mathlib.Core.Bool.{cond}
 use mathlib.Core.List.{List, [], _∷_, _++_}
-use Prim.Native.Nat.{ℕ, _+_, _*_}
+use Prim.Native.Nat.{ℕ}
 use lib.Dec.{ltb}
 use lib.IntN.{ℤ}
 use lib.ListN.{length, getD}
 use lib.Seq.{sets}
 use Rattle.lists.specs.Lists.{flatMap}
+use Rattle.lists.specs.Wrote.{WroteAs}
 use Rattle.rules.specs.Page.{Point, Shape}
 use Rattle.rules.specs.Check.{transformsOf}
 use Rattle.board.specs.declared.Board.{Board}
@@ -36,11 +36,11 @@ nothing = record { cells = []; connections = [] }
 unfoldable pub kth : List Shape → ℕ → Shape
 kth ts k = getD ts k nothing
 
-unfoldable pub numbersOf : List Point → List ℤ
-numbersOf ps = flatMap (λ p. p .row ∷ p .column ∷ []) ps
+abbrev pub downAcross : Point → List ℤ
+downAcross p = p .row ∷ p .column ∷ []
 
 unfoldable pub words : Shape → List ℤ
-words t = numbersOf (t .cells ++ t .connections)
+words t = flatMap downAcross (t .cells ++ t .connections)
 
 abbrev pub room : ℕ
 room = 6144
@@ -66,6 +66,5 @@ unfoldable pub memoryAfter : Board → ℕ → ℕ → List ℤ → List ℤ
 memoryAfter b u k m =
     cond (isAlien b) m (cond (ltb (length m) room) m (kthMemory (transformsOf (puzzleOf b) (statesOf b) u) k m))
 
-pub record Wrote (m : List ℤ) (from : ℕ) (ps : List Point) (after : List ℤ) (next : ℕ) : Type 0 where
-  pub memory : after ≡ sets m from (numbersOf ps)
-  pub place : next ≡ from + 2 * length ps
+abbrev pub WrotePoints : List ℤ → ℕ → List Point → List ℤ → ℕ → Type 0
+WrotePoints m from ps after next = WroteAs downAcross m from ps after next

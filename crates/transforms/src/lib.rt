@@ -20,7 +20,7 @@ ghost use Rattle.shapes.specs.Rows.{turnAt, image, rowsOf};
 ghost use Rattle.shapes.specs.Outlines.{jointCount};
 ghost use Rattle.shapes.specs.Images.{Jointed};
 ghost use Rattle.shapes.specs.Spots.{jointSpots, UnitAt};
-ghost use Rattle.transforms.specs.Transforms.{nothing, words, transformed, kthAnswer, kthMemory, Wrote};
+ghost use Rattle.transforms.specs.Transforms.{nothing, words, transformed, kthAnswer, kthMemory, WrotePoints};
 ghost use Rattle.transforms.specs.Transforms.{transformOf, memoryAfter};
 ghost use Rattle.transforms.specs.Box.{boxAt, reversed, ofImage, boxCell, sweep, movedBack};
 use board::Board;
@@ -63,7 +63,7 @@ const BOX: usize = 4356;
 // Writes a place from the number `at` on; gives the next number's place.
 fn put(memory: &mut [i32], at: usize, p: Pair) -> usize
     requires { ⌜ at + 2 ≤ length (now memory) ⌝ }
-    ensures { λ r. ⌜ Wrote (now (memory .entry)) at (pointOf p ∷ []) (now (memory .exit)) r ⌝ }
+    ensures { λ r. ⌜ WrotePoints (now (memory .entry)) at (pointOf p ∷ []) (now (memory .exit)) r ⌝ }
 {
     let y = p.y;
     let x = p.x;
@@ -139,7 +139,7 @@ fn put_cell(
 ) -> usize
     requires { ⌜ (row < 8) × Sized h w × (length (numbersIn (now units)) ≡ 1024) × SmallPair m × (i < 4356)
         × (at + 2 * length (boxCell h w (entry (numbersIn (now units))) g row (pointOf m) i) ≤ length (now memory)) ⌝ }
-    ensures { λ r. ⌜ Wrote (now (memory .entry)) at
+    ensures { λ r. ⌜ WrotePoints (now (memory .entry)) at
         (boxCell h w (entry (numbersIn (now (units .entry)))) g row (pointOf m) i) (now (memory .exit)) r ⌝ }
 {
     let p = box_place(i);
@@ -162,7 +162,7 @@ fn put_cells(
 ) -> usize
     requires { ⌜ (row < 8) × Sized h w × (length (numbersIn (now units)) ≡ 1024) × SmallPair m
         × (2 * length (sweep h w (entry (numbersIn (now units))) g row (pointOf m) 4356) ≤ length (now memory)) ⌝ }
-    ensures { λ r. ⌜ Wrote (now (memory .entry)) 0
+    ensures { λ r. ⌜ WrotePoints (now (memory .entry)) 0
         (sweep h w (entry (numbersIn (now (units .entry)))) g row (pointOf m) 4356) (now (memory .exit)) r ⌝ }
 {
     let mut at: usize = 0;
@@ -179,7 +179,7 @@ fn put_cells(
 fn put_joints(memory: &mut [i32], start: usize, row: usize, outline: &Outline, m: Pair) -> usize
     requires { ⌜ (row < 8) × Jointed (now outline) × SmallPair m
         × (start + 2 * jointCount (now outline) ≤ length (now memory)) ⌝ }
-    ensures { λ r. ⌜ Wrote (now (memory .entry)) start
+    ensures { λ r. ⌜ WrotePoints (now (memory .entry)) start
         (movedBack row (pointOf m) (jointSpots (now (outline .entry)))) (now (memory .exit)) r ⌝ }
 {
     let k = joint_count(outline);

@@ -1,5 +1,5 @@
 -- One store is one literal written.
-use Rattle.reasons.specs.MemoryLaws.{wrote-one}
+use Rattle.lists.specs.WroteLaws.{wrote-one}
 use borrow.Author.Needs.{needs}
 use Rattle.reasons.proofs.append.Statement.{statement}
 use Rattle.reasons.proofs.append.Tie as tie

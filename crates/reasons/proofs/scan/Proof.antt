@@ -7,7 +7,8 @@ use Rattle.groups.specs.Grouping.{numbersIn, cellsIn}
 use Rattle.rules.specs.declared.Literal.{Literal}
 use Rattle.reasons.specs.Memory.{Wrote}
 use Rattle.reasons.specs.Arrays.{Cells, scanAt, scanOf}
-use Rattle.reasons.specs.MemoryLaws.{loop-none, loop-more, loop-fits, loop-end, wrote-length}
+use Rattle.lists.specs.WroteLaws.{loop-none, loop-more, loop-end, wrote-length}
+use Rattle.reasons.specs.MemoryLaws.{loop-fits}
 use Rattle.reasons.specs.ScanLaws.{scan-part}
 use native.Mathlib.Omega.{arith}
 use Rattle.lists.specs.UpTo.{upTo}

@@ -9,7 +9,8 @@ use Rattle.planes.specs.DrawLaws.{planes-long}
 use Rattle.rules.specs.Codes.{statesIn}
 use Rattle.rules.specs.declared.Literal.{Literal}
 use Rattle.reasons.specs.Memory.{Wrote}
-use Rattle.reasons.specs.MemoryLaws.{wrote-length, loop-none, loop-more, loop-fits, loop-end}
+use Rattle.lists.specs.WroteLaws.{wrote-length, loop-none, loop-more, loop-end}
+use Rattle.reasons.specs.MemoryLaws.{loop-fits}
 use Rattle.groups.specs.Grouping.{cellsIn, startsIn}
 use Rattle.adjacent.specs.Mates.{matesIn}
 use Rattle.rules.specs.Codes.{unclued}

@@ -5,7 +5,7 @@ use lib.ListN.{length-set}
 use mir.Syntax.{w32}
 use mir.Facts.{toZ-ofZ}
 use Rattle.shapes.specs.Pairs.{pointOf}
-use Rattle.transforms.specs.ImageLaws.{wrote-one}
+use Rattle.transforms.specs.ImageLaws.{wrote-point}
 use Rattle.transforms.proofs.put.Statement.{statement}
 use Rattle.transforms.proofs.put.Tie as tie
 
@@ -34,7 +34,7 @@ returns : tie.Need-returns
 returns c =
     let s = c .before .before in
     let p = c .before .struct-told .given in
-    wrote-one (s .args .memory .now) (s .args .at) (pointOf (s .args .p))
+    wrote-point (s .args .memory .now) (s .args .at) (pointOf (s .args .p))
     (toZ-ofZ {w = w32} (record { sfits = p .0 .1 }))
     (toZ-ofZ {w = w32} (record { sfits = p .1 .0 .1 }))
 

@@ -4,12 +4,13 @@ use mathlib.Core.List.{[], _∷_}
 use native.Mathlib.Omega.{arith}
 use borrow.Author.Needs.{needs}
 use lib.ListN.{length}
+use Rattle.lists.specs.WroteLaws.{wrote-none, wrote-same}
 use Rattle.rules.specs.Page.{Point, _⊕_, opposite}
 use Rattle.rules.specs.Groups.{entry}
 use Rattle.groups.specs.Grouping.{numbersIn}
 use Rattle.shapes.specs.Pairs.{pointOf}
 use Rattle.transforms.specs.Box.{boxAt, ofImage}
-use Rattle.transforms.specs.ImageLaws.{wrote-none, wrote-same, cell-yes, cell-no}
+use Rattle.transforms.specs.ImageLaws.{cell-yes, cell-no}
 use Rattle.transforms.proofs.put_cell.Statement.{statement}
 use Rattle.transforms.proofs.put_cell.Tie as tie
 
@@ -60,7 +61,7 @@ returns-2 c =
     let s = c .before .before .before in
     wrote-same
     (sym (cell-no (s .args .h) (s .args .w) (entry (numbersIn (s .args .units .now))) (s .args .g) (s .args .row)
-    (pointOf (s .args .m)) (s .args .i) (sym (tested (c .before)) ∙ c .if1 .left))) wrote-none
+    (pointOf (s .args .m)) (s .args .i) (sym (tested (c .before)) ∙ c .if1 .left))) (wrote-none _ _)
 
 pub put-cell-spec : {M : Type 1} → statement M
 put-cell-spec =

@@ -3,18 +3,19 @@ use mathlib.Core.Path.{_≡_, ap}
 use Prim.Native.Nat.{_-_, _≤_}
 use native.Mathlib.Omega.{arith}
 use borrow.Author.Needs.{needs}
+use Rattle.lists.specs.WroteLaws.{wrote-same, wrote-length}
 use Rattle.rules.specs.Groups.{entry}
 use Rattle.groups.specs.Grouping.{numbersIn}
 use Rattle.shapes.specs.Pairs.{pointOf}
-use Rattle.transforms.specs.Transforms.{Wrote}
+use Rattle.transforms.specs.Transforms.{WrotePoints}
 use Rattle.transforms.specs.Box.{sweep}
-use Rattle.transforms.specs.ImageLaws.{wrote-same, wrote-length, sweep-start, sweep-step, sweep-room}
+use Rattle.transforms.specs.ImageLaws.{sweep-start, sweep-step, sweep-room}
 use Rattle.transforms.proofs.put_cells.Statement.{statement}
 use Rattle.transforms.proofs.put_cells.Tie as tie
 
 abbrev Inv-loop : tie.InvT-loop
 Inv-loop memory₀ units h w g row m at₀ i₀ memory at i =
-    (i ≤ 4356) × Wrote memory₀ 0 (sweep h w (entry (numbersIn units)) g row (pointOf m) i) memory at
+    (i ≤ 4356) × WrotePoints memory₀ 0 (sweep h w (entry (numbersIn units)) g row (pointOf m) i) memory at
 
 abbrev μ-loop : tie.MeasureT-loop
 μ-loop memory₀ units h w g row m at₀ i₀ memory at i = 4356 - i

@@ -3,10 +3,11 @@ use mathlib.Core.Path.{ap}
 use native.Mathlib.Omega.{arith}
 use borrow.Author.Needs.{needs}
 use lib.ListN.{length}
+use Rattle.lists.specs.WroteLaws.{wrote-length}
 use Rattle.shapes.specs.Pairs.{SmallPair}
 use Rattle.shapes.specs.SpotLaws.{near-least, near-small}
 use Rattle.shapes.specs.ImageLaws.{jointed}
-use Rattle.transforms.specs.ImageLaws.{wrote-length, cell-count, swept, image-written}
+use Rattle.transforms.specs.ImageLaws.{points-next, cell-count, swept, image-written}
 use Rattle.transforms.proofs.put_image.Statement.{statement}
 use Rattle.transforms.proofs.put_image.Tie as tie
 
@@ -46,7 +47,7 @@ put-joints-requires c κs =
       small l,
       omega (
         arith,
-        p .place,
+        points-next p,
         wrote-length p,
         ap length (swept u (s .args .row) (l .least .ensures)),
         cell-count u (s .args .row),

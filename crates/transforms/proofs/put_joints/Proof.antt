@@ -3,18 +3,20 @@ use mathlib.Core.Path.{_≡_, ap}
 use Prim.Native.Nat.{_-_, _≤_}
 use native.Mathlib.Omega.{arith}
 use borrow.Author.Needs.{needs}
+use Rattle.lists.specs.WroteLaws.{wrote-same, wrote-length}
 use Rattle.shapes.specs.Outlines.{downIn, acrossIn, jointCount}
 use Rattle.shapes.specs.Pairs.{pointOf}
 use Rattle.shapes.specs.Spots.{spots}
-use Rattle.transforms.specs.Transforms.{Wrote}
+use Rattle.transforms.specs.Transforms.{WrotePoints}
 use Rattle.transforms.specs.Box.{movedBack}
-use Rattle.transforms.specs.ImageLaws.{wrote-same, wrote-length, moved-start, moved-step, moved-room}
+use Rattle.transforms.specs.ImageLaws.{moved-start, moved-step, moved-room}
 use Rattle.transforms.proofs.put_joints.Statement.{statement}
 use Rattle.transforms.proofs.put_joints.Tie as tie
 
 abbrev Inv-loop : tie.InvT-loop
 Inv-loop memory₀ start row outline m k at₀ j₀ memory at j =
-    (j ≤ k) × Wrote memory₀ start (movedBack row (pointOf m) (spots (downIn outline) (acrossIn outline) j)) memory at
+    (j ≤ k)
+    × WrotePoints memory₀ start (movedBack row (pointOf m) (spots (downIn outline) (acrossIn outline) j)) memory at
 
 abbrev μ-loop : tie.MeasureT-loop
 μ-loop memory₀ start row outline m k at₀ j₀ memory at j = k - j

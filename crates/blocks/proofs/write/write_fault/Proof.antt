@@ -7,7 +7,7 @@ use borrow.Author.Needs.{needs}
 use Rattle.groups.specs.Grouping.{numbersIn}
 use Rattle.rules.specs.declared.Literal.{Literal}
 use Rattle.reasons.specs.Arrays.{insideIn, edgeIn}
-use Rattle.reasons.specs.MemoryLaws.{wrote-none, wrote-more}
+use Rattle.lists.specs.WroteLaws.{wrote-none, wrote-more}
 use Rattle.blocks.specs.declared.Fault.the-variants.{Clear, InsideEdge, Inside, Edge, EdgeInside}
 use Rattle.blocks.specs.Written.{faultLiterals, faultyLiterals}
 use Rattle.blocks.specs.WriteCases.{fits-first, fits-second}

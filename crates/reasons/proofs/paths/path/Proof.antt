@@ -1,7 +1,7 @@
 -- A cell off the page has no path; otherwise the search, and the way back.
 use mathlib.Core.Path.{refl}
 use Rattle.laws.specs.FlatLaws.{Counts, counts}
-use Rattle.reasons.specs.MemoryLaws.{wrote-none}
+use Rattle.lists.specs.WroteLaws.{wrote-none}
 use Rattle.reasons.specs.PathLaws.{path-off-a, path-off-b}
 use native.Mathlib.Omega.{arith}
 use borrow.Author.Needs.{needs}

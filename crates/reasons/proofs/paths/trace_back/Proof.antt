@@ -3,7 +3,8 @@ use Prim.Native.Nat.{_+_, _-_}
 use lib.ListN.{length}
 use Rattle.laws.specs.FlatLaws.{Counts, counts}
 use Rattle.reasons.specs.Search.{pathIn}
-use Rattle.reasons.specs.MemoryLaws.{wrote-length}
+use Rattle.lists.specs.WroteLaws.{wrote-length}
+use Rattle.reasons.specs.MemoryLaws.{wrote-next}
 use Rattle.reasons.specs.PathLaws.{Tracing, tracing-start, tracing-none, tracing-end, tracing-left, tracing-room}
 use Rattle.reasons.specs.PathLaws.{tracing-narrow, tracing-more}
 use native.Mathlib.Omega.{arith}
@@ -77,7 +78,7 @@ loop-less : tie.Need-loop-less Inv-loop μ-loop
 loop-less c =
     let t = c .before .before .before .before .before .before .before .before .before .loop .inv in
     let ne = c .before .before .before .before .before .before .before .before .loop-test .taken in
-    omega (arith, tracing-left t ne, c .before .before .before .before .append .ensures .place)
+    omega (arith, tracing-left t ne, wrote-next (c .before .before .before .before .append .ensures))
 
 loop-again : tie.Need-loop-again Inv-loop μ-loop
 loop-again c =

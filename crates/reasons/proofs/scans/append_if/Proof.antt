@@ -1,5 +1,5 @@
 -- By cases on `kept`: one literal, or none.
-use Rattle.reasons.specs.MemoryLaws.{wrote-none}
+use Rattle.lists.specs.WroteLaws.{wrote-none}
 use native.Mathlib.Omega.{arith}
 use borrow.Author.Needs.{needs}
 use Rattle.reasons.proofs.scans.append_if.Statement.{statement}

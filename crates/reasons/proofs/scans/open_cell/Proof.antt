@@ -10,7 +10,8 @@ use Rattle.rules.specs.declared.Literal.{Literal}
 use Rattle.laws.specs.FlatLaws.{OnPage, row-of}
 use Rattle.reasons.specs.Memory.{Wrote}
 use Rattle.reasons.specs.Arrays.{scanTo, scanAt}
-use Rattle.reasons.specs.MemoryLaws.{loop-none, loop-more, loop-fits}
+use Rattle.lists.specs.WroteLaws.{loop-none, loop-more}
+use Rattle.reasons.specs.MemoryLaws.{loop-fits}
 use Rattle.reasons.specs.ScanLaws.{scan-open}
 use native.Mathlib.Omega.{arith}
 use borrow.Author.Needs.{needs}

@@ -11,7 +11,7 @@ use lib.ListN.{length, getD}
 use Rattle.rules.proofs.Placement.{enum}
 use Rattle.rules.specs.Page.{wallAt}
 use Rattle.laws.specs.FlatLaws.{counts}
-use Rattle.reasons.specs.MemoryLaws.{wrote-none}
+use Rattle.lists.specs.WroteLaws.{wrote-none}
 use Rattle.stuck.specs.Survivors.{placedAt, blockIn}
 use Rattle.stuck.specs.PlacedLaws.{place-row, place-column, placed-within, block-one, block-none}
 use Rattle.stuck.proofs.survivors.block_at.Statement.{statement}

@@ -9,8 +9,9 @@ use Rattle.lists.specs.Lists.{flatMap}
 use Rattle.lists.specs.Parts.{part}
 use Rattle.rules.specs.declared.Literal.{Literal}
 use Rattle.reasons.specs.Memory.{Wrote}
-use Rattle.reasons.specs.MemoryLaws.{wrote-length}
-use Rattle.reasons.specs.MemoryLaws.{write-none, write-more, write-fits}
+use Rattle.lists.specs.WroteLaws.{wrote-length}
+use Rattle.lists.specs.WroteLaws.{write-none, write-more}
+use Rattle.reasons.specs.MemoryLaws.{write-fits}
 use Rattle.reasons.specs.CellLaws.{cells-reach, cells-at}
 use Rattle.stuck.specs.Survivors.{blockIn}
 use Rattle.stuck.proofs.survivors.block_group.Statement.{statement}

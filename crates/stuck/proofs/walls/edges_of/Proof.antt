@@ -10,8 +10,9 @@ use Rattle.groups.specs.Grouping.{numbersIn}
 use Rattle.rules.specs.declared.Literal.{Literal}
 use Rattle.reasons.specs.Arrays.{edgeIn}
 use Rattle.reasons.specs.Memory.{Wrote}
-use Rattle.reasons.specs.MemoryLaws.{wrote-length}
-use Rattle.reasons.specs.MemoryLaws.{write-none, write-more, write-fits}
+use Rattle.lists.specs.WroteLaws.{wrote-length}
+use Rattle.lists.specs.WroteLaws.{write-none, write-more}
+use Rattle.reasons.specs.MemoryLaws.{write-fits}
 use Rattle.adjacent.specs.Mates.{mateCount}
 use Rattle.stuck.specs.Writing.{edgesIn}
 use Rattle.stuck.proofs.walls.edges_of.Statement.{statement}

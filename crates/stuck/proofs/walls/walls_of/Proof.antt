@@ -4,7 +4,7 @@ use borrow.Author.Needs.{needs}
 use Rattle.groups.specs.Grouping.{numbersIn, groupCells}
 use Rattle.rules.specs.declared.Literal.{Literal}
 use Rattle.reasons.specs.Arrays.{edgeIn}
-use Rattle.reasons.specs.MemoryLaws.{wrote-more}
+use Rattle.lists.specs.WroteLaws.{wrote-more}
 use Rattle.adjacent.specs.Mates.{matesIn}
 use Rattle.reasons.specs.MemoryLaws.{room-first, room-second, room-third}
 use Rattle.stuck.specs.Writing.{edgesIn, farIn, wallsIn}
