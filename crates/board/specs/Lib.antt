@@ -6,7 +6,6 @@ pub mod ConditionLaws
 pub mod Cases
 pub mod NativeLaws
 pub mod DecideLaws
-pub mod SequenceLaws
 pub mod ViewLaws
 pub mod LiteralLaws
 pub mod FreshLaws

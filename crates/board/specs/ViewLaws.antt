@@ -23,7 +23,7 @@ use Rattle.rules.specs.Flat.{flat}
 use Rattle.rules.specs.Codes.{stateOf, codeOf, statesIn, coloursIn, clueOf, cluesIn, puzzleIn}
 use Rattle.rules.specs.Check.{undecidedCount}
 use Rattle.rules.specs.Book.{states, names}
-use Rattle.laws.specs.BookLaws.{states-none}
+use Rattle.laws.specs.BookLaws.{states-none, names-table, states-all}
 use Rattle.board.specs.declared.Board.{Board}
 use Rattle.board.specs.declared.Outcome.the-variants.{Done}
 use Rattle.board.specs.Alien.{stacked, borderCountOf}
@@ -31,7 +31,6 @@ use Rattle.board.specs.Board.{freshBoard, returned, decideOf, undoOf}
 use Rattle.board.specs.View.{puzzleOf, statesOf, sideIn, literalIn, literalsOf}
 use Rattle.board.specs.NativeLaws.{Native, free-count}
 use Rattle.board.specs.DecideLaws.{decided-is, undone-is}
-use Rattle.board.specs.SequenceLaws.{names-table, states-all}
 
 -- ---- codes
 pub side-in : (d : Side) → sideIn (codeOf d) ≡ d

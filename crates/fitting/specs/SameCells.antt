@@ -6,14 +6,14 @@
 --   fits-clear          a placement fits exactly if every connection is clear
 --   beside-same         the same connections, in any order, fit at the same cells
 use mathlib.Core.Path.{_≡_, refl, sym, ap, _∙_, subst}
-use mathlib.Core.List.{List, [], _∷_, map, Memᴰ·cast}
+use mathlib.Core.List.{List, [], _∷_, map}
 use mathlib.Core.Option.{Option, none}
 use Prim.Native.Nat.{ℕ, _<_, _≤_}
 use native.Mathlib.Omega.{arith}
 use lib.Dec.{T}
 use lib.ListN.{length}
 use Rattle.lists.specs.Lists.{_∈_, all}
-use Rattle.lists.specs.ListLaws.{all-mem, mem-map, map-find, getD-mem, mem-all}
+use Rattle.lists.specs.ListLaws.{all-mem, map-find, map-within, getD-mem, mem-all}
 use Rattle.lists.specs.Booleans.{same-test}
 use Rattle.lists.specs.AnyAll.{any-same}
 use Rattle.rules.specs.Page.{State, Page, Point, Puzzle, Shape, _⊕_}
@@ -87,10 +87,6 @@ module _ (Z : Puzzle) (s : ℕ → State) where
   fits-clear t o =
       ap (isFit Z s) (judge-after Z s none (map (read o) (t .connections)))
       ∙ after-clear Z s (map (readingOf Z s) (map (read o) (t .connections)))
-
-  map-within : {A B : Type 0} (f : A → B) (xs ys : List A) → ((x : A) → x ∈ xs → x ∈ ys)
-      → (z : B) → z ∈ map f xs → z ∈ map f ys
-  map-within f xs ys i z m = let r = map-find f xs m in Memᴰ·cast (r .2) (mem-map f (i (r .0) (r .1)))
 
   fits-within : (js ks : List Point) → ((d : Point) → d ∈ ks → d ∈ js) → (o : ℕ) → T (fitsOf Z s (bare js) o)
       → T (fitsOf Z s (bare ks) o)

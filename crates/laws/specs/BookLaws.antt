@@ -2,6 +2,8 @@
 -- sequence and the answers of a list of calls.
 --
 --   states-none         a border that the sequence does not name is undecided
+--   names-table         the borders that a sequence names, by its places
+--   states-all          where each literal of a sequence holds, the borders that it names have their states by it
 --   without-last        taking the last literal off undoes putting it last
 --   bordersNamed ls     the borders that a sequence names
 --   Clean Z ls          the sequence names borders of the page, none of them twice
@@ -21,15 +23,19 @@ use Prim.Native.Nat.{ℕ, zero, suc, _+_, _<_}
 use native.Mathlib.Omega.{arith}
 use lib.Dec.{eqb, ltb, T, eqb→eq, eqb-refl, ltb→lt}
 use lib.ListN.{length}
-use borrow.Author.Tests.{eq-eqb, ne-eqb}
+use borrow.Author.Tests.{eq-eqb, ne-eqb, eqb-true}
 use Rattle.lists.specs.Lists.{_∈_, any, Distinct}
+use Rattle.lists.specs.Tests.{anyBelow}
+use Rattle.lists.specs.Table.{table}
+use Rattle.lists.specs.Appends.{any-append}
 use Rattle.lists.specs.ListLaws.{any-mem, any-find, mem-map, map-find}
+use Rattle.lists.specs.Pairs.{distinct-last}
 use Rattle.lists.specs.Count.{countBelow}
 use Rattle.lists.specs.CountLaws.{count-cong, count-more}
 use Rattle.rules.specs.declared.Literal.{Literal}
 use Rattle.rules.specs.declared.Call.{Call}
 use Rattle.rules.specs.declared.Call.the-variants.{Decide, Undo, Check}
-use Rattle.rules.specs.Page.{Puzzle, undecided, decided, Has, isUndecided}
+use Rattle.rules.specs.Page.{Puzzle, State, undecided, decided, Has, isUndecided}
 use Rattle.rules.specs.Check.{Verdict, undecidedCount, check}
 use Rattle.rules.specs.Book.{Asked, Reply, refused, done, answered, stateIf, states, names, withLast, withoutLast}
 use Rattle.rules.specs.Book.{bareOr, decideReply, decideAfter, replyTo, reply, afterCall, after, sequenceFrom}
@@ -44,6 +50,30 @@ states-none (l ∷ ls) x e = go (eqb (l .border) x) e (states-none ls x)
         → stateIf t (decided (l .side)) (states ls x) ≡ undecided
     go true p ih = let z : _≡_ {A = Bool} true false = p in cc
     go false p ih = ih p
+
+names-last : (ls : List Literal) (l : Literal) (x : ℕ) → names (withLast ls l) x ≡ names ls x || eqb (l .border) x
+unfolding names any
+names-last ls l x =
+    any-append (λ (k : Literal). eqb (k .border) x) ls (l ∷ [])
+    ∙ ap (λ (t : Bool). names ls x || t) (or-false (eqb (l .border) x))
+
+pub names-table : (n : ℕ) (f : ℕ → Literal) (x : ℕ) → names (table n f) x ≡ anyBelow n (λ i. eqb (f i .border) x)
+unfolding table anyBelow names any
+names-table zero f x = refl
+names-table (suc n) f x =
+    names-last (table n f) (f n) x ∙ ap (λ (t : Bool). t || eqb (f n .border) x) (names-table n f x)
+
+-- where each literal holds in m, the states of the literals are those of m
+pub states-all : (m : ℕ → State) (ls : List Literal) (x : ℕ)
+    → ((l : Literal) → l ∈ ls → m (l .border) ≡ decided (l .side)) → names ls x ≡ true → states ls x ≡ m x
+unfolding names any states
+states-all m [] x f e = let z : _≡_ {A = Bool} false true = e in cc
+states-all m (l ∷ ls) x f e = go (eqb (l .border) x) refl e (states-all m ls x (λ k i. f k (List·Memᴰ·tail i)))
+  where
+    go : (t : Bool) → eqb (l .border) x ≡ t → t || names ls x ≡ true → (names ls x ≡ true → states ls x ≡ m x)
+        → stateIf t (decided (l .side)) (states ls x) ≡ m x
+    go true p q ih = sym (f l (List·Memᴰ·head refl)) ∙ ap m (eqb-true (l .border) x p)
+    go false p q ih = ih q
 
 pub without-last : (ls : List Literal) (l : Literal) → withoutLast (withLast ls l) ≡ ls
 unfolding withoutLast
@@ -71,16 +101,6 @@ named-mem ls b t =
     let r = any-find (λ (l : Literal). eqb (l .border) b) ls t in
     subst (λ (c : ℕ). c ∈ bordersNamed ls) (eqb→eq (r .0 .border) b (r .2))
     (mem-map (λ (l : Literal). l .border) (r .1))
-
--- lists with one more element at the end
-distinct-last : (xs : List ℕ) (y : ℕ) → Distinct xs → (y ∈ xs → ⊥) → Distinct (xs ++ (y ∷ []))
-distinct-last [] y d n = (λ m. List·Memᴰ·not-nil m, tt)
-distinct-last (x ∷ xs) y d n =
-    (λ m. go (List·Memᴰ·append-cases xs m), distinct-last xs y (d .1) (λ m. n (List·Memᴰ·tail m)))
-  where
-    go : x ∈ xs ⊎ x ∈ (y ∷ []) → ⊥
-    go (inl m) = d .0 m
-    go (inr m) = n (List·Memᴰ·head (sym (List·Memᴰ·eq-of-singleton m)))
 
 without-mem : (ls : List Literal) (l : Literal) → l ∈ withoutLast ls → l ∈ ls
 unfolding withoutLast

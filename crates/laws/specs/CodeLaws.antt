@@ -1,12 +1,14 @@
--- Laws of codes: a border's state is told by its number.
+-- Laws of codes: a border's state is told by its number, and whether two colours are equal by theirs.
 --
 --   wall-state, open-state   what a number says
 --   state-wall, state-open   the same in an array
+--   bit-same                 two colours' numbers
 use mathlib.Core.Path.{_≡_, refl}
-use mathlib.Core.Bool.{Bool, true, false, cond}
+use mathlib.Core.Bool.{Bool, true, false, cond, Bool·beq}
 use mathlib.Core.List.{List}
-use Prim.Native.Nat.{ℕ}
+use Prim.Native.Nat.{ℕ, zero, suc, _≤_}
 use native.Mathlib.Decide.{ℕ-discrete}
+use native.Mathlib.Omega.{arith}
 use borrow.Author.Tests.{ne-eqb}
 use lib.Dec.{eqb}
 use lib.ListN.{getD}
@@ -38,3 +40,13 @@ module _ (bs : List ℕ) (b : ℕ) where
   pub state-open : isOpen (statesIn bs b) ≡ eqb (getD bs b 0) 2
   unfolding statesIn
   state-open = open-state (getD bs b 0)
+
+-- two colours are equal as their numbers are
+pub bit-same : (a b : ℕ) → a ≤ 1 → b ≤ 1 → Bool·beq (eqb a 1) (eqb b 1) ≡ eqb a b
+bit-same zero zero p q = refl
+bit-same zero (suc zero) p q = refl
+bit-same (suc zero) zero p q = refl
+bit-same (suc zero) (suc zero) p q = refl
+bit-same (suc (suc a)) b p q = absurd (omega arith)
+bit-same zero (suc (suc b)) p q = absurd (omega arith)
+bit-same (suc zero) (suc (suc b)) p q = absurd (omega arith)

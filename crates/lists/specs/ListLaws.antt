@@ -3,7 +3,7 @@ use mathlib.Core.Path.{_≡_, refl, ap, _∙_, subst}
 use mathlib.Core.Logic.{_⊎_, inl, inr}
 use mathlib.Core.Bool.{Bool, true, false}
 use mathlib.Core.List.{List, [], _∷_, map, List·Memᴰ·head, List·Memᴰ·tail, List·Memᴰ·cases-cons}
-use mathlib.Core.List.{List·Memᴰ·not-nil, Memᴰ·append-left, Memᴰ·append-right, List·Memᴰ·append-cases}
+use mathlib.Core.List.{List·Memᴰ·not-nil, Memᴰ·cast, Memᴰ·append-left, Memᴰ·append-right, List·Memᴰ·append-cases}
 use mathlib.Core.Option.{Option, some, none}
 use Prim.Native.Nat.{ℕ, zero, suc, _<_}
 use native.Mathlib.Nat.{not-suc-le-zero, le-of-suc-le-suc}
@@ -85,6 +85,9 @@ module _ {A B : Type 0} where
   map-find f [] m = absurd (List·Memᴰ·not-nil m)
   map-find f (x ∷ xs) (List·Memᴰ·head q) = (x, List·Memᴰ·head refl, q)
   map-find f (x ∷ xs) (List·Memᴰ·tail m) = let r = map-find f xs m in (r .0, List·Memᴰ·tail (r .1), r .2)
+
+  pub map-within : (f : A → B) (xs ys : List A) → ((x : A) → x ∈ xs → x ∈ ys) → (z : B) → z ∈ map f xs → z ∈ map f ys
+  map-within f xs ys i z m = let r = map-find f xs m in Memᴰ·cast (r .2) (mem-map f (i (r .0) (r .1)))
 
   pub mem-flat : (f : A → List B) {xs : List A} {x : A} {y : B} → x ∈ xs → y ∈ f x → y ∈ flatMap f xs
   unfolding flatMap

@@ -1,9 +1,11 @@
--- Laws of lists that are not about the page: no repeats, from a test of every pair, or kept by an injective map.
+-- Laws of lists without repeats: from a test of every pair, kept by an injective map, or with one more at the end.
 --
 --   pairwise r xs       each element passes the test r with every later one
 use mathlib.Core.Path.{_≡_, sym, subst}
 use mathlib.Core.Bool.{Bool, true, _&&_}
-use mathlib.Core.List.{List, [], _∷_, map}
+use mathlib.Core.Logic.{_⊎_, inl, inr}
+use mathlib.Core.List.{List, [], _∷_, _++_, map, List·Memᴰ·head, List·Memᴰ·tail, List·Memᴰ·not-nil}
+use mathlib.Core.List.{List·Memᴰ·append-cases, List·Memᴰ·eq-of-singleton}
 use lib.Dec.{T}
 use Rattle.lists.specs.Lists.{_∈_, Distinct, all}
 use Rattle.lists.specs.Booleans.{T-and-l, T-and-r}
@@ -13,6 +15,15 @@ module _ {A : Type 0} where
   unfoldable pub pairwise : (A → A → Bool) → List A → Bool
   pairwise r [] = true
   pairwise r (x ∷ xs) = all (r x) xs && pairwise r xs
+
+  pub distinct-last : (xs : List A) (y : A) → Distinct xs → (y ∈ xs → ⊥) → Distinct (xs ++ (y ∷ []))
+  distinct-last [] y d n = (λ m. List·Memᴰ·not-nil m, tt)
+  distinct-last (x ∷ xs) y d n =
+      (λ m. go (List·Memᴰ·append-cases xs m), distinct-last xs y (d .1) (λ m. n (List·Memᴰ·tail m)))
+    where
+      go : x ∈ xs ⊎ x ∈ (y ∷ []) → ⊥
+      go (inl m) = d .0 m
+      go (inr m) = n (List·Memᴰ·head (sym (List·Memᴰ·eq-of-singleton m)))
 
 module _ {A B : Type 0} where
   -- f tells apart what passes the test

@@ -1,4 +1,5 @@
--- Laws of stores: into one list after another, of one list after another, past the end, and of the lists of a flatMap.
+-- Laws of stores: into one list after another, of one list after another, past the end, of a flag, and of the lists of
+-- a flatMap.
 use mathlib.Core.Path.{_≡_, refl, ap, ap₂, sym, _∙_}
 use mathlib.Core.List.{List, [], _∷_, _++_}
 use mathlib.Core.Logic.{_⊎_, inl, inr, ⊎-elim}
@@ -8,8 +9,9 @@ use native.Mathlib.Numerals.{add-one}
 use native.Mathlib.Omega.{arith}
 use lib.ListN.{length, getD, set, take, drop, length-append, take-append-drop}
 use lib.Seq.{getD-append-add, sets, sets-eq, take-append-seam, take-suc, take-suc-set, drop-drop, drop-at, slice}
-use lib.Seq.{length-take-le, drop-append-le, getD-set-other, set-out}
+use lib.Seq.{length-take-le, drop-append-le, getD-set-same, getD-set-other, set-out}
 use Rattle.lists.specs.Lists.{flatMap}
+use Rattle.lists.specs.Arithmetic.{if-same}
 use Rattle.lists.specs.Flats.{length-flat, flat-last}
 
 -- ---- one list after another
@@ -85,6 +87,10 @@ module _ {A : Type 0} where
       → slice f (suc t) (set l t v) ≡ slice f t l ++ (v ∷ [])
   slice-push f t l v q r =
       rw (take-suc-set l t v r) (drop-append-le f (take t l) (v ∷ []) (rw (length-take-le t l (omega arith)) q))
+
+-- a flag once set stays so, whatever flag is set next
+pub flag-set : (F : List ℕ) (to c : ℕ) → to < length F → getD F c 0 ≡ 1 → getD (set F to 1) c 0 ≡ 1
+flag-set F to c l e = if-same c to (λ q. rw q (getD-set-same F to 1 0 l)) (λ q. getD-set-other F to c 1 0 q ∙ e)
 
 -- ---- the lists of k elements each that flatMap puts in a row
 module _ {A B : Type 0} (f : A → List B) (k : ℕ) (long : (x : A) → length (f x) ≡ k) where

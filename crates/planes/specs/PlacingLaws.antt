@@ -13,11 +13,10 @@ use Rattle.rules.specs.Page.{Puzzle, State}
 use Rattle.rules.specs.Rules.{oneColour}
 use Rattle.rules.specs.Codes.{coloursIn, statesIn}
 use Rattle.rules.specs.Flat.{flat, flatReads, flatReadsAt, rightOf, belowOf, flatFirst, flatSecond, cellAt}
-use Rattle.laws.specs.CodeLaws.{wall-state}
+use Rattle.laws.specs.CodeLaws.{wall-state, bit-same}
 use Rattle.planes.specs.declared.Reading.the-variants.{Ends, Clear, Walled}
 use Rattle.rules.specs.Codes.{unclued}
 use Rattle.planes.specs.Placing.{readRaised, readingOf, between}
-use Rattle.adjacent.specs.TouchLaws.{bit-same}
 
 -- what the border between two cells does
 module _ (cs bs : List ℕ) (from to b : ℕ) (two : (c : ℕ) → getD cs c 0 ≤ 1) where

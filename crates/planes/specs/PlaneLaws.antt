@@ -11,12 +11,11 @@ use lib.Dec.{eqb, ltb, leb}
 use lib.ListN.{getD}
 use Rattle.lists.specs.Arithmetic.{le-or-lt, eq-or-not}
 use Rattle.rules.specs.Codes.{coloursIn, statesIn}
-use Rattle.laws.specs.CodeLaws.{wall-state}
+use Rattle.laws.specs.CodeLaws.{wall-state, bit-same}
 use Rattle.planes.specs.declared.Reading.the-variants.{Ends, Clear, Walled}
 use Rattle.groups.specs.Pages.{Drawn}
 use Rattle.rules.specs.Codes.{unclued}
 use Rattle.planes.specs.Placing.{readRaised, readingOf, between, isClear}
-use Rattle.adjacent.specs.TouchLaws.{bit-same}
 use Rattle.planes.specs.PlacingLaws.{right-reading, below-reading, off-ends, off-above, off-left}
 use Rattle.planes.specs.PlacingLaws.{off-below, off-right, reads-below, reads-right}
 use Rattle.planes.specs.Bits.{bitAt}
