@@ -336,26 +336,3 @@ undo-decide b l {d} T e =
     (undo-done d (decide-keeps b l T e)
     (λ q. let z : b .count + 1 ≡ 0 = sym (ap (λ (y : Board). y .count) (f .is)) ∙ q in omega arith))
     ∙ ap (returned Done) (ap popped (f .is) ∙ popped-pushed b N T (l .border) (codeOf (l .side)) (f .below) (f .free))
-
--- ---- what a decide changes: one border and one place of the stack
-pub record Changed (b : Board) (l : Literal) (d : Board) : Type 0 where
-  pub border : getD (d .borders) (l .border) 0 ≡ codeOf (l .side)
-  pub borders : (x : ℕ) → (x ≡ l .border → ⊥) → getD (d .borders) x 0 ≡ getD (b .borders) x 0
-  pub entry : getD (d .stack) (b .count) 0 ≡ l .border
-  pub entries : (i : ℕ) → (i ≡ b .count → ⊥) → getD (d .stack) i 0 ≡ getD (b .stack) i 0
-  pub count : d .count ≡ b .count + 1
-
-pub decide-changes : (b : Board) (l : Literal) {d : Board} → Typed b → decideOf b l ≡ returned Done d → Changed b l d
-decide-changes b l T e =
-    let f = decided-is e in
-    let N = native-has b (f .known) in
-    let n = l .border in
-    let v = codeOf (l .side) in
-    rw (f .is)
-    (record {
-      border = getD-set-same (b .borders) n v 0 (index b N T n v (f .below) (f .free));
-      borders = λ x h. getD-set-other (b .borders) n x v 0 h;
-      entry = new-entry b N T n v (f .below) (f .free);
-      entries = λ i h. getD-set-other (b .stack) (b .count) i n 0 h;
-      count = refl;
-    })

@@ -1,5 +1,5 @@
--- One decide or undo on a board that is not alien, done or refused: its reply and its sequence are the book's, the
--- board stays one that is not alien, and the puzzle stays.
+-- One decide or undo on a board that is not alien, done or refused: its reply is the book's, the board stays one that
+-- is not alien, and the puzzle stays.
 use mathlib.Core.Path.{_≡_, refl, ap, sym, _∙_}
 use mathlib.Core.Bool.{Bool, true, false, not, cond}
 use mathlib.Core.List.{List, [], _∷_}
@@ -14,18 +14,16 @@ use Rattle.lists.specs.TableLaws.{table-more}
 use Rattle.rules.specs.declared.Literal.{Literal}
 use Rattle.rules.specs.Flat.{flat}
 use Rattle.rules.specs.Codes.{codeOf}
-use Rattle.rules.specs.Book.{Reply, refused, done, bareOr, withLast, withoutLast, decideReply, decideAfter}
+use Rattle.rules.specs.Book.{Reply, refused, done, bareOr, withLast, decideReply}
 use Rattle.board.specs.declared.Board.{Board}
 use Rattle.board.specs.declared.Outcome.the-variants.{Done, Border, Taken}
 use Rattle.board.specs.Alien.{borderCountOf, isAlien}
 use Rattle.board.specs.Board.{pushed, decideRefusal, endedBy, decideOf, undoOf, Typed}
 use Rattle.board.specs.View.{puzzleOf, literalIn, literalsOf, replyOf}
-use Rattle.rules.specs.Codes.{puzzleIn}
 use Rattle.board.specs.Cases.{undo-bare, undo-done, decide-done}
 use Rattle.board.specs.NativeLaws.{native-has}
 use Rattle.board.specs.DecideLaws.{decide-keeps, decided-typed, undo-keeps, undone-typed}
 use Rattle.board.specs.ViewLaws.{names-decided, decided-puzzle, undone-puzzle}
-use Rattle.board.specs.LiteralLaws.{pushed-literals, literals-undone}
 
 -- the board d keeps what the next call needs
 pub record BoardKept (b d : Board) : Type 0 where
@@ -51,26 +49,6 @@ module _ (b : Board) (t : isAlien b ≡ false) where
         go false false = refl
 
     module _ (T : Typed b) where
-      pub decide-after : literalsOf (decideOf b l .board) ≡ decideAfter (puzzleOf b) (literalsOf b) l
-      unfolding decideOf decideRefusal decideAfter puzzleOf flat
-      decide-after =
-          rw (t, names-decided b (native-has b t) (l .border))
-          (go (ltb (l .border) m) (eqb (getD (b .borders) (l .border) 0) 0) refl refl)
-        where
-          m : ℕ
-          m = borderCountOf b
-
-          go : (x y : Bool) → ltb (l .border) m ≡ x → eqb (getD (b .borders) (l .border) 0) 0 ≡ y
-              → literalsOf (endedBy b (pushed b (l .border) (codeOf (l .side))) (cond x (cond y Done Taken) Border)
-              .board)
-              ≡ cond x (cond (not y) (literalsOf b) (withLast (literalsOf b) l)) (literalsOf b)
-          go true true p q =
-              pushed-literals b (native-has b t) T l (ltb-true (l .border) m p)
-              (eqb-true (getD (b .borders) (l .border) 0) 0 q)
-          go true false p q = refl
-          go false true p q = refl
-          go false false p q = refl
-
       pub decide-kept : BoardKept b (decideOf b l .board)
       unfolding decideOf decideRefusal
       decide-kept =
@@ -119,14 +97,6 @@ module _ (b : Board) (t : isAlien b ≡ false) where
       go : Dec (b .count ≡ 0) → replyOf (undoOf b .outcome) ≡ bareOr (literalsOf b) done
       go (yes h) = rw (← (undo-bare b t h), none h)
       go (no h) = let r = more h in rw (← (undo-done b t h), r .2) (sym (bare-or (r .0) (r .1) done))
-
-  pub undo-after : literalsOf (undoOf b .board) ≡ withoutLast (literalsOf b)
-  unfolding withoutLast
-  undo-after = go (ℕ-discrete (b .count) 0)
-    where
-      go : Dec (b .count ≡ 0) → literalsOf (undoOf b .board) ≡ withoutLast (literalsOf b)
-      go (yes h) = rw (← (undo-bare b t h), none h)
-      go (no h) = rw (← (undo-done b t h)) (literals-undone b (sym (undo-done b t h)))
 
   pub undo-kept : Typed b → BoardKept b (undoOf b .board)
   undo-kept T = go (ℕ-discrete (b .count) 0)

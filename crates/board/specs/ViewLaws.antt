@@ -18,7 +18,7 @@ use Rattle.lists.specs.PaddedLaws.{getD-padded}
 use Rattle.rules.specs.declared.Side.{Side}
 use Rattle.rules.specs.declared.Side.the-variants.{Wall, Open}
 use Rattle.rules.specs.declared.Literal.{Literal}
-use Rattle.rules.specs.Page.{State, undecided, decided, isUndecided}
+use Rattle.rules.specs.Page.{decided, isUndecided}
 use Rattle.rules.specs.Flat.{flat}
 use Rattle.rules.specs.Codes.{stateOf, codeOf, statesIn, coloursIn, clueOf, cluesIn, puzzleIn}
 use Rattle.rules.specs.Check.{undecidedCount}
@@ -48,18 +48,6 @@ free-zero zero h = refl
 free-zero (suc zero) h = refl
 free-zero (suc (suc zero)) h = refl
 free-zero (suc (suc (suc v))) h = absurd (let z : suc (suc (suc v)) ≤ 2 = h in omega arith)
-
--- the number of a state, of which `stateOf` makes the state again
-unfoldable pub stateCode : State → ℕ
-stateCode undecided = 0
-stateCode (decided d) = codeOf d
-
-pub state-code : (v : ℕ) → v ≤ 2 → stateCode (stateOf v) ≡ v
-unfolding stateCode
-state-code zero h = refl
-state-code (suc zero) h = refl
-state-code (suc (suc zero)) h = refl
-state-code (suc (suc (suc v))) h = absurd (let z : suc (suc (suc v)) ≤ 2 = h in omega arith)
 
 -- ---- the puzzle
 -- a fresh board has the puzzle that it was made from

@@ -1,13 +1,12 @@
 -- Laws of the answers: what reason memory holds after a call, and that a reason can be read back from it.
 --
 --   literal-of          a literal read from its code
---   code-once           two literals with one code are equal
 --   reason-in           a reason read from memory that begins with its codes
 --   put-start           memory with a reason written from its start
 --   length-written, length-call   an answered check and a call keep the length of the memory
 --   check-alien, check-short, check-found   the answer of a check by its cases
 --   memory-alien, memory-short, memory-found   the memory after it by its cases
-use mathlib.Core.Path.{_≡_, refl, ap, sym, _∙_}
+use mathlib.Core.Path.{_≡_, refl, ap, _∙_}
 use mathlib.Core.Bool.{Bool, true, false, cond}
 use mathlib.Core.List.{List, [], _∷_, _++_, map}
 use Prim.Native.Nat.{ℕ, _+_, _*_, _/_, _%_, _<_, _≤_}
@@ -53,9 +52,6 @@ literal-of l =
       side =
           (ap (λ v. cond (eqb v 1) Wall Open) (code-rest (l .border) (l .side)) ∙ code-side (l .side)) i;
     }
-
-pub code-once : (k l : Literal) → literalCode k ≡ literalCode l → k ≡ l
-code-once k l e = sym (literal-of k) ∙ ap literalOf e ∙ literal-of l
 
 literals-of : (r : List Literal) → map literalOf (map literalCode r) ≡ r
 literals-of [] = refl

@@ -168,12 +168,6 @@ module _ (start : Board) (S : Bare start) where
       ap₂ (λ (m : List ℕ) (ms : List (List ℕ)). m ∷ ms) (step-written B c) (run-written (built-step B c) calls)
 
 -- ---- a list of calls that is followed by another
-pub after-append : (b : Board) (calls later : List Lent)
-    → boardAfter b (calls ++ later) ≡ boardAfter (boardAfter b calls) later
-unfolding boardAfter
-after-append b [] later = refl
-after-append b (c ∷ calls) later = after-append (nextBoard b c) calls later
-
 pub run-append : (b : Board) (calls later : List Lent)
     → runFrom b (calls ++ later) ≡ runFrom b calls ++ runFrom (boardAfter b calls) later
 unfolding boardAfter runFrom

@@ -18,7 +18,7 @@ use Rattle.rules.specs.Groups.{entry, numbers, groupCount, members}
 use Rattle.laws.specs.GroupLaws.{numbers-length, number-lt, groupCount-le, members-lt, members-none}
 use Rattle.groups.specs.Parts.{startAmong, startsAmong, cellsAmong, listed, partOf, groupsOf}
 use Rattle.groups.specs.Arrays.{Blank}
-use Rattle.groups.specs.NumberLaws.{starts-at, starts-past, starts-length, starts-end, blank-padded}
+use Rattle.groups.specs.NumberLaws.{starts-at, starts-past, starts-end, blank-padded}
 use Rattle.groups.specs.SortLaws.{cells-length, start-suc, start-up, start-le, listed-length}
 use Rattle.groups.specs.SortLaws.{listed-part}
 
@@ -87,10 +87,6 @@ module _ (G : Page) (link : ℕ → Bool) (some : 1 ≤ G .cells) (few : G .cell
   offs-past : (k : ℕ) → count < k → getD (groupsOf G link .offs) k 0 ≡ 0
   unfolding groupsOf
   offs-past k h = starts-past (G .cells) number count k h
-
-  pub offs-length : length (groupsOf G link .offs) ≡ 1025
-  unfolding groupsOf
-  offs-length = starts-length (G .cells) number count small
 
   -- the last group ends with the last cell
   start-end : startAmong (G .cells) number count ≡ G .cells

@@ -1,14 +1,13 @@
 -- Where each part of a board stands in its image: what is read there, and the image of a board with one place changed.
 use mathlib.Core.Path.{_≡_, refl, ap, _∙_}
 use mathlib.Core.List.{List, [], _∷_, _++_}
-use mathlib.Core.Logic.{_⊎_}
-use Prim.Native.Nat.{ℕ, _+_, _*_, _<_, _≤_}
+use Prim.Native.Nat.{ℕ, _+_, _*_, _<_}
 use native.Mathlib.Omega.{arith}
 use lib.IntN.{pos}
 use lib.ListN.{length, getD, set, length-append, length-set, List·getD-append}
 use lib.Seq.{set-append-left, sets}
 use Rattle.lists.specs.Lists.{flatMap}
-use Rattle.lists.specs.Stores.{getD-past, sets-past, getD-sets-apart, sets-flat}
+use Rattle.lists.specs.Stores.{getD-past, sets-past, sets-flat}
 use Rattle.lists.specs.Flats.{length-flat, getD-flat}
 use Rattle.board.specs.declared.Board.{Board}
 use Rattle.board.specs.Alien.{boardWith}
@@ -195,18 +194,3 @@ written-image b T n v c i e p q =
     ap (λ (s : List ℕ). sets (sets s 7106 (twoBytes c)) (7108 + 2 * i) (twoBytes e)) (border-image b T n v p)
     ∙ ap (λ (s : List ℕ). sets s (7108 + 2 * i) (twoBytes e)) (count-image (withBorder b n v) S c)
     ∙ entry-image (withCount (withBorder b n v) c) U i e q
-
--- the byte k is none of the n from i on
-abbrev pub OutsideOf : ℕ → ℕ → ℕ → Type 0
-OutsideOf k i n = (k < i) ⊎ (i + n ≤ k)
-
--- every other byte stays
-pub written-else : (s : List ℕ) (n v c i e k : ℕ) → OutsideOf k (5122 + n) 1 → OutsideOf k 7106 2
-    → OutsideOf k (7108 + 2 * i) 2
-    → getD (imageWritten s n v c i e) k 0 ≡ getD s k 0
-unfolding imageWritten twoBytes
-written-else s n v c i e k p q r =
-    let t = set s (5122 + n) v in
-    getD-sets-apart (sets t 7106 (twoBytes c)) (7108 + 2 * i) (twoBytes e) k 0 r
-    ∙ getD-sets-apart t 7106 (twoBytes c) k 0 q
-    ∙ getD-sets-apart s (5122 + n) (v ∷ []) k 0 p

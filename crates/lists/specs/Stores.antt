@@ -2,7 +2,6 @@
 -- a flatMap.
 use mathlib.Core.Path.{_≡_, refl, ap, ap₂, sym, _∙_}
 use mathlib.Core.List.{List, [], _∷_, _++_}
-use mathlib.Core.Logic.{_⊎_, inl, inr, ⊎-elim}
 use Prim.Native.Nat.{ℕ, zero, suc, _+_, _*_, _<_, _≤_}
 use native.Mathlib.Nat.{not-suc-le-zero, le-of-suc-le-suc, mul-zero, mul-suc}
 use native.Mathlib.Numerals.{add-one}
@@ -40,15 +39,6 @@ module _ {A : Type 0} where
   sets-append l i (x ∷ xs) ys =
       let e : suc i + length xs ≡ i + suc (length xs) = omega arith in
       sets-append (set l i x) (suc i) xs ys ∙ ap (λ j. sets (sets (set l i x) (suc i) xs) j ys) e
-
-  -- what stands beside the places stored to stays
-  pub getD-sets-apart : (l : List A) (i : ℕ) (vs : List A) (k : ℕ) (d : A) → (k < i) ⊎ (i + length vs ≤ k)
-      → getD (sets l i vs) k d ≡ getD l k d
-  getD-sets-apart l i [] k d h = refl
-  getD-sets-apart l i (v ∷ vs) k d h =
-      getD-sets-apart (set l i v) (suc i) vs k d (⊎-elim (λ p. inl (omega arith)) (λ p. inr (omega arith)) h)
-      ∙ getD-set-other l i k v d
-      (λ z. ⊎-elim (λ p. let q : k ≡ i = z in omega arith) (λ p. let q : k ≡ i = z in omega arith) h)
 
   -- what was stored from the start stands there
   pub take-sets : (l vs : List A) → length vs ≤ length l → take (length vs) (sets l 0 vs) ≡ vs

@@ -1,15 +1,14 @@
 -- Laws of upTo: one list more, how long the lists are, a search through them, and flatMap and filter as upTo.
 use mathlib.Core.Path.{_≡_, refl, ap, sym, _∙_}
 use mathlib.Core.Bool.{Bool, true, false, or-true}
-use mathlib.Core.Logic.{_⊎_, inl, inr, ⊎-elim}
+use mathlib.Core.Logic.{⊎-elim}
 use mathlib.Core.List.{List, [], _∷_, _++_, map, map-append, append-assoc, append-nil}
-use mathlib.Core.List.{List·Memᴰ·not-nil, List·Memᴰ·append-cases}
 use Prim.Native.Nat.{ℕ, zero, suc, _+_, _<_, _≤_}
 use native.Mathlib.Nat.{not-suc-le-zero, eq-or-lt-of-le, le-of-suc-le-suc}
 use native.Mathlib.Numerals.{add-one}
 use native.Mathlib.Omega.{arith}
 use lib.ListN.{length, getD, length-append}
-use Rattle.lists.specs.Lists.{_∈_, keepIf, filter, any, flatMap, range}
+use Rattle.lists.specs.Lists.{keepIf, filter, any, flatMap, range}
 use Rattle.lists.specs.UpTo.{upTo}
 use Rattle.lists.specs.Arithmetic.{if-same}
 use Rattle.lists.specs.Appends.{any-append}
@@ -39,12 +38,6 @@ module _ {A : Type 0} where
       (λ l. omega (arith, up-fits f n k l, length-append (upTo f n) (f n)))
       (eq-or-lt-of-le (le-of-suc-le-suc h))
 
-  -- at most one element each
-  pub up-le : (f : ℕ → List A) → ((i : ℕ) → length (f i) ≤ 1) → (n : ℕ) → length (upTo f n) ≤ n
-  unfolding upTo
-  up-le f h zero = omega arith
-  up-le f h (suc n) = omega (arith, length-append (upTo f n) (f n), h n, up-le f h n)
-
   up-shift : (f : ℕ → List A) (n : ℕ) → upTo f (suc n) ≡ f 0 ++ upTo (λ i. f (suc i)) n
   unfolding upTo
   up-shift f zero = sym (append-nil (f 0))
@@ -54,15 +47,6 @@ module _ {A : Type 0} where
   unfolding flatMap upTo
   flat-up f [] = refl
   flat-up f (x ∷ xs) = rw (flat-up f xs) (sym (up-shift (λ i. f (getD (x ∷ xs) i 0)) (length xs)))
-
-  pub up-find : (f : ℕ → List A) (n : ℕ) {x : A} → x ∈ upTo f n → (i : ℕ) × x ∈ f i
-  unfolding upTo
-  up-find f zero m = absurd (List·Memᴰ·not-nil m)
-  up-find f (suc n) {x} m = go (List·Memᴰ·append-cases (upTo f n) m) (λ k. up-find f n k)
-    where
-      go : x ∈ upTo f n ⊎ x ∈ f n → (x ∈ upTo f n → (i : ℕ) × x ∈ f i) → (i : ℕ) × x ∈ f i
-      go (inl k) ih = ih k
-      go (inr k) ih = (n, k)
 
   -- what a loop gathers that looks at one number after the other
   pub up-filter : (f : ℕ → A) (t : ℕ → Bool) (n : ℕ)

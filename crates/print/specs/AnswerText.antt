@@ -3,20 +3,17 @@
 --   literal, replyLine  the parsers of a literal and of a line
 --   answers             the parser of the whole output
 --   ReplyFit r          the numbers are at most 2147483647, and the call has a line
-use mathlib.Core.Path.{_≡_, refl, sym, ap, _∙_}
-use mathlib.Core.Bool.{cond}
+use mathlib.Core.Path.{_≡_, refl, sym, ap}
 use mathlib.Core.Logic.{_⊎_, inl, inr, ⊎-elim}
-use mathlib.Core.List.{List, [], _∷_, _++_, map, append-assoc}
+use mathlib.Core.List.{List, [], _∷_, _++_, append-assoc}
 use mathlib.Core.Option.{none}
-use Prim.Native.Nat.{ℕ, suc, _+_, _*_, _/_, _%_, _<_, _≤_}
+use Prim.Native.Nat.{ℕ, suc, _<_, _≤_}
 use native.Mathlib.Omega.{arith}
-use lib.Dec.{eqb}
-use lib.ListN.{length, take, length-append}
+use lib.ListN.{length, length-append}
 use Rattle.lists.specs.Lists.{orElse}
 use Rattle.rules.specs.declared.Side.{Side}
 use Rattle.rules.specs.declared.Side.the-variants.{Wall, Open}
 use Rattle.rules.specs.declared.Literal.{Literal}
-use Rattle.rules.specs.Codes.{literalCode, sideCode}
 use Rattle.rules.specs.Check.{pass, conflict}
 use Rattle.rules.specs.Book.{Reply, refused, done, answered}
 use Rattle.page.specs.Parsers.{Parser, also, onto, lead, followed, either, mapR, rep, strip, number, numberOn}
@@ -27,10 +24,9 @@ use Rattle.page.specs.PageText.{counted, Count}
 use Rattle.page.specs.Printed.{Prints, Takes, takes-printed, refit, give-prints, lead-prints, followed-prints}
 use Rattle.page.specs.Printed.{either-prints, map-prints}
 use Rattle.page.specs.NumberText.{number-prints, read-decimal}
-use Rattle.page.specs.Many.{showAll, AllFit, rep-prints}
+use Rattle.page.specs.Many.{AllFit, rep-prints}
 use Rattle.print.specs.Answers.{answersWord, refusedWord, passWord, conflictWord, letter, showLiteral, showReply}
-use Rattle.print.specs.Answers.{showAnswers, codeText}
-use Rattle.print.specs.Chunks.{codesFrom, codes-front}
+use Rattle.print.specs.Answers.{showAnswers}
 
 abbrev literalFrom : Side → ℕ → Literal
 literalFrom side b = record { border = b; side = side }
@@ -241,34 +237,3 @@ answers-prints =
     map-prints (λ p. p .0) showAnswers (AllFit ReplyFit)
     (lead-prints answersWord (rep-prints reply-prints ended reply-takes (λ u t f. reply-not t)))
     (λ p f. (refl, f .0)) (λ rs f. ((rs, tt), ((f, refl), refl)))
-
--- the numbers of reason memory print the literals
-pub code-text : (l : Literal) → codeText (literalCode l) ≡ showLiteral l
-unfolding codeText showLiteral
-code-text l = go (l .border) (l .side)
-  where
-    go : (b : ℕ) (s : Side)
-        → 32 ∷ counted ((2 * b + sideCode s) / 2) (cond (eqb ((2 * b + sideCode s) % 2) 1) 119 111)
-        ≡ 32 ∷ counted b (letter s)
-    go b Wall =
-        let q : (2 * b + 1) / 2 ≡ b = omega arith in
-        let m : (2 * b + 1) % 2 ≡ 1 = omega arith in
-        rw (q, m)
-    go b Open =
-        let q : (2 * b + 0) / 2 ≡ b = omega arith in
-        let m : (2 * b + 0) % 2 ≡ 0 = omega arith in
-        rw (q, m)
-
-pub codes-text : (ls : List Literal) → showAll codeText (map literalCode ls) ≡ showAll showLiteral ls
-unfolding showAll
-codes-text [] = refl
-codes-text (l ∷ ls) = rw (code-text l, codes-text ls)
-
--- a conflict's line is the word, the texts of the numbers that reason memory begins with, and the end
-pub conflict-text : (ks : List ℕ) (ls : List Literal) (n : ℕ) → n ≤ length ks → take n ks ≡ map literalCode ls
-    → showReply (answered (conflict ls)) ≡ conflictWord ++ (showAll codeText (codesFrom ks 0 n) ++ endWord)
-unfolding showReply
-conflict-text ks ls n h e =
-    let q : showAll codeText (codesFrom ks 0 n) ≡ showAll showLiteral ls =
-    ap (showAll codeText) (codes-front ks n h ∙ e) ∙ codes-text ls in
-    rw q

@@ -4,19 +4,16 @@
 --   Putting ks a e m after next count   `after` is m with the texts of the literals from a up to next, count bytes
 --   Put ks a e m after r                so it is for the chunk r, and some literal is put where there is room
 --   show-append         the texts of two lists
---   chunk-codes-none, chunk-codes-more, codes-append, codes-front   no literal, one more, two parts, and the memory's
---                                                                   front
+--   chunk-codes-none, chunk-codes-more   the numbers of no literal, and of one more
 --   putting-none, putting-more, putting-stop            no literal, one more, and the end
 --   put-none            where no literal is put, the memory is as it was
-use mathlib.Core.Path.{_≡_, refl, sym, ap, _∙_}
+use mathlib.Core.Path.{_≡_, refl, sym}
 use mathlib.Core.List.{List, [], _∷_, _++_, append-assoc, append-nil}
-use Prim.Native.Nat.{ℕ, zero, suc, _+_, _-_, _<_, _≤_}
+use Prim.Native.Nat.{ℕ, suc, _+_, _-_, _<_, _≤_}
 use native.Mathlib.Decide.{ℕ-discrete}
 use native.Mathlib.Omega.{arith}
-use lib.ListN.{length, take, getD}
-use lib.Seq.{length-take-le, getD-take}
+use lib.ListN.{length, getD}
 use Rattle.lists.specs.Table.{table}
-use Rattle.lists.specs.TableLaws.{table-is}
 use Rattle.page.specs.Many.{showAll}
 use Rattle.print.specs.declared.Chunk.{Chunk}
 use Rattle.print.specs.declared.Line.{Line}
@@ -54,30 +51,6 @@ chunk-codes-more ks a p h =
     let e : p + 1 - a ≡ suc (p - a) = omega arith in
     let f : a + (p - a) ≡ p = omega arith in
     rw (e, f)
-
--- one chunk after the other
-pub codes-append : (ks : List ℕ) (a b n : ℕ) → a ≤ b
-    → codesFrom ks a b ++ codesFrom ks b (b + n) ≡ codesFrom ks a (b + n)
-codes-append ks a b zero h =
-    let e : b + 0 ≡ b = omega arith in
-    rw (e, chunk-codes-none ks b) (append-nil (codesFrom ks a b))
-codes-append ks a b (suc n) h =
-    let e : b + suc n ≡ b + n + 1 = omega arith in
-    let p : codesFrom ks b (b + n + 1) ≡ codesFrom ks b (b + n) ++ (getD ks (b + n) 0 ∷ []) =
-    chunk-codes-more ks b (b + n) (omega arith) in
-    let q : codesFrom ks a (b + n + 1) ≡ codesFrom ks a (b + n) ++ (getD ks (b + n) 0 ∷ []) =
-    chunk-codes-more ks a (b + n) (omega arith) in
-    rw (e, p, q, ← codes-append ks a b n h)
-    (sym (append-assoc (codesFrom ks a b) (codesFrom ks b (b + n)) (getD ks (b + n) 0 ∷ [])))
-
--- from the first place on they are the front of the memory
-pub codes-front : (ks : List ℕ) (n : ℕ) → n ≤ length ks → codesFrom ks 0 n ≡ take n ks
-unfolding codesFrom
-codes-front ks n h =
-    let e : n - 0 ≡ n = omega arith in
-    rw e
-    (sym (table-is n (λ i. getD ks (0 + i) 0) 0 (take n ks) (length-take-le n ks h)
-    (λ i l. let k : 0 + i ≡ i = omega arith in getD-take n ks i 0 l ∙ ap (λ (j : ℕ). getD ks j 0) (sym k))))
 
 -- a literal more
 show-one : (ks : List ℕ) (a p : ℕ) → a ≤ p
