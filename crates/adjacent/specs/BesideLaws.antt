@@ -5,15 +5,13 @@ use Prim.Native.Nat.{ℕ, _-_, _≤_, _<_}
 use native.Mathlib.Omega.{arith}
 use lib.ListN.{length, getD, drop, length-drop}
 use lib.Seq.{getD-take, length-take-le}
-use Rattle.groups.specs.Grouping.{cellsIn, startsIn}
 use Rattle.lists.specs.Lists.{_∈_}
 use Rattle.lists.specs.ListLaws.{filter-mem, getD-mem}
 use Rattle.lists.specs.Ranges.{range-lt}
-use Rattle.rules.specs.Codes.{statesIn}
+use Rattle.rules.specs.Codes.{statesIn, unclued}
 use Rattle.rules.specs.Check.{mates}
-use Rattle.rules.specs.Codes.{unclued}
-use Rattle.adjacent.specs.Mates.{Gathered, Grouped, Known, mateCount}
-use Rattle.adjacent.specs.Mates.{Beside}
+use Rattle.groups.specs.Grouping.{cellsIn, startsIn}
+use Rattle.adjacent.specs.Mates.{Gathered, Grouped, Known, mateCount, Beside}
 
 pub mates-reach : {h w : ℕ} {potential mates : List ℕ} → Beside h w potential mates → mateCount mates ≤ length mates
 mates-reach p = omega (arith, p .end, p .long)

@@ -3,44 +3,36 @@ use mathlib.Core.Path.{_≡_, refl, sym, ap, _∙_}
 use mathlib.Core.Bool.{Bool}
 use mathlib.Core.List.{List, List·Memᴰ·head}
 use mathlib.Core.Option.{none}
-use Prim.Native.Nat.{ℕ, _+_, _*_, _<_, _≤_}
+use Prim.Native.Nat.{ℕ, _+_, _*_, _<_, _≤_, _-_}
 use native.Mathlib.Omega.{arith}
 use borrow.Author.Tests.{lt-ltb}
 use lib.ListN.{length, getD}
-use Rattle.lists.specs.Lists.{_∈_}
+use Rattle.lists.specs.Lists.{_∈_, all}
 use Rattle.lists.specs.Parts.{part}
 use Rattle.lists.specs.PartLaws.{part-next}
 use Rattle.rules.specs.Page.{State, Puzzle}
 use Rattle.rules.specs.Flat.{Sized, flat}
-use Rattle.rules.specs.Codes.{statesIn}
-use Rattle.rules.specs.Groups.{entry, numbers, members}
-use Rattle.rules.specs.Groups.{unitOf, unitCount, potentialOf}
+use Rattle.rules.specs.Codes.{statesIn, unclued}
+use Rattle.rules.specs.Groups.{entry, numbers, members, unitOf, unitCount, potentialOf}
 use Rattle.rules.specs.Shapes.{shapeOf, flatTransforms}
 use Rattle.rules.specs.Check.{transformsOf}
 use Rattle.laws.specs.FlatLaws.{counts}
-use Rattle.reasons.specs.Arrays.{Cells}
 use Rattle.groups.specs.declared.Kind.the-variants.{Units, Potential}
 use Rattle.groups.specs.Kinds.{linkOf, joinsIn}
-use Rattle.rules.specs.Codes.{unclued}
 use Rattle.groups.specs.Parts.{Groups, groupsOf, partOf}
-use Rattle.groups.specs.Grouping.{numbersIn, cellsIn, startsIn, countIn, Filled}
-use Rattle.groups.specs.PartLaws.{ids-entry, ids-length, ids-lt, groups-le, cells-long}
-use Rattle.groups.specs.PartLaws.{cells-lt, part-members}
-use Rattle.reasons.specs.CellLaws.{cells-reach}
-use Rattle.adjacent.specs.Mates.{Known, Grouped}
-use Rattle.adjacent.specs.Homes.{Home}
-use Rattle.adjacent.specs.Homes.{UnitIn}
-use Rattle.adjacent.specs.Homes.{Sorted}
+use Rattle.groups.specs.Grouping.{numbersIn, cellsIn, startsIn, countIn, Filled, startIn, groupCells}
+use Rattle.groups.specs.PartLaws.{ids-entry, ids-length, ids-lt, groups-le, cells-long, cells-lt, part-members}
 use Rattle.groups.specs.Pages.{headOf}
-use Prim.Native.Nat.{_-_}
-use Rattle.lists.specs.Lists.{all}
+use Rattle.groups.specs.PageLaws.{cells-some, cells-few, full, rises, ends, head-at, kind-ids, kind-count}
+use Rattle.reasons.specs.Arrays.{Cells}
+use Rattle.reasons.specs.CellLaws.{cells-reach}
+use Rattle.reasons.specs.GroupReasons.{group-cells}
 use Rattle.shapes.specs.Parts.{UnitPart, OutlinePlaced}
 use Rattle.shapes.specs.PartLaws.{unit-at}
-use Rattle.groups.specs.Grouping.{startIn, groupCells}
 use Rattle.shapes.specs.Outlines.{cellCount}
 use Rattle.shapes.specs.Spots.{UnitAt}
-use Rattle.groups.specs.PageLaws.{cells-some, cells-few, full, rises, ends, head-at, kind-ids, kind-count}
-use Rattle.reasons.specs.GroupReasons.{group-cells}
+use Rattle.adjacent.specs.Mates.{Known, Grouped}
+use Rattle.adjacent.specs.Homes.{Home, UnitIn, Sorted}
 
 -- the groups of a flat page, by any test of its borders
 module _ {h w : ℕ} (z : Sized h w) (link : ℕ → Bool) where

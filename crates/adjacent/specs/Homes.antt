@@ -5,22 +5,19 @@
 --   Sorted .. us ps     the groupings are those of the units and of the potential units
 use mathlib.Core.Path.{_≡_}
 use mathlib.Core.List.{List}
+use mathlib.Core.Option.{some}
 use Prim.Native.Nat.{ℕ, _+_, _<_, _≤_}
 use lib.ListN.{length, getD}
 use Rattle.lists.specs.Parts.{part}
 use Rattle.rules.specs.Flat.{flat}
-use Rattle.rules.specs.Groups.{entry, members}
-use Rattle.groups.specs.Grouping.{numbersIn, cellsIn, startsIn}
-use Rattle.rules.specs.Codes.{statesIn}
-use Rattle.rules.specs.Groups.{potentialCount}
+use Rattle.rules.specs.Groups.{entry, members, potentialCount}
+use Rattle.rules.specs.Codes.{statesIn, unclued}
+use Rattle.groups.specs.Grouping.{numbersIn, cellsIn, startsIn, Filled}
 use Rattle.groups.specs.Pages.{Drawn}
-use Rattle.rules.specs.Codes.{unclued}
-use Rattle.adjacent.specs.Mates.{Known, Grouped}
-use mathlib.Core.Option.{some}
 use Rattle.groups.specs.declared.Kind.the-variants.{Units, Potential}
 use Rattle.groups.specs.Kinds.{joinsIn}
 use Rattle.groups.specs.Parts.{groupsOf}
-use Rattle.groups.specs.Grouping.{Filled}
+use Rattle.adjacent.specs.Mates.{Known, Grouped}
 
 pub record UnitIn (h w : ℕ) (us : List ℕ) (g : ℕ) : Type 0 where
   pub low : g < 1024

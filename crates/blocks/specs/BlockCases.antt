@@ -4,11 +4,9 @@ use mathlib.Core.Bool.{Bool, true, false, _||_}
 use Prim.Native.Nat.{ℕ, _+_}
 use native.Mathlib.Omega.{arith}
 use borrow.Author.Tests.{eq-eqb, ne-eqb, le-leb}
-use lib.Dec.{T, eqb}
+use lib.Dec.{eqb}
 use lib.IntN.{ℤ, pos, negsuc, natAbs}
-use lib.Signed.{leZ, nonNeg}
-use mir.Syntax.{w32, w64}
-use mir.Val.{Fits, SFits}
+use lib.Signed.{leZ}
 use Rattle.rules.specs.Codes.{clueOf}
 use Rattle.rules.specs.Check.{isSome}
 use Rattle.blocks.specs.declared.Clue.{Clue}
@@ -26,10 +24,6 @@ clue-free (pos n) e =
     let t : leZ (pos 0) (pos n) ≡ true = le-leb 0 n (omega arith) in
     let z : _≡_ {A = ℕ} 0 1 = cc in absurd (omega arith)
 clue-free (negsuc n) e = refl
-
-pub clue-fits : (z : ℤ) → leZ (pos 0) z ≡ true → SFits w32 z → T (nonNeg z) × Fits w64 (natAbs z)
-clue-fits (pos n) e f = (tt, record { fits = omega (arith, f .sfits) })
-clue-fits (negsuc n) e f = let z : _≡_ {A = ℕ} 0 1 = cc in absurd (omega arith)
 
 module _ (p : Part) (u : ℕ) (k b : Bool) (e : b ≡ (p .clued || k)) where
   pub part-first : p .size ≡ 0 → record { size = 1; unit = u; clued = b } ≡ nextPart p u k

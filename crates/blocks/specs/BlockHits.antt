@@ -17,16 +17,16 @@ use Rattle.rules.specs.Check.{insideBlock, edgeOf, blockHit}
 use Rattle.groups.specs.declared.Kind.the-variants.{Blocks, Potential}
 use Rattle.groups.specs.Grouping.{Filled}
 use Rattle.groups.specs.Kinds.{joinsIn}
+use Rattle.groups.specs.Pages.{groupsIn}
+use Rattle.groups.specs.PageLaws.{id-under}
 use Rattle.reasons.specs.Arrays.{GroupAt}
+use Rattle.reasons.specs.GroupReasons.{group-at, inside-is, edge-is}
 use Rattle.blocks.specs.declared.Faulty.{Faulty}
 use Rattle.blocks.specs.Faults.{isFaultless, faultReason}
 use Rattle.blocks.specs.Faulty.{firstFaulty, faulty-hits, faultless-none}
 use Rattle.blocks.specs.Written.{faultLiterals, faultUnit, faultyLiterals, fault-some}
 use Rattle.blocks.specs.Bridges.{faultIn, faulty-is}
 use Rattle.blocks.specs.Bounds.{fault-under, first-wrong, first-under-all}
-use Rattle.groups.specs.Pages.{groupsIn}
-use Rattle.groups.specs.PageLaws.{id-under}
-use Rattle.reasons.specs.GroupReasons.{group-at, inside-is, edge-is}
 
 module _ {h w : ℕ} (z : Sized h w) (cs : List ℕ) (ks : List ℤ) (bs : List ℕ) where
   abbrev pub faultyIn : Faulty

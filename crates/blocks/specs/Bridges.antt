@@ -12,25 +12,22 @@ use lib.ListN.{length, getD}
 use Rattle.rules.specs.Page.{Puzzle, State}
 use Rattle.rules.specs.Flat.{Sized, flat}
 use Rattle.rules.specs.Codes.{statesIn, coloursIn, cluesIn, puzzleIn}
-use Rattle.rules.specs.Groups.{entry, numbers, groupCount, members}
-use Rattle.rules.specs.Groups.{blockCount, potentialOf}
+use Rattle.rules.specs.Groups.{entry, numbers, groupCount, members, blockCount, potentialOf}
 use Rattle.rules.specs.Check.{sizeOf}
 use Rattle.laws.specs.GroupLaws.{members-none}
 use Rattle.groups.specs.declared.Kind.{Kind}
 use Rattle.groups.specs.declared.Kind.the-variants.{Blocks, Potential}
-use Rattle.groups.specs.Parts.{Groups}
+use Rattle.groups.specs.Parts.{Groups, groupsOf, partOf}
 use Rattle.groups.specs.Kinds.{joinsIn}
-use Rattle.groups.specs.Parts.{groupsOf, partOf}
 use Rattle.groups.specs.NumberLaws.{starts-past}
 use Rattle.groups.specs.PartLaws.{groups-le, cells-long, cells-lt}
+use Rattle.groups.specs.Pages.{groupsIn, kindNumber}
+use Rattle.groups.specs.PageLaws.{cells-some, cells-few, id-under, count-same, count-some, starts-step, starts-few}
+use Rattle.groups.specs.PageLaws.{kind-number, kind-ids, kind-count, kind-cells}
 use Rattle.blocks.specs.Arrays.{GroupLists, Parted, sizeIn}
 use Rattle.blocks.specs.declared.Fault.{Fault}
 use Rattle.blocks.specs.Faults.{faultOn, blockFault}
 use Rattle.blocks.specs.Faulty.{firstFaulty}
-use Rattle.groups.specs.Pages.{groupsIn, kindNumber}
-use Rattle.groups.specs.PageLaws.{cells-some, cells-few, id-under, count-same, count-some, starts-step, starts-few}
-use Rattle.groups.specs.PageLaws.{kind-number, kind-ids, kind-count}
-use Rattle.groups.specs.PageLaws.{kind-cells}
 
 -- what the functions ask for, for any borders that link
 module _ {h w : ℕ} (z : Sized h w) (link : ℕ → Bool) where

@@ -18,9 +18,9 @@ use mathlib.Core.List.{List, [], _∷_, _++_, append-nil}
 use mathlib.Core.Option.{Option, some, none}
 use Prim.Native.Nat.{ℕ, _+_}
 use native.Mathlib.Omega.{arith}
+use borrow.Author.Tests.{ne-eqb}
 use lib.Dec.{eqb}
 use lib.ListN.{length, length-append}
-use borrow.Author.Tests.{ne-eqb}
 use Rattle.lists.specs.Lists.{keepIf, filter, any, firstHit, orElse}
 use Rattle.lists.specs.Appends.{filter-append, any-append, first-append}
 use Rattle.rules.specs.Check.{isSome, blockClue}

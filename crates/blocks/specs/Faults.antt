@@ -21,14 +21,14 @@ use mathlib.Core.List.{List, [], _∷_, _++_, append-nil}
 use mathlib.Core.Option.{Option, some, none}
 use Prim.Native.Nat.{ℕ}
 use native.Mathlib.Omega.{arith}
+use borrow.Author.Tests.{lt-ltb}
 use lib.Dec.{eqb, ltb}
 use lib.ListN.{length}
-use borrow.Author.Tests.{lt-ltb}
 use Rattle.lists.specs.Lists.{any, firstHit, orElse, head?}
 use Rattle.rules.specs.Page.{Puzzle, State}
 use Rattle.rules.specs.Groups.{members, blockOf, potentialOf}
-use Rattle.rules.specs.Check.{Reason, hitIf, isSome, clash, blockClue, insideBlock, edgeOf, sizeOf, coloured}
-use Rattle.rules.specs.Check.{smallHit, bigHit, clueHit, blockHitOn, blockHit}
+use Rattle.rules.specs.Check.{Reason, hitIf, isSome, clash, blockClue, insideBlock, edgeOf, sizeOf, coloured, smallHit}
+use Rattle.rules.specs.Check.{bigHit, clueHit, blockHitOn, blockHit}
 use Rattle.blocks.specs.declared.Clue.{Clue}
 use Rattle.blocks.specs.declared.Clue.the-variants.{Free, Is}
 use Rattle.blocks.specs.declared.Part.{Part}

@@ -16,8 +16,8 @@ use Rattle.rules.specs.Check.{blockClue}
 use Rattle.blocks.specs.declared.Fault.{Fault}
 use Rattle.blocks.specs.declared.Fault.the-variants.{Clear, Inside, Edge}
 use Rattle.blocks.specs.Censuses.{ofColour, colourUnit, hasClue, colourPart, censusOf}
-use Rattle.blocks.specs.Faults.{orFault, firstFault, scanFault, smallFault, bigFault, clueFault}
-use Rattle.blocks.specs.Faults.{cellFault, censusFault, scanOn, faultOn}
+use Rattle.blocks.specs.Faults.{orFault, firstFault, scanFault, smallFault, bigFault, clueFault, cellFault}
+use Rattle.blocks.specs.Faults.{censusFault, scanOn, faultOn}
 
 unfoldable pub onlyFault : Option ℕ → ℕ → ℕ → Fault
 onlyFault none u size = Clear

@@ -34,8 +34,7 @@ use Rattle.blocks.specs.BlockCases.{clue-free}
 use Rattle.blocks.specs.Faults.{scanOn, faultOn}
 use Rattle.blocks.specs.FaultCases.{own-parted}
 use Rattle.blocks.specs.Looks.{OwnPut, ClueKept, ColourRoom, Owned, Seen, seen-none, owned-more, own-is}
-use Rattle.blocks.specs.Looks.{seen-more}
-use Rattle.blocks.specs.Looks.{seen-stray, seen-clash, seen-scan, zeros-are, seen-clear}
+use Rattle.blocks.specs.Looks.{seen-more, seen-stray, seen-clash, seen-scan, zeros-are, seen-clear}
 
 pub record PartLooked (cs : List ℕ) (ks : List ℤ) (ids cells : List ℕ) (from i : ℕ) (own : List ℕ) (k : Clue) (n : ℕ)
     : Type 0 where

@@ -37,8 +37,7 @@ use Rattle.blocks.specs.declared.Census.{Census}
 use Rattle.blocks.specs.declared.Fault.{Fault}
 use Rattle.blocks.specs.declared.Fault.the-variants.{Clear, InsideEdge, Inside}
 use Rattle.blocks.specs.Censuses.{firstIn, optionOf, clueIn, firstClue, option-clue, ofColour, colourUnit}
-use Rattle.blocks.specs.Censuses.{colourPart}
-use Rattle.blocks.specs.Censuses.{censusOf, coloured-more, clue-more}
+use Rattle.blocks.specs.Censuses.{colourPart, censusOf, coloured-more, clue-more}
 use Rattle.blocks.specs.Scan.{clash-none, clash-self, clash-cases}
 use Rattle.blocks.specs.Faults.{orFault, isFaultless, firstFault, cellFault, smallFault, bigFault, clueFault}
 use Rattle.blocks.specs.Faults.{censusFault, scanOn, faultOn}

@@ -18,9 +18,9 @@ use Rattle.lists.specs.Booleans.{same-test, T-dec, T-and, T-and-l, T-and-r, T-t
 use Rattle.lists.specs.Arithmetic.{neqb→ne, ne→neqb}
 use Rattle.rules.specs.Page.{Puzzle, State}
 use Rattle.rules.specs.Groups.{potentialOf}
+use Rattle.rules.specs.Check.{Reason, hitIf, isSome, clash, blockClue, insideBlock, edgeOf, strayFrom, cellHit}
+use Rattle.rules.specs.Check.{cellHits}
 use Rattle.blocks.specs.Censuses.{firstIn, ofColour, colourUnit}
-use Rattle.rules.specs.Check.{Reason, hitIf, isSome, clash, blockClue, insideBlock, edgeOf, strayFrom}
-use Rattle.rules.specs.Check.{cellHit, cellHits}
 
 -- ---- tests
 

@@ -3,10 +3,10 @@ use mathlib.Core.List.{List, _++_}
 use Prim.Native.Nat.{ℕ, _+_, _≤_}
 use native.Mathlib.Omega.{arith}
 use lib.ListN.{length, length-append}
+use Rattle.lists.specs.WroteLaws.{wrote-length}
 use Rattle.rules.specs.declared.Literal.{Literal}
 use Rattle.reasons.specs.Memory.{Wrote}
 use Rattle.reasons.specs.MemoryLaws.{wrote-next}
-use Rattle.lists.specs.WroteLaws.{wrote-length}
 
 pub fits-first : (ls ks : List Literal) (n : ℕ) → length (ls ++ ks) ≤ n → 0 + length ls ≤ n
 fits-first ls ks n h = omega (arith, length-append ls ks)

@@ -2,12 +2,12 @@
 ghost use mathlib.Core.Path.{_≡_};
 ghost use mathlib.Core.Bool.{true, _||_};
 ghost use Prim.Native.Nat.{_+_, _-_, _<_};
-ghost use Rattle.groups.specs.Grouping.{numbersIn, cellsIn};
+ghost use Rattle.lists.specs.Parts.{part};
 ghost use Rattle.rules.specs.Codes.{clueOf, coloursIn, cluesIn};
 ghost use Rattle.rules.specs.Groups.{entry};
 ghost use Rattle.rules.specs.Check.{isSome};
+ghost use Rattle.groups.specs.Grouping.{numbersIn, cellsIn};
 ghost use Rattle.blocks.specs.Censuses.{clueIn, optionOf, firstClue, nextPart, censusOf};
-ghost use Rattle.lists.specs.Parts.{part};
 ghost use Rattle.blocks.specs.Arrays.{PartListed};
 use crate::Census;
 use crate::Clue;

@@ -1,4 +1,4 @@
-// Step 1 of the check, for any page: the first block with which something is wrong, and the reason of it.
+// Step 1 of the check: the first block with which something is wrong, and the reason of it.
 mod censuses; // censuses.rt: what step 1 asks of a block's cells
 pub mod faults; // faults.rt: what is wrong with a block
 pub mod write; // write.rt: the reason

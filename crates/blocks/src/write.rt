@@ -2,8 +2,8 @@
 ghost use mathlib.Core.Path.{_≡_};
 ghost use Prim.Native.Nat.{_≤_};
 ghost use lib.ListN.{length};
-ghost use Rattle.groups.specs.Grouping.{numbersIn};
 ghost use Rattle.rules.specs.Flat.{Sized};
+ghost use Rattle.groups.specs.Grouping.{numbersIn};
 ghost use Rattle.reasons.specs.Memory.{Wrote};
 ghost use Rattle.reasons.specs.Arrays.{GroupAt};
 ghost use Rattle.blocks.specs.Written.{faultUnit, faultyLiterals};

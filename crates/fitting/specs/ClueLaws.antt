@@ -8,12 +8,11 @@ use Rattle.rules.specs.declared.Placement.{Placement}
 use Rattle.rules.specs.declared.Placement.the-variants.{Fits, Blocked, Cannot}
 use Rattle.rules.specs.Page.{Puzzle, State}
 use Rattle.rules.specs.Flat.{flat}
-use Rattle.rules.specs.Codes.{cluedBy}
+use Rattle.rules.specs.Codes.{cluedBy, unclued}
 use Rattle.rules.specs.Rules.{oneColour, joinsUnit}
 use Rattle.rules.specs.Groups.{members, joinsPotential, unitOf, potentialOf}
 use Rattle.rules.specs.Check.{isFit, placements, transformsOf, touches, adjacent, mates, unitHit}
 use Rattle.planes.specs.JudgeLaws.{laid-clue}
-use Rattle.rules.specs.Codes.{unclued}
 use Rattle.fitting.specs.FirstStuck.{firstFail, fitsOn, fitsUnit, stuckHit}
 use Rattle.fitting.specs.FirstStuckLaws.{stuck-hit}
 
@@ -44,4 +43,5 @@ module _ (h w : ℕ) (cs : List ℕ) (k : ℕ → Option ℕ) (s : ℕ → State
   -- step 3 of a puzzle with clues, by the search that reads none
   pub stuck-clue : (n : ℕ) → firstHit (unitHit (cluedBy h w cs k) s) (range n)
       ≡ stuckHit (cluedBy h w cs k) s n (firstFail (fitsUnit (unclued h w cs) s) n)
-  stuck-clue n = stuck-hit (cluedBy h w cs k) s n ∙ ap (λ f. stuckHit (cluedBy h w cs k) s n (firstFail f n)) (fun-ext fits-clue)
+  stuck-clue n = stuck-hit (cluedBy h w cs k) s n
+      ∙ ap (λ f. stuckHit (cluedBy h w cs k) s n (firstFail f n)) (fun-ext fits-clue)

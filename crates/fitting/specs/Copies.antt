@@ -17,8 +17,8 @@ use Rattle.rules.specs.Page.{State, Point, _⊕_}
 use Rattle.rules.specs.Flat.{flat}
 use Rattle.rules.specs.Shapes.{connectionsAt}
 use Rattle.rules.specs.Codes.{unclued}
-use Rattle.planes.specs.Placing.{readingOf, isClear}
 use Rattle.shapes.specs.Raising.{raised}
+use Rattle.planes.specs.Placing.{readingOf, isClear}
 
 pub record Shift (y x : ℕ) : Type 0 where
   pub down : y < 128

@@ -24,26 +24,26 @@ use Rattle.lists.specs.PartLaws.{part-next, part-split}
 use Rattle.lists.specs.Arithmetic.{le-or-lt}
 use Rattle.lists.specs.AnyAll.{holds-any, all-same, all-map, all-flat}
 use Rattle.rules.specs.Page.{State, Point, Puzzle, Shape, _⊕_, opposite}
-use Rattle.groups.specs.Grouping.{numbersIn, cellsIn, startsIn}
 use Rattle.rules.specs.Flat.{Sized, flat, flatPlace, flatReads}
 use Rattle.rules.specs.Groups.{entry}
 use Rattle.rules.specs.Shapes.{shiftBy, normal, connectionsAt, shapeOf}
+use Rattle.rules.specs.Codes.{unclued}
 use Rattle.laws.specs.PointLaws.{point-eq, add-assoc, add-comm}
 use Rattle.laws.specs.GroupLaws.{members-lt}
 use Rattle.laws.specs.FlatLaws.{row-of}
-use Rattle.reasons.specs.Arrays.{Cells}
-use Rattle.planes.specs.JudgeLaws.{place-raised}
-use Rattle.rules.specs.Codes.{unclued}
-use Rattle.planes.specs.Placing.{readRaised, readingOf, isClear, fitsOf}
-use Rattle.shapes.specs.Raising.{raised}
+use Rattle.groups.specs.Grouping.{numbersIn, cellsIn, startsIn}
 use Rattle.groups.specs.Parts.{partOf}
-use Rattle.planes.specs.Laying.{fitsAmong, fitsBeside}
+use Rattle.reasons.specs.Arrays.{Cells}
+use Rattle.shapes.specs.Raising.{raised}
 use Rattle.shapes.specs.ConnectionLaws.{connections-at}
 use Rattle.shapes.specs.Joints.{jointIf}
 use Rattle.shapes.specs.Spots.{placeAt}
 use Rattle.shapes.specs.ImageLaws.{lower-raise}
-use Rattle.fitting.specs.SameCells.{fits-clear}
 use Rattle.adjacent.specs.Homes.{UnitIn}
+use Rattle.planes.specs.JudgeLaws.{place-raised}
+use Rattle.planes.specs.Placing.{readRaised, readingOf, isClear, fitsOf}
+use Rattle.planes.specs.Laying.{fitsAmong, fitsBeside}
+use Rattle.fitting.specs.SameCells.{fits-clear}
 use Rattle.fitting.specs.Fitting.{fitsTurned}
 use Rattle.fitting.specs.FitLaws.{turned-own}
 use Rattle.fitting.specs.Copies.{Shift, clearShifted, cellClear, soonEnd, soonIn}

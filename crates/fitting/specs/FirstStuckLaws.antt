@@ -10,8 +10,8 @@ use Rattle.lists.specs.Lists.{firstHit, orElse, range, rangeFrom}
 use Rattle.rules.specs.Page.{State, Puzzle}
 use Rattle.rules.specs.Groups.{members, unitOf, potentialOf}
 use Rattle.rules.specs.Check.{hitIf, unitReason, unitHitIn, unitHitOn, unitHit}
-use Rattle.fitting.specs.FirstStuck.{firstFrom, firstFail, Passed, fitsOn, fitsUnit, stuckHit}
 use Rattle.groups.specs.Pages.{headOf, potentialIn}
+use Rattle.fitting.specs.FirstStuck.{firstFrom, firstFail, Passed, fitsOn, fitsUnit, stuckHit}
 
 -- the search goes from number to number
 pub passed-start : (f : ℕ → Bool) (n : ℕ) → Passed f n 0

@@ -1,5 +1,4 @@
 -- A unit fits exactly if one of the eight rows makes it fit: each gives the cells of a listed one.
-use Rattle.shapes.specs.ListingLaws.{listed-low}
 use mathlib.Core.Path.{_≡_, refl, sym, ap, _∙_}
 use mathlib.Core.Bool.{Bool, true, false, cond}
 use mathlib.Core.List.{List, [], _∷_, _++_, Memᴰ·append-left, List·Memᴰ·head}
@@ -12,14 +11,13 @@ use Rattle.lists.specs.TestLaws.{any-some, any-witness}
 use Rattle.lists.specs.Booleans.{same-true}
 use Rattle.lists.specs.AnyAll.{any-holds, holds-any, any-same, any-never, any-map}
 use Rattle.rules.specs.Page.{State, Puzzle, Shape}
-use Rattle.groups.specs.Grouping.{numbersIn}
 use Rattle.rules.specs.Flat.{flat}
 use Rattle.rules.specs.Groups.{entry}
 use Rattle.rules.specs.Check.{laid}
 use Rattle.rules.specs.Turns.{apply, half, quarter, flip}
 use Rattle.rules.specs.Shapes.{turned, sameShape, shapeOf, withHalf, withQuarter, withFlip, flatTransforms}
-use Rattle.planes.specs.Placing.{bare, fitsOf}
-use Rattle.planes.specs.Laying.{fitsAmong, fitsBeside}
+use Rattle.groups.specs.Grouping.{numbersIn}
+use Rattle.shapes.specs.ListingLaws.{listed-low}
 use Rattle.shapes.specs.Rows.{image, rowsOf}
 use Rattle.shapes.specs.Outlines.{rowsIn, columnsIn, cellCount}
 use Rattle.shapes.specs.Spots.{cellSpots, jointSpots, places, UnitAt}
@@ -28,6 +26,8 @@ use Rattle.shapes.specs.Joints.{OutlineJoined}
 use Rattle.shapes.specs.UnitLaws.{transforms-flat}
 use Rattle.shapes.specs.Images.{imageJoints}
 use Rattle.shapes.specs.ImageLaws.{image-is}
+use Rattle.planes.specs.Placing.{bare, fitsOf}
+use Rattle.planes.specs.Laying.{fitsAmong, fitsBeside}
 use Rattle.fitting.specs.SameCells.{same-connections, row-listed, beside-same}
 use Rattle.fitting.specs.Fitting.{fitsTurned, fitsRows}
 

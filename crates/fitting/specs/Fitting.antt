@@ -12,9 +12,9 @@ use Rattle.lists.specs.Lists.{any}
 use Rattle.lists.specs.Tests.{anyBelow}
 use Rattle.rules.specs.Page.{State, Point, Puzzle, Shape}
 use Rattle.rules.specs.Shapes.{flatTransforms}
+use Rattle.shapes.specs.Images.{imageJoints}
 use Rattle.planes.specs.Placing.{bare}
 use Rattle.planes.specs.Laying.{fitsBeside}
-use Rattle.shapes.specs.Images.{imageJoints}
 
 pub record Scratch (o t : List ℕ) : Type 0 where
   pub outline : length o ≡ 6146

@@ -10,10 +10,9 @@ use mathlib.Core.List.{List}
 use Prim.Native.Nat.{ℕ, _+_, _<_}
 use lib.ListN.{length, getD, replicate}
 use Rattle.lists.specs.Lists.{_∈_}
-use Rattle.rules.specs.Codes.{statesIn}
-use Rattle.groups.specs.Grouping.{cellsIn, startsIn}
+use Rattle.rules.specs.Codes.{statesIn, unclued}
 use Rattle.rules.specs.Check.{mates}
-use Rattle.rules.specs.Codes.{unclued}
+use Rattle.groups.specs.Grouping.{cellsIn, startsIn}
 use Rattle.planes.specs.Planes.{planesOf}
 use Rattle.planes.specs.Masks.{Masked, originsIn}
 

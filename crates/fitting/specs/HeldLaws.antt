@@ -5,7 +5,6 @@ use Prim.Native.Nat.{ℕ, zero, suc, _+_, _-_, _<_, _≤_}
 use native.Mathlib.Omega.{arith}
 use lib.ListN.{length, getD, set, replicate, length-append, length-set, length-replicate}
 use lib.Seq.{getD-set-same, getD-set-other, getD-append-add, take-append-le, take-length}
-use Rattle.planes.specs.DrawLaws.{planes-long}
 use Rattle.lists.specs.Lists.{_∈_, range}
 use Rattle.lists.specs.Padded.{padded}
 use Rattle.lists.specs.Filters.{length-filter}
@@ -13,19 +12,19 @@ use Rattle.lists.specs.PaddedLaws.{zeros}
 use Rattle.lists.specs.Ranges.{length-range}
 use Rattle.lists.specs.Arithmetic.{if-same}
 use Rattle.rules.specs.Check.{adjacent, mates}
-use Rattle.rules.specs.Codes.{statesIn}
+use Rattle.rules.specs.Codes.{statesIn, unclued}
 use Rattle.rules.specs.Groups.{potentialCount}
 use Rattle.groups.specs.Grouping.{cellsIn, startsIn}
 use Rattle.reasons.specs.Arrays.{Cells}
 use Rattle.adjacent.specs.Mates.{OneOf, Gathered}
-use Rattle.rules.specs.Codes.{unclued}
+use Rattle.adjacent.specs.BesideLaws.{mates-low, beside-gathered}
+use Rattle.adjacent.specs.Homes.{Home}
+use Rattle.planes.specs.DrawLaws.{planes-long}
 use Rattle.planes.specs.Placing.{bare}
 use Rattle.planes.specs.Laying.{fitsBeside}
-use Rattle.adjacent.specs.BesideLaws.{mates-low, beside-gathered}
 use Rattle.planes.specs.Planes.{planesOf}
 use Rattle.planes.specs.Masks.{Sizes, MaskAnswers}
 use Rattle.planes.specs.FitLaws.{beside-answers}
-use Rattle.adjacent.specs.Homes.{Home}
 use Rattle.fitting.specs.Held.{Nearby, Adjoined, HeldOf, Held}
 
 -- adjacent units are kept as they are asked for

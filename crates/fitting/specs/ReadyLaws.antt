@@ -9,26 +9,24 @@ use Rattle.lists.specs.Lists.{_∈_, any, flatMap}
 use Rattle.lists.specs.AnyAll.{any-same, any-flat}
 use Rattle.rules.specs.Page.{State, Puzzle}
 use Rattle.rules.specs.Flat.{flat}
-use Rattle.rules.specs.Codes.{statesIn}
-use Rattle.rules.specs.Groups.{entry, members}
-use Rattle.rules.specs.Groups.{unitOf, potentialOf}
+use Rattle.rules.specs.Codes.{statesIn, unclued}
+use Rattle.rules.specs.Groups.{entry, members, unitOf, potentialOf}
 use Rattle.rules.specs.Shapes.{shapeOf}
 use Rattle.rules.specs.Check.{laid, isFit, mates, placements, transformsOf}
 use Rattle.groups.specs.Kinds.{linkOf, joinsIn}
-use Rattle.rules.specs.Codes.{unclued}
 use Rattle.groups.specs.Grouping.{numbersIn, cellsIn, startsIn, countIn}
+use Rattle.groups.specs.Pages.{headOf}
+use Rattle.adjacent.specs.BesideLaws.{mates-low}
+use Rattle.adjacent.specs.Homes.{Sorted}
+use Rattle.adjacent.specs.HomeLaws.{potential-grouped, potential-first, home-is, home-count, transforms-are, head-of}
+use Rattle.adjacent.specs.HomeLaws.{own-full, unit-in}
 use Rattle.planes.specs.Laying.{fitsBeside}
 use Rattle.planes.specs.LayingLaws.{placed-fits}
-use Rattle.adjacent.specs.BesideLaws.{mates-low}
 use Rattle.fitting.specs.Held.{Adjoined}
 use Rattle.fitting.specs.Fitting.{fitsTurned}
 use Rattle.fitting.specs.FitLaws.{turned-none}
 use Rattle.fitting.specs.SingleLaws.{single-fits}
-use Rattle.adjacent.specs.Homes.{Sorted}
-use Rattle.groups.specs.Pages.{headOf}
 use Rattle.fitting.specs.FirstStuck.{fitsOn, fitsUnit}
-use Rattle.adjacent.specs.HomeLaws.{potential-grouped, potential-first, home-is, home-count, transforms-are, head-of}
-use Rattle.adjacent.specs.HomeLaws.{own-full, unit-in}
 
 module _ {h w : ℕ} {cs bs us ps : List ℕ} (r : Sorted h w cs bs us ps) where
   abbrev ids : List ℕ

@@ -26,12 +26,12 @@ use Rattle.laws.specs.FlatOnce.{flat-listing}
 use Rattle.laws.specs.FlatShapes.{shape-canonical}
 use Rattle.laws.specs.ShapeLaws.{Canonical}
 use Rattle.laws.specs.Sums.{turned-connections}
+use Rattle.groups.specs.Parts.{partOf}
 use Rattle.shapes.specs.Rows.{turnAt, image, rowsOf}
 use Rattle.shapes.specs.Spots.{places}
 use Rattle.shapes.specs.UnitLaws.{transforms-flat}
 use Rattle.planes.specs.JudgeLaws.{judge-after}
 use Rattle.planes.specs.Placing.{bare, readingOf, isClear, fitsOf}
-use Rattle.groups.specs.Parts.{partOf}
 use Rattle.planes.specs.Laying.{fitsAmong, fitsBeside}
 use Rattle.planes.specs.FitLaws.{after-clear}
 

@@ -12,17 +12,17 @@ use Rattle.lists.specs.Arithmetic.{if-same}
 use Rattle.lists.specs.PartLaws.{part-one}
 use Rattle.lists.specs.AnyAll.{holds-any}
 use Rattle.rules.specs.Page.{Hop, State, Point, Puzzle, Shape}
-use Rattle.groups.specs.Grouping.{numbersIn, cellsIn, startsIn}
 use Rattle.rules.specs.Flat.{flat, hopIf, hopBelow, hopRight, aheadAt, cellAt}
 use Rattle.rules.specs.Groups.{entry, members}
 use Rattle.rules.specs.Check.{laid, judge}
 use Rattle.rules.specs.Shapes.{shapeOf, normal, shiftBy, connectionsAt}
 use Rattle.laws.specs.FlatLaws.{spot, row-of}
 use Rattle.laws.specs.GroupLaws.{mem-members, members-lt}
-use Rattle.planes.specs.Placing.{fitsOf}
+use Rattle.groups.specs.Grouping.{numbersIn, cellsIn, startsIn}
 use Rattle.groups.specs.Parts.{partOf}
-use Rattle.planes.specs.Laying.{fitsAmong, fitsBeside}
 use Rattle.adjacent.specs.Homes.{UnitIn}
+use Rattle.planes.specs.Placing.{fitsOf}
+use Rattle.planes.specs.Laying.{fitsAmong, fitsBeside}
 use Rattle.fitting.specs.Fitting.{fitsTurned}
 use Rattle.fitting.specs.FitLaws.{turned-own}
 

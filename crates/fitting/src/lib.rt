@@ -7,13 +7,12 @@ mod singles; // singles.rt: units of one cell
 ghost use mathlib.Core.Path.{_≡_};
 ghost use mathlib.Core.Bool.{true};
 ghost use Prim.Native.Nat.{_<_};
-ghost use Rattle.rules.specs.Codes.{statesIn};
-ghost use Rattle.rules.specs.Codes.{unclued};
+ghost use Rattle.rules.specs.Codes.{statesIn, unclued};
+ghost use Rattle.groups.specs.Grouping.{countIn};
+ghost use Rattle.adjacent.specs.Homes.{Sorted};
 ghost use Rattle.fitting.specs.Fitting.{Scratch};
 ghost use Rattle.fitting.specs.Held.{Nearby, Held};
-ghost use Rattle.adjacent.specs.Homes.{Sorted};
 ghost use Rattle.fitting.specs.FirstStuck.{Passed, fitsUnit, firstFail};
-ghost use Rattle.groups.specs.Grouping.{countIn};
 use crate::copies::copy_fits_soon;
 use crate::singles::after_singles;
 use crate::unit::near_mate;

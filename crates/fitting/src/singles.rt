@@ -2,12 +2,11 @@
 ghost use mathlib.Core.Path.{_≡_};
 ghost use mathlib.Core.Bool.{true};
 ghost use Prim.Native.Nat.{_<_};
-ghost use Rattle.rules.specs.Codes.{statesIn};
-ghost use Rattle.rules.specs.Codes.{unclued};
-ghost use Rattle.fitting.specs.Held.{Nearby, Adjoined};
-ghost use Rattle.adjacent.specs.Homes.{Sorted};
-ghost use Rattle.fitting.specs.FirstStuck.{Passed, fitsUnit};
+ghost use Rattle.rules.specs.Codes.{statesIn, unclued};
 ghost use Rattle.groups.specs.Grouping.{countIn};
+ghost use Rattle.adjacent.specs.Homes.{Sorted};
+ghost use Rattle.fitting.specs.Held.{Nearby, Adjoined};
+ghost use Rattle.fitting.specs.FirstStuck.{Passed, fitsUnit};
 use crate::unit::all_near;
 use crate::unit::near_mate;
 use groups::Grouping;

@@ -4,8 +4,8 @@ use mathlib.Core.List.{List, [], _∷_, _++_}
 use Prim.Native.Nat.{ℕ, _+_, _<_, _≤_}
 use native.Mathlib.Omega.{arith}
 use native.Mathlib.Decide.{decLt}
-use lib.ListN.{length, getD, drop, set, replicate, length-take, length-set, length-replicate}
-use lib.ListN.{take-append-drop, drop-of-length-le}
+use lib.ListN.{length, getD, drop, set, replicate, length-take, length-set, length-replicate, take-append-drop}
+use lib.ListN.{drop-of-length-le}
 use lib.Seq.{getD-take, drop-drop, drop-cons}
 use Rattle.lists.specs.Sections.{section, Only}
 use Rattle.lists.specs.SectionLaws.{section-at, section-past, section-length, section-set, section-low, section-high}
@@ -13,8 +13,7 @@ use Rattle.lists.specs.SectionLaws.{front-at, front-set}
 use Rattle.lists.specs.PaddedLaws.{zeros}
 use Rattle.groups.specs.Parts.{Groups}
 use Rattle.groups.specs.Arrays.{Stored}
-use Rattle.groups.specs.Grouping.{numbersIn, cellsIn, startsIn, countIn, arrayOf}
-use Rattle.groups.specs.Grouping.{Filled, Vacant}
+use Rattle.groups.specs.Grouping.{numbersIn, cellsIn, startsIn, countIn, arrayOf, Filled, Vacant}
 use Rattle.groups.specs.NumberLaws.{blank-set}
 
 -- the numbers' section starts at 0

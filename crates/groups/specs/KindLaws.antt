@@ -9,12 +9,11 @@ use Rattle.rules.specs.Page.{Puzzle}
 use Rattle.rules.specs.Rules.{oneColour, joinsBlock, joinsUnit}
 use Rattle.rules.specs.Groups.{joinsPotential}
 use Rattle.rules.specs.Flat.{flat, flatFirst, flatSecond}
-use Rattle.rules.specs.Codes.{statesIn, coloursIn}
+use Rattle.rules.specs.Codes.{statesIn, coloursIn, unclued}
 use Rattle.laws.specs.CodeLaws.{wall-state, open-state}
 use Rattle.groups.specs.declared.Kind.{Kind}
 use Rattle.groups.specs.declared.Kind.the-variants.{Blocks, Units, Potential}
 use Rattle.groups.specs.Kinds.{linkOf, joinsIn, oneColourBy, joinsBy}
-use Rattle.rules.specs.Codes.{unclued}
 
 -- what the code computes for each kind
 module _ (v a b : ℕ) where

@@ -3,33 +3,25 @@ use mathlib.Core.Path.{_≡_, refl, ap, fun-ext, _∙_}
 use mathlib.Core.Bool.{Bool}
 use mathlib.Core.List.{List}
 use mathlib.Core.Option.{Option}
-use Prim.Native.Nat.{ℕ, _+_, _<_, _≤_}
+use Prim.Native.Nat.{ℕ, _+_, _<_, _≤_, _*_}
 use native.Mathlib.Decide.{decLt}
 use native.Mathlib.Omega.{arith}
 use lib.ListN.{length, getD, List·getD-eq-default}
+use Rattle.lists.specs.Lengths.{some-length}
 use Rattle.rules.specs.Page.{Puzzle, State}
 use Rattle.rules.specs.Flat.{Sized, flat}
 use Rattle.rules.specs.Codes.{statesIn, cluedBy}
 use Rattle.rules.specs.Rules.{oneColour, joinsBlock, joinsUnit}
 use Rattle.rules.specs.Groups.{entry, numbers, groupCount, members, joinsPotential}
 use Rattle.laws.specs.FlatLaws.{counts}
-use Rattle.laws.specs.GroupLaws.{numbers-length}
+use Rattle.laws.specs.GroupLaws.{numbers-length, members-some}
+use Rattle.laws.specs.FlatPage.{flat-bordered}
 use Rattle.groups.specs.declared.Kind.{Kind}
 use Rattle.groups.specs.declared.Kind.the-variants.{Blocks, Units, Potential}
-use Rattle.groups.specs.Parts.{Groups}
+use Rattle.groups.specs.Parts.{Groups, groupsOf, partOf}
 use Rattle.groups.specs.Kinds.{linkOf, joinsIn}
-use Rattle.groups.specs.Parts.{groupsOf, partOf}
-use Rattle.groups.specs.PartLaws.{ids-entry, ids-lt, offs-next, offs-le}
-use Rattle.groups.specs.PartLaws.{part-members}
-use Prim.Native.Nat.{_*_}
-use Rattle.lists.specs.Lengths.{some-length}
-use Rattle.laws.specs.FlatPage.{flat-bordered}
-use Rattle.laws.specs.GroupLaws.{members-some}
-use Rattle.groups.specs.PartLaws.{cell-at}
-use Rattle.groups.specs.Pages.{headOf}
-use Rattle.groups.specs.Pages.{groupsIn}
-use Rattle.groups.specs.Pages.{kindNumber}
-use Rattle.groups.specs.Pages.{kindCount}
+use Rattle.groups.specs.PartLaws.{ids-entry, ids-lt, offs-next, offs-le, part-members, cell-at}
+use Rattle.groups.specs.Pages.{headOf, groupsIn, kindNumber, kindCount}
 
 -- a page has between 1 and 1,024 cells
 pub cells-some : {h w : ℕ} → Sized h w → 1 ≤ flat h w .cells

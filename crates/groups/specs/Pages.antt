@@ -7,19 +7,15 @@
 --   potentialIn Z s U         the potential unit of unit U: that of its first cell
 --   Drawn h w cs              the page's size is right, and the colours are 0 and 1
 use mathlib.Core.List.{List}
-use Prim.Native.Nat.{ℕ}
+use Prim.Native.Nat.{ℕ, _≤_}
+use lib.ListN.{getD}
 use Rattle.rules.specs.Page.{Puzzle, State}
-use Rattle.rules.specs.Flat.{flat}
-use Rattle.rules.specs.Groups.{blockOf, blockCount, unitOf, unitCount, potentialOf, potentialCount}
+use Rattle.rules.specs.Flat.{flat, Sized}
+use Rattle.rules.specs.Groups.{blockOf, blockCount, unitOf, unitCount, potentialOf, potentialCount, members}
 use Rattle.groups.specs.declared.Kind.{Kind}
 use Rattle.groups.specs.declared.Kind.the-variants.{Blocks, Units, Potential}
-use Rattle.groups.specs.Parts.{Groups}
+use Rattle.groups.specs.Parts.{Groups, groupsOf}
 use Rattle.groups.specs.Kinds.{joinsIn}
-use Rattle.groups.specs.Parts.{groupsOf}
-use Rattle.rules.specs.Flat.{Sized}
-use Rattle.rules.specs.Groups.{members}
-use Prim.Native.Nat.{_≤_}
-use lib.ListN.{getD}
 
 abbrev pub groupsIn : Kind → ℕ → ℕ → List ℕ → List ℕ → Groups
 groupsIn kind h w cs bs = groupsOf (flat h w) (joinsIn kind h w cs bs)

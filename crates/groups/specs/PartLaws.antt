@@ -19,8 +19,7 @@ use Rattle.laws.specs.GroupLaws.{numbers-length, number-lt, groupCount-le, memb
 use Rattle.groups.specs.Parts.{startAmong, startsAmong, cellsAmong, listed, partOf, groupsOf}
 use Rattle.groups.specs.Arrays.{Blank}
 use Rattle.groups.specs.NumberLaws.{starts-at, starts-past, starts-end, blank-padded}
-use Rattle.groups.specs.SortLaws.{cells-length, start-suc, start-up, start-le, listed-length}
-use Rattle.groups.specs.SortLaws.{listed-part}
+use Rattle.groups.specs.SortLaws.{cells-length, start-suc, start-up, start-le, listed-length, listed-part}
 
 -- an array filled up with 0 numbers the cells as its list does
 pub entry-padded : (n : ℕ) (l : List ℕ) → entry (padded n 0 l) ≡ entry l

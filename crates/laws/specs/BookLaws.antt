@@ -21,9 +21,9 @@ use mathlib.Core.List.{List, [], _∷_, map, _++_, List·Memᴰ·head, List·Mem
 use mathlib.Core.List.{List·Memᴰ·append-cases, List·Memᴰ·eq-of-singleton, map-append}
 use Prim.Native.Nat.{ℕ, zero, suc, _+_, _<_}
 use native.Mathlib.Omega.{arith}
+use borrow.Author.Tests.{eq-eqb, ne-eqb, eqb-true}
 use lib.Dec.{eqb, ltb, T, eqb→eq, eqb-refl, ltb→lt}
 use lib.ListN.{length}
-use borrow.Author.Tests.{eq-eqb, ne-eqb, eqb-true}
 use Rattle.lists.specs.Lists.{_∈_, any, Distinct}
 use Rattle.lists.specs.Tests.{anyBelow}
 use Rattle.lists.specs.Table.{table}

@@ -1,8 +1,9 @@
--- Laws of codes: a border's state is told by its number, and whether two colours are equal by theirs.
+-- Laws of codes: a border's state is told by its number, whether two colours are equal by theirs, and a clue fits.
 --
 --   wall-state, open-state   what a number says
 --   state-wall, state-open   the same in an array
 --   bit-same                 two colours' numbers
+--   clue-fits                a clue of 32 bits that is not negative is a number of 64 bits
 use mathlib.Core.Path.{_≡_, refl}
 use mathlib.Core.Bool.{Bool, true, false, cond, Bool·beq}
 use mathlib.Core.List.{List}
@@ -10,8 +11,12 @@ use Prim.Native.Nat.{ℕ, zero, suc, _≤_}
 use native.Mathlib.Decide.{ℕ-discrete}
 use native.Mathlib.Omega.{arith}
 use borrow.Author.Tests.{ne-eqb}
-use lib.Dec.{eqb}
+use lib.Dec.{eqb, T}
 use lib.ListN.{getD}
+use lib.IntN.{ℤ, pos, negsuc, natAbs}
+use lib.Signed.{leZ, nonNeg}
+use mir.Syntax.{w32, w64}
+use mir.Val.{Fits, SFits}
 use Rattle.rules.specs.declared.Side.the-variants.{Wall, Open}
 use Rattle.rules.specs.Page.{undecided, decided, isWall, isOpen}
 use Rattle.rules.specs.Codes.{stateOf, statesIn}
@@ -50,3 +55,7 @@ bit-same (suc zero) (suc zero) p q = refl
 bit-same (suc (suc a)) b p q = absurd (omega arith)
 bit-same zero (suc (suc b)) p q = absurd (omega arith)
 bit-same (suc zero) (suc (suc b)) p q = absurd (omega arith)
+
+pub clue-fits : (z : ℤ) → leZ (pos 0) z ≡ true → SFits w32 z → T (nonNeg z) × Fits w64 (natAbs z)
+clue-fits (pos n) e f = (tt, record { fits = omega (arith, f .sfits) })
+clue-fits (negsuc n) e f = let z : _≡_ {A = ℕ} 0 1 = cc in absurd (omega arith)

@@ -9,15 +9,15 @@ use Prim.Native.Nat.{ℕ, zero, suc, _+_, _-_, _*_, _/_, _%_, _<_}
 use native.Mathlib.Nat.{mul-zero, mod-lt, div-add-mod', div-lt-iff-lt-mul}
 use native.Mathlib.Numerals.{add-one}
 use native.Mathlib.Omega.{arith}
-use lib.Arith.{digits-div, digits-mod}
 use borrow.Author.Tests.{lt-ltb, le-ltb, le-leb}
+use lib.Arith.{digits-div, digits-mod}
 use lib.Dec.{T, ltb, ltb→lt, lt→ltb, nltb→le}
 use lib.IntN.{pos, negsuc, _+ℤ_, -ℤ-one}
 use Rattle.lists.specs.Lists.{_∈_}
 use Rattle.lists.specs.Booleans.{T-dec}
 use Rattle.rules.specs.Page.{Hop, _⊕_}
-use Rattle.rules.specs.Flat.{flat, cellAt, rightOf, belowOf, borderCount, hopIf, hopAbove, hopBelow, hopLeft}
-use Rattle.rules.specs.Flat.{hopRight, aroundAt, aheadAt, flatFirst, flatSecond, flatPlace, flatReadsAt, flatReads}
+use Rattle.rules.specs.Flat.{flat, cellAt, rightOf, belowOf, borderCount, hopIf, hopAbove, hopBelow, hopLeft, hopRight}
+use Rattle.rules.specs.Flat.{aroundAt, aheadAt, flatFirst, flatSecond, flatPlace, flatReadsAt, flatReads}
 use Rattle.laws.specs.FlatLaws.{spot}
 use Rattle.laws.specs.PointLaws.{point-eq}
 use Rattle.laws.specs.PageLaws.{OneStep, at3}

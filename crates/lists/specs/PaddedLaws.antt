@@ -7,8 +7,8 @@ use native.Mathlib.Nat.{not-suc-le-zero, le-of-suc-le-suc}
 use native.Mathlib.Decide.{decLt}
 use native.Mathlib.Numerals.{add-one}
 use native.Mathlib.Omega.{arith}
-use lib.ListN.{length, getD, set, take, replicate, length-append, length-replicate}
-use lib.ListN.{List·getD-append, List·getD-eq-default}
+use lib.ListN.{length, getD, set, take, replicate, length-append, length-replicate, List·getD-append}
+use lib.ListN.{List·getD-eq-default}
 use lib.Seq.{take-all, ext-getD, length-take-le, getD-take, getD-append-add}
 use Rattle.lists.specs.Padded.{padded, filled}
 use Rattle.lists.specs.Arithmetic.{le-or-lt, below-more}

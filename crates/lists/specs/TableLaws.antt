@@ -1,7 +1,7 @@
 -- Laws of tables: a loop that stores their values one by one, and tables in maps, flatMaps and parts of lists.
 use mathlib.Core.Path.{_≡_, refl, ap, ap₂, sym, _∙_}
-use mathlib.Core.List.{List, [], _∷_, _++_, map, map-append}
-use mathlib.Core.List.{List·Memᴰ·not-nil, List·Memᴰ·append-cases, List·Memᴰ·eq-of-singleton}
+use mathlib.Core.List.{List, [], _∷_, _++_, map, map-append, List·Memᴰ·not-nil, List·Memᴰ·append-cases}
+use mathlib.Core.List.{List·Memᴰ·eq-of-singleton}
 use mathlib.Core.Logic.{⊎-elim, _⊎_, inl, inr}
 use Prim.Native.Nat.{ℕ, zero, suc, _+_, _*_, _<_, _≤_}
 use native.Mathlib.Nat.{not-suc-le-zero, eq-or-lt-of-le, le-of-suc-le-suc, mul-zero, mul-suc}
@@ -9,8 +9,8 @@ use native.Mathlib.Decide.{ℕ-discrete}
 use native.Mathlib.Numerals.{add-one}
 use native.Mathlib.Omega.{arith}
 use lib.ListN.{length, getD, set, take, drop, length-append, length-drop, List·getD-append}
-use lib.Seq.{getD-at, ext-getD, getD-set-same, getD-set-other, take-add, drop-drop}
-use lib.Seq.{length-take-le, getD-take, getD-drop}
+use lib.Seq.{getD-at, ext-getD, getD-set-same, getD-set-other, take-add, drop-drop, length-take-le, getD-take}
+use lib.Seq.{getD-drop}
 use Rattle.lists.specs.Lists.{_∈_, flatMap, range}
 use Rattle.lists.specs.Table.{table}
 use Rattle.lists.specs.Ranges.{range-more}

@@ -4,8 +4,8 @@ use mathlib.Core.Path.{_≡_, refl, ap, ap₂, sym, _∙_}
 use mathlib.Core.Bool.{Bool, true, false, not, _&&_, _||_}
 use mathlib.Core.Logic.{_⊎_, inl, inr, ⊎-elim}
 use Prim.Native.Nat.{ℕ, zero, suc, _+_, _*_, _/_, _%_, _^_, _<_, _≤_, min, max}
-use native.Mathlib.Nat.{not-suc-le-zero, mod-lt, add-comm, lt-of-lt-of-le, div-eq-of-lt, zero-lt-suc}
-use native.Mathlib.Nat.{zero-div, div-one, mod-eq-of-lt}
+use native.Mathlib.Nat.{not-suc-le-zero, mod-lt, add-comm, lt-of-lt-of-le, div-eq-of-lt, zero-lt-suc, zero-div, div-one}
+use native.Mathlib.Nat.{mod-eq-of-lt}
 use native.Mathlib.Numerals.{add-one}
 use native.Mathlib.Omega.{arith}
 use borrow.Author.Tests.{ne-eqb}

@@ -9,7 +9,6 @@ use borrow.Author.Tests.{eqb-true}
 use lib.Dec.{eqb}
 use lib.ListN.{length, getD, drop, length-take}
 use lib.Seq.{getD-take, getD-drop}
-use Rattle.groups.specs.Grouping.{cellsIn, startsIn}
 use Rattle.lists.specs.Lists.{_∈_, any, all}
 use Rattle.lists.specs.ListLaws.{flat-find}
 use Rattle.lists.specs.Tests.{allBelow}
@@ -20,20 +19,19 @@ use Rattle.lists.specs.Parts.{part}
 use Rattle.lists.specs.AnyAll.{any-holds, holds-any, all-range, any-flat}
 use Rattle.rules.specs.declared.Placement.the-variants.{Fits}
 use Rattle.rules.specs.Page.{Puzzle, State}
-use Rattle.rules.specs.Codes.{statesIn}
+use Rattle.rules.specs.Codes.{statesIn, unclued}
 use Rattle.rules.specs.Check.{isFit}
+use Rattle.groups.specs.Grouping.{cellsIn, startsIn}
+use Rattle.groups.specs.Pages.{Drawn}
+use Rattle.groups.specs.Parts.{partOf}
 use Rattle.reasons.specs.Arrays.{Cells}
+use Rattle.reasons.specs.CellLaws.{cells-at}
+use Rattle.shapes.specs.Raising.{ysIn, xsIn, Raised, spelled}
+use Rattle.adjacent.specs.Mates.{mateCount, matesIn, Beside}
 use Rattle.planes.specs.declared.Reading.{Reading}
 use Rattle.planes.specs.declared.Reading.the-variants.{Ends, Clear, Walled}
 use Rattle.planes.specs.JudgeLaws.{judgedAfter, blocked-never, readAt, readFrom, laid-after}
-use Rattle.groups.specs.Pages.{Drawn}
-use Rattle.rules.specs.Codes.{unclued}
 use Rattle.planes.specs.Placing.{bare, readRaised, readingOf, isClear, fitsOf}
-use Rattle.shapes.specs.Raising.{ysIn, xsIn, Raised, spelled}
-use Rattle.reasons.specs.CellLaws.{cells-at}
-use Rattle.adjacent.specs.Mates.{mateCount, matesIn}
-use Rattle.adjacent.specs.Mates.{Beside}
-use Rattle.groups.specs.Parts.{partOf}
 use Rattle.planes.specs.Laying.{fitsAmong, fitsBeside}
 use Rattle.planes.specs.Bits.{bitAt}
 use Rattle.planes.specs.Planes.{planeWord, planesOf}

@@ -12,13 +12,12 @@ use Rattle.rules.specs.declared.Placement.{Placement}
 use Rattle.rules.specs.declared.Placement.the-variants.{Fits, Blocked, Cannot}
 use Rattle.rules.specs.Page.{Puzzle, State, Point, Shape, _⊕_, isWall}
 use Rattle.rules.specs.Rules.{oneColour}
-use Rattle.rules.specs.Codes.{cluedBy}
+use Rattle.rules.specs.Codes.{cluedBy, unclued}
 use Rattle.rules.specs.Flat.{flat, flatPlace, flatReads}
 use Rattle.rules.specs.Check.{judge, byLastWall, laid, isFit}
+use Rattle.shapes.specs.Raising.{ysIn, xsIn, raised, raisedSpot, spelled}
 use Rattle.planes.specs.declared.Reading.{Reading}
 use Rattle.planes.specs.declared.Reading.the-variants.{Ends, Clear, Walled}
-use Rattle.shapes.specs.Raising.{ysIn, xsIn, raised, raisedSpot, spelled}
-use Rattle.rules.specs.Codes.{unclued}
 use Rattle.planes.specs.Placing.{bare, readRaised, readingOf}
 
 -- what readings make of a placement

@@ -12,8 +12,8 @@ use Rattle.lists.specs.Lists.{any, flatMap}
 use Rattle.rules.specs.declared.Literal.{Literal}
 use Rattle.rules.specs.Page.{Puzzle, Shape, State}
 use Rattle.rules.specs.Check.{laid, blockers}
-use Rattle.planes.specs.Placing.{fitsOf}
 use Rattle.groups.specs.Parts.{partOf}
+use Rattle.planes.specs.Placing.{fitsOf}
 
 module _ (Z : Puzzle) (s : ℕ → State) (t : Shape) where
   unfoldable pub fitsAmong : List ℕ → Bool

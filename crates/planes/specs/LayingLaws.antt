@@ -6,14 +6,13 @@ use Rattle.lists.specs.Lists.{_∈_, any, flatMap}
 use Rattle.lists.specs.Flats.{flat-map, flat-flat, flat-same}
 use Rattle.lists.specs.AnyAll.{any-same, any-map, any-flat}
 use Rattle.rules.specs.Page.{Puzzle, Shape, State}
-use Rattle.rules.specs.Codes.{statesIn}
+use Rattle.rules.specs.Codes.{statesIn, unclued}
 use Rattle.rules.specs.Flat.{flat}
 use Rattle.rules.specs.Groups.{members, potentialOf}
 use Rattle.rules.specs.Check.{laid, isFit, blockers}
-use Rattle.rules.specs.Codes.{unclued}
-use Rattle.planes.specs.Placing.{fitsOf}
-use Rattle.adjacent.specs.Mates.{Grouped}
 use Rattle.groups.specs.Parts.{partOf}
+use Rattle.adjacent.specs.Mates.{Grouped}
+use Rattle.planes.specs.Placing.{fitsOf}
 use Rattle.planes.specs.Laying.{fitsAmong, fitsBeside, blockAt, blocksAmong, blocksBeside}
 
 -- the placements of one transform at the cells of some potential units, and the mates of p among them

@@ -20,8 +20,8 @@ use lib.ListN.{length, getD}
 use Rattle.lists.specs.Lists.{any, flatMap}
 use Rattle.lists.specs.Tests.{allBelow, anyBelow}
 use Rattle.rules.specs.Page.{Point}
-use Rattle.shapes.specs.Raising.{ysIn, xsIn, Raised, spelled}
 use Rattle.groups.specs.Parts.{partOf}
+use Rattle.shapes.specs.Raising.{ysIn, xsIn, Raised, spelled}
 use Rattle.planes.specs.Bits.{bitAt}
 
 unfoldable pub cellIs : ℕ → ℕ → ℕ → ℕ → Bool

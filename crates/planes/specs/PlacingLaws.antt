@@ -11,11 +11,10 @@ use lib.Dec.{eqb}
 use lib.ListN.{getD}
 use Rattle.rules.specs.Page.{Puzzle, State}
 use Rattle.rules.specs.Rules.{oneColour}
-use Rattle.rules.specs.Codes.{coloursIn, statesIn}
+use Rattle.rules.specs.Codes.{coloursIn, statesIn, unclued}
 use Rattle.rules.specs.Flat.{flat, flatReads, flatReadsAt, rightOf, belowOf, flatFirst, flatSecond, cellAt}
 use Rattle.laws.specs.CodeLaws.{wall-state, bit-same}
 use Rattle.planes.specs.declared.Reading.the-variants.{Ends, Clear, Walled}
-use Rattle.rules.specs.Codes.{unclued}
 use Rattle.planes.specs.Placing.{readRaised, readingOf, between}
 
 -- what the border between two cells does

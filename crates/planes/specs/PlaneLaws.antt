@@ -10,14 +10,13 @@ use borrow.Author.Tests.{lt-ltb, le-ltb, le-leb, lt-leb, ne-eqb}
 use lib.Dec.{eqb, ltb, leb}
 use lib.ListN.{getD}
 use Rattle.lists.specs.Arithmetic.{le-or-lt, eq-or-not}
-use Rattle.rules.specs.Codes.{coloursIn, statesIn}
+use Rattle.rules.specs.Codes.{coloursIn, statesIn, unclued}
 use Rattle.laws.specs.CodeLaws.{wall-state, bit-same}
-use Rattle.planes.specs.declared.Reading.the-variants.{Ends, Clear, Walled}
 use Rattle.groups.specs.Pages.{Drawn}
-use Rattle.rules.specs.Codes.{unclued}
+use Rattle.planes.specs.declared.Reading.the-variants.{Ends, Clear, Walled}
 use Rattle.planes.specs.Placing.{readRaised, readingOf, between, isClear}
-use Rattle.planes.specs.PlacingLaws.{right-reading, below-reading, off-ends, off-above, off-left}
-use Rattle.planes.specs.PlacingLaws.{off-below, off-right, reads-below, reads-right}
+use Rattle.planes.specs.PlacingLaws.{right-reading, below-reading, off-ends, off-above, off-left, off-below}
+use Rattle.planes.specs.PlacingLaws.{off-right, reads-below, reads-right}
 use Rattle.planes.specs.Bits.{bitAt}
 use Rattle.planes.specs.BitLaws.{bit-zero, bit-shl, bit-low}
 use Rattle.planes.specs.RowLaws.{row-bit}

@@ -5,26 +5,20 @@ use mathlib.Core.List.{List}
 use Prim.Native.Nat.{ℕ, _+_, _<_}
 use native.Mathlib.Omega.{arith}
 use lib.IntN.{ℤ}
+use lib.ListN.{getD}
 use Rattle.rules.specs.Flat.{Sized, flat}
 use Rattle.rules.specs.Codes.{cluesIn, statesIn, coloursIn, puzzleIn}
 use Rattle.rules.specs.Groups.{numbers, members}
-use Rattle.groups.specs.declared.Kind.the-variants.{Blocks, Potential}
-use Rattle.groups.specs.Parts.{Groups}
-use Rattle.groups.specs.Grouping.{Filled}
-use Rattle.groups.specs.Parts.{groupsOf, partOf}
-use Rattle.groups.specs.PartLaws.{ids-entry, ids-length, groups-le, cells-long}
-use Rattle.groups.specs.PartLaws.{part-members}
-use Rattle.reasons.specs.Arrays.{GroupAt}
 use Rattle.rules.specs.Reasons.{inside, edge}
 use Rattle.rules.specs.Check.{insideBlock, edgeOf}
-use Rattle.reasons.specs.Arrays.{insideIn, edgeIn}
-use Rattle.groups.specs.Pages.{groupsIn}
-use Rattle.groups.specs.PageLaws.{cells-some, cells-few, starts-step, starts-few, kind-ids}
-use lib.ListN.{getD}
 use Rattle.laws.specs.FlatLaws.{counts}
-use Rattle.reasons.specs.Arrays.{Cells}
-use Rattle.groups.specs.PartLaws.{cells-lt}
-use Rattle.groups.specs.PageLaws.{rises, ends}
+use Rattle.groups.specs.declared.Kind.the-variants.{Blocks, Potential}
+use Rattle.groups.specs.Parts.{Groups, groupsOf, partOf}
+use Rattle.groups.specs.Grouping.{Filled}
+use Rattle.groups.specs.PartLaws.{ids-entry, ids-length, groups-le, cells-long, part-members, cells-lt}
+use Rattle.groups.specs.Pages.{groupsIn}
+use Rattle.groups.specs.PageLaws.{cells-some, cells-few, starts-step, starts-few, kind-ids, rises, ends}
+use Rattle.reasons.specs.Arrays.{GroupAt, insideIn, edgeIn, Cells}
 
 module _ {h w : ℕ} (z : Sized h w) (link : ℕ → Bool) where
   abbrev groups : Groups

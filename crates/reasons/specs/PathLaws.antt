@@ -14,13 +14,13 @@ use Rattle.lists.specs.Booleans.{and-fails, false-true}
 use Rattle.lists.specs.CountLaws.{count-none, count-le}
 use Rattle.lists.specs.Arithmetic.{if-same}
 use Rattle.lists.specs.Stores.{slice-push}
+use Rattle.lists.specs.WroteLaws.{wrote-none, wrote-more, wrote-length}
 use Rattle.rules.specs.declared.Literal.{Literal}
 use Rattle.rules.specs.Page.{Page, State, Hop, isOpen, openAt}
 use Rattle.rules.specs.Flat.{flat}
 use Rattle.rules.specs.Codes.{statesIn}
 use Rattle.rules.specs.Reasons.{Found, Search, isFound, visitIf, look, hunt, trace, path}
 use Rattle.reasons.specs.Memory.{Wrote}
-use Rattle.lists.specs.WroteLaws.{wrote-none, wrote-more, wrote-length}
 use Rattle.reasons.specs.MemoryLaws.{wrote-next}
 use Rattle.reasons.specs.Arrays.{isFlagged}
 use Rattle.reasons.specs.Search.{pathIn, Lined, Holds, Looked, Ended}

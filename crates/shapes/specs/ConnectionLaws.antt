@@ -10,7 +10,6 @@ use lib.Arith.{digits-div, digits-mod}
 use lib.Dec.{eqb, ltb}
 use lib.IntN.{pos, natAbs}
 use lib.ListN.{getD}
-use Rattle.groups.specs.Grouping.{numbersIn}
 use Rattle.lists.specs.Appends.{filter-append}
 use Rattle.lists.specs.Lists.{keepIf, filter}
 use Rattle.lists.specs.Table.{table}
@@ -20,6 +19,7 @@ use Rattle.rules.specs.Flat.{flat, flatPlace, cellAt, hopIf, hopBelow, hopRight
 use Rattle.rules.specs.Groups.{entry, members}
 use Rattle.rules.specs.Shapes.{connectionsAt}
 use Rattle.laws.specs.PointLaws.{point-eq}
+use Rattle.groups.specs.Grouping.{numbersIn}
 use Rattle.shapes.specs.Outlines.{rowsIn, columnsIn, cellCount}
 use Rattle.shapes.specs.Spots.{placeAt, spots, cellSpot, places, UnitAt}
 use Rattle.shapes.specs.Joints.{jointIf}

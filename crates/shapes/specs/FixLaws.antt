@@ -10,16 +10,16 @@ use Rattle.lists.specs.ListLaws.{mem-map, map-find, any-mem, any-find, all-mem,
 use Rattle.lists.specs.Pairs.{distinct-map}
 use Rattle.lists.specs.Booleans.{same-test}
 use Rattle.rules.specs.Page.{Point, _⊕_, opposite}
-use Rattle.rules.specs.Turns.{Turn, apply, compose, keep, half, quarter, halfQuarter, flip}
-use Rattle.rules.specs.Turns.{flipHalf, flipQuarter, flipHalfQuarter}
+use Rattle.rules.specs.Turns.{Turn, apply, compose, keep, half, quarter, halfQuarter, flip, flipHalf, flipQuarter}
+use Rattle.rules.specs.Turns.{flipHalfQuarter}
 use Rattle.rules.specs.Shapes.{normal, shiftBy, sort, samePoint, samePoints}
 use Rattle.laws.specs.SameLaws.{samePoint→eq, samePoint-refl, samePoints→eq, same-when}
 use Rattle.laws.specs.PointLaws.{add-assoc, add-comm, add-origin, add-opposite, add-back}
-use Rattle.shapes.specs.OrderLaws.{sort-least}
 use Rattle.laws.specs.SortLaws.{sort-ascends, ascending-distinct, ascending-count, mem-sort, sort-mem, length-sort}
 use Rattle.laws.specs.SortLaws.{shift-ascends, Ascending, mem-shift, shift-find, length-shift}
 use Rattle.laws.specs.TurnLaws.{apply-compose, apply-keep}
 use Rattle.laws.specs.ShapeLaws.{turned-normal, shift-shift}
+use Rattle.shapes.specs.OrderLaws.{sort-least}
 use Rattle.shapes.specs.Rows.{turnAt, image, fixes}
 use Rattle.shapes.specs.Spots.{leastImage, ontoShift}
 

@@ -10,7 +10,6 @@ use lib.Signed.{mag, ltZ}
 use lib.ListN.{length, getD}
 use mir.Syntax.{w8}
 use mir.Val.{toZ, ofZ}
-use Rattle.groups.specs.Grouping.{numbersIn}
 use Rattle.lists.specs.Lists.{_∈_}
 use Rattle.lists.specs.ListLaws.{map-find}
 use Rattle.lists.specs.TableLaws.{table-find}
@@ -22,6 +21,8 @@ use Rattle.rules.specs.Shapes.{shiftBy, shapeOf}
 use Rattle.rules.specs.Flat.{flat}
 use Rattle.rules.specs.Groups.{entry}
 use Rattle.laws.specs.PointLaws.{point-eq}
+use Rattle.laws.specs.SortLaws.{sort-mem}
+use Rattle.groups.specs.Grouping.{numbersIn}
 use Rattle.shapes.specs.declared.Pair.{Pair}
 use Rattle.shapes.specs.declared.Signs.{Signs}
 use Rattle.shapes.specs.Pairs.{pointAt, pointOf, signOf, signsOf}
@@ -29,7 +30,6 @@ use Rattle.shapes.specs.Rows.{turnAt, image}
 use Rattle.shapes.specs.Spots.{placeAt, spotAt, spots, cellSpots, jointSpots, leastImage, NearSpot, Spotted}
 use Rattle.shapes.specs.Spots.{UnitAt}
 use Rattle.shapes.specs.SpotLaws.{length-spots, near-least}
-use Rattle.laws.specs.SortLaws.{sort-mem}
 use Rattle.shapes.specs.FixLaws.{least-image}
 use Rattle.shapes.specs.UnitLaws.{image-joints}
 use Rattle.shapes.specs.Joints.{OutlineJoined}

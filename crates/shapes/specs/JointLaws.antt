@@ -3,23 +3,16 @@ use mathlib.Core.Path.{_≡_, refl, sym, ap, ap₂, _∙_, subst}
 use mathlib.Core.Bool.{Bool, true, false, _&&_}
 use mathlib.Core.List.{List, [], _∷_, _++_, append-assoc, append-nil, List·Memᴰ·eq-of-singleton, List·Memᴰ·not-nil}
 use mathlib.Core.List.{List·Memᴰ·append-cases}
+use mathlib.Core.Logic.{_⊎_, inl, inr}
 use Prim.Native.Nat.{ℕ, _+_, _*_, _<_, _≤_, _/_, _%_}
 use native.Mathlib.Omega.{arith}
+use native.Mathlib.Nat.{mod-lt, div-lt-iff-lt-mul, div-add-mod'}
 use borrow.Author.Tests.{eq-eqb, ne-eqb, ltb-true}
 use lib.Dec.{eqb, ltb}
 use lib.ListN.{length, getD, set, length-set, length-append}
 use lib.Seq.{getD-set-same, getD-set-other}
-use mathlib.Core.Logic.{_⊎_, inl, inr}
 use lib.IntN.{natAbs}
-use native.Mathlib.Nat.{mod-lt, div-lt-iff-lt-mul, div-add-mod'}
-use Rattle.shapes.specs.declared.Pair.{Pair}
-use Rattle.shapes.specs.PairLaws.{read-small}
-use Rattle.shapes.specs.Pairs.{pointOf, SmallPair}
-use Rattle.shapes.specs.Rows.{turnAt}
-use Rattle.shapes.specs.PartLaws.{mem-spots}
-use Rattle.rules.specs.Turns.{apply, read}
 use Rattle.lists.specs.ListLaws.{flat-find, filter-mem}
-use Rattle.groups.specs.Grouping.{numbersIn}
 use Rattle.lists.specs.Lists.{flatMap, _∈_, range}
 use Rattle.lists.specs.Sections.{Only}
 use Rattle.lists.specs.SectionLaws.{section-at, section-length, section-set, section-low, section-high, front-at}
@@ -27,15 +20,22 @@ use Rattle.lists.specs.SectionLaws.{only-none, only-set, only-before, only-past
 use Rattle.lists.specs.Table.{table}
 use Rattle.lists.specs.Ranges.{range-lt}
 use Rattle.lists.specs.TableLaws.{flat-table}
+use Rattle.rules.specs.Turns.{apply, read}
 use Rattle.rules.specs.Page.{Point}
 use Rattle.rules.specs.Groups.{entry, members}
 use Rattle.rules.specs.Flat.{Sized, flat}
 use Rattle.rules.specs.Shapes.{connectionsAt}
+use Rattle.laws.specs.FlatLaws.{counts, spot}
+use Rattle.groups.specs.Grouping.{numbersIn}
+use Rattle.shapes.specs.declared.Pair.{Pair}
+use Rattle.shapes.specs.PairLaws.{read-small}
+use Rattle.shapes.specs.Pairs.{pointOf, SmallPair}
+use Rattle.shapes.specs.Rows.{turnAt}
+use Rattle.shapes.specs.PartLaws.{mem-spots}
 use Rattle.shapes.specs.Outlines.{rowsIn, columnsIn, downIn, acrossIn, cellCount, jointCount}
 use Rattle.shapes.specs.Spots.{placeAt, spots, jointSpot, joints, UnitAt}
 use Rattle.shapes.specs.SpotLaws.{spots-more, spots-cong, length-spots}
 use Rattle.shapes.specs.ConnectionLaws.{connections-at, unit-cells}
-use Rattle.laws.specs.FlatLaws.{counts, spot}
 use Rattle.shapes.specs.Joints.{jointIf, JointRoom, Grown, Joining, OutlineJoined, JointIn}
 
 pub grown-none : (o : List ℕ) (k : ℕ) → Grown o k [] o k

@@ -11,7 +11,6 @@ use mathlib.Core.Bool.{Bool, true, false}
 use mathlib.Core.List.{List, [], _∷_, _++_}
 use Prim.Native.Nat.{ℕ, _+_, _*_, _%_, _<_, _≤_}
 use lib.ListN.{length, getD}
-use Rattle.groups.specs.Grouping.{numbersIn}
 use Rattle.lists.specs.Lists.{flatMap}
 use Rattle.lists.specs.Sections.{Only}
 use Rattle.lists.specs.Table.{table}
@@ -19,6 +18,7 @@ use Rattle.rules.specs.Flat.{flat}
 use Rattle.rules.specs.Groups.{entry}
 use Rattle.rules.specs.Shapes.{connectionsAt}
 use Rattle.rules.specs.Page.{Point}
+use Rattle.groups.specs.Grouping.{numbersIn}
 use Rattle.shapes.specs.Outlines.{rowsIn, columnsIn, downIn, acrossIn, jointCount}
 use Rattle.shapes.specs.Spots.{placeAt, spots, jointSpots, joints}
 

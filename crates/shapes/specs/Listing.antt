@@ -3,13 +3,11 @@
 --   listing rs          the rows, filled up with 0, and their count
 --   Rows r              a list of at most eight rows of the table, at least one
 use mathlib.Core.List.{List}
-use Prim.Native.Nat.{ℕ}
-use lib.ListN.{length}
+use mathlib.Core.Path.{_≡_}
+use Prim.Native.Nat.{ℕ, _<_, _≤_}
+use lib.ListN.{length, getD}
 use Rattle.lists.specs.Padded.{padded}
 use Rattle.shapes.specs.declared.Listed.{Listed}
-use mathlib.Core.Path.{_≡_}
-use Prim.Native.Nat.{_<_, _≤_}
-use lib.ListN.{getD}
 
 abbrev pub listing : List ℕ → Listed
 listing rs = record { count = length rs; rows = padded 8 0 rs }

@@ -11,9 +11,8 @@ use Rattle.lists.specs.ListLaws.{all-mem, getD-mem}
 use Rattle.lists.specs.Padded.{padded}
 use Rattle.rules.specs.Page.{Shape}
 use Rattle.shapes.specs.declared.Listed.{Listed}
-use Rattle.shapes.specs.Listing.{listing}
+use Rattle.shapes.specs.Listing.{listing, Rows}
 use Rattle.shapes.specs.Rows.{fixes, flipListed, rowsBy, rowsOf}
-use Rattle.shapes.specs.Listing.{Rows}
 
 -- the listed rows
 row-low : (a b c : Bool) → T (all (λ r. ltb r 8) (padded 8 0 (rowsBy a b c)))

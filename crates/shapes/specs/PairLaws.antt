@@ -4,17 +4,16 @@ use mathlib.Core.Logic.{_⊎_, inl, inr}
 use mathlib.Core.Bool.{Bool, true, false, not, cond}
 use Prim.Native.Nat.{ℕ, zero, suc, _+_, _*_, _<_, _≤_}
 use native.Mathlib.Omega.{arith}
-use lib.IntN.{ℤ, pos, negsuc, negℤ, subℕ, _+ℤ_, _-ℤ_, _*ℤ_, negℤ-+ℤ}
-use Rattle.lists.specs.Booleans.{same-test, T-dec}
 use borrow.Author.Tests.{lt-ltb, le-ltb}
+use lib.IntN.{ℤ, pos, negsuc, negℤ, subℕ, _+ℤ_, _-ℤ_, _*ℤ_, negℤ-+ℤ}
 use lib.Dec.{T, ltb, ltb→lt, nltb→le}
 use lib.Signed.{mag, ltZ}
 use mir.Syntax.{w8, w32}
 use mir.Val.{SFits, toZ, ofZ}
 use mir.Facts.{toZ-ofZ}
+use Rattle.lists.specs.Booleans.{same-test, T-dec}
 use Rattle.rules.specs.Page.{Point}
-use Rattle.rules.specs.Turns.{Axis, layerward, rowward, columnward, Row, coordinate, signed, read, apply}
-use Rattle.rules.specs.Turns.{flatTurn}
+use Rattle.rules.specs.Turns.{Axis, layerward, rowward, columnward, Row, coordinate, signed, read, apply, flatTurn}
 use Rattle.rules.specs.Shapes.{before, lessℤ, sameℤ}
 use Rattle.laws.specs.PointLaws.{point-eq}
 use Rattle.laws.specs.OrderLaws.{less-irrefl, less-total}

@@ -8,21 +8,21 @@ use lib.Dec.{eqb}
 use lib.IntN.{natAbs}
 use lib.ListN.{length, getD, set, length-set, length-map}
 use lib.Seq.{getD-set-same}
-use Rattle.groups.specs.Grouping.{numbersIn, cellsIn, startIn, groupCells}
 use Rattle.lists.specs.Lists.{_∈_, filter, range}
 use Rattle.lists.specs.SectionLaws.{section-set, section-low, section-high, front-set}
 use Rattle.lists.specs.ListLaws.{filter-mem, map-find, getD-mem}
 use Rattle.lists.specs.Table.{table}
 use Rattle.lists.specs.Ranges.{range-lt}
 use Rattle.lists.specs.TableLaws.{getD-table, table-cong, table-part, map-table}
+use Rattle.lists.specs.Maps.{getD-map}
 use Rattle.rules.specs.Page.{Point}
 use Rattle.rules.specs.Flat.{Sized, flat, flatPlace}
 use Rattle.rules.specs.Groups.{entry, members}
 use Rattle.laws.specs.PointLaws.{origin}
+use Rattle.groups.specs.Grouping.{numbersIn, cellsIn, startIn, groupCells}
 use Rattle.shapes.specs.Outlines.{rowsIn, columnsIn, cellCount}
 use Rattle.shapes.specs.Spots.{placeAt, spotAt, spots, cellSpot, cellSpots, places, UnitAt}
 use Rattle.shapes.specs.SpotLaws.{length-spots}
-use Rattle.lists.specs.Maps.{getD-map}
 use Rattle.shapes.specs.Parts.{UnitPart, placeOf, OutlinePlaced}
 
 -- the row and the column of one cell more are stored

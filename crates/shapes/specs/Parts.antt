@@ -7,8 +7,8 @@ use mathlib.Core.Path.{_≡_}
 use mathlib.Core.List.{List, map}
 use Prim.Native.Nat.{ℕ, _+_, _/_, _%_, _≤_, _<_}
 use lib.ListN.{length}
-use Rattle.groups.specs.Grouping.{cellsIn, startIn}
 use Rattle.rules.specs.Page.{Point}
+use Rattle.groups.specs.Grouping.{cellsIn, startIn}
 use Rattle.shapes.specs.Spots.{placeAt, cellSpots}
 
 pub record UnitPart (units : List ℕ) (g w : ℕ) : Type 0 where

@@ -8,11 +8,11 @@ use borrow.Author.Tests.{le-ltb}
 use lib.IntN.{ℤ, pos, negsuc, negℤ, _+ℤ_, +ℤ-assoc, +ℤ-comm}
 use lib.ListN.{getD}
 use Rattle.lists.specs.Lists.{rangeFrom}
+use Rattle.lists.specs.TableLaws.{map-range}
 use Rattle.rules.specs.Page.{Point, _⊕_}
 use Rattle.rules.specs.Turns.{signed, apply, coordinate, rowward, columnward}
-use Rattle.lists.specs.TableLaws.{map-range}
-use Rattle.shapes.specs.Raising.{ysIn, xsIn, lowered, raised, raisedSpot, spelled, Raised}
-use Rattle.shapes.specs.Raising.{liftOf, turnOf, movedBy, Lifts, Turnable}
+use Rattle.shapes.specs.Raising.{ysIn, xsIn, lowered, raised, raisedSpot, spelled, Raised, liftOf, turnOf}
+use Rattle.shapes.specs.Raising.{movedBy, Lifts, Turnable}
 use Rattle.shapes.specs.Spots.{placeAt, spotAt, spots}
 
 -- a difference of naturals

@@ -8,8 +8,7 @@ use Rattle.lists.specs.Lists.{any}
 use Rattle.lists.specs.Booleans.{same-test}
 use Rattle.rules.specs.Page.{Point, Shape}
 use Rattle.rules.specs.Turns.{Turn, apply, compose, keep, half, quarter, halfQuarter, flip}
-use Rattle.rules.specs.Shapes.{turned, sameShape}
-use Rattle.rules.specs.Shapes.{withHalf, quarters, withQuarter, withFlip, flatTransforms}
+use Rattle.rules.specs.Shapes.{turned, sameShape, withHalf, quarters, withQuarter, withFlip, flatTransforms}
 use Rattle.laws.specs.SameLaws.{samePoints→eq, same-when}
 use Rattle.laws.specs.ShapeLaws.{turned-cells, turned-compose}
 use Rattle.shapes.specs.Rows.{turnAt, image, fixes, flipListed, rotationRows, rowsBy, rowsOf}

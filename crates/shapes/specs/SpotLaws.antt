@@ -21,8 +21,7 @@ use Rattle.shapes.specs.declared.Pair.{Pair}
 use Rattle.shapes.specs.Pairs.{pointOf, SmallPair}
 use Rattle.shapes.specs.Outlines.{rowsIn, columnsIn, cellCount}
 use Rattle.shapes.specs.Rows.{turnAt}
-use Rattle.shapes.specs.Spots.{placeAt, spotAt, spots, cellSpots, leastImage, firstOf}
-use Rattle.shapes.specs.Spots.{NearSpot, SpotIn, Spotted}
+use Rattle.shapes.specs.Spots.{placeAt, spotAt, spots, cellSpots, leastImage, firstOf, NearSpot, SpotIn, Spotted}
 use Rattle.shapes.specs.Order.{least}
 
 pub spots-more : (R C : List ℕ) (i : ℕ) → spots R C (i + 1) ≡ spots R C i ++ (spotAt R C i ∷ [])

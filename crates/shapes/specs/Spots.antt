@@ -25,7 +25,6 @@ use lib.Dec.{eqb, ltb}
 use lib.IntN.{ℤ, pos, negsuc}
 use lib.ListN.{length, getD}
 use lib.Signed.{mag}
-use Rattle.groups.specs.Grouping.{numbersIn}
 use Rattle.lists.specs.Lists.{flatMap}
 use Rattle.lists.specs.Table.{table}
 use Rattle.lists.specs.Tests.{allBelow}
@@ -35,6 +34,7 @@ use Rattle.rules.specs.Groups.{entry, members}
 use Rattle.rules.specs.Turns.{apply}
 use Rattle.rules.specs.Shapes.{connectionsAt}
 use Rattle.laws.specs.PointLaws.{origin}
+use Rattle.groups.specs.Grouping.{numbersIn}
 use Rattle.shapes.specs.Outlines.{rowsIn, columnsIn, downIn, acrossIn, cellCount, jointCount}
 use Rattle.shapes.specs.Rows.{turnAt}
 use Rattle.shapes.specs.Order.{least}

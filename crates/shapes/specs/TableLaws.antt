@@ -2,7 +2,7 @@
 --
 --   products            row a of this list has at b the row that does b, then a
 --   productRow a b      that row's number
-use mathlib.Core.Path.{_≡_}
+use mathlib.Core.Path.{_≡_, ap, _∙_}
 use mathlib.Core.Bool.{xor}
 use mathlib.Core.List.{List, [], _∷_}
 use Prim.Native.Nat.{ℕ, _<_}
@@ -11,9 +11,12 @@ use lib.ListN.{getD}
 use Rattle.lists.specs.Lists.{all, range}
 use Rattle.lists.specs.ListLaws.{all-mem}
 use Rattle.lists.specs.Ranges.{mem-range}
-use Rattle.rules.specs.Turns.{compose}
+use Rattle.rules.specs.Page.{Shape}
+use Rattle.rules.specs.Turns.{apply, compose}
+use Rattle.rules.specs.Shapes.{turned}
+use Rattle.laws.specs.ShapeLaws.{turned-compose}
 use Rattle.laws.specs.TurnLaws.{sameTurn, sameTurn→eq}
-use Rattle.shapes.specs.Rows.{turnAt}
+use Rattle.shapes.specs.Rows.{turnAt, image}
 
 abbrev pub products : List (List ℕ)
 products =
@@ -43,3 +46,8 @@ compose-rows a b h k =
     (all-mem (λ a. all (λ b. sameTurn (compose (turnAt a) (turnAt b)) (turnAt (productRow a b))) (range 8)) (range 8)
     tested
     (mem-range 8 h)) (mem-range 8 k))
+
+pub image-image : (a b : ℕ) (t : Shape) → a < 8 → b < 8 → image a (image b t) ≡ image (productRow a b) t
+unfolding image
+image-image a b t h k =
+    turned-compose (turnAt a) (turnAt b) t ∙ ap (λ d. turned (apply d) t) (compose-rows a b h k)

@@ -11,8 +11,6 @@ use lib.Dec.{T, eqb, ltb, ltb→lt, lt→ltb}
 use lib.IntN.{ℤ, pos, negsuc, natAbs}
 use lib.Signed.{nonNeg}
 use lib.ListN.{length}
-use Rattle.laws.specs.SameLaws.{samePoint→eq, samePoint-refl}
-use Rattle.groups.specs.Grouping.{numbersIn}
 use Rattle.lists.specs.Lists.{_∈_, keepIf, filter, any, all, range, rangeFrom}
 use Rattle.lists.specs.ListLaws.{mem-map, map-find, any-mem, any-find, mem-filter, filter-mem, filter-test}
 use Rattle.lists.specs.Tests.{allBelow}
@@ -23,7 +21,6 @@ use Rattle.lists.specs.AnyAll.{all-same}
 use Rattle.rules.specs.Page.{Point, _⊕_, opposite, Shape}
 use Rattle.rules.specs.Flat.{flat, flatPlace, cellAt}
 use Rattle.rules.specs.Groups.{entry, members}
-use Rattle.rules.specs.Turns as Turns
 use Rattle.rules.specs.Turns.{apply}
 use Rattle.rules.specs.Shapes.{sort, lessℤ, normal, turned, samePoint, shapeOf, shiftBy, flatTransforms}
 use Rattle.laws.specs.SameLaws.{samePoint→eq, samePoint-refl}
@@ -31,16 +28,16 @@ use Rattle.laws.specs.PointLaws.{point-eq}
 use Rattle.laws.specs.ShapeLaws.{turned-keep}
 use Rattle.laws.specs.SortLaws.{Ascending}
 use Rattle.laws.specs.FlatShapes.{members-ascend}
+use Rattle.groups.specs.Grouping.{numbersIn}
 use Rattle.shapes.specs.RowLaws.{transforms-rows}
 use Rattle.shapes.specs.FixLaws.{fixes-within, image-normal}
 use Rattle.shapes.specs.Rows.{turnAt, image, fixes, rowsOf}
 use Rattle.shapes.specs.Outlines.{rowsIn, columnsIn, cellCount}
 use Rattle.shapes.specs.Spots.{placeAt, leastImage, ontoShift, cellSpot, cellSpots, cellIn, hasCell, hasCellIn}
-use Rattle.shapes.specs.Spots.{within}
-use Rattle.shapes.specs.Spots.{places, joints}
-use Rattle.shapes.specs.Spots.{UnitAt}
+use Rattle.shapes.specs.Spots.{within, places, joints, UnitAt}
 use Rattle.shapes.specs.SpotLaws.{first-spot, length-spots, all-spots}
 use Rattle.shapes.specs.Pairs.{pointAt}
+use Rattle.rules.specs.Turns as Turns
 
 ltb-zero : (n : ℕ) → ltb n 0 ≡ true → ⊥
 ltb-zero n e = let l = ltb-true n 0 e in omega arith

@@ -11,24 +11,24 @@ use Rattle.lists.specs.Lists.{orElse}
 use Rattle.rules.specs.Flat.{Sized, flat}
 use Rattle.rules.specs.Codes.{statesIn, puzzleIn}
 use Rattle.rules.specs.Check.{Reason}
-use Rattle.reasons.specs.Arrays.{Arrays, GroupAt}
-use Rattle.reasons.specs.Memory.{Wrote}
-use Rattle.reasons.specs.MemoryLaws.{wrote-put, wrote-next}
+use Rattle.laws.specs.FlatLaws.{counts}
 use Rattle.groups.specs.declared.Kind.the-variants.{Blocks, Potential}
 use Rattle.groups.specs.Parts.{groupsOf}
 use Rattle.groups.specs.Grouping.{numbersIn, Filled, Vacant}
 use Rattle.groups.specs.PartLaws.{ids-length, filled-ids, filled-cells, filled-offs}
+use Rattle.groups.specs.Pages.{groupsIn}
+use Rattle.reasons.specs.Arrays.{Arrays, GroupAt}
+use Rattle.reasons.specs.Memory.{Wrote}
+use Rattle.reasons.specs.MemoryLaws.{wrote-put, wrote-next}
 use Rattle.blocks.specs.declared.Faulty.{Faulty}
-use Rattle.walls.specs.declared.Breach.{Breach}
 use Rattle.blocks.specs.Faults.{isFaultless}
 use Rattle.blocks.specs.Written.{faultUnit, faultyLiterals}
-use Rattle.walls.specs.Written.{breachLiterals}
-use Rattle.groups.specs.Pages.{groupsIn}
 use Rattle.blocks.specs.BlockHits.{faultyIn, block-at, fault-unit-at, one-hit, one-none}
+use Rattle.walls.specs.declared.Breach.{Breach}
+use Rattle.walls.specs.Written.{breachLiterals}
 use Rattle.walls.specs.WallHits.{breachIn, two-hit, two-none}
 use Rattle.steps.specs.declared.Found.{Found}
 use Rattle.steps.specs.declared.Found.the-variants.{Nothing, Reason as Given}
-use Rattle.laws.specs.FlatLaws.{counts}
 use Rattle.steps.specs.Found.{foundOf, writtenBy, blocksHit, wallsHit, Answers}
 
 pub answers-none : {o : Option Reason} (m : List ℕ) → o ≡ none → Answers o m m Nothing

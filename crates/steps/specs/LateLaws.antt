@@ -10,18 +10,16 @@ use lib.ListN.{length}
 use Rattle.lists.specs.Lists.{orElse}
 use Rattle.rules.specs.Page.{State, Puzzle, Shape}
 use Rattle.rules.specs.Flat.{Sized, flat}
-use Rattle.rules.specs.Codes.{statesIn, cluesIn, puzzleIn}
+use Rattle.rules.specs.Codes.{statesIn, cluesIn, puzzleIn, unclued}
 use Rattle.rules.specs.Groups.{unitCount}
 use Rattle.rules.specs.Check.{Reason, unitReason, hit}
 use Rattle.laws.specs.FlatPage.{flat-bordered, flat-ahead, flat-around}
 use Rattle.laws.specs.FlatShapes.{flat-eight}
 use Rattle.argument.specs.Bound.{unit-bound}
 use Rattle.groups.specs.declared.Kind.the-variants.{Units}
-use Rattle.groups.specs.Pages.{groupsIn}
+use Rattle.groups.specs.Pages.{groupsIn, potentialIn}
 use Rattle.groups.specs.PageLaws.{kind-count}
-use Rattle.rules.specs.Codes.{unclued}
 use Rattle.fitting.specs.FirstStuck.{fitsUnit, firstFail, stuckHit}
-use Rattle.groups.specs.Pages.{potentialIn}
 use Rattle.fitting.specs.ClueLaws.{stuck-clue}
 use Rattle.steps.specs.declared.Found.{Found}
 use Rattle.steps.specs.Found.{blocksHit, wallsHit, earlyHit, unitsHit, Answers}

@@ -5,30 +5,27 @@ use mathlib.Core.Option.{Option}
 use Prim.Native.Nat.{ℕ, _<_, _≤_}
 use native.Mathlib.Omega.{arith}
 use lib.ListN.{length, getD}
-use Rattle.rules.specs.Codes.{cluedBy}
+use Rattle.rules.specs.Codes.{cluedBy, statesIn, unclued}
 use Rattle.rules.specs.Page.{Puzzle, State}
 use Rattle.rules.specs.Flat.{flat}
-use Rattle.rules.specs.Codes.{statesIn}
 use Rattle.rules.specs.Rules.{oneColour, joinsUnit}
 use Rattle.rules.specs.Groups.{entry, joinsPotential, potentialOf}
 use Rattle.rules.specs.Shapes.{shapeOf}
 use Rattle.rules.specs.Check.{mates, unitReason}
-use Rattle.reasons.specs.Memory.{Wrote}
 use Rattle.groups.specs.declared.Kind.the-variants.{Potential}
 use Rattle.groups.specs.Kinds.{joinsIn}
 use Rattle.groups.specs.Grouping.{numbersIn, cellsIn, startIn}
 use Rattle.groups.specs.PartLaws.{ids-length}
-use Rattle.adjacent.specs.Mates.{Gathered}
-use Rattle.rules.specs.Codes.{unclued}
+use Rattle.groups.specs.Pages.{potentialIn}
+use Rattle.groups.specs.PageLaws.{cells-some, cells-few}
+use Rattle.reasons.specs.Memory.{Wrote}
 use Rattle.shapes.specs.declared.Listed.{Listed as RowList}
 use Rattle.shapes.specs.Listing.{listing}
 use Rattle.shapes.specs.Rows.{rowsOf}
 use Rattle.shapes.specs.Spots.{UnitAt}
 use Rattle.shapes.specs.Joints.{OutlineJoined}
-use Rattle.adjacent.specs.Homes.{UnitIn}
-use Rattle.adjacent.specs.Homes.{Home}
-use Rattle.groups.specs.Pages.{potentialIn}
-use Rattle.groups.specs.PageLaws.{cells-some, cells-few}
+use Rattle.adjacent.specs.Mates.{Gathered}
+use Rattle.adjacent.specs.Homes.{UnitIn, Home}
 use Rattle.adjacent.specs.HomeLaws.{units-are, unit-few, unit-in, home-is, home-of, head-of, transforms-are}
 use Rattle.stuck.specs.Writing.{Arranged, Imaged, StuckAt}
 

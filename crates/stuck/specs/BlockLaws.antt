@@ -3,16 +3,14 @@ use mathlib.Core.Path.{_≡_}
 use mathlib.Core.List.{List}
 use Prim.Native.Nat.{ℕ}
 use Rattle.lists.specs.Lists.{flatMap}
-use Rattle.rules.specs.Codes.{statesIn}
+use Rattle.rules.specs.Codes.{statesIn, unclued}
 use Rattle.rules.specs.Page.{Point}
 use Rattle.groups.specs.Grouping.{cellsIn, startsIn}
-use Rattle.shapes.specs.Raising.{Raised, spelled}
-use Rattle.adjacent.specs.Mates.{matesIn}
 use Rattle.groups.specs.Pages.{Drawn}
-use Rattle.rules.specs.Codes.{unclued}
-use Rattle.planes.specs.Placing.{bare}
-use Rattle.adjacent.specs.Mates.{Beside}
 use Rattle.groups.specs.Parts.{partOf}
+use Rattle.shapes.specs.Raising.{Raised, spelled}
+use Rattle.adjacent.specs.Mates.{matesIn, Beside}
+use Rattle.planes.specs.Placing.{bare}
 use Rattle.planes.specs.Laying.{blocksBeside}
 use Rattle.planes.specs.Masks.{Masked, originsIn}
 use Rattle.planes.specs.Planes.{planesOf}

@@ -4,7 +4,7 @@ use mathlib.Core.List.{List, _++_, map}
 use mathlib.Core.Option.{Option}
 use Prim.Native.Nat.{ℕ}
 use Rattle.lists.specs.Lists.{flatMap}
-use Rattle.rules.specs.Codes.{cluedBy}
+use Rattle.rules.specs.Codes.{cluedBy, unclued}
 use Rattle.rules.specs.declared.Placement.{Placement}
 use Rattle.rules.specs.declared.Placement.the-variants.{Fits, Blocked, Cannot}
 use Rattle.rules.specs.Page.{Puzzle, State}
@@ -13,7 +13,6 @@ use Rattle.rules.specs.Groups.{members, joinsPotential, potentialOf}
 use Rattle.rules.specs.Check.{blockers, placements, transformsOf, insideUnit, edgeOf, touches, adjacent, mates}
 use Rattle.rules.specs.Check.{farWallsAt, farWalls, unitReason}
 use Rattle.planes.specs.JudgeLaws.{laid-clue}
-use Rattle.rules.specs.Codes.{unclued}
 
 module _ (h w : ℕ) (cs : List ℕ) (k : ℕ → Option ℕ) (s : ℕ → State) where
   abbrev Z : Puzzle

@@ -19,9 +19,9 @@ use Rattle.rules.specs.declared.Placement.the-variants.{Fits, Blocked, Cannot}
 use Rattle.rules.specs.Flat.{Sized, belowOf, rightOf}
 use Rattle.rules.specs.Page.{wallAt}
 use Rattle.laws.specs.FlatLaws.{counts, spot}
+use Rattle.shapes.specs.Raising.{ysIn, xsIn}
 use Rattle.planes.specs.Placing.{readRaised}
 use Rattle.planes.specs.PlacingLaws.{reads-below, reads-right}
-use Rattle.shapes.specs.Raising.{ysIn, xsIn}
 use Rattle.planes.specs.Bits.{bitAt}
 use Rattle.planes.specs.DrawLaws.{line-in}
 use Rattle.planes.specs.MaskLaws.{place-in}

@@ -8,38 +8,34 @@ use lib.ListN.{length, getD, List·getD-append}
 use Rattle.lists.specs.Lists.{flatMap}
 use Rattle.lists.specs.Flats.{flat-map, flat-flat, flat-same}
 use Rattle.lists.specs.UpToLaws.{flat-up, up-same}
-use Rattle.rules.specs.Codes.{cluedBy}
+use Rattle.lists.specs.WroteLaws.{wrote-more}
+use Rattle.rules.specs.Codes.{cluedBy, statesIn, coloursIn, unclued}
 use Rattle.rules.specs.declared.Literal.{Literal}
 use Rattle.rules.specs.Page.{Puzzle, Point, Shape, State}
 use Rattle.rules.specs.Flat.{flat}
-use Rattle.rules.specs.Codes.{statesIn, coloursIn}
 use Rattle.rules.specs.Shapes.{shapeOf}
 use Rattle.rules.specs.Groups.{entry, members, unitOf, potentialOf, potentialCount}
 use Rattle.rules.specs.Check.{laid, blockers, placements, transformsOf, insideUnit, edgeOf, mates, farWalls, unitReason}
 use Rattle.rules.specs.Check.{adjacent as isAdjacent}
+use Rattle.laws.specs.FlatReasons.{flat-edge-same, flat-inside-same, flat-members-same}
+use Rattle.groups.specs.Grouping.{numbersIn, cellsIn, startsIn, startIn, groupCells}
 use Rattle.reasons.specs.Arrays.{Cells, GroupAt, insideIn, edgeIn, isFlagged}
 use Rattle.reasons.specs.FarLaws.{far-walls}
 use Rattle.reasons.specs.Memory.{Wrote}
-use Rattle.lists.specs.WroteLaws.{wrote-more}
-use Rattle.groups.specs.Grouping.{numbersIn, cellsIn, startsIn, startIn, groupCells}
-use Rattle.adjacent.specs.Mates.{matesIn}
-use Rattle.rules.specs.Codes.{unclued}
-use Rattle.planes.specs.Placing.{bare}
-use Rattle.adjacent.specs.Mates.{Beside}
-use Rattle.planes.specs.Laying.{blockAt, blocksAmong, blocksBeside}
-use Rattle.planes.specs.LayingLaws.{placed-blocks}
-use Rattle.adjacent.specs.BesideLaws.{mates-low, entry-low, beside-gathered}
+use Rattle.reasons.specs.MemoryLaws.{room-first, room-second, room-third}
 use Rattle.shapes.specs.declared.Listed.{Listed as RowList}
 use Rattle.shapes.specs.Listing.{listing}
 use Rattle.shapes.specs.Rows.{image, rowsOf}
 use Rattle.shapes.specs.Spots.{cellSpots, jointSpots}
 use Rattle.shapes.specs.UnitLaws.{transforms-flat}
 use Rattle.shapes.specs.ImageLaws.{image-is}
-use Rattle.stuck.specs.Writing.{Mated, flagsOf, edgesIn, farIn, wallsIn, Arranged}
-use Rattle.stuck.specs.Writing.{blocksBy, blocksListed, Imaged}
+use Rattle.adjacent.specs.Mates.{matesIn, Beside}
+use Rattle.adjacent.specs.BesideLaws.{mates-low, entry-low, beside-gathered}
+use Rattle.planes.specs.Placing.{bare}
+use Rattle.planes.specs.Laying.{blockAt, blocksAmong, blocksBeside}
+use Rattle.planes.specs.LayingLaws.{placed-blocks}
+use Rattle.stuck.specs.Writing.{Mated, flagsOf, edgesIn, farIn, wallsIn, Arranged, blocksBy, blocksListed, Imaged}
 use Rattle.stuck.specs.FlagLaws.{flagged-is}
-use Rattle.reasons.specs.MemoryLaws.{room-first, room-second, room-third}
-use Rattle.laws.specs.FlatReasons.{flat-edge-same, flat-inside-same, flat-members-same}
 use Rattle.stuck.specs.ClueLaws.{reason-clue}
 
 module _ {h w : ℕ} {cs bs us ps list : List ℕ} {u p : ℕ} (a : Arranged h w cs bs us ps list u p) where

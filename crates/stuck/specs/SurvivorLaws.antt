@@ -12,7 +12,6 @@ use native.Mathlib.Nat.{eq-or-lt-of-le, div-lt-iff-lt-mul}
 use native.Mathlib.Omega.{arith}
 use lib.Dec.{eqb}
 use lib.ListN.{getD}
-use Rattle.groups.specs.Grouping.{cellsIn, startsIn}
 use Rattle.lists.specs.Lists.{flatMap, rangeFrom}
 use Rattle.lists.specs.ListLaws.{mem-flat}
 use Rattle.lists.specs.Tests.{allBelow}
@@ -23,32 +22,31 @@ use Rattle.lists.specs.Flats.{flat-same}
 use Rattle.lists.specs.Arithmetic.{le-or-lt}
 use Rattle.rules.specs.declared.Placement.{Placement}
 use Rattle.rules.specs.declared.Placement.the-variants.{Fits, Blocked, Cannot}
-use Rattle.rules.specs.Codes.{statesIn}
+use Rattle.rules.specs.Codes.{statesIn, unclued}
 use Rattle.rules.specs.Page.{Puzzle, State, isWall}
 use Rattle.rules.specs.Rules.{oneColour}
 use Rattle.rules.specs.Check.{laid, blockers}
 use Rattle.laws.specs.CodeLaws.{wall-state}
+use Rattle.groups.specs.Grouping.{cellsIn, startsIn}
+use Rattle.groups.specs.Pages.{Drawn}
+use Rattle.groups.specs.Parts.{partOf}
+use Rattle.shapes.specs.Raising.{ysIn, xsIn, Raised, spelled}
+use Rattle.adjacent.specs.Mates.{matesIn, Beside}
 use Rattle.planes.specs.declared.Reading.{Reading}
 use Rattle.planes.specs.declared.Reading.the-variants.{Ends, Clear, Walled}
 use Rattle.planes.specs.JudgeLaws.{judgedAfter, readAt, readFrom, laid-after}
-use Rattle.groups.specs.Pages.{Drawn}
-use Rattle.rules.specs.Codes.{unclued}
 use Rattle.planes.specs.Placing.{bare, readRaised, readingOf, isClear}
-use Rattle.shapes.specs.Raising.{ysIn, xsIn, Raised, spelled}
 use Rattle.planes.specs.PlacingLaws.{off-above, off-left, off-below, off-right}
-use Rattle.adjacent.specs.Mates.{matesIn}
-use Rattle.adjacent.specs.Mates.{Beside}
-use Rattle.groups.specs.Parts.{partOf}
 use Rattle.planes.specs.Laying.{blockAt, blocksAmong, blocksBeside}
 use Rattle.planes.specs.Bits.{bitAt}
 use Rattle.planes.specs.FitLaws.{spot-clear, origins-on}
 use Rattle.planes.specs.Masks.{Masked, originsIn}
 use Rattle.planes.specs.MaskLaws.{place-in, masked-here}
-use Rattle.stuck.specs.PlacedLaws.{reads-border}
 use Rattle.planes.specs.Planes.{planesOf}
+use Rattle.planes.specs.WordLaws.{left-bit}
+use Rattle.stuck.specs.PlacedLaws.{reads-border}
 use Rattle.stuck.specs.Survivors.{On, borderAt, wallOf, noWalls, Survived, Lain, blockerOf, backOf, placedAt}
 use Rattle.stuck.specs.Survivors.{blockIn}
-use Rattle.planes.specs.WordLaws.{left-bit}
 
 -- readings with and without walls
 abbrev Joins : Reading → Type 0

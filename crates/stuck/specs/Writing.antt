@@ -25,24 +25,23 @@ use Rattle.rules.specs.declared.Side.the-variants.{Wall}
 use Rattle.rules.specs.declared.Literal.{Literal}
 use Rattle.rules.specs.Page.{Puzzle, Point, State}
 use Rattle.rules.specs.Flat.{flat}
-use Rattle.rules.specs.Codes.{statesIn}
+use Rattle.rules.specs.Codes.{statesIn, unclued}
 use Rattle.rules.specs.Groups.{entry, unitOf, potentialCount}
 use Rattle.rules.specs.Shapes.{shapeOf, flatTransforms}
 use Rattle.rules.specs.Check.{mates, transformsOf}
-use Rattle.reasons.specs.Arrays.{GroupAt, edgeIn, scanOf}
 use Rattle.groups.specs.Grouping.{numbersIn, cellsIn, startsIn, countIn}
 use Rattle.groups.specs.Pages.{Drawn}
-use Rattle.rules.specs.Codes.{unclued}
-use Rattle.planes.specs.Placing.{bare}
-use Rattle.adjacent.specs.Mates.{mateCount, Gathered, Known, Grouped}
-use Rattle.planes.specs.Laying.{blocksBeside}
+use Rattle.reasons.specs.Arrays.{GroupAt, edgeIn, scanOf}
 use Rattle.shapes.specs.declared.Listed.{Listed as RowList}
 use Rattle.shapes.specs.Listing.{listing}
 use Rattle.shapes.specs.Rows.{rowsOf}
 use Rattle.shapes.specs.Spots.{UnitAt}
 use Rattle.shapes.specs.Joints.{OutlineJoined}
 use Rattle.shapes.specs.Images.{imageJoints}
+use Rattle.adjacent.specs.Mates.{mateCount, Gathered, Known, Grouped}
 use Rattle.adjacent.specs.Homes.{Sorted}
+use Rattle.planes.specs.Placing.{bare}
+use Rattle.planes.specs.Laying.{blocksBeside}
 
 pub record Low (mates : List ℕ) : Type 0 where
   pub long : length mates ≡ 1025

@@ -14,7 +14,7 @@ use Rattle.lists.specs.Maps.{getD-map}
 use Rattle.rules.specs.Page.{Shape}
 use Rattle.rules.specs.Rules.{oneColour, joinsUnit}
 use Rattle.rules.specs.Flat.{Sized, flat}
-use Rattle.rules.specs.Codes.{statesIn}
+use Rattle.rules.specs.Codes.{statesIn, unclued}
 use Rattle.rules.specs.Groups.{entry, unitCount}
 use Rattle.rules.specs.Shapes.{shapeOf, flatTransforms}
 use Rattle.rules.specs.Check.{transformsOf}
@@ -26,16 +26,15 @@ use Rattle.groups.specs.declared.Kind.the-variants.{Units}
 use Rattle.groups.specs.Kinds.{joinsIn}
 use Rattle.groups.specs.Parts.{groupsOf}
 use Rattle.groups.specs.Grouping.{numbersIn, countIn, Filled}
-use Rattle.rules.specs.Codes.{unclued}
+use Rattle.groups.specs.PageLaws.{kind-count}
 use Rattle.shapes.specs.declared.Listed.{Listed}
 use Rattle.shapes.specs.Listing.{listing}
 use Rattle.shapes.specs.Rows.{image, rowsOf}
 use Rattle.shapes.specs.UnitLaws.{transforms-flat}
 use Rattle.adjacent.specs.Homes.{UnitIn}
-use Rattle.groups.specs.PageLaws.{kind-count}
 use Rattle.adjacent.specs.HomeLaws.{own-part, own-transforms}
-use Rattle.transforms.specs.Transforms.{nothing, kth, words, room}
-use Rattle.transforms.specs.Transforms.{transformed, kthAnswer, kthMemory, transformOf, memoryAfter}
+use Rattle.transforms.specs.Transforms.{nothing, kth, words, room, transformed, kthAnswer, kthMemory, transformOf}
+use Rattle.transforms.specs.Transforms.{memoryAfter}
 
 -- no transform
 module _ (ts : List Shape) (k : ℕ) (l : length ts ≤ k) where
@@ -101,7 +100,8 @@ module _ {h w : ℕ} (z : Sized h w) (cs bs : List ℕ) {units : List ℕ}
   pub no-unit : countIn units ≤ u → transformsOf (unclued h w cs) (statesIn bs) u ≡ []
   unfolding transformsOf
   no-unit l =
-      rw (le-ltb u (unitCount (unclued h w cs) (statesIn bs)) (rw (all .count ∙ kind-count z cs (λ c. none) bs Units) at l))
+      rw (le-ltb u (unitCount (unclued h w cs) (statesIn bs))
+      (rw (all .count ∙ kind-count z cs (λ c. none) bs Units) at l))
 
   module _ (l : u < countIn units) where
     pub unit-transforms : transformsOf (unclued h w cs) (statesIn bs) u

@@ -21,7 +21,6 @@ use Rattle.lists.specs.UpToLaws.{up-filter}
 use Rattle.rules.specs.Page.{Point, _⊕_, opposite}
 use Rattle.rules.specs.Flat.{flatPlace}
 use Rattle.rules.specs.Groups.{entry}
-use Rattle.groups.specs.Grouping.{numbersIn}
 use Rattle.rules.specs.Turns.{apply, compose, keep, plus, layerward}
 use Rattle.rules.specs.Shapes.{sort, shiftBy, samePoint}
 use Rattle.laws.specs.SameLaws.{samePoint→eq, samePoint-refl}
@@ -30,6 +29,7 @@ use Rattle.laws.specs.TurnLaws.{apply-compose, apply-keep}
 use Rattle.laws.specs.SortLaws.{Ascending, mem-sort, sort-mem, sort-ascends, ascending-distinct, ascending-same}
 use Rattle.laws.specs.SortLaws.{shift-ascends}
 use Rattle.laws.specs.FlatShapes.{filter-ascends}
+use Rattle.groups.specs.Grouping.{numbersIn}
 use Rattle.shapes.specs.declared.Pair.{Pair}
 use Rattle.shapes.specs.declared.Signs.{Signs}
 use Rattle.shapes.specs.Pairs.{pointAt, pointOf, Sign, BothSigns, turnBy}

@@ -11,15 +11,15 @@ use lib.Seq.{sets}
 use Rattle.lists.specs.Lists.{flatMap}
 use Rattle.lists.specs.Table.{table}
 use Rattle.lists.specs.UpToLaws.{up-fits}
-use Rattle.lists.specs.WroteLaws.{wrote-none, wrote-one, wrote-same, wrote-more, wrote-length, wrote-place}
-use Rattle.lists.specs.WroteLaws.{loop-none, loop-more}
+use Rattle.lists.specs.WroteLaws.{wrote-none, wrote-one, wrote-same, wrote-more, wrote-length, wrote-place, loop-none}
+use Rattle.lists.specs.WroteLaws.{loop-more}
 use Rattle.rules.specs.Page.{Point, _⊕_, opposite, Shape}
 use Rattle.rules.specs.Flat.{flat}
 use Rattle.rules.specs.Groups.{entry}
-use Rattle.groups.specs.Grouping.{numbersIn}
 use Rattle.rules.specs.Turns.{apply}
 use Rattle.rules.specs.Shapes.{sort, shiftBy, shapeOf}
 use Rattle.laws.specs.SortLaws.{length-sort, length-shift}
+use Rattle.groups.specs.Grouping.{numbersIn}
 use Rattle.shapes.specs.Rows.{turnAt, image}
 use Rattle.shapes.specs.Outlines.{rowsIn, columnsIn, downIn, acrossIn, cellCount, jointCount}
 use Rattle.shapes.specs.Spots.{spotAt, spots, cellSpots, jointSpots, leastImage, UnitAt}

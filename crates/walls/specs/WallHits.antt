@@ -11,15 +11,14 @@ use lib.IntN.{ℤ}
 use Rattle.lists.specs.Lists.{firstHit, range}
 use Rattle.rules.specs.Flat.{Sized, flat}
 use Rattle.rules.specs.Codes.{cluesIn, statesIn, puzzleIn}
-use Rattle.rules.specs.Groups.{entry}
+use Rattle.rules.specs.Groups.{entry, blockOf}
 use Rattle.rules.specs.Check.{hitIf, wallHits}
 use Rattle.groups.specs.declared.Kind.the-variants.{Blocks}
+use Rattle.groups.specs.Pages.{groupsIn}
+use Rattle.groups.specs.PageLaws.{kind-ids}
 use Rattle.walls.specs.declared.Breach.{Breach}
 use Rattle.walls.specs.Breaches.{firstBreach, breachReason, breach-hits}
 use Rattle.walls.specs.Written.{breachLiterals, breach-some}
-use Rattle.groups.specs.Pages.{groupsIn}
-use Rattle.rules.specs.Groups.{blockOf}
-use Rattle.groups.specs.PageLaws.{kind-ids}
 
 module _ {h w : ℕ} (z : Sized h w) (cs : List ℕ) (ks : List ℤ) (bs : List ℕ) where
   abbrev pub breachIn : Breach

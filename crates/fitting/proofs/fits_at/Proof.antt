@@ -2,19 +2,18 @@
 use mathlib.Core.Path.{_≡_, sym, ap, _∙_}
 use native.Mathlib.Omega.{arith}
 use lib.ListN.{getD}
-use Rattle.groups.specs.Grouping.{numbersIn, cellsIn, startsIn}
 use Rattle.rules.specs.Check.{mates}
-use Rattle.rules.specs.Codes.{statesIn}
+use Rattle.rules.specs.Codes.{statesIn, unclued}
 use Rattle.rules.specs.Flat.{flat}
 use Rattle.rules.specs.Groups.{entry}
 use Rattle.rules.specs.Shapes.{shapeOf}
 use Rattle.laws.specs.FlatLaws.{counts}
+use Rattle.groups.specs.Grouping.{numbersIn, cellsIn, startsIn}
 use Rattle.adjacent.specs.Mates.{OneOf}
-use Rattle.rules.specs.Codes.{unclued}
+use Rattle.adjacent.specs.HomeLaws.{unit-few, unit-in, head-low, home-of}
 use Rattle.fitting.specs.CopyLaws.{soon-turned}
 use Rattle.fitting.specs.Fitting.{fitsTurned}
 use Rattle.fitting.specs.HeldLaws.{mate-few, mate-cells}
-use Rattle.adjacent.specs.HomeLaws.{unit-few, unit-in, head-low, home-of}
 use Rattle.fitting.specs.ReadyLaws.{fits-home, fits-nowhere, single-unit}
 use Rattle.fitting.proofs.fits_at.Statement.{statement}
 use Rattle.fitting.proofs.fits_at.Tie as tie

@@ -2,15 +2,14 @@
 use mathlib.Core.Path.{refl, sym, _∙_}
 use Prim.Native.Nat.{_-_}
 use native.Mathlib.Omega.{arith}
+use Rattle.rules.specs.Codes.{statesIn, unclued}
 use Rattle.groups.specs.Grouping.{countIn}
-use Rattle.rules.specs.Codes.{statesIn}
-use Rattle.rules.specs.Codes.{unclued}
+use Rattle.adjacent.specs.HomeLaws.{unit-few}
 use Rattle.fitting.specs.Fitting.{Scratch}
 use Rattle.fitting.specs.Held.{Nearby, Held}
 use Rattle.fitting.specs.HeldLaws.{held-start}
 use Rattle.fitting.specs.FirstStuck.{Passed, fitsUnit}
 use Rattle.fitting.specs.FirstStuckLaws.{passed-done, passed-here, passed-next}
-use Rattle.adjacent.specs.HomeLaws.{unit-few}
 use Rattle.fitting.proofs.stuck_from.Statement.{statement}
 use Rattle.fitting.proofs.stuck_from.Tie as tie
 

@@ -2,15 +2,15 @@
 use mathlib.Core.Path.{_≡_}
 use Prim.Native.Nat.{_+_, _-_, _≤_, _<_}
 use native.Mathlib.Omega.{arith}
+use borrow.Author.Needs.{needs}
 use lib.ListN.{getD}
 use lib.Seq.{getD-set-same}
-use borrow.Author.Needs.{needs}
 use Rattle.lists.specs.Parts.{part}
 use Rattle.groups.specs.Grouping.{cellsIn, startsIn, startIn}
+use Rattle.groups.specs.Parts.{partOf}
 use Rattle.reasons.specs.Arrays.{Cells}
 use Rattle.adjacent.specs.Mates.{mateCount}
 use Rattle.adjacent.specs.BesideLaws.{mates-reach}
-use Rattle.groups.specs.Parts.{partOf}
 use Rattle.planes.specs.Masks.{Masked, originsIn}
 use Rattle.planes.specs.MaskLaws.{masked-none, masked-tag, mates-none, mates-more}
 use Rattle.planes.proofs.draw_mask.Statement.{statement}

@@ -4,11 +4,11 @@ use mathlib.Core.List.{List, _++_}
 use Prim.Native.Nat.{ℕ, _*_, _-_, _≤_, _<_}
 use native.Mathlib.Omega.{arith}
 use lib.ListN.{length, getD}
+use Rattle.lists.specs.Parts.{part}
 use Rattle.groups.specs.Grouping.{cellsIn}
 use Rattle.reasons.specs.CellLaws.{cells-at}
 use Rattle.planes.specs.Masks.{Masked}
 use Rattle.planes.specs.MaskLaws.{group-none, group-more}
-use Rattle.lists.specs.Parts.{part}
 use Rattle.planes.proofs.flag_group.Statement.{statement}
 use Rattle.planes.proofs.flag_group.Tie as tie
 

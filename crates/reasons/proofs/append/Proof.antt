@@ -1,6 +1,6 @@
 -- One store is one literal written.
-use Rattle.lists.specs.WroteLaws.{wrote-one}
 use borrow.Author.Needs.{needs}
+use Rattle.lists.specs.WroteLaws.{wrote-one}
 use Rattle.reasons.proofs.append.Statement.{statement}
 use Rattle.reasons.proofs.append.Tie as tie
 

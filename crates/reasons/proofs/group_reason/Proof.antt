@@ -2,11 +2,11 @@
 use mathlib.Core.Path.{_≡_, refl}
 use mathlib.Core.Bool.{true}
 use native.Mathlib.Omega.{arith}
+use borrow.Author.Needs.{needs}
 use lib.ListN.{replicate, set}
 use Rattle.groups.specs.Grouping.{numbersIn, groupCells}
 use Rattle.reasons.specs.Arrays.{groupReason, scanOf}
 use Rattle.reasons.specs.ScanLaws.{Alone, alone, part-cells, group-scan}
-use borrow.Author.Needs.{needs}
 use Rattle.reasons.proofs.group_reason.Statement.{statement}
 use Rattle.reasons.proofs.group_reason.Tie as tie
 

@@ -2,17 +2,17 @@
 use mathlib.Core.Path.{_≡_}
 use mathlib.Core.List.{List}
 use Prim.Native.Nat.{ℕ, _+_, _-_, _≤_}
-use lib.ListN.{getD}
-use Rattle.groups.specs.Grouping.{numbersIn, cellsIn}
-use Rattle.rules.specs.declared.Literal.{Literal}
-use Rattle.reasons.specs.Memory.{Wrote}
-use Rattle.reasons.specs.Arrays.{Cells, scanAt, scanOf}
-use Rattle.lists.specs.WroteLaws.{loop-none, loop-more, loop-end, wrote-length}
-use Rattle.reasons.specs.MemoryLaws.{loop-fits}
-use Rattle.reasons.specs.ScanLaws.{scan-part}
 use native.Mathlib.Omega.{arith}
+use lib.ListN.{getD}
+use Rattle.lists.specs.WroteLaws.{loop-none, loop-more, loop-end, wrote-length}
 use Rattle.lists.specs.UpTo.{upTo}
 use Rattle.lists.specs.Parts.{part}
+use Rattle.rules.specs.declared.Literal.{Literal}
+use Rattle.groups.specs.Grouping.{numbersIn, cellsIn}
+use Rattle.reasons.specs.Memory.{Wrote}
+use Rattle.reasons.specs.Arrays.{Cells, scanAt, scanOf}
+use Rattle.reasons.specs.MemoryLaws.{loop-fits}
+use Rattle.reasons.specs.ScanLaws.{scan-part}
 use Rattle.reasons.proofs.scan.Statement.{statement}
 use Rattle.reasons.proofs.scan.Tie as tie
 

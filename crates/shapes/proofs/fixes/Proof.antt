@@ -1,6 +1,7 @@
 -- `shapes::fixes` meets its contract: the images within the unit are as many as its cells, so they are its cells.
 use mathlib.Core.Path.{_≡_, ap, _∙_}
 use native.Mathlib.Omega.{arith}
+use borrow.Author.Needs.{needs}
 use lib.ListN.{getD}
 use Rattle.lists.specs.SectionLaws.{section-at, front-at}
 use Rattle.rules.specs.Page.{_⊕_, opposite}
@@ -8,7 +9,6 @@ use Rattle.shapes.specs.Outlines.{rowsIn, columnsIn}
 use Rattle.shapes.specs.Spots.{placeAt}
 use Rattle.shapes.specs.SpotLaws.{near-least, near-small, shift-small}
 use Rattle.shapes.specs.UnitLaws.{within-fixes}
-use borrow.Author.Needs.{needs}
 use Rattle.shapes.proofs.fixes.Statement.{statement}
 use Rattle.shapes.proofs.fixes.Tie as tie
 

@@ -1,7 +1,7 @@
 -- `shapes::flip_listed` meets its contract: the reflections are tested in order.
 use mathlib.Core.Path.{sym, _∙_}
-use Rattle.shapes.specs.RowLaws.{flip-first, flip-second, flip-third, flip-fourth}
 use borrow.Author.Needs.{needs}
+use Rattle.shapes.specs.RowLaws.{flip-first, flip-second, flip-third, flip-fourth}
 use Rattle.shapes.proofs.flip_listed.Statement.{statement}
 use Rattle.shapes.proofs.flip_listed.Tie as tie
 

@@ -2,6 +2,7 @@
 use mathlib.Core.Path.{_≡_, sym, _∙_}
 use mathlib.Core.Bool.{Bool}
 use native.Mathlib.Omega.{arith}
+use borrow.Author.Needs.{needs}
 use lib.IntN.{ℤ, pos}
 use lib.Signed.{ltZ}
 use mir.Syntax.{w32}
@@ -10,7 +11,6 @@ use mir.Facts.{toZ-ofZ, fits-natAbs}
 use Rattle.rules.specs.Shapes.{lessℤ}
 use Rattle.shapes.specs.PairLaws.{less-known}
 use Rattle.shapes.specs.UnitLaws.{shape-off-above, shape-off-left, on-page, non-neg}
-use borrow.Author.Needs.{needs}
 use Rattle.shapes.proofs.has_cell.Statement.{statement}
 use Rattle.shapes.proofs.has_cell.Tie as tie
 

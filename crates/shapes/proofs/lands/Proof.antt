@@ -1,12 +1,12 @@
 -- `shapes::lands` meets its contract: the sums fit, and are the coordinates of the shifted place.
 use mathlib.Core.Path.{ap₂, _∙_}
-use Rattle.groups.specs.Grouping.{numbersIn}
+use borrow.Author.Needs.{needs}
 use Rattle.rules.specs.Page.{_⊕_}
 use Rattle.rules.specs.Groups.{entry}
+use Rattle.groups.specs.Grouping.{numbersIn}
 use Rattle.shapes.specs.Pairs.{pointAt}
 use Rattle.shapes.specs.PairLaws.{sum-fits, sum-back}
 use Rattle.shapes.specs.Spots.{hasCell}
-use borrow.Author.Needs.{needs}
 use Rattle.shapes.proofs.lands.Statement.{statement}
 use Rattle.shapes.proofs.lands.Tie as tie
 

@@ -1,8 +1,8 @@
 -- `shapes::list_rows` meets its contract: the tests are those of the definition.
 use mathlib.Core.Path.{sym, ap, _∙_}
+use borrow.Author.Needs.{needs}
 use Rattle.shapes.specs.Listing.{listing}
 use Rattle.shapes.specs.RowLaws.{rows-symmetric, rows-plain}
-use borrow.Author.Needs.{needs}
 use Rattle.shapes.proofs.list_rows.Statement.{statement}
 use Rattle.shapes.proofs.list_rows.Tie as tie
 

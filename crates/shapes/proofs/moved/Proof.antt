@@ -1,10 +1,10 @@
 -- `shapes::moved` meets its contract: the two coordinates are small numbers, read back as they were.
 use mathlib.Core.Path.{_≡_, ap, ap₂, _∙_}
+use Prim.Native.Nat.{_+_}
 use native.Mathlib.Omega.{arith}
 use borrow.Author.Needs.{needs}
 use lib.IntN.{pos}
 use lib.ListN.{getD}
-use Prim.Native.Nat.{_+_}
 use Rattle.lists.specs.SectionLaws.{section-at, front-at}
 use Rattle.shapes.specs.Outlines.{rowsIn, columnsIn}
 use Rattle.shapes.specs.Pairs.{turnBy}

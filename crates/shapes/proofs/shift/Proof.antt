@@ -2,12 +2,12 @@
 use mathlib.Core.Path.{_≡_, refl, ap, _∙_}
 use Prim.Native.Nat.{ℕ, _<_}
 use native.Mathlib.Omega.{arith}
+use borrow.Author.Needs.{needs}
 use lib.IntN.{ℤ, pos, negℤ, _-ℤ_, +ℤ-comm}
 use Rattle.rules.specs.Page.{_⊕_, opposite}
 use Rattle.laws.specs.PointLaws.{point-eq}
 use Rattle.shapes.specs.Pairs.{Small}
 use Rattle.shapes.specs.PairLaws.{difference-fits, difference-back}
-use borrow.Author.Needs.{needs}
 use Rattle.shapes.proofs.shift.Statement.{statement}
 use Rattle.shapes.proofs.shift.Tie as tie
 

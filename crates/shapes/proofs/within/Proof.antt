@@ -4,12 +4,12 @@ use mathlib.Core.Bool.{true}
 use Prim.Native.Nat.{_-_, _≤_, _<_}
 use native.Mathlib.Omega.{arith}
 use borrow.Author.Needs.{needs}
-use Rattle.groups.specs.Grouping.{numbersIn}
 use Rattle.lists.specs.Tests.{allBelow}
 use Rattle.lists.specs.TestLaws.{all-none, all-more, all-end}
 use Rattle.rules.specs.Page.{_⊕_}
 use Rattle.rules.specs.Groups.{entry}
 use Rattle.rules.specs.Turns.{apply}
+use Rattle.groups.specs.Grouping.{numbersIn}
 use Rattle.shapes.specs.Outlines.{cellCount}
 use Rattle.shapes.specs.Pairs.{pointOf}
 use Rattle.shapes.specs.PairLaws.{signs-read, turns-read}

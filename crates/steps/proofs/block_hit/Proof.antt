@@ -1,6 +1,7 @@
 -- `block_hit` meets its contract: what first_faulty finds is the first faulty block, and its reason is written.
 use mathlib.Core.Path.{_≡_, sym, _∙_}
 use native.Mathlib.Omega.{arith}
+use borrow.Author.Needs.{needs}
 use Rattle.groups.specs.declared.Kind.the-variants.{Blocks, Potential}
 use Rattle.groups.specs.Kinds.{joinsIn}
 use Rattle.groups.specs.Grouping.{numbersIn}
@@ -8,7 +9,6 @@ use Rattle.blocks.specs.Bridges.{lists-of, parted-of}
 use Rattle.blocks.specs.BlockHits.{faultyIn}
 use Rattle.blocks.specs.Bounds.{fault-short}
 use Rattle.steps.specs.HitLaws.{answers-none, answers-some, blocks-clear, blocks-fault, fault-block, fault-unit}
-use borrow.Author.Needs.{needs}
 use Rattle.steps.proofs.block_hit.Statement.{statement}
 use Rattle.steps.proofs.block_hit.Tie as tie
 

@@ -1,15 +1,15 @@
 -- `early_hit` meets its contract: step 1's hit, and where there is none step 2's.
 use mathlib.Core.Path.{_≡_}
 use native.Mathlib.Omega.{arith}
+use borrow.Author.Needs.{needs}
 use Rattle.rules.specs.Codes.{statesIn}
+use Rattle.laws.specs.FlatLaws.{counts}
 use Rattle.groups.specs.Grouping.{numbersIn}
 use Rattle.walls.specs.WallHits.{breachIn}
 use Rattle.walls.specs.Bounds.{breach-small, breach-short}
 use Rattle.steps.specs.Found.{earlyHit}
 use Rattle.steps.specs.HitLaws.{answers-first, answers-next, answers-told, answers-none, answers-some}
 use Rattle.steps.specs.HitLaws.{walls-clear, walls-breach, arrays-of}
-use borrow.Author.Needs.{needs}
-use Rattle.laws.specs.FlatLaws.{counts}
 use Rattle.steps.proofs.early_hit.Statement.{statement}
 use Rattle.steps.proofs.early_hit.Tie as tie
 

@@ -1,9 +1,9 @@
 -- `find` meets its contract: the hit of steps 1 and 2, and where there is none that of step 3.
+use borrow.Author.Needs.{needs}
 use Rattle.groups.specs.ForestLaws.{forest-zeros}
 use Rattle.groups.specs.GroupingLaws.{vacant-zeros}
 use Rattle.steps.specs.HitLaws.{answers-first, answers-next, answers-told, vacant-of}
 use Rattle.steps.specs.LateLaws.{answers-hit}
-use borrow.Author.Needs.{needs}
 use Rattle.steps.proofs.find.Statement.{statement}
 use Rattle.steps.proofs.find.Tie as tie
 

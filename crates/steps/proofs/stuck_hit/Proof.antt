@@ -2,14 +2,13 @@
 use mathlib.Core.Path.{_≡_}
 use native.Mathlib.Nat.{le-trans}
 use native.Mathlib.Omega.{arith}
-use Rattle.rules.specs.Codes.{statesIn, cluesIn}
+use borrow.Author.Needs.{needs}
+use Rattle.rules.specs.Codes.{statesIn, cluesIn, unclued}
 use Rattle.groups.specs.declared.Kind.the-variants.{Units}
 use Rattle.groups.specs.Pages.{groupsIn}
-use Rattle.rules.specs.Codes.{unclued}
 use Rattle.fitting.specs.FirstStuck.{fitsUnit, firstFail}
 use Rattle.steps.specs.HitLaws.{answers-none, answers-some}
 use Rattle.steps.specs.LateLaws.{unit-short, units-clear, units-stuck}
-use borrow.Author.Needs.{needs}
 use Rattle.steps.proofs.stuck_hit.Statement.{statement}
 use Rattle.steps.proofs.stuck_hit.Tie as tie
 

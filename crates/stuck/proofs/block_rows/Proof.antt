@@ -5,19 +5,18 @@ use Prim.Native.Nat.{ℕ, zero, _≤_, _-_}
 use native.Mathlib.Omega.{arith}
 use lib.ListN.{length, getD, length-replicate}
 use Rattle.lists.specs.UpTo.{upTo}
-use Rattle.planes.specs.DrawLaws.{planes-long}
-use Rattle.rules.specs.Codes.{statesIn}
-use Rattle.rules.specs.declared.Literal.{Literal}
-use Rattle.reasons.specs.Memory.{Wrote}
 use Rattle.lists.specs.WroteLaws.{wrote-length, loop-none, loop-more, loop-end}
-use Rattle.reasons.specs.MemoryLaws.{loop-fits}
+use Rattle.rules.specs.Codes.{statesIn, unclued}
+use Rattle.rules.specs.declared.Literal.{Literal}
 use Rattle.groups.specs.Grouping.{cellsIn, startsIn}
-use Rattle.adjacent.specs.Mates.{matesIn}
-use Rattle.rules.specs.Codes.{unclued}
+use Rattle.reasons.specs.Memory.{Wrote}
+use Rattle.reasons.specs.MemoryLaws.{loop-fits}
 use Rattle.shapes.specs.Raising.{Raised, spelled}
 use Rattle.shapes.specs.Images.{imageJoints}
-use Rattle.stuck.specs.Survivors.{noWalls}
 use Rattle.shapes.specs.Spots.{cellSpots, jointSpots}
+use Rattle.adjacent.specs.Mates.{matesIn}
+use Rattle.planes.specs.DrawLaws.{planes-long}
+use Rattle.stuck.specs.Survivors.{noWalls}
 use Rattle.stuck.specs.BlockLaws.{lain-rows, blocks-row}
 use Rattle.stuck.specs.Writing.{blocksBy, blocksListed}
 use Rattle.stuck.proofs.block_rows.Statement.{statement}

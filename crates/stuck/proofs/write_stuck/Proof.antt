@@ -4,13 +4,10 @@ use Prim.Native.Nat.{ℕ, zero}
 use native.Mathlib.Omega.{arith}
 use borrow.Author.Needs.{needs}
 use lib.ListN.{getD, length-replicate}
-use Rattle.groups.specs.Grouping.{numbersIn, cellsIn}
 use Rattle.laws.specs.FlatLaws.{counts}
-use Rattle.adjacent.specs.HomeLaws.{unit-part, unit-placed}
-use Rattle.adjacent.specs.HomeLaws.{home-few, home-cells}
-use Rattle.adjacent.specs.HomeLaws.{head-low}
-use Rattle.stuck.specs.AskedLaws.{unit-low, stuck-part, home, at-home, arranged, imaged, room-home}
-use Rattle.stuck.specs.AskedLaws.{home-written}
+use Rattle.groups.specs.Grouping.{numbersIn, cellsIn}
+use Rattle.adjacent.specs.HomeLaws.{unit-part, unit-placed, home-few, home-cells, head-low}
+use Rattle.stuck.specs.AskedLaws.{unit-low, stuck-part, home, at-home, arranged, imaged, room-home, home-written}
 use Rattle.stuck.proofs.write_stuck.Statement.{statement}
 use Rattle.stuck.proofs.write_stuck.Tie as tie
 

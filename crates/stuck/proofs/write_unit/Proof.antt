@@ -1,13 +1,13 @@
 -- Blockers, Inside and walls, one after another; what the arrays give is the reason of the unit.
 use borrow.Author.Needs.{needs}
-use Rattle.groups.specs.Grouping.{numbersIn}
 use Rattle.rules.specs.Flat.{flat}
 use Rattle.rules.specs.Groups.{entry}
 use Rattle.rules.specs.Shapes.{shapeOf}
+use Rattle.groups.specs.Grouping.{numbersIn}
 use Rattle.shapes.specs.ImageLaws.{jointed}
 use Rattle.shapes.specs.ListingLaws.{rows-listed}
-use Rattle.stuck.specs.ReasonLaws.{own, own-cells, beside, mated}
-use Rattle.stuck.specs.ReasonLaws.{room-blocks, room-inside, room-walls, reason-written}
+use Rattle.stuck.specs.ReasonLaws.{own, own-cells, beside, mated, room-blocks, room-inside, room-walls}
+use Rattle.stuck.specs.ReasonLaws.{reason-written}
 use Rattle.stuck.proofs.write_unit.Statement.{statement}
 use Rattle.stuck.proofs.write_unit.Tie as tie
 

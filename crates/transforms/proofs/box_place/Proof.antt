@@ -2,6 +2,7 @@
 use mathlib.Core.Path.{_≡_, refl, ap, _∙_}
 use Prim.Native.Nat.{ℕ, _/_, _%_, _<_}
 use native.Mathlib.Omega.{arith}
+use borrow.Author.Needs.{needs}
 use lib.IntN.{pos, negsuc, _+ℤ_, _-ℤ_}
 use mir.Syntax.{w32}
 use mir.Val.{SFits, toZ, ofZ}
@@ -13,7 +14,6 @@ use Rattle.laws.specs.PointLaws.{point-eq}
 use Rattle.shapes.specs.Pairs.{Small}
 use Rattle.shapes.specs.PairLaws.{mag-sum}
 use Rattle.transforms.specs.Box.{boxAt}
-use borrow.Author.Needs.{needs}
 use Rattle.transforms.proofs.box_place.Statement.{statement}
 use Rattle.transforms.proofs.box_place.Tie as tie
 

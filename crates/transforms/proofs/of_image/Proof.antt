@@ -4,9 +4,9 @@ use borrow.Author.Needs.{needs}
 use mir.Syntax.{w32}
 use mir.Facts.{toZ-ofZ}
 use Rattle.rules.specs.Groups.{entry}
-use Rattle.groups.specs.Grouping.{numbersIn}
 use Rattle.rules.specs.Turns.{apply}
 use Rattle.laws.specs.PointLaws.{point-eq}
+use Rattle.groups.specs.Grouping.{numbersIn}
 use Rattle.shapes.specs.Pairs.{pointAt, pointOf}
 use Rattle.shapes.specs.PairLaws.{small-back}
 use Rattle.shapes.specs.Rows.{turnAt}

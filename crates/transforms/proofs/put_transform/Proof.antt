@@ -4,10 +4,9 @@ use Prim.Native.Nat.{_<_}
 use native.Mathlib.Omega.{arith}
 use borrow.Author.Needs.{needs}
 use lib.ListN.{length}
-use Rattle.rules.specs.Codes.{statesIn}
+use Rattle.rules.specs.Codes.{statesIn, unclued}
 use Rattle.rules.specs.Check.{transformsOf}
 use Rattle.groups.specs.Grouping.{countIn}
-use Rattle.rules.specs.Codes.{unclued}
 use Rattle.adjacent.specs.Homes.{UnitIn}
 use Rattle.adjacent.specs.HomeLaws.{unit-part, unit-placed}
 use Rattle.transforms.specs.Transforms.{kthAnswer, kthMemory}

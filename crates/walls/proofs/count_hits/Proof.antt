@@ -5,15 +5,15 @@ use Prim.Native.Nat.{_≤_, _<_, _+_, _-_}
 use native.Mathlib.Omega.{arith}
 use lib.Dec.{eqb}
 use lib.ListN.{getD}
-use Rattle.groups.specs.Grouping.{numbersIn}
-use Rattle.groups.specs.GroupingLaws.{grouping-number}
+use Rattle.lists.specs.CountLaws.{no-bit, bit-under}
+use Rattle.lists.specs.Arithmetic.{below-more}
 use Rattle.rules.specs.Codes.{statesIn}
 use Rattle.rules.specs.Groups.{entry}
 use Rattle.laws.specs.CodeLaws.{state-wall}
+use Rattle.groups.specs.Grouping.{numbersIn}
+use Rattle.groups.specs.GroupingLaws.{grouping-number}
 use Rattle.walls.specs.Breaches.{isBreach}
 use Rattle.walls.specs.Clean.{Apart}
-use Rattle.lists.specs.CountLaws.{no-bit, bit-under, bit-under, no-bit}
-use Rattle.lists.specs.Arithmetic.{below-more}
 use Rattle.walls.proofs.count_hits.Statement.{statement}
 use Rattle.walls.proofs.count_hits.Tie as tie
 

@@ -2,10 +2,10 @@
 use mathlib.Core.Path.{_≡_, sym, _∙_}
 use Prim.Native.Nat.{_≤_, _-_, _*_}
 use native.Mathlib.Omega.{arith}
-use Rattle.groups.specs.Grouping.{numbersIn}
 use Rattle.rules.specs.Flat.{flat}
 use Rattle.rules.specs.Codes.{statesIn}
 use Rattle.rules.specs.Groups.{entry}
+use Rattle.groups.specs.Grouping.{numbersIn}
 use Rattle.walls.specs.Breaches.{breachFrom, firstBreach}
 use Rattle.walls.specs.WallCases.{breachAt, or-found, or-missed, page-start, page-split, from-end}
 use Rattle.walls.proofs.first_breach.Statement.{statement}

@@ -2,12 +2,12 @@
 use mathlib.Core.Path.{_≡_}
 use Prim.Native.Nat.{ℕ, _≤_, _<_, _+_, _-_, _*_}
 use native.Mathlib.Omega.{arith}
-use Rattle.groups.specs.Grouping.{numbersIn}
+use Rattle.lists.specs.Arithmetic.{below-more}
 use Rattle.rules.specs.Codes.{statesIn}
 use Rattle.rules.specs.Groups.{entry}
 use Rattle.laws.specs.FlatLaws.{Counts, counts, Spot, spot}
+use Rattle.groups.specs.Grouping.{numbersIn}
 use Rattle.walls.specs.Clean.{Apart, page-clean}
-use Rattle.lists.specs.Arithmetic.{below-more}
 use Rattle.walls.proofs.is_clean.Statement.{statement}
 use Rattle.walls.proofs.is_clean.Tie as tie
 

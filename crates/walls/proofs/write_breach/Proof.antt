@@ -1,8 +1,8 @@
 -- What `wall_reason` writes.
 use mathlib.Core.List.{[], _∷_}
 use native.Mathlib.Omega.{arith}
-use lib.ListN.{length-append}
 use borrow.Author.Needs.{needs}
+use lib.ListN.{length-append}
 use Rattle.rules.specs.Page.{wallAt}
 use Rattle.rules.specs.Flat.{flat}
 use Rattle.rules.specs.Codes.{statesIn}

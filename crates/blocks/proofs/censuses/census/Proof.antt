@@ -1,16 +1,16 @@
 -- `census` meets its contract: after each turn the parts and the first clue are those of the cells passed.
-use Prim.Native.Nat.{_≤_, _<_, _-_}
 use mathlib.Core.Path.{_≡_, ap, _∙_}
 use mathlib.Core.Logic.{⊎-elim}
+use Prim.Native.Nat.{_≤_, _<_, _-_}
 use native.Mathlib.Omega.{arith}
+use borrow.Author.Needs.{needs, sfits-of}
 use lib.Dec.{eqb}
 use lib.ListN.{getD}
 use lib.IntN.{pos}
 use mir.Facts.{toZ-ofZ}
 use mir.Syntax.{w32}
-use borrow.Author.Needs.{needs, sfits-of}
-use Rattle.groups.specs.Grouping.{numbersIn, cellsIn}
 use Rattle.rules.specs.Codes.{clueOf}
+use Rattle.groups.specs.Grouping.{numbersIn, cellsIn}
 use Rattle.blocks.specs.declared.Census.{Census}
 use Rattle.blocks.specs.Censuses.{clueIn, nextPart, nextCensus}
 use Rattle.blocks.specs.Surveyed.{surveyed, surveyed-none, surveyed-more, surveyed-size}

@@ -1,6 +1,7 @@
 -- `clue_at` meets its contract: the place is read with its sign, and the two cases are those of `clueOf`.
 use mir.Facts.{toZ-ofZ}
-use Rattle.blocks.specs.BlockCases.{clue-is, clue-free, clue-fits}
+use Rattle.laws.specs.CodeLaws.{clue-fits}
+use Rattle.blocks.specs.BlockCases.{clue-is, clue-free}
 use Rattle.blocks.proofs.censuses.clue_at.Statement.{statement}
 use Rattle.blocks.proofs.censuses.clue_at.Tie as tie
 

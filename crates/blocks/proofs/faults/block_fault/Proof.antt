@@ -3,18 +3,18 @@
 use mathlib.Core.Path.{ap, _∙_}
 use mathlib.Core.Bool.{Bool, true, false}
 use Prim.Native.Nat.{_+_, _<_, _≤_}
-use Rattle.groups.specs.Grouping.{numbersIn, cellsIn, startsIn}
+use native.Mathlib.Omega.{arith}
+use borrow.Author.Needs.{needs}
+use lib.ListN.{getD}
+use Rattle.lists.specs.Parts.{part}
+use Rattle.lists.specs.PartLaws.{part-one}
 use Rattle.rules.specs.Codes.{coloursIn, cluesIn}
 use Rattle.rules.specs.Groups.{entry}
+use Rattle.groups.specs.Grouping.{numbersIn, cellsIn, startsIn}
 use Rattle.blocks.specs.Arrays.{sizeIn}
 use Rattle.blocks.specs.Censuses.{colourUnit, colourPart, censusOf}
 use Rattle.blocks.specs.LoneCases.{lone-fault}
 use Rattle.blocks.specs.FaultCases.{fault-census, own-parted}
-use native.Mathlib.Omega.{arith}
-use lib.ListN.{getD}
-use borrow.Author.Needs.{needs}
-use Rattle.lists.specs.Parts.{part}
-use Rattle.lists.specs.PartLaws.{part-one}
 use Rattle.blocks.proofs.faults.block_fault.Statement.{statement}
 use Rattle.blocks.proofs.faults.block_fault.Tie as tie
 

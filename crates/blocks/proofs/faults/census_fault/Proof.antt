@@ -1,7 +1,7 @@
 -- `census_fault` meets its contract: the faults in their order.
 use mathlib.Core.Path.{_∙_}
-use Rattle.blocks.specs.Faults.{censusFault}
 use borrow.Author.Needs.{needs}
+use Rattle.blocks.specs.Faults.{censusFault}
 use Rattle.blocks.proofs.faults.census_fault.Statement.{statement}
 use Rattle.blocks.proofs.faults.census_fault.Tie as tie
 

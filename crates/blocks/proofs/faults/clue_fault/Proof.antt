@@ -1,7 +1,7 @@
 -- `clue_fault` meets its contract: a case law for each return.
 use mathlib.Core.Path.{_∙_}
-use Rattle.blocks.specs.FaultCases.{clue-none, clue-first, clue-second, clue-big}
 use borrow.Author.Needs.{needs}
+use Rattle.blocks.specs.FaultCases.{clue-none, clue-first, clue-second, clue-big}
 use Rattle.blocks.proofs.faults.clue_fault.Statement.{statement}
 use Rattle.blocks.proofs.faults.clue_fault.Tie as tie
 

@@ -1,16 +1,16 @@
 -- `first_faulty` meets its contract: the blocks passed are clear, so that what is left of the search is the whole.
-use Prim.Native.Nat.{ℕ, _≤_, _-_}
 use mathlib.Core.Path.{_≡_, sym, ap, _∙_}
 use mathlib.Core.List.{List}
+use Prim.Native.Nat.{ℕ, _≤_, _-_}
 use native.Mathlib.Omega.{arith}
-use lib.IntN.{ℤ}
 use borrow.Author.Needs.{needs}
-use Rattle.groups.specs.Grouping.{numbersIn, cellsIn, startsIn, countIn}
+use lib.IntN.{ℤ}
 use Rattle.rules.specs.Codes.{coloursIn, cluesIn}
 use Rattle.rules.specs.Groups.{entry}
+use Rattle.groups.specs.Grouping.{numbersIn, cellsIn, startsIn, countIn}
+use Rattle.groups.specs.Parts.{partOf}
 use Rattle.blocks.specs.declared.Fault.{Fault}
 use Rattle.blocks.specs.Arrays.{sizeIn}
-use Rattle.groups.specs.Parts.{partOf}
 use Rattle.blocks.specs.Faults.{isFaultless, faultOn}
 use Rattle.blocks.specs.Faulty.{at, faultyFrom, firstFaulty, faulty-next, faulty-found, faulty-end}
 use Rattle.blocks.proofs.faults.first_faulty.Statement.{statement}

@@ -1,11 +1,11 @@
 -- `lone_fault` meets its contract: a case law for each return.
 use mathlib.Core.Path.{_≡_, sym, ap, _∙_}
 use mathlib.Core.Option.{some}
+use borrow.Author.Needs.{needs, sfits-of}
 use lib.ListN.{getD}
 use lib.IntN.{pos}
 use mir.Facts.{toZ-ofZ}
 use mir.Syntax.{w32}
-use borrow.Author.Needs.{needs, sfits-of}
 use Rattle.rules.specs.Codes.{clueOf, cluesIn}
 use Rattle.rules.specs.Groups.{entry}
 use Rattle.blocks.specs.Censuses.{optionOf, clueIn, option-clue}

@@ -1,24 +1,24 @@
 -- `look` meets its contract: after each turn the cells passed were seen to agree, so that the first fault of the whole
 -- part is that of the cell where the look stops.
-use Prim.Native.Nat.{ℕ, _≤_, _<_, _-_}
 use mathlib.Core.Path.{_≡_, refl, sym, ap, _∙_}
 use mathlib.Core.Logic.{inl, inr, ⊎-elim}
+use Prim.Native.Nat.{ℕ, _≤_, _<_, _-_}
 use native.Mathlib.Omega.{arith}
+use borrow.Author.Needs.{needs, sfits-of}
 use lib.ListN.{length, getD, length-set}
 use lib.IntN.{pos}
 use mir.Facts.{toZ-ofZ}
 use mir.Syntax.{w32}
 use mir.Val.{toZ, ofZ}
-use borrow.Author.Needs.{needs, sfits-of}
 use lib.Dec.{eqb}
-use Rattle.groups.specs.Grouping.{numbersIn, cellsIn}
+use Rattle.lists.specs.CountLaws.{bit-under}
 use Rattle.rules.specs.Codes.{clueOf}
+use Rattle.groups.specs.Grouping.{numbersIn, cellsIn}
 use Rattle.blocks.specs.declared.Fault.the-variants.{InsideEdge}
 use Rattle.blocks.specs.Censuses.{clueIn}
 use Rattle.blocks.specs.Looks.{OwnPut, ClueKept}
-use Rattle.blocks.specs.Looked.{PartLooked, look-none, look-more, looked-few, zero-parted, one-parted}
-use Rattle.blocks.specs.Looked.{kept-none, settles, looked-stray, looked-clash, looked-scan, looked-clear}
-use Rattle.lists.specs.CountLaws.{bit-under}
+use Rattle.blocks.specs.Looked.{PartLooked, look-none, look-more, looked-few, zero-parted, one-parted, kept-none}
+use Rattle.blocks.specs.Looked.{settles, looked-stray, looked-clash, looked-scan, looked-clear}
 use Rattle.blocks.proofs.faults.look.Statement.{statement}
 use Rattle.blocks.proofs.faults.look.Tie as tie
 

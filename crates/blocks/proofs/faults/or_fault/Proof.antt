@@ -1,7 +1,7 @@
 -- `or_fault` meets its contract: a case law for each return.
 use mathlib.Core.Path.{sym, _∙_}
-use Rattle.blocks.specs.FaultCases.{or-clear, or-fault}
 use borrow.Author.Needs.{needs}
+use Rattle.blocks.specs.FaultCases.{or-clear, or-fault}
 use Rattle.blocks.proofs.faults.or_fault.Statement.{statement}
 use Rattle.blocks.proofs.faults.or_fault.Tie as tie
 

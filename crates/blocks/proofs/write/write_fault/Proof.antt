@@ -4,10 +4,10 @@ use mathlib.Core.List.{List, [], _++_}
 use Prim.Native.Nat.{ℕ}
 use native.Mathlib.Omega.{arith}
 use borrow.Author.Needs.{needs}
-use Rattle.groups.specs.Grouping.{numbersIn}
-use Rattle.rules.specs.declared.Literal.{Literal}
-use Rattle.reasons.specs.Arrays.{insideIn, edgeIn}
 use Rattle.lists.specs.WroteLaws.{wrote-none, wrote-more}
+use Rattle.rules.specs.declared.Literal.{Literal}
+use Rattle.groups.specs.Grouping.{numbersIn}
+use Rattle.reasons.specs.Arrays.{insideIn, edgeIn}
 use Rattle.blocks.specs.declared.Fault.the-variants.{Clear, InsideEdge, Inside, Edge, EdgeInside}
 use Rattle.blocks.specs.Written.{faultLiterals, faultyLiterals}
 use Rattle.blocks.specs.WriteCases.{fits-first, fits-second}

@@ -6,10 +6,9 @@ use native.Mathlib.Omega.{arith}
 use borrow.Author.Needs.{needs}
 use lib.Dec.{ltb}
 use Rattle.rules.specs.Codes.{statesIn}
-use Rattle.laws.specs.FlatLaws.{counts}
-use Rattle.groups.specs.Grouping.{numbersIn}
 use Rattle.rules.specs.Groups.{entry}
 use Rattle.laws.specs.FlatLaws.{counts, row-of}
+use Rattle.groups.specs.Grouping.{numbersIn}
 use Rattle.shapes.specs.JointLaws.{cell-room}
 use Rattle.fitting.specs.CopyLaws.{copy-cell-yes, copy-cell-no}
 use Rattle.fitting.proofs.copies.cell_clear.Statement.{statement}

@@ -4,18 +4,17 @@ use Prim.Native.Nat.{ℕ, _+_, _-_, _*_, _/_, _%_, _≤_, _<_}
 use native.Mathlib.Omega.{arith}
 use lib.ListN.{getD}
 use Rattle.lists.specs.Lists.{all}
-use Rattle.groups.specs.Grouping.{numbersIn, cellsIn}
-use Rattle.rules.specs.Codes.{statesIn}
+use Rattle.lists.specs.Parts.{part}
+use Rattle.lists.specs.PartLaws.{all-ends, all-next, all-done}
+use Rattle.rules.specs.Codes.{statesIn, unclued}
 use Rattle.rules.specs.Flat.{flat}
 use Rattle.rules.specs.Groups.{entry}
 use Rattle.rules.specs.Shapes.{shapeOf}
 use Rattle.laws.specs.FlatLaws.{row-of}
-use Rattle.rules.specs.Codes.{unclued}
+use Rattle.groups.specs.Grouping.{numbersIn, cellsIn}
 use Rattle.planes.specs.Placing.{fitsOf}
 use Rattle.fitting.specs.Copies.{cellClear}
 use Rattle.fitting.specs.CopyLaws.{copy-unit-low, shift-of, copied-cells}
-use Rattle.lists.specs.Parts.{part}
-use Rattle.lists.specs.PartLaws.{all-ends, all-next, all-done}
 use Rattle.fitting.proofs.copies.copy_fits.Statement.{statement}
 use Rattle.fitting.proofs.copies.copy_fits.Tie as tie
 

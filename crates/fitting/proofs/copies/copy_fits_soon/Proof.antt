@@ -7,20 +7,19 @@ use native.Mathlib.Omega.{arith}
 use borrow.Author.Needs.{needs}
 use lib.ListN.{getD}
 use Rattle.lists.specs.Lists.{any}
-use Rattle.groups.specs.Grouping.{numbersIn, cellsIn, startsIn}
-use Rattle.rules.specs.Codes.{statesIn}
+use Rattle.lists.specs.Parts.{part}
+use Rattle.lists.specs.PartLaws.{any-done, any-found, any-next}
+use Rattle.rules.specs.Codes.{statesIn, unclued}
 use Rattle.rules.specs.Flat.{flat}
 use Rattle.rules.specs.Groups.{entry}
 use Rattle.rules.specs.Shapes.{shapeOf}
+use Rattle.groups.specs.Grouping.{numbersIn, cellsIn, startsIn}
 use Rattle.reasons.specs.Arrays.{Cells}
-use Rattle.rules.specs.Codes.{unclued}
-use Rattle.planes.specs.Placing.{fitsOf}
 use Rattle.reasons.specs.CellLaws.{cells-reach, cells-at}
+use Rattle.planes.specs.Placing.{fitsOf}
 use Rattle.planes.specs.Laying.{fitsAmong}
 use Rattle.fitting.specs.Copies.{soonEnd, soonIn}
 use Rattle.fitting.specs.CopyLaws.{soon-cells}
-use Rattle.lists.specs.Parts.{part}
-use Rattle.lists.specs.PartLaws.{any-done, any-found, any-next}
 use Rattle.fitting.proofs.copies.copy_fits_soon.Statement.{statement}
 use Rattle.fitting.proofs.copies.copy_fits_soon.Tie as tie
 

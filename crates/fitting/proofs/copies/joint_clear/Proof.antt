@@ -3,8 +3,8 @@ use mathlib.Core.Path.{_≡_, sym, ap, _∙_}
 use borrow.Author.Needs.{needs}
 use borrow.Author.Tests.{eq-eqb, ne-eqb}
 use lib.ListN.{getD}
-use Rattle.groups.specs.Grouping.{numbersIn}
 use Rattle.rules.specs.Groups.{entry}
+use Rattle.groups.specs.Grouping.{numbersIn}
 use Rattle.planes.specs.Placing.{isClear}
 use Rattle.fitting.proofs.copies.joint_clear.Statement.{statement}
 use Rattle.fitting.proofs.copies.joint_clear.Tie as tie

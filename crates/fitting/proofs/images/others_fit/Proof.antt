@@ -6,12 +6,11 @@ use Prim.Native.Nat.{ℕ, _≤_, _-_}
 use native.Mathlib.Omega.{arith}
 use lib.ListN.{length}
 use Rattle.lists.specs.Tests.{anyBelow}
-use Rattle.lists.specs.TestLaws.{any-none, any-some}
+use Rattle.lists.specs.TestLaws.{any-none, any-some, none-more}
 use Rattle.rules.specs.Page.{Point}
-use Rattle.planes.specs.Masks.{MaskAnswers}
 use Rattle.shapes.specs.Spots.{cellSpots, jointSpots}
 use Rattle.shapes.specs.Images.{imageJoints}
-use Rattle.lists.specs.TestLaws.{none-more}
+use Rattle.planes.specs.Masks.{MaskAnswers}
 use Rattle.fitting.proofs.images.others_fit.Statement.{statement}
 use Rattle.fitting.proofs.images.others_fit.Tie as tie
 

@@ -7,9 +7,9 @@ use native.Mathlib.Omega.{arith}
 use borrow.Author.Needs.{needs}
 use Rattle.lists.specs.TestLaws.{any-some}
 use Rattle.rules.specs.Page.{Point}
-use Rattle.planes.specs.Masks.{MaskAnswers}
 use Rattle.shapes.specs.Spots.{cellSpots, jointSpots}
 use Rattle.shapes.specs.Images.{imageJoints}
+use Rattle.planes.specs.Masks.{MaskAnswers}
 use Rattle.fitting.proofs.images.some_row_fits.Statement.{statement}
 use Rattle.fitting.proofs.images.some_row_fits.Tie as tie
 

@@ -2,13 +2,12 @@
 use mathlib.Core.Bool.{Bool}
 use Prim.Native.Nat.{ℕ, _-_}
 use native.Mathlib.Omega.{arith}
+use Rattle.rules.specs.Codes.{statesIn, unclued}
 use Rattle.groups.specs.Grouping.{countIn}
-use Rattle.rules.specs.Codes.{statesIn}
-use Rattle.rules.specs.Codes.{unclued}
+use Rattle.adjacent.specs.HomeLaws.{unit-few, home-at}
 use Rattle.fitting.specs.Held.{Nearby}
 use Rattle.fitting.specs.FirstStuck.{Passed, fitsUnit}
 use Rattle.fitting.specs.FirstStuckLaws.{passed-start, passed-next, passed-all}
-use Rattle.adjacent.specs.HomeLaws.{unit-few, home-at}
 use Rattle.fitting.proofs.singles.after_singles.Statement.{statement}
 use Rattle.fitting.proofs.singles.after_singles.Tie as tie
 

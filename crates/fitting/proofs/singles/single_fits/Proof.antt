@@ -4,8 +4,8 @@ use Prim.Native.Nat.{ℕ, _+_}
 use native.Mathlib.Omega.{arith}
 use borrow.Author.Tests.{ltb-true}
 use lib.ListN.{getD}
-use Rattle.groups.specs.Grouping.{numbersIn, cellsIn, startsIn}
 use Rattle.laws.specs.FlatLaws.{counts}
+use Rattle.groups.specs.Grouping.{numbersIn, cellsIn, startsIn}
 use Rattle.adjacent.specs.HomeLaws.{unit-few, unit-in, head-low, home-of}
 use Rattle.fitting.specs.ReadyLaws.{single-unit, sure-unit}
 use Rattle.fitting.proofs.singles.single_fits.Statement.{statement}

@@ -3,11 +3,11 @@ use mathlib.Core.Path.{_∙_}
 use mathlib.Core.Logic.{⊎-elim}
 use Prim.Native.Nat.{zero}
 use native.Mathlib.Omega.{arith}
-use lib.ListN.{length-replicate}
 use borrow.Author.Needs.{needs}
+use lib.ListN.{length-replicate}
 use Rattle.adjacent.specs.BesideLaws.{beside-gathered}
-use Rattle.fitting.specs.HeldLaws.{held-planes}
 use Rattle.adjacent.specs.HomeLaws.{home-few, home-cells}
+use Rattle.fitting.specs.HeldLaws.{held-planes}
 use Rattle.fitting.proofs.unit.prepare.Statement.{statement}
 use Rattle.fitting.proofs.unit.prepare.Tie as tie
 

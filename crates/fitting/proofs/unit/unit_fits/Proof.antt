@@ -1,12 +1,11 @@
 -- The unit's cells and connections are written, and tried; the eight rows answer for the listed transforms.
 use mathlib.Core.Path.{_∙_}
-use Rattle.groups.specs.Grouping.{cellsIn, startsIn}
 use Rattle.rules.specs.Check.{mates}
-use Rattle.rules.specs.Codes.{statesIn}
-use Rattle.rules.specs.Codes.{unclued}
+use Rattle.rules.specs.Codes.{statesIn, unclued}
+use Rattle.groups.specs.Grouping.{cellsIn, startsIn}
 use Rattle.shapes.specs.ImageLaws.{jointed}
-use Rattle.fitting.specs.FitLaws.{rows-turned}
 use Rattle.adjacent.specs.HomeLaws.{unit-part, unit-placed}
+use Rattle.fitting.specs.FitLaws.{rows-turned}
 use Rattle.fitting.proofs.unit.unit_fits.Statement.{statement}
 use Rattle.fitting.proofs.unit.unit_fits.Tie as tie
 

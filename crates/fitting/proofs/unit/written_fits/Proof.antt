@@ -2,11 +2,10 @@
 use mathlib.Core.Bool.{Bool}
 use mathlib.Core.List.{List}
 use native.Mathlib.Omega.{arith}
-use Rattle.groups.specs.Grouping.{cellsIn, startsIn}
 use Rattle.rules.specs.Check.{mates}
-use Rattle.rules.specs.Codes.{statesIn}
+use Rattle.rules.specs.Codes.{statesIn, unclued}
 use Rattle.rules.specs.Page.{Point, Puzzle}
-use Rattle.rules.specs.Codes.{unclued}
+use Rattle.groups.specs.Grouping.{cellsIn, startsIn}
 use Rattle.planes.specs.Placing.{bare}
 use Rattle.planes.specs.Laying.{fitsBeside}
 use Rattle.fitting.specs.HeldLaws.{held-of, held-sizes, held-answers}

@@ -10,7 +10,7 @@ use lib.Signed.{leZ, mag}
 use mir.Facts.{toZ-ofZ}
 use mir.Syntax.{w32}
 use mir.Val.{SFits, toZ, ofZ}
-use Rattle.blocks.specs.BlockCases.{clue-fits}
+use Rattle.laws.specs.CodeLaws.{clue-fits}
 use Rattle.image.specs.Image.{bitsOf}
 use Rattle.image.proofs.making.bits.Statement.{statement}
 use Rattle.image.proofs.making.bits.Tie as tie

@@ -1,10 +1,10 @@
 -- A cell off the page has no path; otherwise the search, and the way back.
 use mathlib.Core.Path.{refl}
-use Rattle.laws.specs.FlatLaws.{Counts, counts}
-use Rattle.lists.specs.WroteLaws.{wrote-none}
-use Rattle.reasons.specs.PathLaws.{path-off-a, path-off-b}
 use native.Mathlib.Omega.{arith}
 use borrow.Author.Needs.{needs}
+use Rattle.lists.specs.WroteLaws.{wrote-none}
+use Rattle.laws.specs.FlatLaws.{Counts, counts}
+use Rattle.reasons.specs.PathLaws.{path-off-a, path-off-b}
 use Rattle.reasons.proofs.paths.path.Statement.{statement}
 use Rattle.reasons.proofs.paths.path.Tie as tie
 

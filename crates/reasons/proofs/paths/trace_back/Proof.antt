@@ -1,14 +1,14 @@
 -- The way back: what is written, and the way from `c`, is the whole path.
 use Prim.Native.Nat.{_+_, _-_}
+use native.Mathlib.Omega.{arith}
+use borrow.Author.Needs.{needs}
 use lib.ListN.{length}
+use Rattle.lists.specs.WroteLaws.{wrote-length}
 use Rattle.laws.specs.FlatLaws.{Counts, counts}
 use Rattle.reasons.specs.Search.{pathIn}
-use Rattle.lists.specs.WroteLaws.{wrote-length}
 use Rattle.reasons.specs.MemoryLaws.{wrote-next}
 use Rattle.reasons.specs.PathLaws.{Tracing, tracing-start, tracing-none, tracing-end, tracing-left, tracing-room}
 use Rattle.reasons.specs.PathLaws.{tracing-narrow, tracing-more}
-use native.Mathlib.Omega.{arith}
-use borrow.Author.Needs.{needs}
 use Rattle.reasons.proofs.paths.trace_back.Statement.{statement}
 use Rattle.reasons.proofs.paths.trace_back.Tie as tie
 

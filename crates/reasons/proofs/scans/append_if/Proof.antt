@@ -1,7 +1,7 @@
 -- By cases on `kept`: one literal, or none.
-use Rattle.lists.specs.WroteLaws.{wrote-none}
 use native.Mathlib.Omega.{arith}
 use borrow.Author.Needs.{needs}
+use Rattle.lists.specs.WroteLaws.{wrote-none}
 use Rattle.reasons.proofs.scans.append_if.Statement.{statement}
 use Rattle.reasons.proofs.scans.append_if.Tie as tie
 

@@ -1,9 +1,9 @@
 -- The flag, or nothing past the last flag.
 use mathlib.Core.Path.{_≡_, refl}
-use lib.ListN.{getD, List·getD-eq-default}
-use Rattle.reasons.specs.Arrays.{isFlagged}
 use native.Mathlib.Omega.{arith}
 use borrow.Author.Needs.{needs}
+use lib.ListN.{getD, List·getD-eq-default}
+use Rattle.reasons.specs.Arrays.{isFlagged}
 use Rattle.reasons.proofs.scans.is_flagged.Statement.{statement}
 use Rattle.reasons.proofs.scans.is_flagged.Tie as tie
 

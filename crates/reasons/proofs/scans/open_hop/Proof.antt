@@ -2,16 +2,16 @@
 use mathlib.Core.Path.{_≡_}
 use mathlib.Core.Bool.{Bool}
 use mathlib.Core.List.{[]}
-use Rattle.groups.specs.Grouping.{numbersIn}
+use borrow.Author.Needs.{needs}
 use Rattle.lists.specs.Lists.{keepIf}
 use Rattle.rules.specs.declared.Side.the-variants.{Open}
 use Rattle.rules.specs.Page.{Hop}
 use Rattle.rules.specs.Codes.{statesIn}
 use Rattle.rules.specs.Groups.{entry}
 use Rattle.rules.specs.Reasons.{gather}
+use Rattle.groups.specs.Grouping.{numbersIn}
 use Rattle.reasons.specs.Arrays.{hopsIn, isFlagged, openKept}
 use Rattle.reasons.specs.ScanLaws.{gather-hops, kept-some}
-use borrow.Author.Needs.{needs}
 use Rattle.reasons.proofs.scans.open_hop.Statement.{statement}
 use Rattle.reasons.proofs.scans.open_hop.Tie as tie
 

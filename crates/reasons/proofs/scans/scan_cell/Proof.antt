@@ -1,6 +1,6 @@
 -- The two sides by cases; a scan for open borders asks no colours.
-use Rattle.reasons.specs.Arrays.{scanAt}
 use borrow.Author.Needs.{needs}
+use Rattle.reasons.specs.Arrays.{scanAt}
 use Rattle.reasons.proofs.scans.scan_cell.Statement.{statement}
 use Rattle.reasons.proofs.scans.scan_cell.Tie as tie
 

@@ -2,19 +2,19 @@
 use mathlib.Core.Path.{_≡_}
 use mathlib.Core.List.{List}
 use Prim.Native.Nat.{ℕ, _+_, _<_, _≤_}
+use native.Mathlib.Omega.{arith}
+use borrow.Author.Needs.{needs}
 use lib.ListN.{length}
-use Rattle.groups.specs.Grouping.{numbersIn}
+use Rattle.lists.specs.WroteLaws.{loop-none, loop-more}
+use Rattle.lists.specs.UpTo.{upTo}
 use Rattle.rules.specs.declared.Side.the-variants.{Wall}
 use Rattle.rules.specs.declared.Literal.{Literal}
 use Rattle.laws.specs.FlatLaws.{counts, OnPage, row-of}
+use Rattle.groups.specs.Grouping.{numbersIn}
 use Rattle.reasons.specs.Memory.{Wrote}
 use Rattle.reasons.specs.Arrays.{scanTo, scanAt}
-use Rattle.lists.specs.WroteLaws.{loop-none, loop-more}
 use Rattle.reasons.specs.MemoryLaws.{loop-fits}
 use Rattle.reasons.specs.ScanLaws.{scan-walls}
-use native.Mathlib.Omega.{arith}
-use borrow.Author.Needs.{needs}
-use Rattle.lists.specs.UpTo.{upTo}
 use Rattle.reasons.proofs.scans.wall_cell.Statement.{statement}
 use Rattle.reasons.proofs.scans.wall_cell.Tie as tie
 

@@ -1,7 +1,7 @@
 -- `shapes::join` meets its contract: each answer is a case of the definition.
+use borrow.Author.Needs.{needs}
 use Rattle.groups.specs.Grouping.{numbersIn}
 use Rattle.shapes.specs.JointLaws.{join-yes, join-no, join-off}
-use borrow.Author.Needs.{needs}
 use Rattle.shapes.proofs.connections.join.Statement.{statement}
 use Rattle.shapes.proofs.connections.join.Tie as tie
 

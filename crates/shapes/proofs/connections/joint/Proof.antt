@@ -2,6 +2,7 @@
 use mathlib.Core.Path.{_≡_, ap, ap₂, _∙_}
 use Prim.Native.Nat.{_+_}
 use native.Mathlib.Omega.{arith}
+use borrow.Author.Needs.{needs}
 use lib.IntN.{pos}
 use lib.ListN.{getD}
 use Rattle.lists.specs.SectionLaws.{section-at}
@@ -13,7 +14,6 @@ use Rattle.shapes.specs.Pairs.{pointAt, pointOf}
 use Rattle.shapes.specs.PairLaws.{read-back}
 use Rattle.shapes.specs.Spots.{jointSpot}
 use Rattle.shapes.specs.JointLaws.{turned-small}
-use borrow.Author.Needs.{needs}
 use Rattle.shapes.proofs.connections.joint.Statement.{statement}
 use Rattle.shapes.proofs.connections.joint.Tie as tie
 

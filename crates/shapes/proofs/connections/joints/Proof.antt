@@ -3,8 +3,8 @@ use mathlib.Core.Path.{_≡_, _∙_}
 use Prim.Native.Nat.{_-_, _≤_, _<_}
 use native.Mathlib.Omega.{arith}
 use borrow.Author.Needs.{needs}
-use Rattle.groups.specs.Grouping.{numbersIn}
 use Rattle.rules.specs.Groups.{entry}
+use Rattle.groups.specs.Grouping.{numbersIn}
 use Rattle.shapes.specs.Joints.{Joining}
 use Rattle.shapes.specs.JointLaws.{joining-none, joining-more, joining-all, row-read, column-read, unit-stays}
 use Rattle.shapes.specs.Outlines.{cellCount}

@@ -4,11 +4,11 @@ use mathlib.Core.Bool.{_&&_}
 use mathlib.Core.Path.{_∙_}
 use Prim.Native.Nat.{_+_, _*_}
 use native.Mathlib.Omega.{arith}
-use lib.Dec.{eqb, ltb}
-use Rattle.groups.specs.Grouping.{numbersIn}
-use Rattle.rules.specs.Groups.{entry}
-use Rattle.shapes.specs.JointLaws.{cell-room, grown-count, joint-one, joints-are}
 use borrow.Author.Needs.{needs}
+use lib.Dec.{eqb, ltb}
+use Rattle.rules.specs.Groups.{entry}
+use Rattle.groups.specs.Grouping.{numbersIn}
+use Rattle.shapes.specs.JointLaws.{cell-room, grown-count, joint-one, joints-are}
 use Rattle.shapes.proofs.connections.joints_at.Statement.{statement}
 use Rattle.shapes.proofs.connections.joints_at.Tie as tie
 

@@ -4,9 +4,9 @@ use mathlib.Core.Path.{_≡_, ap₂}
 use Prim.Native.Nat.{ℕ, _+_, _-_, _/_, _%_, _≤_, _<_}
 use native.Mathlib.Omega.{arith}
 use lib.ListN.{length, getD, length-set}
-use Rattle.groups.specs.Grouping.{cellsIn, startIn}
 use Rattle.lists.specs.SectionLaws.{section-at, section-length}
 use Rattle.lists.specs.TableLaws.{stored-more}
+use Rattle.groups.specs.Grouping.{cellsIn, startIn}
 use Rattle.shapes.specs.Outlines.{rowsIn, columnsIn}
 use Rattle.shapes.specs.PartLaws.{row-stored, column-stored, placed-is, placed-count}
 use Rattle.shapes.proofs.connections.places.Statement.{statement}

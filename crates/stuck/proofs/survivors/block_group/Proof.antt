@@ -4,13 +4,12 @@ use mathlib.Core.List.{List}
 use Prim.Native.Nat.{ℕ, _≤_, _-_}
 use native.Mathlib.Omega.{arith}
 use borrow.Author.Needs.{needs}
-use Rattle.groups.specs.Grouping.{cellsIn}
 use Rattle.lists.specs.Lists.{flatMap}
 use Rattle.lists.specs.Parts.{part}
+use Rattle.lists.specs.WroteLaws.{wrote-length, write-none, write-more}
 use Rattle.rules.specs.declared.Literal.{Literal}
+use Rattle.groups.specs.Grouping.{cellsIn}
 use Rattle.reasons.specs.Memory.{Wrote}
-use Rattle.lists.specs.WroteLaws.{wrote-length}
-use Rattle.lists.specs.WroteLaws.{write-none, write-more}
 use Rattle.reasons.specs.MemoryLaws.{write-fits}
 use Rattle.reasons.specs.CellLaws.{cells-reach, cells-at}
 use Rattle.stuck.specs.Survivors.{blockIn}

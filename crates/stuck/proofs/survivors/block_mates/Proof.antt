@@ -5,17 +5,16 @@ use Prim.Native.Nat.{ℕ, _≤_, _<_, _-_}
 use native.Mathlib.Omega.{arith}
 use borrow.Author.Needs.{needs}
 use lib.ListN.{getD}
-use Rattle.groups.specs.Grouping.{cellsIn, startsIn}
 use Rattle.lists.specs.Lists.{flatMap}
 use Rattle.lists.specs.Parts.{part}
+use Rattle.lists.specs.WroteLaws.{wrote-length, write-none, write-more}
 use Rattle.rules.specs.declared.Literal.{Literal}
+use Rattle.groups.specs.Grouping.{cellsIn, startsIn}
+use Rattle.groups.specs.Parts.{partOf}
 use Rattle.reasons.specs.Memory.{Wrote}
-use Rattle.lists.specs.WroteLaws.{wrote-length}
-use Rattle.lists.specs.WroteLaws.{write-none, write-more}
 use Rattle.reasons.specs.MemoryLaws.{write-fits}
 use Rattle.adjacent.specs.Mates.{mateCount}
 use Rattle.adjacent.specs.BesideLaws.{mates-reach}
-use Rattle.groups.specs.Parts.{partOf}
 use Rattle.stuck.specs.Survivors.{blockIn}
 use Rattle.stuck.proofs.survivors.block_mates.Statement.{statement}
 use Rattle.stuck.proofs.survivors.block_mates.Tie as tie

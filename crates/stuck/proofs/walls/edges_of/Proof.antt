@@ -6,12 +6,11 @@ use native.Mathlib.Omega.{arith}
 use borrow.Author.Needs.{needs}
 use Rattle.lists.specs.Lists.{flatMap}
 use Rattle.lists.specs.Parts.{part}
-use Rattle.groups.specs.Grouping.{numbersIn}
+use Rattle.lists.specs.WroteLaws.{wrote-length, write-none, write-more}
 use Rattle.rules.specs.declared.Literal.{Literal}
+use Rattle.groups.specs.Grouping.{numbersIn}
 use Rattle.reasons.specs.Arrays.{edgeIn}
 use Rattle.reasons.specs.Memory.{Wrote}
-use Rattle.lists.specs.WroteLaws.{wrote-length}
-use Rattle.lists.specs.WroteLaws.{write-none, write-more}
 use Rattle.reasons.specs.MemoryLaws.{write-fits}
 use Rattle.adjacent.specs.Mates.{mateCount}
 use Rattle.stuck.specs.Writing.{edgesIn}

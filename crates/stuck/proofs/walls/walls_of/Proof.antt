@@ -1,12 +1,12 @@
 -- Three lists, one after another.
 use mathlib.Core.List.{List}
 use borrow.Author.Needs.{needs}
-use Rattle.groups.specs.Grouping.{numbersIn, groupCells}
-use Rattle.rules.specs.declared.Literal.{Literal}
-use Rattle.reasons.specs.Arrays.{edgeIn}
 use Rattle.lists.specs.WroteLaws.{wrote-more}
-use Rattle.adjacent.specs.Mates.{matesIn}
+use Rattle.rules.specs.declared.Literal.{Literal}
+use Rattle.groups.specs.Grouping.{numbersIn, groupCells}
+use Rattle.reasons.specs.Arrays.{edgeIn}
 use Rattle.reasons.specs.MemoryLaws.{room-first, room-second, room-third}
+use Rattle.adjacent.specs.Mates.{matesIn}
 use Rattle.stuck.specs.Writing.{edgesIn, farIn, wallsIn}
 use Rattle.stuck.proofs.walls.walls_of.Statement.{statement}
 use Rattle.stuck.proofs.walls.walls_of.Tie as tie
