@@ -13,7 +13,6 @@ use Rattle.rules.specs.Codes.{statesIn, unclued}
 use Rattle.rules.specs.Groups.{entry, members, unitOf, potentialOf}
 use Rattle.rules.specs.Shapes.{shapeOf}
 use Rattle.rules.specs.Check.{laid, isFit, mates, placements, transformsOf}
-use Rattle.groups.specs.Kinds.{linkOf, joinsIn}
 use Rattle.groups.specs.Grouping.{numbersIn, cellsIn, startsIn, countIn}
 use Rattle.groups.specs.Pages.{headOf}
 use Rattle.adjacent.specs.BesideLaws.{mates-low}

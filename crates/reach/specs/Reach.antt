@@ -16,7 +16,6 @@ use Rattle.lists.specs.TestLaws.{all-every}
 use Rattle.lists.specs.PaddedLaws.{padded-take, replicate-is}
 use Rattle.rules.specs.declared.Literal.{Literal}
 use Rattle.rules.specs.Codes.{codeOf}
-use Rattle.laws.specs.FlatLaws.{counts}
 use Rattle.board.specs.declared.Board.{Board}
 use Rattle.board.specs.declared.Outcome.the-variants.{Done}
 use Rattle.board.specs.Alien.{coloursRight, clueRight, cluesRight, stacked, cellCountOf, borderCountOf}

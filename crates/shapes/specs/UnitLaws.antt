@@ -11,7 +11,7 @@ use lib.Dec.{T, eqb, ltb, ltb→lt, lt→ltb}
 use lib.IntN.{ℤ, pos, negsuc, natAbs}
 use lib.Signed.{nonNeg}
 use lib.ListN.{length}
-use Rattle.lists.specs.Lists.{_∈_, keepIf, filter, any, all, range, rangeFrom}
+use Rattle.lists.specs.Lists.{_∈_, filter, any, all, range}
 use Rattle.lists.specs.ListLaws.{mem-map, map-find, any-mem, any-find, mem-filter, filter-mem, filter-test}
 use Rattle.lists.specs.Tests.{allBelow}
 use Rattle.lists.specs.Ranges.{mem-range, range-lt}
