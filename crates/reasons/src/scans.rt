@@ -223,54 +223,14 @@ fn wall_cell<'a>(
 {
     let y = c / w;
     let x = c % w;
-    let above = beside(h, w, c, y, x, 0);
-    let below = beside(h, w, c, y, x, 1);
-    let left = beside(h, w, c, y, x, 2);
-    let right = beside(h, w, c, y, x, 3);
-    let next = wall_hop(
-        memory,
-        from,
-        colours,
-        borders,
-        grouping,
-        same,
-        flagged,
-        c,
-        above,
-    );
-    let then = wall_hop(
-        memory,
-        next,
-        colours,
-        borders,
-        grouping,
-        same,
-        flagged,
-        c,
-        below,
-    );
-    let last = wall_hop(
-        memory,
-        then,
-        colours,
-        borders,
-        grouping,
-        same,
-        flagged,
-        c,
-        left,
-    );
-    wall_hop(
-        memory,
-        last,
-        colours,
-        borders,
-        grouping,
-        same,
-        flagged,
-        c,
-        right,
-    )
+    let mut at = from;
+    let mut d = 0;
+    while d < 4 {
+        let n = beside(h, w, c, y, x, d);
+        at = wall_hop(memory, at, colours, borders, grouping, same, flagged, c, n);
+        d += 1;
+    }
+    at
 }
 
 // Writes the borders that the scan keeps of one cell.

@@ -13,7 +13,7 @@ ghost use Rattle.page.specs.Grammar.{endWord, call};
 ghost use Rattle.page.specs.Judge.{judgementOf};
 ghost use Rattle.page.specs.Places.{sheetAt, allFrom};
 ghost use Rattle.transcript.specs.Left.{firstRun, goesOn, boardAt, judgedText, linesFrom, literalsText};
-ghost use Rattle.transcript.specs.Left.{lineOf, stageOf, firstMemory, Goes, Next};
+ghost use Rattle.transcript.specs.Left.{lineOf, stageOf, leftAt, stepsAt, firstMemory, Goes, Next};
 use board::Board;
 use board::Outcome;
 use calls::Answer;
@@ -201,6 +201,22 @@ fn reason(board: Board, at: usize, memory: &[u16], out: &mut [u8], from: usize, 
     }
 }
 
+// Puts a line; the run then goes on at the stage after it.
+fn put(out: &mut [u8], line: Line, board: Board, at: usize, stage: Stage) -> Run
+    requires { ⌜ (32 ≤ length (now out)) × (line .count ≤ 32) ⌝ }
+    ensures { λ r.
+        ⌜ ((s m text : List ℕ) → LineHolds line text → Goes s (text ++ leftAt s stage board at m)
+        (stepsAt s stage at + 1) (now (out .entry)) r m (now (out .exit))) ⌝ }
+{
+    let count = print::put_line(out, 0, line);
+    Run {
+        board,
+        at,
+        stage,
+        count,
+    }
+}
+
 // Puts the next chunk of the output into `out`: the run afterwards, whose count says how many bytes it has. The bytes
 // beyond them stay, and so does the memory where no call is made.
 pub fn next(s: &[u8], run: Run, memory: &mut [u16], out: &mut [u8]) -> Run
@@ -221,26 +237,10 @@ pub fn next(s: &[u8], run: Run, memory: &mut [u16], out: &mut [u8]) -> Run
     }
     match stage {
         Stage::Begin => begin(s, out),
-        Stage::Refused(n) => {
-            let count = print::put_line(out, 0, print::refused_line(n));
-            Run {
-                board,
-                at,
-                stage: Stage::Last,
-                count,
-            }
-        }
+        Stage::Refused(n) => put(out, print::refused_line(n), board, at, Stage::Last),
         Stage::Calls => turn(s, board, at, memory, out),
         Stage::Reason(from, to) => reason(board, at, memory, out, from, to),
-        Stage::Last => {
-            let count = print::put_line(out, 0, print::end_line());
-            Run {
-                board,
-                at,
-                stage: Stage::Over,
-                count,
-            }
-        }
+        Stage::Last => put(out, print::end_line(), board, at, Stage::Over),
         Stage::Over => Run {
             board,
             at,

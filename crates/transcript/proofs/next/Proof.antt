@@ -1,9 +1,8 @@
 -- `next` meets its contract, stage by stage.
 use mathlib.Core.Path.{refl}
-use native.Mathlib.Omega.{arith}
 use Rattle.transcript.specs.Left.{leftAt, stepsAt, memoryAt}
 use Rattle.transcript.specs.declared.Stage.the-variants.{Begin, Refused, Calls, Reason, Last}
-use Rattle.transcript.specs.LeftLaws.{put-goes, next-goes, next-short, next-over}
+use Rattle.transcript.specs.LeftLaws.{next-goes, next-short, next-over}
 use borrow.Author.Needs.{needs}
 use Rattle.transcript.proofs.next.Statement.{statement}
 use Rattle.transcript.proofs.next.Tie as tie
@@ -23,8 +22,8 @@ enum-known-stage c = search needs
 refused-line-requires : tie.Need-refused-line-requires
 refused-line-requires c κs = search needs
 
-put-line-requires : tie.Need-put-line-requires
-put-line-requires c κs = (c .refused-line .ensures .small, search needs)
+put-requires : tie.Need-put-requires
+put-requires c κs = (search needs, c .refused-line .ensures .small)
 
 enum-told-2 : tie.Need-enum-told-2
 enum-told-2 c = search needs
@@ -44,8 +43,8 @@ enum-told-3 c = search needs
 end-line-requires : tie.Need-end-line-requires
 end-line-requires c κs = search needs
 
-put-line-requires-2 : tie.Need-put-line-requires-2
-put-line-requires-2 c κs = (c .end-line .ensures .small, search needs)
+put-requires-2 : tie.Need-put-requires-2
+put-requires-2 c κs = (search needs, c .end-line .ensures .small)
 
 enum-told-4 : tie.Need-enum-told-4
 enum-told-4 c = search needs
@@ -66,9 +65,7 @@ returns-3 : tie.Need-returns-3
 unfolding leftAt stepsAt memoryAt
 returns-3 c = next-goes _ _ _ _ (Refused _) (c .before .before .before .before .before .before .stage .given .1)
     (search needs) refl
-    (put-goes _ _ (c .before .before .before .refused-line .ensures) (c .before .before .put-line .ensures)
-    (search needs) refl
-    (omega arith))
+    (c .before .before .put .ensures _ _ _ (c .before .before .before .refused-line .ensures))
 
 same-length-3 : tie.Need-same-length-3
 same-length-3 c = search needs
@@ -101,9 +98,7 @@ returns-6 : tie.Need-returns-6
 unfolding leftAt stepsAt memoryAt
 returns-6 c = next-goes _ _ _ _ Last (c .before .before .before .before .before .enum-told3 .given .1)
     (search needs) refl
-    (put-goes _ _ (c .before .before .before .end-line .ensures) (c .before .before .put-line2 .ensures)
-    (search needs) refl
-    (omega arith))
+    (c .before .before .put2 .ensures _ _ _ (c .before .before .before .end-line .ensures))
 
 returns-7 : tie.Need-returns-7
 returns-7 c = next-over _ _ _ _ (c .enum-told4 .given .1) (search needs)
@@ -117,14 +112,14 @@ next-spec =
     begin-requires
     enum-known-stage
     refused-line-requires
-    put-line-requires
+    put-requires
     enum-told-2
     turn-requires
     enum-known-stage-2
     reason-requires
     enum-told-3
     end-line-requires
-    put-line-requires-2
+    put-requires-2
     enum-told-4
     same-length
     returns-2

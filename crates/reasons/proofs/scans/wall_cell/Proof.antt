@@ -1,33 +1,39 @@
--- One direction after another.
+-- One direction after another: `d` of the four are written.
 use mathlib.Core.Path.{_≡_}
 use mathlib.Core.List.{List}
-use Prim.Native.Nat.{ℕ, _+_, _<_, _≤_}
-use native.Mathlib.Omega.{arith}
-use borrow.Author.Needs.{needs}
+use Prim.Native.Nat.{ℕ, _+_, _-_, _<_, _≤_}
 use lib.ListN.{length}
-use Rattle.lists.specs.WroteLaws.{loop-none, loop-more}
-use Rattle.lists.specs.UpTo.{upTo}
+use Rattle.groups.specs.Grouping.{numbersIn}
 use Rattle.rules.specs.declared.Side.the-variants.{Wall}
 use Rattle.rules.specs.declared.Literal.{Literal}
 use Rattle.laws.specs.FlatLaws.{counts, OnPage, row-of}
-use Rattle.groups.specs.Grouping.{numbersIn}
 use Rattle.reasons.specs.Memory.{Wrote}
 use Rattle.reasons.specs.Arrays.{scanTo, scanAt}
-use Rattle.reasons.specs.MemoryLaws.{loop-fits}
+use Rattle.reasons.specs.MemoryLaws.{loop-none, loop-more, loop-fits, loop-end, wrote-length}
 use Rattle.reasons.specs.ScanLaws.{scan-walls}
+use native.Mathlib.Omega.{arith}
+use Rattle.lists.specs.UpTo.{upTo}
 use Rattle.reasons.proofs.scans.wall_cell.Statement.{statement}
 use Rattle.reasons.proofs.scans.wall_cell.Tie as tie
 
-row : (s : tie.Start) → OnPage (s .args .h) (s .args .w) (s .args .c)
+abbrev Inv-loop : tie.InvT-loop
+Inv-loop memory₀ from h w colours borders grouping same flagged c y x at₀ d₀ memory at d =
+    (d ≤ 4)
+    × Wrote memory₀ from (upTo (scanTo h w colours borders (numbersIn grouping) Wall same flagged c) d) memory at
+
+abbrev μ-loop : tie.MeasureT-loop
+μ-loop memory₀ from h w colours borders grouping same flagged c y x at₀ d₀ memory at d = 4 - d
+
+row : (s : tie.Start Inv-loop μ-loop) → OnPage (s .args .h) (s .args .w) (s .args .c)
 row s = row-of _ _ _ (s .pre .4)
 
-abbrev at : tie.Start → ℕ → List Literal
+abbrev at : tie.Start Inv-loop μ-loop → ℕ → List Literal
 at s =
     let a = s .args in
     scanTo (a .h) (a .w) (a .colours .now) (a .borders .now) (numbersIn (a .grouping .now)) Wall (a .same)
     (a .flagged .now) (a .c)
 
-whole : (s : tie.Start) →
+whole : (s : tie.Start Inv-loop μ-loop) →
     let a = s .args in
     scanAt (a .h) (a .w) (a .colours .now) (a .borders .now) (numbersIn (a .grouping .now)) Wall (a .same)
     (a .flagged .now) (a .c)
@@ -37,119 +43,63 @@ whole s =
     scan-walls (a .h) (a .w) (a .colours .now) (a .borders .now) (numbersIn (a .grouping .now)) (a .same)
     (a .flagged .now) (a .c)
 
-start : (s : tie.Start) → let a = s .args in Wrote (a .memory .now) (a .from) (upTo (at s) 0) (a .memory .now) (a .from)
-start s = loop-none (at s)
-
-room : (s : tie.Start) → s .args .from + length (upTo (at s) 4) ≤ length (s .args .memory .now)
-room s = rw (whole s) at (s .pre .5)
-
-div-y : tie.Need-div-y
+div-y : tie.Need-div-y Inv-loop μ-loop
 div-y c = row (c .before) .broad
 
-rem-x : tie.Need-rem-x
+rem-x : tie.Need-rem-x Inv-loop μ-loop
 rem-x c = row (c .before) .broad
 
-few : (s : tie.Start) → s .args .c < 1024
-few s = omega (arith, counts (s .pre .0), s .pre .4)
+loop-holds : tie.Need-loop-holds Inv-loop μ-loop
+loop-holds c = (omega arith, loop-none _)
 
-beside-requires : tie.Need-beside-requires
+beside-requires : tie.Need-beside-requires Inv-loop μ-loop
 beside-requires c κs =
-    let s = c .before in (s .pre .0, row s .row, row s .column, row s .same)
-
-beside-requires-2 : tie.Need-beside-requires-2
-beside-requires-2 c κs =
-    let s = c .before .before in (s .pre .0, row s .row, row s .column, row s .same)
-
-beside-requires-3 : tie.Need-beside-requires-3
-beside-requires-3 c κs =
     let s = c .before .before .before in (s .pre .0, row s .row, row s .column, row s .same)
 
-beside-requires-4 : tie.Need-beside-requires-4
-beside-requires-4 c κs =
-    let s = c .before .before .before .before in (s .pre .0, row s .row, row s .column, row s .same)
-
-wall-hop-requires : tie.Need-wall-hop-requires
+wall-hop-requires : tie.Need-wall-hop-requires Inv-loop μ-loop
 wall-hop-requires c κs =
-    let n = c .before in
-    let s = n .before .before .before .before .before in
-    let fits = loop-fits (at s) 0 (start s) 4 (omega arith) (room s) in
-    let p = n .before .before .before .beside .ensures in
-    (s .pre .1, s .pre .2, s .pre .3, few s, λ t. p .near t .fits, rw (p .is) fits)
+    let s = c .before .before .before .before .before in
+    let l = c .before .before .before .loop in
+    let n = c .before .beside .ensures in
+    let few : s .args .c < 1024 = omega (arith, counts (s .pre .0), s .pre .4) in
+    let fits = loop-fits (at s) (l .d) (l .inv .1) 4 (omega arith) (rw (whole s) at (s .pre .5)) in
+    (s .pre .1, s .pre .2, s .pre .3, few, λ t. n .near t .fits, rw (n .is) fits)
 
-wall-hop-requires-2 : tie.Need-wall-hop-requires-2
-wall-hop-requires-2 c κs =
-    let v1 = c .before .before .before in
-    let n = v1 .before .before in
-    let s = n .before .before .before .before .before in
-    let one = loop-more (at s) 0 (start s)
-    (rw (n .before .before .before .beside .ensures .is) at (v1 .wall-hop .ensures)) in
-    let fits = loop-fits (at s) 1 one 4 (omega arith) (room s) in
-    let p = n .before .before .beside2 .ensures in
-    (s .pre .1, s .pre .2, s .pre .3, few s, λ t. p .near t .fits, rw (p .is) fits)
+add-d : tie.Need-add-d Inv-loop μ-loop
+add-d c = omega arith
 
-wall-hop-requires-3 : tie.Need-wall-hop-requires-3
-wall-hop-requires-3 c κs =
-    let v2 = c .before .before .before in
-    let v1 = v2 .before .before .before .before in
-    let n = v1 .before .before in
-    let s = n .before .before .before .before .before in
-    let one = loop-more (at s) 0 (start s)
-    (rw (n .before .before .before .beside .ensures .is) at (v1 .wall-hop .ensures)) in
-    let two = loop-more (at s) 1 one
-    (rw (n .before .before .beside2 .ensures .is) at (v2 .wall-hop2 .ensures)) in
-    let fits = loop-fits (at s) 2 two 4 (omega arith) (room s) in
-    let p = n .before .beside3 .ensures in
-    (s .pre .1, s .pre .2, s .pre .3, few s, λ t. p .near t .fits, rw (p .is) fits)
+loop-less : tie.Need-loop-less Inv-loop μ-loop
+loop-less c = omega arith
 
-wall-hop-requires-4 : tie.Need-wall-hop-requires-4
-wall-hop-requires-4 c κs =
-    let v3 = c .before .before .before in
-    let v2 = v3 .before .before .before .before in
-    let v1 = v2 .before .before .before .before in
-    let n = v1 .before .before in
-    let s = n .before .before .before .before .before in
-    let one = loop-more (at s) 0 (start s)
-    (rw (n .before .before .before .beside .ensures .is) at (v1 .wall-hop .ensures)) in
-    let two = loop-more (at s) 1 one
-    (rw (n .before .before .beside2 .ensures .is) at (v2 .wall-hop2 .ensures)) in
-    let three = loop-more (at s) 2 two
-    (rw (n .before .beside3 .ensures .is) at (v3 .wall-hop3 .ensures)) in
-    let fits = loop-fits (at s) 3 three 4 (omega arith) (room s) in
-    let p = n .beside4 .ensures in
-    (s .pre .1, s .pre .2, s .pre .3, few s, λ t. p .near t .fits, rw (p .is) fits)
+loop-again : tie.Need-loop-again Inv-loop μ-loop
+loop-again c =
+    let s = c .before .before .before .before .before .before .before .before in
+    let l = c .before .before .before .before .before .before .loop in
+    let n = c .before .before .before .before .beside .ensures in
+    (omega arith, loop-more (at s) (l .d) (l .inv .1) (rw (n .is) at (c .before .before .wall-hop .ensures)))
 
-same-length : tie.Need-same-length
-same-length c = search needs
+same-length : tie.Need-same-length Inv-loop μ-loop
+same-length c = wrote-length (c .before .loop .inv .1)
 
-returns : tie.Need-returns
+returns : tie.Need-returns Inv-loop μ-loop
 returns c =
-    let v4 = c .before .before in
-    let v3 = v4 .before .before .before .before in
-    let v2 = v3 .before .before .before .before in
-    let v1 = v2 .before .before .before .before in
-    let n = v1 .before .before in
-    let s = n .before .before .before .before .before in
-    let one = loop-more (at s) 0 (start s)
-    (rw (n .before .before .before .beside .ensures .is) at (v1 .wall-hop .ensures)) in
-    let two = loop-more (at s) 1 one
-    (rw (n .before .before .beside2 .ensures .is) at (v2 .wall-hop2 .ensures)) in
-    let three = loop-more (at s) 2 two
-    (rw (n .before .beside3 .ensures .is) at (v3 .wall-hop3 .ensures)) in
-    rw (whole s) (loop-more (at s) 3 three (rw (n .beside4 .ensures .is) at (v4 .wall-hop4 .ensures)))
+    let s = c .before .before .before in
+    let l = c .before .loop in
+    rw (whole s) (loop-end (at s) (l .d) (l .inv .1) 4 (omega arith) (omega arith))
 
 pub wall-cell-spec : {M : Type 1} → statement M
 wall-cell-spec =
     tie.close
     (tie.spec
+    Inv-loop
+    μ-loop
     div-y
     rem-x
+    loop-holds
     beside-requires
-    beside-requires-2
-    beside-requires-3
-    beside-requires-4
     wall-hop-requires
-    wall-hop-requires-2
-    wall-hop-requires-3
-    wall-hop-requires-4
+    add-d
+    loop-less
+    loop-again
     same-length
     returns)
