@@ -1,7 +1,10 @@
 // Answers as bytes: the lines of the page program's output, and the literals of a reason, as many at a time as a lent
 // buffer takes.
-ghost use Prim.Native.Nat.{_+_, _<_, _≤_};
+ghost use Prim.Native.Nat.{_+_, _%_, _<_, _≤_};
+ghost use mathlib.Core.Path.{_≡_};
+ghost use mathlib.Core.Bool.{cond};
 ghost use mathlib.Core.List.{[], _∷_, _++_};
+ghost use lib.Dec.{eqb};
 ghost use lib.ListN.{length};
 ghost use Rattle.rules.specs.Check.{pass};
 ghost use Rattle.rules.specs.Book.{refused, answered};
@@ -117,6 +120,16 @@ pub fn end_line() -> Line
     word_line(b")\n")
 }
 
+// The letter of the side of the literal that reason memory holds as `code`: w for wall, o for open.
+fn side_letter(code: usize) -> u8
+    ensures { λ r. ⌜ r ≡ cond (eqb (code % 2) 1) 119 111 ⌝ }
+{
+    if code % 2 == 1 {
+        return 119;
+    }
+    111
+}
+
 // A space and the literal that reason memory holds as `code`.
 pub fn literal_text(code: u16) -> Line
     ensures { λ r. ⌜ LineHolds r (codeText code) ⌝ }
@@ -128,10 +141,7 @@ pub fn literal_text(code: u16) -> Line
     let a = with_byte(start, 32);
     let k = code as usize;
     let b = with_number(a, k / 2);
-    if k % 2 == 1 {
-        return with_byte(b, 119);
-    }
-    with_byte(b, 111)
+    with_byte(b, side_letter(k))
 }
 
 // The line's bytes, written into `out` from `at` on: the place after them. No other byte changes.
