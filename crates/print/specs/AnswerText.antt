@@ -16,8 +16,8 @@ use Rattle.rules.specs.declared.Side.the-variants.{Wall, Open}
 use Rattle.rules.specs.declared.Literal.{Literal}
 use Rattle.rules.specs.Check.{pass, conflict}
 use Rattle.rules.specs.Book.{Reply, refused, done, answered}
-use Rattle.page.specs.Parsers.{Parser, also, onto, lead, followed, either, mapR, rep, strip, number, numberOn}
-use Rattle.page.specs.Parsers.{give, mayFollow}
+use Rattle.page.specs.Parsers.{Parser, also, onto, lead, followed, either, mapR, rep, strip, number, numberOn, give}
+use Rattle.page.specs.Parsers.{mayFollow}
 use Rattle.page.specs.Grammar.{bracket, newline, endWord}
 use Rattle.page.specs.Decimal.{decimal}
 use Rattle.page.specs.PageText.{counted, Count}

@@ -27,9 +27,9 @@ use Rattle.board.specs.ConditionLaws.{size-is, cells-of}
 use Rattle.page.specs.declared.Clue.{Clue}
 use Rattle.page.specs.Grammar.{Sheet}
 use Rattle.page.specs.Judge.{accepted, judgementOf, low, cluesLow, coloursOf, clueOn, cluesOf}
-use Rattle.page.specs.PageTheorem as pages
 use Rattle.page.specs.PuzzleLaws.{colours-low}
 use Rattle.transcript.specs.Left.{startBoard, boardAt}
+use Rattle.page.specs.PageTheorem as pages
 
 -- the bounds of a page's clue, where no clue is above most
 pub record Clued (most : ℕ) (k : ℤ) : Type 0 where

@@ -34,7 +34,6 @@ use Rattle.board.specs.Alien.{cellsOf}
 use Rattle.board.specs.Board.{numberOf, zeroBoard}
 use Rattle.board.specs.Accepted.{madeBoard}
 use Rattle.calls.specs.declared.Answer.{Answer}
-use Rattle.calls.specs.declared.Answer.the-variants as answer
 use Rattle.calls.specs.Answers.{told, callOf, callMemory}
 use Rattle.page.specs.Grammar.{Sheet, endWord, call}
 use Rattle.page.specs.Judge.{Judgement, rejected, accepted, judgementOf, coloursOf, cluesOf, colourArray, clueArray}
@@ -44,6 +43,7 @@ use Rattle.print.specs.Answers.{answersWord, conflictWord, showReply, codeText}
 use Rattle.transcript.specs.declared.Stage.{Stage}
 use Rattle.transcript.specs.declared.Stage.the-variants.{Begin, Refused, Calls, Reason, Last, Over}
 use Rattle.transcript.specs.declared.Run.{Run}
+use Rattle.calls.specs.declared.Answer.the-variants as answer
 
 unfoldable pub startBoard : Sheet → Board
 startBoard p = madeBoard (p .height) (p .width) (coloursOf p) (cluesOf p)

@@ -34,7 +34,6 @@ use Rattle.board.specs.Board.{numberOf, decideOf, undoOf}
 use Rattle.board.specs.View.{puzzleOf, statesOf}
 use Rattle.calls.specs.declared.Answer.{Answer}
 use Rattle.calls.specs.declared.Stepped.{Stepped}
-use Rattle.calls.specs.declared.Answer.the-variants as answer
 use Rattle.calls.specs.Answers.{literalOf, reasonIn, told, asAnswer, checkAnswer, ended, callOf, callMemory}
 use Rattle.calls.specs.CallLaws.{reason-short}
 use Rattle.page.specs.declared.Parts.{Parts}
@@ -55,9 +54,10 @@ use Rattle.transcript.specs.declared.Stage.{Stage}
 use Rattle.transcript.specs.declared.Stage.the-variants.{Refused, Calls, Reason, Last, Over}
 use Rattle.transcript.specs.declared.Run.{Run}
 use Rattle.transcript.specs.Left.{boardAt, callsText, judgedText, literalsText, lineOf, stageOf, goesOn}
-use Rattle.transcript.specs.Left.{linesFrom, leftAt, left, stepsAt, steps, Goes, Next}
-use Rattle.transcript.specs.Left.{firstMemory, memoryAt, memoryNext}
+use Rattle.transcript.specs.Left.{linesFrom, leftAt, left, stepsAt, steps, Goes, Next, firstMemory, memoryAt}
+use Rattle.transcript.specs.Left.{memoryNext}
 use Rattle.transcript.specs.BoardLaws.{page-board}
+use Rattle.calls.specs.declared.Answer.the-variants as answer
 
 pub put-goes : (s : List ℕ) (r : Run) {line : Line} {ds text m before out : List ℕ} {most : ℕ} → LineHolds line ds
     → Written before 0 (textOf line) out (r .count) → 32 ≤ length before → ds ++ left s r m ≡ text

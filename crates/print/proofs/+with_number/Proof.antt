@@ -1,20 +1,20 @@
 -- `with_number` meets its contract: the last digit after the number's tenth; n falls.
 use mathlib.Core.Path.{ap}
+use Prim.Native.Nat.{ℕ, _<_}
 use native.Mathlib.Omega.{arith}
 use borrow.Author.Needs.{needs}
+use borrow.Fn.Kinds.{In, Out}
+use borrow.Fn.PlainCycle.{Measures, is, falls, and}
 use lib.ListN.{length}
 use Rattle.page.specs.NumberText.{decimal-one}
 use Rattle.print.specs.Lines.{decimal-last, decimal-long, written-more}
-use Prim.Native.Nat.{ℕ, _<_}
-use borrow.Fn.Kinds.{In, Out}
-use borrow.Fn.PlainCycle.{Measures, is, falls, and}
+use Rattle.print.proofs.+with_number.{statement}
+use Rattle.print.proofs.+with_number.Tie.{close}
 use Rattle.print.proofs.with_number.Reads as reads
 use Rattle.print.proofs.with_number.Kinds as kinds
 use Rattle.print.proofs.with_byte.Reads as byte-reads
 use Rattle.print.proofs.with_byte.Kinds as byte-kinds
 use Rattle.print.proofs.+with_number.Lts-with_number as lts
-use Rattle.print.proofs.+with_number.{statement}
-use Rattle.print.proofs.+with_number.Tie.{close}
 
 abbrev μ : Measures 0 kinds.ps ℕ
 μ κs a = a .1 .0

@@ -1,9 +1,9 @@
 -- `literal_text` meets its contract: a space, the border and the side's letter.
 use Prim.Native.Nat.{_/_}
+use native.Mathlib.Omega.{arith}
+use borrow.Author.Needs.{needs}
 use Rattle.print.specs.Answers.{codeText}
 use Rattle.print.specs.Lines.{holds-more, decimal-16}
-use borrow.Author.Needs.{needs}
-use native.Mathlib.Omega.{arith}
 use Rattle.print.proofs.literal_text.Statement.{statement}
 use Rattle.print.proofs.literal_text.Tie as tie
 

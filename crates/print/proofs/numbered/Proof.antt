@@ -1,8 +1,8 @@
 -- `numbered` meets its contract: the three parts follow each other, 31 bytes at most.
+use native.Mathlib.Omega.{arith}
+use borrow.Author.Needs.{needs}
 use Rattle.page.specs.Decimal.{decimal}
 use Rattle.print.specs.Lines.{holds-more, holds-as, decimal-64, numbered-text}
-use borrow.Author.Needs.{needs}
-use native.Mathlib.Omega.{arith}
 use Rattle.print.proofs.numbered.Statement.{statement}
 use Rattle.print.proofs.numbered.Tie as tie
 

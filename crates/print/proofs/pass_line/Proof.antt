@@ -1,6 +1,6 @@
 -- `pass_line` meets its contract: the word is that of a pass.
-use Rattle.print.specs.Answers.{showReply}
 use borrow.Author.Needs.{needs}
+use Rattle.print.specs.Answers.{showReply}
 use Rattle.print.proofs.pass_line.Statement.{statement}
 use Rattle.print.proofs.pass_line.Tie as tie
 

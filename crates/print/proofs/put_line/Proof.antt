@@ -1,10 +1,10 @@
 -- `put_line` meets its contract, byte by byte.
+use mathlib.Core.Path.{_≡_}
 use Prim.Native.Nat.{_+_, _-_, _≤_}
-use Rattle.print.specs.Lines.{Written, written-length, line-none, line-more, line-written}
+use native.Mathlib.Omega.{arith}
 use borrow.Author.Needs.{needs}
 use lib.ListN.{length, take}
-use mathlib.Core.Path.{_≡_}
-use native.Mathlib.Omega.{arith}
+use Rattle.print.specs.Lines.{Written, written-length, line-none, line-more, line-written}
 use Rattle.print.proofs.put_line.Statement.{statement}
 use Rattle.print.proofs.put_line.Tie as tie
 

@@ -1,9 +1,9 @@
 -- `put_literals` meets its contract, literal by literal.
 use Prim.Native.Nat.{_-_}
+use native.Mathlib.Omega.{arith}
+use borrow.Author.Needs.{needs}
 use Rattle.print.specs.Lines.{written-length}
 use Rattle.print.specs.Chunks.{Putting, putting-none, putting-more, putting-stop}
-use borrow.Author.Needs.{needs}
-use native.Mathlib.Omega.{arith}
 use Rattle.print.proofs.put_literals.Statement.{statement}
 use Rattle.print.proofs.put_literals.Tie as tie
 

@@ -1,6 +1,6 @@
 -- `refused_line` meets its contract: the word is that of a refusal.
-use Rattle.print.specs.Answers.{showReply}
 use borrow.Author.Needs.{needs}
+use Rattle.print.specs.Answers.{showReply}
 use Rattle.print.proofs.refused_line.Statement.{statement}
 use Rattle.print.proofs.refused_line.Tie as tie
 

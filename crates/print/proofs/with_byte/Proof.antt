@@ -1,6 +1,6 @@
 -- `with_byte` meets its contract: the byte is stored at the count.
-use Rattle.print.specs.Lines.{written-byte}
 use borrow.Author.Needs.{needs}
+use Rattle.print.specs.Lines.{written-byte}
 use Rattle.print.proofs.with_byte.Statement.{statement}
 use Rattle.print.proofs.with_byte.Tie as tie
 

@@ -1,10 +1,10 @@
 -- `with_word` meets its contract, byte by byte.
 use Prim.Native.Nat.{_-_, _≤_}
-use Rattle.print.specs.Lines.{Longer, written-none, written-word, written-end}
+use native.Mathlib.Omega.{arith}
 use borrow.Author.Needs.{needs}
 use lib.ListN.{length, take}
 use lib.Seq.{length-take-le}
-use native.Mathlib.Omega.{arith}
+use Rattle.print.specs.Lines.{Longer, written-none, written-word, written-end}
 use Rattle.print.proofs.with_word.Statement.{statement}
 use Rattle.print.proofs.with_word.Tie as tie
 

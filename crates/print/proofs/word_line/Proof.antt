@@ -1,6 +1,6 @@
 -- `word_line` meets its contract: a line that grew out of nothing holds what was added.
-use borrow.Author.Needs.{needs}
 use native.Mathlib.Omega.{arith}
+use borrow.Author.Needs.{needs}
 use Rattle.print.proofs.word_line.Statement.{statement}
 use Rattle.print.proofs.word_line.Tie as tie
 

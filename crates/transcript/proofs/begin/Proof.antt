@@ -3,12 +3,12 @@ use mathlib.Core.Path.{ap}
 use mathlib.Core.List.{List, _++_}
 use Prim.Native.Nat.{ℕ}
 use native.Mathlib.Omega.{arith}
+use borrow.Author.Needs.{needs}
 use Rattle.page.specs.Places.{judgedOf}
 use Rattle.page.specs.ParserLaws.{told-same}
 use Rattle.print.specs.Answers.{answersWord}
 use Rattle.transcript.specs.Left.{leftAt, stepsAt}
 use Rattle.transcript.specs.LeftLaws.{put-goes, refused-left, accepted-left}
-use borrow.Author.Needs.{needs}
 use Rattle.transcript.proofs.begin.Statement.{statement}
 use Rattle.transcript.proofs.begin.Tie as tie
 

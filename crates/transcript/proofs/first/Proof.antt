@@ -1,8 +1,8 @@
 -- `first` meets its contract: its board is the all-zero one.
 use mathlib.Core.Path.{ap}
+use borrow.Author.Needs.{needs}
 use Rattle.board.specs.declared.Board.{Board}
 use Rattle.transcript.specs.declared.Stage.the-variants.{Begin}
-use borrow.Author.Needs.{needs}
 use Rattle.transcript.proofs.first.Statement.{statement}
 use Rattle.transcript.proofs.first.Tie as tie
 

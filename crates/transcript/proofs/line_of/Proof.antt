@@ -2,9 +2,9 @@
 use mathlib.Core.Path.{sym, ap}
 use mathlib.Core.List.{[]}
 use native.Mathlib.Omega.{arith}
+use borrow.Author.Needs.{needs}
 use Rattle.print.specs.Lines.{LineHolds, start, written-none, holds-as}
 use Rattle.transcript.specs.Left.{lineOf}
-use borrow.Author.Needs.{needs}
 use Rattle.transcript.proofs.line_of.Statement.{statement}
 use Rattle.transcript.proofs.line_of.Tie as tie
 

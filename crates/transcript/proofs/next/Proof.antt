@@ -1,9 +1,9 @@
 -- `next` meets its contract, stage by stage.
 use mathlib.Core.Path.{refl}
+use borrow.Author.Needs.{needs}
 use Rattle.transcript.specs.Left.{leftAt, stepsAt, memoryAt}
 use Rattle.transcript.specs.declared.Stage.the-variants.{Begin, Refused, Calls, Reason, Last}
 use Rattle.transcript.specs.LeftLaws.{next-goes, next-short, next-over}
-use borrow.Author.Needs.{needs}
 use Rattle.transcript.proofs.next.Statement.{statement}
 use Rattle.transcript.proofs.next.Tie as tie
 

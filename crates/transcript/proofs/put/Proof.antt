@@ -1,8 +1,8 @@
 -- `put` meets its contract: the line is the chunk.
 use mathlib.Core.Path.{refl}
 use native.Mathlib.Omega.{arith}
-use Rattle.transcript.specs.LeftLaws.{put-goes}
 use borrow.Author.Needs.{needs}
+use Rattle.transcript.specs.LeftLaws.{put-goes}
 use Rattle.transcript.proofs.put.Statement.{statement}
 use Rattle.transcript.proofs.put.Tie as tie
 

@@ -1,6 +1,6 @@
 -- `reason` meets its contract: some literals more, or the end of the line.
-use Rattle.transcript.specs.LeftLaws.{reason-more, reason-end}
 use borrow.Author.Needs.{needs}
+use Rattle.transcript.specs.LeftLaws.{reason-more, reason-end}
 use Rattle.transcript.proofs.reason.Statement.{statement}
 use Rattle.transcript.proofs.reason.Tie as tie
 

@@ -1,10 +1,10 @@
 -- `refusal` meets its contract: the number of the outcome, in its line.
 use mathlib.Core.Path.{ap}
 use Prim.Native.Nat.{ℕ}
+use borrow.Author.Needs.{needs}
 use Rattle.rules.specs.Book.{refused}
 use Rattle.print.specs.Answers.{showReply}
 use Rattle.print.specs.Lines.{holds-as}
-use borrow.Author.Needs.{needs}
 use Rattle.transcript.proofs.refusal.Statement.{statement}
 use Rattle.transcript.proofs.refusal.Tie as tie
 

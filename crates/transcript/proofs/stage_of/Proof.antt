@@ -1,7 +1,7 @@
 -- `stage_of` meets its contract, answer by answer.
 use mathlib.Core.Path.{sym, ap}
-use Rattle.transcript.specs.Left.{stageOf}
 use borrow.Author.Needs.{needs}
+use Rattle.transcript.specs.Left.{stageOf}
 use Rattle.transcript.proofs.stage_of.Statement.{statement}
 use Rattle.transcript.proofs.stage_of.Tie as tie
 

@@ -1,8 +1,8 @@
 -- `turn` meets its contract: no call is left, or the call's line begins.
+use borrow.Author.Needs.{needs}
 use Rattle.page.specs.Places.{gotCall}
 use Rattle.page.specs.ParserLaws.{told-same}
 use Rattle.transcript.specs.LeftLaws.{turn-end, turn-goes}
-use borrow.Author.Needs.{needs}
 use Rattle.transcript.proofs.turn.Statement.{statement}
 use Rattle.transcript.proofs.turn.Tie as tie
 
