@@ -41,7 +41,7 @@ lift-odd true base k l h = let d = l .down refl in omega arith
 lift-odd false base k l h = omega arith
 
 -- an array of raised coordinates spells the transform
-module _ (swap r c : Bool) (y x : ℕ) (down across : List ℕ) (n : ℕ) (t : Turnable swap r c y x down across n)
+module _ {swap r c : Bool} {y x : ℕ} {down across : List ℕ} {n : ℕ} (t : Turnable swap r c y x down across n)
     (a : List ℕ)
     (rows : (i : ℕ) → i < n → getD (ysIn a) i 0 ≡ liftOf r y (getD (cond swap across down) i 0))
     (columns : (i : ℕ) → i < n → getD (xsIn a) i 0 ≡ liftOf c x (getD (cond swap down across) i 0)) where
