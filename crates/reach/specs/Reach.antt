@@ -174,6 +174,20 @@ run-last : {a b d : Board} {ms : List Move} (m : Move) → Leads a ms b → move
 run-last m stop e = next e stop
 run-last m (next f r) e = next f (run-last m r e)
 
+reached-more : {b d : Board} (m : Move) → Reached b → moveOf b m ≡ returned Done d → Reached d
+reached-more m r e =
+    record {
+      height = r .height;
+      width = r .width;
+      colours = r .colours;
+      clues = r .clues;
+      small = r .small;
+      start = r .start;
+      accepted = r .accepted;
+      moves = r .moves ++ (m ∷ []);
+      run = run-last m (r .run) e;
+    }
+
 pub produced-reached : (b : Board) → Produced b → Reached b
 produced-reached b (made h w cs ks _ s e) =
     record {
@@ -187,32 +201,8 @@ produced-reached b (made h w cs ks _ s e) =
       moves = [];
       run = stop;
     }
-produced-reached b (afterDecide c l _ p e) =
-    let r = produced-reached c p in
-    record {
-      height = r .height;
-      width = r .width;
-      colours = r .colours;
-      clues = r .clues;
-      small = r .small;
-      start = r .start;
-      accepted = r .accepted;
-      moves = r .moves ++ (decide l ∷ []);
-      run = run-last (decide l) (r .run) e;
-    }
-produced-reached b (afterUndo c _ p e) =
-    let r = produced-reached c p in
-    record {
-      height = r .height;
-      width = r .width;
-      colours = r .colours;
-      clues = r .clues;
-      small = r .small;
-      start = r .start;
-      accepted = r .accepted;
-      moves = r .moves ++ (undo ∷ []);
-      run = run-last undo (r .run) e;
-    }
+produced-reached b (afterDecide c l _ p e) = reached-more (decide l) (produced-reached c p) e
+produced-reached b (afterUndo c _ p e) = reached-more undo (produced-reached c p) e
 
 run-produced : {a b : Board} {ms : List Move} → Produced a → Leads a ms b → Produced b
 run-produced p stop = p
