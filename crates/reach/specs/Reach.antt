@@ -18,15 +18,15 @@ use Rattle.rules.specs.declared.Literal.{Literal}
 use Rattle.rules.specs.Codes.{codeOf}
 use Rattle.board.specs.declared.Board.{Board}
 use Rattle.board.specs.declared.Outcome.the-variants.{Done}
-use Rattle.board.specs.Alien.{coloursRight, clueRight, cluesRight, stacked, cellCountOf, borderCountOf}
-use Rattle.board.specs.Alien.{boardOf, boardWith, isAlien}
+use Rattle.board.specs.Alien.{coloursRight, clueRight, cluesRight, stacked, cellCountOf, borderCountOf, boardOf}
+use Rattle.board.specs.Alien.{boardWith, isAlien}
 use Rattle.board.specs.Board.{freshBoard, returned, pushed, freshOf, decideOf, SmallClues, Typed}
 use Rattle.board.specs.View.{sideIn}
 use Rattle.board.specs.ConditionLaws.{size-is, stacked-none}
 use Rattle.board.specs.Cases.{fresh-done, decide-done}
 use Rattle.board.specs.NativeLaws.{Native, native-has, native-of, cells-fit, borders-fit}
-use Rattle.board.specs.DecideLaws.{poppedAt, popped-native, popped-typed, decide-keeps, undo-keeps}
-use Rattle.board.specs.DecideLaws.{decided-typed, undone-typed}
+use Rattle.board.specs.DecideLaws.{poppedAt, popped-native, popped-typed, decide-keeps, undo-keeps, decided-typed}
+use Rattle.board.specs.DecideLaws.{undone-typed}
 use Rattle.board.specs.FreshLaws.{made-is, made-keeps, made-typed}
 use Rattle.board.specs.ViewLaws.{entry-held, code-small}
 use Rattle.reach.specs.Produced.{Produced, made, afterDecide, afterUndo, Move, decide, undo, moveOf, Leads, stop}

@@ -3,7 +3,7 @@ use mathlib.Core.Path.{_≡_}
 use mathlib.Core.List.{List}
 use Prim.Native.Nat.{ℕ, _-_, _<_, _≤_}
 use native.Mathlib.Omega.{arith}
-use Rattle.lists.specs.WroteLaws.{loop-none, loop-more, loop-end}
+use Rattle.lists.specs.WroteLaws.{wrote-length, loop-none, loop-more, loop-end}
 use Rattle.lists.specs.UpTo.{upTo}
 use Rattle.rules.specs.declared.Side.the-variants.{Wall}
 use Rattle.rules.specs.declared.Literal.{Literal}
@@ -11,7 +11,7 @@ use Rattle.laws.specs.FlatLaws.{counts, OnPage, row-of}
 use Rattle.groups.specs.Grouping.{numbersIn}
 use Rattle.reasons.specs.Memory.{Wrote}
 use Rattle.reasons.specs.Arrays.{scanTo, scanAt}
-use Rattle.reasons.specs.MemoryLaws.{loop-fits, wrote-length}
+use Rattle.reasons.specs.MemoryLaws.{loop-fits}
 use Rattle.reasons.specs.ScanLaws.{scan-walls}
 use Rattle.reasons.proofs.scans.wall_cell.Statement.{statement}
 use Rattle.reasons.proofs.scans.wall_cell.Tie as tie
