@@ -16,7 +16,7 @@ use crate::survivors::block_mates;
 use crate::survivors::draw_colours;
 use crate::survivors::draw_places;
 use crate::survivors::survivors;
-use crate::walls::walls_of;
+use crate::unit_walls::walls_of;
 use adjacent::Mates;
 use adjacent::mates_of;
 use board::Board;
@@ -35,7 +35,7 @@ use shapes::list_rows;
 use shapes::turned::turn_row;
 
 mod survivors; // survivors.rt: the origins at which a transform lies on one colour, and the blockers there
-pub mod walls; // walls.rt: the walls of a potential unit, of those adjacent to it, and to the others
+pub mod unit_walls; // unit_walls.rt: the walls of a potential unit, of those adjacent to it, and to the others
 
 // Writes the blockers of the placements of the unit's images by the listed rows, with their origins at the cells of the
 // groups in the list of mates, from the start of the memory; gives the next place. The planes of the colours, the mask

@@ -14,8 +14,8 @@ use Rattle.reasons.specs.Memory.{Wrote}
 use Rattle.reasons.specs.MemoryLaws.{write-fits}
 use Rattle.adjacent.specs.Mates.{mateCount}
 use Rattle.stuck.specs.Writing.{edgesIn}
-use Rattle.stuck.proofs.walls.edges_of.Statement.{statement}
-use Rattle.stuck.proofs.walls.edges_of.Tie as tie
+use Rattle.stuck.proofs.unit_walls.edges_of.Statement.{statement}
+use Rattle.stuck.proofs.unit_walls.edges_of.Tie as tie
 
 abbrev Inv-loop : tie.InvT-loop
 Inv-loop memory₀ start h w colours borders potential mates count at₀ i₀ memory at i =

@@ -2,8 +2,8 @@
 use native.Mathlib.Omega.{arith}
 use borrow.Author.Needs.{needs}
 use Rattle.stuck.specs.Writing.{farIn}
-use Rattle.stuck.proofs.walls.far_walls.Statement.{statement}
-use Rattle.stuck.proofs.walls.far_walls.Tie as tie
+use Rattle.stuck.proofs.unit_walls.far_walls.Statement.{statement}
+use Rattle.stuck.proofs.unit_walls.far_walls.Tie as tie
 
 flags-of-requires : tie.Need-flags-of-requires
 flags-of-requires c κs = search needs

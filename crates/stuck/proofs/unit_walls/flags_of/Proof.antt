@@ -6,8 +6,8 @@ use borrow.Author.Needs.{needs}
 use Rattle.lists.specs.Parts.{part}
 use Rattle.adjacent.specs.Mates.{mateCount}
 use Rattle.stuck.specs.FlagLaws.{Flagged, flagged-none, flagged-more, flagged-all}
-use Rattle.stuck.proofs.walls.flags_of.Statement.{statement}
-use Rattle.stuck.proofs.walls.flags_of.Tie as tie
+use Rattle.stuck.proofs.unit_walls.flags_of.Statement.{statement}
+use Rattle.stuck.proofs.unit_walls.flags_of.Tie as tie
 
 abbrev Inv-loop : tie.InvT-loop
 Inv-loop mates flagged₀ count i₀ flagged i = (i ≤ mateCount mates) × Flagged (part mates 0 i) flagged

@@ -8,8 +8,8 @@ use Rattle.reasons.specs.Arrays.{edgeIn}
 use Rattle.reasons.specs.MemoryLaws.{room-first, room-second, room-third}
 use Rattle.adjacent.specs.Mates.{matesIn}
 use Rattle.stuck.specs.Writing.{edgesIn, farIn, wallsIn}
-use Rattle.stuck.proofs.walls.walls_of.Statement.{statement}
-use Rattle.stuck.proofs.walls.walls_of.Tie as tie
+use Rattle.stuck.proofs.unit_walls.walls_of.Statement.{statement}
+use Rattle.stuck.proofs.unit_walls.walls_of.Tie as tie
 
 -- the three lists
 abbrev own : tie.Start → List Literal
