@@ -1,10 +1,10 @@
--- Arrays: the lists of cells by group that step 1 reads. A part of a list is reasons' `part`, a group's part groups'
+-- Arrays: the lists of cells by group that step 1 reads. A part of a list is lists' `part`, a group's part groups'
 -- `partOf`.
 --
 --   PartListed from to cs   such a part of an array of cell numbers
---   GroupLists cs offs n     a list of the cells of n groups
---   sizeIn offs g       how many cells group g has, from the places where the groups start
---   Parted ids offs     numbers of groups, and places where they start
+--   GroupLists cs offs n    a list of the cells of n groups
+--   sizeIn offs g           how many cells group g has, from the places where the groups start
+--   Parted ids offs         numbers of groups, and places where they start
 use mathlib.Core.Path.{_≡_}
 use mathlib.Core.List.{List}
 use Prim.Native.Nat.{ℕ, _+_, _-_, _<_, _≤_}

@@ -9,7 +9,7 @@
 --   built-after         and so does a list of calls
 --   run-told            the answers of a list of calls are the book's
 --   run-written         the memories afterwards are what the book's answers say
---   after-append, run-append   the board and the run of a list that is followed by another
+--   run-append          the run of a list that is followed by another
 use mathlib.Core.Path.{_≡_, refl, ap, ap₂, sym, _∙_}
 use mathlib.Core.Bool.{Bool, true, false, not, cond}
 use mathlib.Core.List.{List, [], _∷_, _++_, map}

@@ -2,7 +2,7 @@
 --
 --   Low mates            a list of mates, of which each is below 1024
 --   Mated .. mates       each of them is the number of a group
---   flag, flagsOf xs     1 for yes, 0 for no; for each number below 1024 whether it is one of xs
+--   flagsOf xs           for each number below 1024 whether it is one of xs: 1 for yes, 0 for no
 --   edgesIn gs           Edge of each of the groups gs, over the arrays
 --   farIn gs xs          the walls from the cells xs to other-coloured cells whose potential unit is not one of gs
 --   wallsIn              Edge(P), Edge of each adjacent unit, then the walls to units that are not adjacent
