@@ -32,7 +32,7 @@ use Rattle.shapes.specs.PartLaws.{unit-at}
 use Rattle.shapes.specs.Outlines.{cellCount}
 use Rattle.shapes.specs.Spots.{UnitAt}
 use Rattle.adjacent.specs.Mates.{Known, Grouped}
-use Rattle.adjacent.specs.Homes.{Home, UnitIn, Sorted}
+use Rattle.adjacent.specs.Homes.{UnitIn, homeIn, Home, Sorted}
 
 -- the groups of a flat page, by any test of its borders
 module _ {h w : ℕ} (z : Sized h w) (link : ℕ → Bool) where
@@ -212,17 +212,14 @@ module _ {h w : ℕ} {cs bs us ps : List ℕ} (r : Sorted h w cs bs us ps) where
         (omega (arith, rises size own u mine-low, ends size own u mine-low)))
 
     -- the unit's potential unit
-    abbrev home : ℕ
-    home = getD (numbersIn ps) (getD cells (getD offs u 0) 0) 0
-
-    pub home-is : home ≡ potentialOf Z s (getD cells (getD offs u 0) 0)
+    pub home-is : homeIn us ps u ≡ potentialOf Z s (getD cells (getD offs u 0) 0)
     home-is = potential-known .number (getD cells (getD offs u 0) 0) head-low
 
-    pub home-count : home < countIn ps
+    pub home-count : homeIn us ps u < countIn ps
     home-count = rw (potential-grouped .all) (potential-known .below (getD cells (getD offs u 0) 0) head-low)
 
-    pub home-of : Home h w cs bs ps home
-    home-of = home-at home home-count
+    pub home-of : Home h w cs bs ps (homeIn us ps u)
+    home-of = home-at (homeIn us ps u) home-count
 
     pub transforms-are : transformsOf Z s u ≡ flatTransforms (shapeOf (flat h w) (entry ids) u)
     transforms-are =

@@ -1,6 +1,7 @@
 -- Homes: a unit and its potential unit, in the groupings of a page.
 --
 --   UnitIn h w us g     the grouping has a unit g: its part of the list is its cells, at least one
+--   homeIn us ps u      the potential unit of unit u: that of its first cell
 --   Home .. ps p        p is one of the potential units, whose grouping is ps
 --   Sorted .. us ps     the groupings are those of the units and of the potential units
 use mathlib.Core.Path.{_≡_}
@@ -27,6 +28,9 @@ pub record UnitIn (h w : ℕ) (us : List ℕ) (g : ℕ) : Type 0 where
   pub end : getD (startsIn us) (g + 1) 0 ≤ 1024
   pub group : part (cellsIn us) (getD (startsIn us) g 0) (getD (startsIn us) (g + 1) 0)
       ≡ members (flat h w) (entry (numbersIn us)) g
+
+abbrev pub homeIn : List ℕ → List ℕ → ℕ → ℕ
+homeIn us ps u = getD (numbersIn ps) (getD (cellsIn us) (getD (startsIn us) u 0) 0) 0
 
 pub record Home (h w : ℕ) (cs bs ps : List ℕ) (p : ℕ) : Type 0 where
   pub drawn : Drawn h w cs

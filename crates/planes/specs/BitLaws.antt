@@ -1,7 +1,7 @@
 -- Laws of bits: of 0, of shifted words, of a word and a word, of a word or a word; a word is not 0 exactly if it has a
 -- bit.
 use mathlib.Core.Path.{_≡_, refl, ap, ap₂, sym, _∙_}
-use mathlib.Core.Bool.{Bool, true, false, not, _&&_, _||_}
+use mathlib.Core.Bool.{Bool, false, not, _&&_, _||_}
 use mathlib.Core.Logic.{_⊎_, inl, inr, ⊎-elim}
 use Prim.Native.Nat.{ℕ, zero, suc, _+_, _*_, _/_, _%_, _^_, _<_, _≤_, min, max}
 use native.Mathlib.Nat.{not-suc-le-zero, mod-lt, add-comm, lt-of-lt-of-le, div-eq-of-lt, zero-lt-suc, zero-div, div-one}
@@ -15,17 +15,9 @@ use lib.Pow.{pow-mono, shr-shr, pow-lt, shl-shr, shr-lt}
 use lib.Bits.{bitAnd, bitOr, and-step, and-shr, or-step, or-shr, shifted-even, shifted-half}
 use Rattle.lists.specs.Tests.{anyBelow}
 use Rattle.lists.specs.TestLaws.{any-cong, any-first}
-use Rattle.planes.specs.Bits.{bitAt, flag}
-
-pub flag-lt : (b : Bool) → flag b < 2
-unfolding flag
-flag-lt true = omega arith
-flag-lt false = omega arith
-
-eqb-flag : (b : Bool) → eqb (flag b) 1 ≡ b
-unfolding flag
-eqb-flag true = refl
-eqb-flag false = refl
+use Rattle.lists.specs.Count.{bit}
+use Rattle.lists.specs.CountLaws.{bit-under, bit-is}
+use Rattle.planes.specs.Bits.{bitAt}
 
 two : (n : ℕ) → (n % 2 ≡ 0) ⊎ (n % 2 ≡ 1)
 two n = digit (n % 2) (mod-lt n (zero-lt-suc 1))
@@ -110,12 +102,12 @@ bit-low w (suc s) (suc x) h =
     ∙ (ap (λ (n : ℕ). bitAt n x) (shifted-half w s) ∙ bit-low w s x (omega arith))
 
 -- twice a word, and one bitAt more
-pub bit-first : (w : ℕ) (b : Bool) → bitAt (w * 2 + flag b) 0 ≡ b
+pub bit-first : (w : ℕ) (b : Bool) → bitAt (w * 2 + bit b) 0 ≡ b
 bit-first w b =
-    first-odd (w * 2 + flag b) ∙ (ap (λ (n : ℕ). eqb n 1) (digits-mod w (flag-lt b)) ∙ eqb-flag b)
+    first-odd (w * 2 + bit b) ∙ (ap (λ (n : ℕ). eqb n 1) (digits-mod w (bit-under b)) ∙ bit-is b)
 
-pub bit-next : (w : ℕ) (b : Bool) (x : ℕ) → bitAt (w * 2 + flag b) (suc x) ≡ bitAt w x
-bit-next w b x = half-bit (w * 2 + flag b) x ∙ ap (λ (n : ℕ). bitAt n x) (digits-div w (flag-lt b))
+pub bit-next : (w : ℕ) (b : Bool) (x : ℕ) → bitAt (w * 2 + bit b) (suc x) ≡ bitAt w x
+bit-next w b x = half-bit (w * 2 + bit b) x ∙ ap (λ (n : ℕ). bitAt n x) (digits-div w (bit-under b))
 
 -- 2 ^ x has the bitAt x only
 bit-one : (x i : ℕ) → bitAt (1 * 2 ^ x) i ≡ eqb i x

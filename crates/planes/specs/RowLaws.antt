@@ -8,8 +8,10 @@ use borrow.Author.Tests.{lt-ltb, le-ltb}
 use lib.Arith.{digits-lt}
 use lib.Dec.{ltb, leb·suc-suc}
 use lib.Pow.{pow-mono}
-use Rattle.planes.specs.Bits.{bitAt, flag, rowFrom}
-use Rattle.planes.specs.BitLaws.{flag-lt, bit-zero, bit-first, bit-next}
+use Rattle.lists.specs.Count.{bit}
+use Rattle.lists.specs.CountLaws.{bit-under}
+use Rattle.planes.specs.Bits.{bitAt, rowFrom}
+use Rattle.planes.specs.BitLaws.{bit-zero, bit-first, bit-next}
 
 pub row-start : (n : ℕ) (f : ℕ → Bool) → 0 ≡ rowFrom (n - n) n f
 unfolding rowFrom
@@ -23,7 +25,7 @@ row-end n x f h =
 
 -- one turn of the loop, which goes down from z to x
 pub row-more : (n x z : ℕ) (f : ℕ → Bool) → 0 < z → z ≤ n → x ≡ z - 1
-    → rowFrom (n - x) x f ≡ rowFrom (n - z) z f * 2 + flag (f x)
+    → rowFrom (n - x) x f ≡ rowFrom (n - z) z f * 2 + bit (f x)
 unfolding rowFrom
 row-more n x z f p l e =
     let a : n - x ≡ suc (n - z) = omega arith in
@@ -33,7 +35,7 @@ row-more n x z f p l e =
 row-lt : (k x : ℕ) (f : ℕ → Bool) → rowFrom k x f < 2 ^ k
 unfolding rowFrom
 row-lt zero x f = omega arith
-row-lt (suc k) x f = rw pow-suc (digits-lt (row-lt k (suc x) f) (flag-lt (f x)))
+row-lt (suc k) x f = rw pow-suc (digits-lt (row-lt k (suc x) f) (bit-under (f x)))
 
 pub row-fits : (k x : ℕ) (f : ℕ → Bool) → k ≤ 32 → rowFrom k x f < 4294967296
 row-fits k x f l = let h : 2 ^ k ≤ 2 ^ 32 = pow-mono l in omega (arith, row-lt k x f)

@@ -4,13 +4,13 @@ ghost use mathlib.Core.List.{List, [], _∷_, _++_};
 ghost use Prim.Native.Nat.{ℕ, _+_, _-_, _*_, _/_, _%_, _<_, _≤_, _^_};
 ghost use lib.Bits.{bitAnd};
 ghost use lib.ListN.{getD, length, replicate};
+ghost use Rattle.lists.specs.Count.{bit};
 ghost use Rattle.lists.specs.Parts.{part};
 ghost use Rattle.rules.specs.Flat.{Sized};
 ghost use Rattle.groups.specs.Grouping.{cellsIn, startsIn};
 ghost use Rattle.reasons.specs.Arrays.{Cells};
 ghost use Rattle.shapes.specs.Raising.{Raised};
 ghost use Rattle.adjacent.specs.Mates.{matesIn, Beside};
-ghost use Rattle.planes.specs.Bits.{flag};
 ghost use Rattle.planes.specs.Planes.{clearAt, clearRow, lineWord, planesOf};
 ghost use Rattle.planes.specs.Masks.{Masked, Sizes, Span, originsIn, clearWord, lineFits, maskFits};
 use adjacent::Mates;
@@ -38,7 +38,7 @@ fn clear<'a>(
     border: usize,
 ) -> u64
     requires { ⌜ (from < 1024) × (to < 1024) × (border < 1984) ⌝ }
-    ensures { λ r. ⌜ r ≡ flag (clearAt (now (colours .entry)) (now (borders .entry)) from to border) ⌝ }
+    ensures { λ r. ⌜ r ≡ bit (clearAt (now (colours .entry)) (now (borders .entry)) from to border) ⌝ }
 {
     if colours[from] != colours[to] {
         return 0;

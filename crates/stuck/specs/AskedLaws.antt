@@ -4,7 +4,7 @@ use mathlib.Core.List.{List}
 use mathlib.Core.Option.{Option}
 use Prim.Native.Nat.{ℕ, _<_, _≤_}
 use native.Mathlib.Omega.{arith}
-use lib.ListN.{length, getD}
+use lib.ListN.{length}
 use Rattle.rules.specs.Codes.{cluedBy, statesIn, unclued}
 use Rattle.rules.specs.Page.{Puzzle, State}
 use Rattle.rules.specs.Flat.{flat}
@@ -14,7 +14,7 @@ use Rattle.rules.specs.Shapes.{shapeOf}
 use Rattle.rules.specs.Check.{mates, unitReason}
 use Rattle.groups.specs.declared.Kind.the-variants.{Potential}
 use Rattle.groups.specs.Kinds.{joinsIn}
-use Rattle.groups.specs.Grouping.{numbersIn, cellsIn, startIn}
+use Rattle.groups.specs.Grouping.{numbersIn}
 use Rattle.groups.specs.PartLaws.{ids-length}
 use Rattle.groups.specs.Pages.{potentialIn}
 use Rattle.groups.specs.PageLaws.{cells-some, cells-few}
@@ -25,7 +25,7 @@ use Rattle.shapes.specs.Rows.{rowsOf}
 use Rattle.shapes.specs.Spots.{UnitAt}
 use Rattle.shapes.specs.Joints.{OutlineJoined}
 use Rattle.adjacent.specs.Mates.{Gathered}
-use Rattle.adjacent.specs.Homes.{UnitIn, Home}
+use Rattle.adjacent.specs.Homes.{UnitIn, homeIn, Home}
 use Rattle.adjacent.specs.HomeLaws.{units-are, unit-few, unit-in, home-is, home-of, head-of, transforms-are}
 use Rattle.stuck.specs.Writing.{Arranged, Imaged, StuckAt}
 
@@ -49,10 +49,7 @@ module _ {h w : ℕ} {cs bs us ps : List ℕ} {u : ℕ} (q : StuckAt h w cs bs u
   pub stuck-part : UnitIn h w us u
   stuck-part = unit-in (q .ready) u (q .low)
 
-  abbrev pub home : ℕ
-  home = getD (numbersIn ps) (getD (cellsIn us) (startIn us u) 0) 0
-
-  pub at-home : {p : ℕ} → p ≡ home → Home h w cs bs ps p
+  pub at-home : {p : ℕ} → p ≡ homeIn us ps u → Home h w cs bs ps p
   at-home e = rw e (home-of (q .ready) u (q .low))
 
   potential-long : length (numbersIn ps) ≡ 1024
@@ -61,7 +58,7 @@ module _ {h w : ℕ} {cs bs us ps : List ℕ} {u : ℕ} (q : StuckAt h w cs bs u
       let link = joinsIn Potential h w cs bs in
       rw (q .ready .potential .numbers) (ids-length (flat h w) link (cells-some z) (cells-few z))
 
-  pub arranged : {list : List ℕ} {p : ℕ} → p ≡ home → Gathered (mates Z s p) list
+  pub arranged : {list : List ℕ} {p : ℕ} → p ≡ homeIn us ps u → Gathered (mates Z s p) list
       → Arranged h w cs bs us ps list u p
   unfolding entry
   arranged e l =
@@ -94,15 +91,15 @@ module _ {h w : ℕ} {cs bs us ps : List ℕ} {u : ℕ} (q : StuckAt h w cs bs u
       → t ≡ listing (rowsOf (shapeOf (flat h w) (entry (numbersIn us)) u)) → Imaged h w cs bs us o t u
   imaged a j e = record { cells = a; connections = j; rows = e; transforms = transforms-are (q .ready) u (q .low) }
 
-  pub home-in : home ≡ potentialIn Z s u
+  pub home-in : homeIn us ps u ≡ potentialIn Z s u
   unfolding potentialIn
   home-in = home-is (q .ready) u (q .low) ∙ ap (potentialOf Z s) (head-of (q .ready) u (q .low))
 
-  pub room-home : {p : ℕ} (m : ℕ) → p ≡ home → length (unitReason Z s u (potentialIn Z s u)) ≤ m
+  pub room-home : {p : ℕ} (m : ℕ) → p ≡ homeIn us ps u → length (unitReason Z s u (potentialIn Z s u)) ≤ m
       → length (unitReason Z s u p) ≤ m
   room-home m e l = rw (e, home-in) l
 
-  pub home-written : {p : ℕ} (c : ℕ → Option ℕ) {m m′ : List ℕ} {r : ℕ} → p ≡ home
+  pub home-written : {p : ℕ} (c : ℕ → Option ℕ) {m m′ : List ℕ} {r : ℕ} → p ≡ homeIn us ps u
       → Wrote m 0 (unitReason (cluedBy h w cs c) s u p) m′ r
       → Wrote m 0 (unitReason (cluedBy h w cs c) s u (potentialIn (cluedBy h w cs c) s u)) m′ r
   home-written c e x = rw (potential-clue h w cs c s u) (rw (e ∙ home-in) at x)

@@ -3,8 +3,8 @@ use mathlib.Core.Path.{_≡_, refl, ap₂, sym, _∙_}
 use mathlib.Core.Bool.{Bool}
 use Prim.Native.Nat.{ℕ, _+_, _-_, _*_, _≤_, _<_}
 use native.Mathlib.Omega.{arith}
+use Rattle.lists.specs.CountLaws.{bit-under}
 use Rattle.planes.specs.Bits.{rowFrom}
-use Rattle.planes.specs.BitLaws.{flag-lt}
 use Rattle.planes.specs.RowLaws.{row-start, row-end, row-more, row-fits}
 use Rattle.planes.specs.Planes.{clearAt, clearRow}
 use Rattle.planes.proofs.clear_row.Statement.{statement}
@@ -51,7 +51,7 @@ clear-requires c κs = (omega arith, omega arith, omega arith)
 add-acc : tie.Need-add-acc Inv-loop μ-loop
 add-acc c =
     let l = c .before .before in
-    omega (arith, l .loop .inv .2, c .clear .ensures, flag-lt (test (l .before) (l .loop .x - 1)))
+    omega (arith, l .loop .inv .2, c .clear .ensures, bit-under (test (l .before) (l .loop .x - 1)))
 
 loop-less : tie.Need-loop-less Inv-loop μ-loop
 loop-less c = omega arith

@@ -6,8 +6,9 @@ use borrow.Author.Needs.{needs}
 use lib.ListN.{getD, length-replicate}
 use Rattle.laws.specs.FlatLaws.{counts}
 use Rattle.groups.specs.Grouping.{numbersIn, cellsIn}
+use Rattle.adjacent.specs.Homes.{homeIn}
 use Rattle.adjacent.specs.HomeLaws.{unit-part, unit-placed, home-few, home-cells, head-low}
-use Rattle.stuck.specs.AskedLaws.{unit-low, stuck-part, home, at-home, arranged, imaged, room-home, home-written}
+use Rattle.stuck.specs.AskedLaws.{unit-low, stuck-part, at-home, arranged, imaged, room-home, home-written}
 use Rattle.stuck.proofs.write_stuck.Statement.{statement}
 use Rattle.stuck.proofs.write_stuck.Tie as tie
 
@@ -30,7 +31,8 @@ group-of-requires c κs =
     )
 
 -- the unit's potential unit
-home-is : (c : tie.After-group-of) → let s = c .before .before .before .before in c .group-of .result ≡ home (s .pre .0)
+home-is : (c : tie.After-group-of) → let s = c .before .before .before .before .args in
+    c .group-of .result ≡ homeIn (s .units .now) (s .potential .now) (s .u)
 home-is c =
     let s = c .before .before .before .before in
     c .group-of .ensures
