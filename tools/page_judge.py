@@ -1,8 +1,8 @@
 #!/usr/bin/env python3
 """Judges a page by 01's "Page program": `tools/page_judge.py [FILE..]` prints, for each file (or standard input), the
-number that refuses the page (10, 1, 2, 3, 11), or 0 where the page makes a board.
+number that refuses the page (10, 1, 2, 3), or 0 where the page makes a board.
 
-It is written from 01 and docs/DECISIONS.md alone, with regular expressions over the whole input, so that it shares
+It is written from 01, 02 and docs/DECISIONS.md alone, with regular expressions over the whole input, so that it shares
 nothing with the definitions in specs/ and can be run against the page program on any bytes.
 """
 import re
@@ -66,7 +66,7 @@ def read(data):
 def judge(data):
     """The number that refuses the page, or 0."""
     try:
-        height, width, rows, clues, _ = read(data)
+        height, width, rows, _, _ = read(data)
     except Malformed:
         return 10
     if not (1 <= height <= 32 and 1 <= width <= 32):
@@ -75,8 +75,6 @@ def judge(data):
         return 2
     if any(digit not in b"01" for row in rows for digit in row):
         return 3
-    if any(n > height * width // 2 for _, _, n in clues):
-        return 11
     return 0
 
 

@@ -89,23 +89,17 @@ fn line(text: &mut String, answer: &Answer) {
     text.push('\n');
 }
 
-/// What a page of this puzzle and these calls prints; a page refuses a clue above half the cells.
+/// What a page of this puzzle and these calls prints.
 pub fn answers(puzzle: &Puzzle, calls: &[Call], check: &mut Check) -> String {
-    let high = |&clue: &i32| clue > (puzzle.cells() / 2) as i32;
-    if refusal(puzzle).is_none() && puzzle.clues.iter().any(high) {
-        return printed(&Err(11));
-    }
     printed(&book(puzzle, calls, check))
 }
 
-/// Whether a page can spell the puzzle: its colours are digits, and it lists as many clues as
-/// colours, none of them below -1 or above half the cells. A refused puzzle has no clue.
+/// Whether a page can spell the puzzle: it is accepted; or it is refused and has no clue, as many
+/// places for clues as colours, and colours that are digits.
 fn spelled(puzzle: &Puzzle) -> bool {
-    let most = (puzzle.cells() / 2) as i32;
-    let most = if refusal(puzzle).is_some() { -1 } else { most };
-    puzzle.clues.len() == puzzle.colours.len()
-        && puzzle.clues.iter().all(|&clue| -1 <= clue && clue <= most)
-        && puzzle.colours.iter().all(|colour| (0..10).contains(colour))
+    let bare = puzzle.clues == vec![-1; puzzle.colours.len()];
+    let digits = puzzle.colours.iter().all(|colour| (0..10).contains(colour));
+    refusal(puzzle).is_none() || bare && digits
 }
 
 /// The vectors as pages: every list of calls that a page can spell, without the checks that name

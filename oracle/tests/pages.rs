@@ -1,22 +1,10 @@
 //! The sample pages and the pages among the vectors have the answers of the published Rust, or of
 //! the plain check where its source is not there.
 
-use oracle::page::{Board, Literal, Puzzle};
-use oracle::{plain, published, sheet, vectors};
+use oracle::{sheet, vectors};
 use std::{fs, path::Path};
 
 const PAGES: &str = concat!(env!("CARGO_MANIFEST_DIR"), "/../pages");
-
-fn check(puzzle: &Puzzle, decided: &[Literal]) -> Option<Vec<Literal>> {
-    if oracle::SOURCE {
-        return published::check(puzzle, decided);
-    }
-    let board = Board {
-        puzzle: puzzle.clone(),
-        decided: decided.to_vec(),
-    };
-    plain::check(&board).map(|hit| hit.reason)
-}
 
 /// The files of a folder with this ending, without it, in order.
 fn names(folder: &str, end: &str) -> Vec<String> {
@@ -42,7 +30,7 @@ fn the_sample_pages_have_these_answers() {
     assert!(names.len() >= 10);
     for name in names {
         let (page, answers) = (file(PAGES, &name, ".page"), file(PAGES, &name, ".answers"));
-        let refused = ["01", "02", "03", "10", "11"];
+        let refused = ["01", "02", "03", "10"];
         let number = refused
             .iter()
             .find(|n| name.starts_with(&format!("refused-{n}-")));
@@ -51,7 +39,7 @@ fn the_sample_pages_have_these_answers() {
             None => {
                 let (puzzle, calls) = sheet::read(&page);
                 assert_eq!(sheet::page(&puzzle, &calls), page, "{name}");
-                sheet::answers(&puzzle, &calls, &mut check)
+                sheet::answers(&puzzle, &calls, &mut oracle::check)
             }
         };
         assert_eq!(answers, expected, "{name}");
@@ -60,7 +48,7 @@ fn the_sample_pages_have_these_answers() {
 
 #[test]
 fn the_vectors_are_there_as_pages() {
-    let samples = sheet::samples(&mut check);
+    let samples = sheet::samples(&mut oracle::check);
     assert!(samples.len() >= 50);
     let written: Vec<&str> = samples.iter().map(|sample| sample.name.as_str()).collect();
     assert_eq!(

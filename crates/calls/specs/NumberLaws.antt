@@ -8,6 +8,7 @@
 --   call-range        what a call answers is in range, on every board
 --   answer-from       the answer is read back from its number
 --   number-once       two answers with one number are equal
+--   never-eleven      no answer has the number 11
 use mathlib.Core.Path.{_≡_, refl, ap, sym, _∙_}
 use mathlib.Core.Bool.{Bool, true, false, cond}
 use mathlib.Core.List.{List}
@@ -153,3 +154,14 @@ answer-from (Refused o) h =
 
 pub number-once : (a c : Answer) → InRange a → InRange c → answerNumber a ≡ answerNumber c → a ≡ c
 number-once a c h k e = sym (answer-from a h) ∙ ap answerFrom e ∙ answer-from c k
+
+-- "Number 11 is retired and not used again"
+pub never-eleven : (a : Answer) → answerNumber a ≡ 11 → ⊥
+unfolding outcomeOf
+never-eleven Done e = omega arith
+never-eleven (Pass n) e = omega arith
+never-eleven (Conflict n) e = omega arith
+never-eleven (Refused o) e =
+    let f : Fine ≡ o = ap outcomeOf (sym e) ∙ outcome-of o .0 in
+    let z : _≡_ {A = ℕ} 0 11 = ap numberOf f ∙ e in
+    omega arith

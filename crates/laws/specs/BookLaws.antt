@@ -14,14 +14,15 @@
 --   after-clean, sequence-clean       the book's sequence is so
 --   from-append, sequence-append, replies-append   the sequence and the answers of a list that is followed by another
 --   answered-check      only a check is answered, and with what check gives
+--   replies-refused     the numbers of refused calls, where no memory is short
 use mathlib.Core.Path.{_≡_, _∙_, refl, ap, sym, subst}
 use mathlib.Core.Logic.{_⊎_, inl, inr, _↔_}
 use mathlib.Core.Bool.{Bool, true, false, _||_, cond, or-false}
 use mathlib.Core.List.{List, [], _∷_, map, _++_, List·Memᴰ·head, List·Memᴰ·tail, List·Memᴰ·not-nil}
 use mathlib.Core.List.{List·Memᴰ·append-cases, List·Memᴰ·eq-of-singleton, map-append}
-use Prim.Native.Nat.{ℕ, zero, suc, _+_, _<_}
+use Prim.Native.Nat.{ℕ, zero, suc, _+_, _<_, _≤_}
 use native.Mathlib.Omega.{arith}
-use borrow.Author.Tests.{eq-eqb, ne-eqb, eqb-true}
+use borrow.Author.Tests.{eq-eqb, ne-eqb, eqb-true, le-ltb}
 use lib.Dec.{eqb, ltb, T, eqb→eq, eqb-refl, ltb→lt}
 use lib.ListN.{length}
 use Rattle.lists.specs.Lists.{_∈_, any, Distinct}
@@ -37,7 +38,7 @@ use Rattle.rules.specs.declared.Call.{Call}
 use Rattle.rules.specs.declared.Call.the-variants.{Decide, Undo, Check}
 use Rattle.rules.specs.Page.{Puzzle, State, undecided, decided, Has, isUndecided}
 use Rattle.rules.specs.Check.{Verdict, undecidedCount, check}
-use Rattle.rules.specs.Book.{Asked, Reply, refused, done, answered, stateIf, states, names, withLast, withoutLast}
+use Rattle.rules.specs.Book.{Asked, ask, Reply, refused, done, answered, stateIf, states, names, withLast, withoutLast}
 use Rattle.rules.specs.Book.{bareOr, decideReply, decideAfter, replyTo, reply, afterCall, after, sequenceFrom}
 use Rattle.rules.specs.Book.{repliesFrom, sequence, replies}
 
@@ -290,3 +291,33 @@ module _ (Z : Puzzle) (ls : List Literal) where
   pub answered-check : (a : Asked) (r : Verdict) → reply Z ls a ≡ answered r
       → (a .call ≡ Check) × (check Z (states ls) ≡ r)
   answered-check a r e = call-answered (a .places) (a .call) r e
+
+-- a call with memory that is not short is refused with 6, 7 or 8
+module _ (Z : Puzzle) (m n : ℕ) (l : 16384 ≤ m) where
+  number-is : (k : ℕ) → refused k ≡ refused n → n ≡ k
+  number-is k e = cc
+
+  call-refused : (ls : List Literal) (c : Call) → replyTo Z ls m c ≡ refused n → n ∈ (6 ∷ 7 ∷ 8 ∷ [])
+  unfolding replyTo decideReply
+  call-refused ls (Decide k) e = go (ltb (k .border) (Z .page .borders)) (names ls (k .border)) e
+    where
+      go : (a b : Bool) → cond a (cond b (refused 7) done) (refused 6) ≡ refused n → n ∈ (6 ∷ 7 ∷ 8 ∷ [])
+      go true true f = List·Memᴰ·tail (List·Memᴰ·head (number-is 7 f))
+      go true false f = let z : _≡_ {A = ℕ} 0 1 = cc in absurd (omega arith)
+      go false b f = List·Memᴰ·head (number-is 6 f)
+  call-refused [] Undo e = List·Memᴰ·tail (List·Memᴰ·tail (List·Memᴰ·head (number-is 8 e)))
+  call-refused (k ∷ ls) Undo e = let z : _≡_ {A = ℕ} 0 1 = cc in absurd (omega arith)
+  call-refused ls Check e = go (rw (le-ltb m 16384 l) at e)
+    where
+      go : answered (check Z (states ls)) ≡ refused n → n ∈ (6 ∷ 7 ∷ 8 ∷ [])
+      go f = let z : _≡_ {A = ℕ} 0 1 = cc in absurd (omega arith)
+
+  from-refused : (ls : List Literal) (cs : List Call) → refused n ∈ repliesFrom Z ls (map (ask m) cs)
+      → n ∈ (6 ∷ 7 ∷ 8 ∷ [])
+  unfolding repliesFrom
+  from-refused ls [] i = absurd (List·Memᴰ·not-nil i)
+  from-refused ls (c ∷ cs) (List·Memᴰ·head e) = call-refused ls c (sym e)
+  from-refused ls (c ∷ cs) (List·Memᴰ·tail i) = from-refused (afterCall Z ls c) cs i
+
+  pub replies-refused : (cs : List Call) → refused n ∈ replies Z (map (ask m) cs) → n ∈ (6 ∷ 7 ∷ 8 ∷ [])
+  replies-refused cs i = from-refused [] cs i

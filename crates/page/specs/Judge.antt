@@ -1,11 +1,10 @@
--- The judgement of a page: 01's numbers 10, 1, 2, 3, 11, in this order, or the puzzle and its calls.
+-- The judgement of a page: 01's numbers 10, 1, 2, 3, in this order, or the puzzle and its calls.
 --
 --   Judgement           rejected with a number, or accepted with the page
 --   rowsFit h w rows    there are h rows, each of w digits
 --   low d               the digit d is 0 or 1
 --   twoColours rows     every digit is 0 or 1
---   cluesLow most cs    no clue is above most
---   judgeSheet p        the judgement of the well formed page p: rejected with 1, 2, 3 or 11, or accepted
+--   judgeSheet p        the judgement of the well formed page p: rejected with 1, 2 or 3, or accepted
 --   judgeRead o         the judgement of what was read: rejected with 10 where it is no page
 --   judgementOf s       the judgement of the bytes s
 --   coloursOf p         the puzzle's colours, row by row
@@ -43,18 +42,13 @@ low d = leb d 1
 unfoldable pub twoColours : List (List ℕ) → Bool
 twoColours rows = all (λ ds. all low ds) rows
 
--- 11: "page clue above half the cells, rounded down"
-unfoldable pub cluesLow : ℕ → List Clue → Bool
-cluesLow most cs = all (λ c. leb (c .n) most) cs
-
--- 1: "h or w outside 1 to 32"
+-- 1: "h or w outside 1 to 32". A clue of any size is accepted: "Such a page is to be loaded like any other"; "Number 11
+-- is retired and not used again"
 unfoldable pub judgeSheet : Sheet → Judgement
 judgeSheet p =
     cond (sizeRight (p .height) (p .width))
     (cond (rowsFit (p .height) (p .width) (p .rows))
-    (cond (twoColours (p .rows))
-    (cond (cluesLow (p .height * p .width / 2) (p .clues)) (accepted p) (rejected 11))
-    (rejected 3))
+    (cond (twoColours (p .rows)) (accepted p) (rejected 3))
     (rejected 2))
     (rejected 1)
 

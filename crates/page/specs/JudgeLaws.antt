@@ -1,15 +1,15 @@
--- Laws of the judgement, one for each return of the code.
+-- Laws of the judgement, one for each return of the code; and the numbers with which a page is rejected.
 use mathlib.Core.Path.{_≡_, sym, ap, _∙_}
-use mathlib.Core.Bool.{Bool, true, false, _&&_}
-use mathlib.Core.List.{List, [], _∷_}
-use mathlib.Core.Option.{none, some}
+use mathlib.Core.Bool.{Bool, true, false, _&&_, cond}
+use mathlib.Core.List.{List, [], _∷_, List·Memᴰ·head, List·Memᴰ·tail}
+use mathlib.Core.Option.{Option, none, some}
 use Prim.Native.Nat.{ℕ, suc, _+_, _-_, _*_, _/_, _<_, _≤_}
 use native.Mathlib.Decide.{ℕ-discrete}
 use native.Mathlib.Omega.{arith}
 use lib.Dec.{eqb}
 use lib.ListN.{length}
 use borrow.Author.Tests.{eq-eqb, ne-eqb, le-leb, lt-leb}
-use Rattle.lists.specs.Lists.{all}
+use Rattle.lists.specs.Lists.{_∈_, all}
 use Rattle.lists.specs.Tests.{allBelow}
 use Rattle.lists.specs.TableLaws.{length-table}
 use Rattle.lists.specs.Booleans.{and-fails}
@@ -18,7 +18,7 @@ use Rattle.lists.specs.AnyAll.{all-table}
 use Rattle.board.specs.Alien.{sizeRight}
 use Rattle.page.specs.Grammar.{Sheet, pageOf}
 use Rattle.page.specs.Places.{digitAt, digitsIn}
-use Rattle.page.specs.Judge.{rejected, accepted, rowsFit, low, twoColours, cluesLow}
+use Rattle.page.specs.Judge.{rejected, accepted, rowsFit, low, twoColours}
 use Rattle.page.specs.Judge.{judgeSheet, judgeRead, judgementOf}
 
 pub length-digits : (s : List ℕ) (a e : ℕ) → length (digitsIn s a e) ≡ e - a
@@ -105,14 +105,9 @@ module _ (p : Sheet) where
       unfolding judgeSheet
       discoloured e = rw (a, b, e)
 
-      module _ (c : twoColours (p .rows) ≡ true) where
-        pub misprint : cluesLow (p .height * p .width / 2) (p .clues) ≡ false → judgeSheet p ≡ rejected 11
-        unfolding judgeSheet
-        misprint e = rw (a, b, c, e)
-
-        pub right : cluesLow (p .height * p .width / 2) (p .clues) ≡ true → judgeSheet p ≡ accepted p
-        unfolding judgeSheet
-        right e = rw (a, b, c, e)
+      pub right : twoColours (p .rows) ≡ true → judgeSheet p ≡ accepted p
+      unfolding judgeSheet
+      right e = rw (a, b, e)
 
 module _ (s : List ℕ) where
   pub malformed : pageOf s ≡ none → judgementOf s ≡ rejected 10
@@ -122,3 +117,29 @@ module _ (s : List ℕ) where
   pub formed : (p : Sheet) → pageOf s ≡ some p → judgementOf s ≡ judgeSheet p
   unfolding judgementOf judgeRead
   formed p e = rw e
+
+-- the numbers with which a page is rejected
+number-is : (k n : ℕ) → rejected k ≡ rejected n → n ≡ k
+number-is k n e = cc
+
+sheet-number : (p : Sheet) (n : ℕ) → judgeSheet p ≡ rejected n → n ∈ (1 ∷ 2 ∷ 3 ∷ [])
+unfolding judgeSheet
+sheet-number p n e =
+    go (sizeRight (p .height) (p .width)) (rowsFit (p .height) (p .width) (p .rows)) (twoColours (p .rows)) e
+  where
+    go : (a b c : Bool)
+        → cond a (cond b (cond c (accepted p) (rejected 3)) (rejected 2)) (rejected 1) ≡ rejected n
+        → n ∈ (1 ∷ 2 ∷ 3 ∷ [])
+    go true true true q = let z : _≡_ {A = ℕ} 0 1 = cc in absurd (omega arith)
+    go true true false q = List·Memᴰ·tail (List·Memᴰ·tail (List·Memᴰ·head (number-is 3 n q)))
+    go true false c q = List·Memᴰ·tail (List·Memᴰ·head (number-is 2 n q))
+    go false b c q = List·Memᴰ·head (number-is 1 n q)
+
+-- "a page gives 1 to 3, 10", and no other: "Number 11 is retired and not used again"
+pub judgement-number : (s : List ℕ) (n : ℕ) → judgementOf s ≡ rejected n → n ∈ (10 ∷ 1 ∷ 2 ∷ 3 ∷ [])
+unfolding judgementOf judgeRead
+judgement-number s n e = go (pageOf s) e
+  where
+    go : (o : Option Sheet) → judgeRead o ≡ rejected n → n ∈ (10 ∷ 1 ∷ 2 ∷ 3 ∷ [])
+    go none q = List·Memᴰ·head (number-is 10 n q)
+    go (some p) q = List·Memᴰ·tail (sheet-number p n q)

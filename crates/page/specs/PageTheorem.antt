@@ -3,6 +3,7 @@
 --   Spells s p          the bytes s are the text of the page p, and all that 01 asks of form holds
 --   page-sound, page-complete   `pageOf s ≡ some p` exactly where s spells p
 --   PagePuzzle s p      the bytes s are accepted as the page p: what its arrays hold
+--   page-puzzle, page-accepts   the bytes s are accepted as p exactly where s spells p and p makes a board
 use mathlib.Core.Path.{_≡_, refl, sym, ap, _∙_, subst}
 use mathlib.Core.Bool.{Bool, true, false, cond}
 use mathlib.Core.List.{List, [], _∷_, append-nil}
@@ -13,10 +14,12 @@ use borrow.Author.Tests.{le-leb, leb-true}
 use lib.Dec.{leb}
 use lib.ListN.{length, take}
 use Rattle.laws.specs.FlatLaws.{counts}
+use Rattle.board.specs.ConditionLaws.{size-is}
 use Rattle.page.specs.Grammar.{Sheet, cluesFit, sheet, whole, pageOf}
 use Rattle.page.specs.PageText.{showSheet, SheetFit, sheet-prints}
 use Rattle.page.specs.Judge.{accepted, judgeRead, judgementOf, coloursOf, cluesOf}
 use Rattle.page.specs.Judge.{colourArray, clueArray}
+use Rattle.page.specs.JudgeLaws.{right, formed}
 use Rattle.page.specs.PuzzleLaws.{Makes, makes, colours-length, colours-front, clues-length, clues-front}
 
 pub record Spells (s : List ℕ) (p : Sheet) : Type 0 where
@@ -91,3 +94,8 @@ page-puzzle s p e = go (pageOf s) refl e
         let m = makes q p k in
         let j : Makes p = subst (λ (r : Sheet). Makes r) (m .0) (m .1) in
         all (h ∙ ap some (m .0)) j
+
+-- "Such a page is to be loaded like any other": no clue that the grammar reads is too big
+pub page-accepts : (s : List ℕ) (p : Sheet) → Spells s p → Makes p → judgementOf s ≡ accepted p
+page-accepts s p k m =
+    formed s p (page-complete s p k) ∙ right p (size-is (m .size)) (m .rows) (m .colours)

@@ -26,14 +26,13 @@ use Rattle.board.specs.Alien.{sizeRight}
 use Rattle.board.specs.ConditionLaws.{sized}
 use Rattle.page.specs.declared.Clue.{Clue}
 use Rattle.page.specs.Grammar.{Sheet, onPage, sameCell, cluesFit}
-use Rattle.page.specs.Judge.{Judgement, rejected, accepted, rowsFit, low, twoColours, cluesLow}
+use Rattle.page.specs.Judge.{Judgement, rejected, accepted, rowsFit, low, twoColours}
 use Rattle.page.specs.Judge.{judgeSheet, coloursOf, clueOn, cluesOf, colourArray, placed, clueArray}
 
 pub record Makes (p : Sheet) : Type 0 where
   pub size : Sized (p .height) (p .width)
   pub rows : rowsFit (p .height) (p .width) (p .rows) ≡ true
   pub colours : twoColours (p .rows) ≡ true
-  pub clues : cluesLow (p .height * p .width / 2) (p .clues) ≡ true
 
 -- colours
 pub colours-length : (p : Sheet) → rowsFit (p .height) (p .width) (p .rows) ≡ true
@@ -182,6 +181,5 @@ makes p q e =
     let a = cond-accepted (sizeRight (p .height) (p .width)) _ 1 q e in
     let b = cond-accepted (rowsFit (p .height) (p .width) (p .rows)) _ 2 q (a .1) in
     let c = cond-accepted (twoColours (p .rows)) _ 3 q (b .1) in
-    let d = cond-accepted (cluesLow (p .height * p .width / 2) (p .clues)) _ 11 q (c .1) in
-    let k : accepted p ≡ accepted q = d .1 in
-    (cc, record { size = sized (a .0); rows = b .0; colours = c .0; clues = d .0 })
+    let k : accepted p ≡ accepted q = c .1 in
+    (cc, record { size = sized (a .0); rows = b .0; colours = c .0 })

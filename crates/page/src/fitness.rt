@@ -1,12 +1,10 @@
-// Whether a well formed page makes a board: its size, its rows, its colours, its clues.
+// Whether a well formed page makes a board: its size, its rows, its colours. A clue of any size does.
 ghost use mathlib.Core.Path.{_≡_};
-ghost use Prim.Native.Nat.{_-_, _*_, _/_};
+ghost use Prim.Native.Nat.{_-_};
 ghost use Rattle.lists.specs.Lists.{all};
-ghost use Rattle.rules.specs.Flat.{Sized};
-ghost use Rattle.page.specs.Grammar.{row, clue};
+ghost use Rattle.page.specs.Grammar.{row};
 ghost use Rattle.page.specs.Places.{allFrom, digitAt, digitsIn, sheetAt, judgedOf};
-ghost use Rattle.page.specs.Judge.{rowsFit, low, twoColours, cluesLow, judgeSheet};
-use crate::ClueRead;
+ghost use Rattle.page.specs.Judge.{rowsFit, low, twoColours, judgeSheet};
 use crate::Judged;
 use crate::Parts;
 use crate::Row;
@@ -90,32 +88,7 @@ fn two_colours(s: &[u8], at: usize) -> bool
     true
 }
 
-// Whether no clue from `at` on is above `most`.
-fn clues_low(s: &[u8], at: usize, most: usize) -> bool
-    ensures { λ r. ⌜ r ≡ cluesLow most (allFrom clue (now (s .entry)) at) ⌝ }
-{
-    let mut p = at;
-    while p < s.len() {
-        let ClueRead::Got(c, next) = lines::clue_at(s, p) else {
-            return true;
-        };
-        if most < c.n {
-            return false;
-        }
-        p = next;
-    }
-    true
-}
-
-// Half the cells, rounded down.
-fn half(h: usize, w: usize) -> usize
-    requires { ⌜ Sized h w ⌝ }
-    ensures { λ r. ⌜ r ≡ h * w / 2 ⌝ }
-{
-    h * w / 2
-}
-
-// The judgement of a well formed page: 1, 2, 3, 11, or accepted.
+// The judgement of a well formed page: 1, 2, 3, or accepted.
 pub fn judge_parts(s: &[u8], p: Parts) -> Judged
     ensures { λ r. ⌜ judgedOf (now (s .entry)) r ≡ judgeSheet (sheetAt (now (s .entry)) p) ⌝ }
 {
@@ -124,10 +97,7 @@ pub fn judge_parts(s: &[u8], p: Parts) -> Judged
     if board::size_right(h, w) {
         if rows_fit(s, p.rows, h, w) {
             if two_colours(s, p.rows) {
-                if clues_low(s, p.clues, half(h, w)) {
-                    return Judged::Accepted(p);
-                }
-                return Judged::Refused(11);
+                return Judged::Accepted(p);
             }
             return Judged::Refused(3);
         }

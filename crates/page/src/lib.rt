@@ -85,7 +85,7 @@ pub enum Judged {
     Accepted(Parts),
 }
 
-// The judgement of a page's bytes: 10, 1, 2, 3, 11, in this order, or accepted.
+// The judgement of a page's bytes: 10, 1, 2, 3, in this order, or accepted.
 pub fn judge(s: &[u8]) -> Judged
     ensures { λ r. ⌜ judgedOf (now (s .entry)) r ≡ judgementOf (now (s .entry)) ⌝ }
 {

@@ -1,22 +1,20 @@
 -- The board of an accepted page: making it is not refused.
 --
---   Clued most k        the clue k is −1 or more, and at most 2147483647 where most is
+--   Clued k             the clue k is −1 or more, and at most 2147483647
 --   page-board          the board that the code makes is the page's
 --   page-accepted       its puzzle is accepted
 use mathlib.Core.Path.{_≡_, refl, sym, ap}
 use mathlib.Core.Bool.{Bool, true, false, _&&_, cond}
 use mathlib.Core.List.{List, [], _∷_}
-use Prim.Native.Nat.{ℕ, _*_, _/_, _%_, _<_, _≤_}
+use Prim.Native.Nat.{ℕ, _*_, _/_, _%_, _<_}
 use native.Mathlib.Decide.{decLt}
 use native.Mathlib.Omega.{arith}
-use borrow.Author.Tests.{le-leb, leb-true}
-use lib.Dec.{eqb, leb}
+use borrow.Author.Tests.{le-leb}
+use lib.Dec.{eqb}
 use lib.IntN.{ℤ, pos, negsuc}
 use lib.ListN.{getD, List·getD-eq-default}
 use lib.Signed.{leZ}
-use Rattle.lists.specs.Lists.{all}
 use Rattle.lists.specs.TableLaws.{getD-table}
-use Rattle.lists.specs.Booleans.{and-left, and-right}
 use Rattle.lists.specs.TestLaws.{all-every}
 use Rattle.lists.specs.AnyAll.{all-get}
 use Rattle.board.specs.declared.Returned.{Returned}
@@ -26,27 +24,26 @@ use Rattle.board.specs.Cases.{fresh-done}
 use Rattle.board.specs.ConditionLaws.{size-is, cells-of}
 use Rattle.page.specs.declared.Clue.{Clue}
 use Rattle.page.specs.Grammar.{Sheet}
-use Rattle.page.specs.Judge.{accepted, judgementOf, low, cluesLow, coloursOf, clueOn, cluesOf}
+use Rattle.page.specs.Judge.{accepted, judgementOf, low, coloursOf, clueOn, cluesOf}
 use Rattle.page.specs.PuzzleLaws.{colours-low}
+use Rattle.page.specs.Many.{AllFit}
+use Rattle.page.specs.PageText.{ClueFit}
 use Rattle.transcript.specs.Left.{startBoard, boardAt}
 use Rattle.page.specs.PageTheorem as pages
 
--- the bounds of a page's clue, where no clue is above most
-pub record Clued (most : ℕ) (k : ℤ) : Type 0 where
+-- the bounds of a page's clue: it is a number that the grammar reads, "at most 2147483647"
+pub record Clued (k : ℤ) : Type 0 where
   pub least : leZ (negsuc 0) k ≡ true
-  pub upto : most ≤ 2147483647 → leZ k (pos 2147483647) ≡ true
+  pub upto : leZ k (pos 2147483647) ≡ true
 
-clued-on : (most : ℕ) (cs : List Clue) (y x : ℕ) → cluesLow most cs ≡ true → Clued most (clueOn (negsuc 0) cs y x)
-unfolding cluesLow all clueOn
-clued-on most [] y x e = record { least = refl; upto = λ h. refl }
-clued-on most (c ∷ cs) y x e =
-    go (eqb y (c .y) && eqb x (c .x)) (leb-true (c .n) most (and-left (leb (c .n) most) _ e))
-    (clued-on most cs y x (and-right (leb (c .n) most) _ e))
+clued-on : (cs : List Clue) (y x : ℕ) → AllFit ClueFit cs → Clued (clueOn (negsuc 0) cs y x)
+unfolding AllFit clueOn
+clued-on [] y x f = record { least = refl; upto = refl }
+clued-on (c ∷ cs) y x f = go (eqb y (c .y) && eqb x (c .x)) (clued-on cs y x (f .1))
   where
-    go : (b : Bool) → c .n ≤ most → Clued most (clueOn (negsuc 0) cs y x)
-        → Clued most (cond b (pos (c .n)) (clueOn (negsuc 0) cs y x))
-    go true h k = record { least = refl; upto = λ l. le-leb (c .n) 2147483647 (omega arith) }
-    go false h k = k
+    go : (b : Bool) → Clued (clueOn (negsuc 0) cs y x) → Clued (cond b (pos (c .n)) (clueOn (negsuc 0) cs y x))
+    go true k = record { least = refl; upto = le-leb (c .n) 2147483647 (f .0 .1 .1) }
+    go false k = k
 
 module _ (s : List ℕ) (p : Sheet) (e : judgementOf s ≡ accepted p) where
   page : pages.PagePuzzle s p
@@ -58,12 +55,12 @@ module _ (s : List ℕ) (p : Sheet) (e : judgementOf s ≡ accepted p) where
       let P = page in
       rw (cells-of (P .makes .size), P .colours, P .clues)
 
-  clue-at : (i : ℕ) → i < p .height * p .width → Clued (p .height * p .width / 2) (getD (cluesOf p) i (pos 0))
+  clue-at : (i : ℕ) → i < p .height * p .width → Clued (getD (cluesOf p) i (pos 0))
   unfolding cluesOf page
   clue-at i h =
       let f : ℕ → ℤ = λ j. clueOn (negsuc 0) (p .clues) (j / p .width) (j % p .width) in
       rw (getD-table (p .height * p .width) f i (pos 0) h)
-      (clued-on (p .height * p .width / 2) (p .clues) (i / p .width) (i % p .width) (page .makes .clues))
+      (clued-on (p .clues) (i / p .width) (i % p .width) (page .spells .fit .clues))
 
   colours-right : coloursRight (coloursOf p) (p .height * p .width) ≡ true
   unfolding coloursRight coloursOf low page
@@ -89,7 +86,7 @@ module _ (s : List ℕ) (p : Sheet) (e : judgementOf s ≡ accepted p) where
       }
     where
       go : (i : ℕ) → Dec (i < p .height * p .width) → leZ (getD (cluesOf p) i (pos 0)) (pos 2147483647) ≡ true
-      go i (yes h) = let n = page .cells in clue-at i h .upto (omega arith)
+      go i (yes h) = clue-at i h .upto
       go i (no h) =
           let n = page .cluesLength in
           ap (λ (k : ℤ). leZ k (pos 2147483647)) (List·getD-eq-default (cluesOf p) (pos 0) (omega arith))

@@ -4,12 +4,17 @@
 --   Chunks s q m t      the chunks that `next` puts from the run q on, until all is printed, are the text t
 --   first-left          before the first chunk, what is left to print is the page's text
 --   printed             the chunks from the first run on are the page's text
+--   page-number         the numbers that a page's output can have after `refused`
 use mathlib.Core.Path.{_≡_, refl, sym, ap, ap₂, _∙_}
 use mathlib.Core.List.{List, [], _∷_, _++_, map, append-assoc, append-nil}
+use mathlib.Core.List.{Memᴰ·append-left, Memᴰ·append-right, List·Memᴰ·eq-of-singleton}
 use Prim.Native.Nat.{ℕ}
+use native.Mathlib.Omega.{arith}
 use lib.ListN.{length, take}
+use Rattle.lists.specs.Lists.{_∈_}
 use Rattle.rules.specs.declared.Call.{Call}
 use Rattle.rules.specs.Book.{Asked, ask, Reply, refused, replies}
+use Rattle.laws.specs.BookLaws.{replies-refused}
 use Rattle.board.specs.declared.Board.{Board}
 use Rattle.calls.specs.Answers.{told, callOf, callMemory}
 use Rattle.calls.specs.AnswerLaws.{length-call}
@@ -17,6 +22,7 @@ use Rattle.demand3.specs.Runs.{Lent, lend, askedBy, toldBy, runFrom}
 use Rattle.demand3.specs.Demand3Laws.{demand3}
 use Rattle.page.specs.Grammar.{Sheet, endWord}
 use Rattle.page.specs.Judge.{Judgement, rejected, accepted, judgementOf, coloursOf, cluesOf}
+use Rattle.page.specs.JudgeLaws.{judgement-number}
 use Rattle.page.specs.Many.{showAll}
 use Rattle.print.specs.Answers.{answersWord, showReply, showAnswers}
 use Rattle.transcript.specs.declared.Stage.{Stage}
@@ -85,3 +91,17 @@ chunks-left (chunk {r = r} {out = out} n p) =
 -- for 16,384 literals, is the text of the book's answers to the page's calls; or its refusal alone
 pub printed : (s m text : List ℕ) → length m ≡ 16384 → Chunks s firstRun m text → text ≡ transcript s
 printed s m text l p = chunks-left p ∙ first-left s m l
+
+-- "a page gives 1 to 3, 10 .. then its calls 6 to 8"; "Number 11 is retired and not used again"
+pub page-number : (s : List ℕ) (n : ℕ) → refused n ∈ pageReplies (judgementOf s)
+    → n ∈ (10 ∷ 1 ∷ 2 ∷ 3 ∷ 6 ∷ 7 ∷ 8 ∷ [])
+unfolding pageReplies
+page-number s n i = go (judgementOf s) refl i
+  where
+    go : (v : Judgement) → judgementOf s ≡ v → refused n ∈ pageReplies v → n ∈ (10 ∷ 1 ∷ 2 ∷ 3 ∷ 6 ∷ 7 ∷ 8 ∷ [])
+    go (rejected k) e j =
+        let q : refused n ≡ refused k = List·Memᴰ·eq-of-singleton j in
+        let r : n ≡ k = cc in
+        Memᴰ·append-left (6 ∷ 7 ∷ 8 ∷ []) (judgement-number s n (e ∙ ap rejected (sym r)))
+    go (accepted p) e j =
+        Memᴰ·append-right (10 ∷ 1 ∷ 2 ∷ 3 ∷ []) (replies-refused (puzzleOn p) 16384 n (omega arith) (p .calls) j)

@@ -1,6 +1,5 @@
 -- `judge_parts` meets its contract, test by test.
-use Rattle.board.specs.ConditionLaws.{sized}
-use Rattle.page.specs.JudgeLaws.{not-sized, ragged, discoloured, misprint, right}
+use Rattle.page.specs.JudgeLaws.{not-sized, ragged, discoloured, right}
 use Rattle.page.specs.Places.{judgedOf, sheetAt}
 use borrow.Author.Needs.{needs}
 use mathlib.Core.Path.{sym, _∙_}
@@ -16,52 +15,32 @@ rows-fit-requires c κs = search needs
 two-colours-requires : tie.Need-two-colours-requires
 two-colours-requires c κs = search needs
 
-half-requires : tie.Need-half-requires
-half-requires c κs = sized (sym (c .before .before .before .before .before .size-right .ensures)
-    ∙ c .before .before .before .before .if1 .taken)
-
-clues-low-requires : tie.Need-clues-low-requires
-clues-low-requires c κs = search needs
-
 returns : tie.Need-returns
 unfolding judgedOf sheetAt
 returns c =
     sym
-    (right _ (sym (c .before .before .before .before .before .before .before .before .size-right .ensures)
-    ∙ c .before .before .before .before .before .before .before .if1 .taken)
-    (sym (c .before .before .before .before .before .before .rows-fit .ensures)
-    ∙ c .before .before .before .before .before .if2 .taken)
-    (sym (c .before .before .before .before .two-colours .ensures) ∙ c .before .before .before .if3 .taken)
-    (rw (c .before .before .half .ensures) at (sym (c .before .clues-low .ensures) ∙ c .if4 .taken)))
+    (right _ (sym (c .before .before .before .before .before .size-right .ensures)
+    ∙ c .before .before .before .before .if1 .taken)
+    (sym (c .before .before .before .rows-fit .ensures) ∙ c .before .before .if2 .taken)
+    (sym (c .before .two-colours .ensures) ∙ c .if3 .taken))
 
 returns-2 : tie.Need-returns-2
 unfolding judgedOf sheetAt
 returns-2 c =
-    sym
-    (misprint _ (sym (c .before .before .before .before .before .before .before .before .size-right .ensures)
-    ∙ c .before .before .before .before .before .before .before .if1 .taken)
-    (sym (c .before .before .before .before .before .before .rows-fit .ensures)
-    ∙ c .before .before .before .before .before .if2 .taken)
-    (sym (c .before .before .before .before .two-colours .ensures) ∙ c .before .before .before .if3 .taken)
-    (rw (c .before .before .half .ensures) at (sym (c .before .clues-low .ensures) ∙ c .if4 .left)))
-
-returns-3 : tie.Need-returns-3
-unfolding judgedOf sheetAt
-returns-3 c =
     sym
     (discoloured _ (sym (c .before .before .before .before .before .size-right .ensures)
     ∙ c .before .before .before .before .if1 .taken)
     (sym (c .before .before .before .rows-fit .ensures) ∙ c .before .before .if2 .taken)
     (sym (c .before .two-colours .ensures) ∙ c .if3 .left))
 
-returns-4 : tie.Need-returns-4
+returns-3 : tie.Need-returns-3
 unfolding judgedOf sheetAt
-returns-4 c = sym (ragged _ (sym (c .before .before .before .size-right .ensures) ∙ c .before .before .if1 .taken)
+returns-3 c = sym (ragged _ (sym (c .before .before .before .size-right .ensures) ∙ c .before .before .if1 .taken)
     (sym (c .before .rows-fit .ensures) ∙ c .if2 .left))
 
-returns-5 : tie.Need-returns-5
+returns-4 : tie.Need-returns-4
 unfolding judgedOf sheetAt
-returns-5 c = sym (not-sized _ (sym (c .before .size-right .ensures) ∙ c .if1 .left))
+returns-4 c = sym (not-sized _ (sym (c .before .size-right .ensures) ∙ c .if1 .left))
 
 pub judge-parts-spec : {M : Type 1} → statement M
 judge-parts-spec =
@@ -70,10 +49,7 @@ judge-parts-spec =
     size-right-requires
     rows-fit-requires
     two-colours-requires
-    half-requires
-    clues-low-requires
     returns
     returns-2
     returns-3
-    returns-4
-    returns-5)
+    returns-4)
