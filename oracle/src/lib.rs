@@ -50,8 +50,10 @@ pub mod bench;
 pub mod book;
 pub mod branch;
 pub mod cuts;
+pub mod drafts;
 pub mod generate;
 pub mod image;
+pub mod json;
 pub mod page;
 pub mod pieces;
 pub mod plain;
@@ -61,6 +63,16 @@ pub mod scenarios;
 pub mod shapes;
 pub mod sheet;
 pub mod vectors;
+pub mod vectors02;
 
 /// Whether the published source was there when this was built.
 pub const SOURCE: bool = cfg!(source);
+
+/// The reason of the published check, or of the plain one where the source is not there; none for a
+/// pass.
+pub fn check(puzzle: &page::Puzzle, decided: &[page::Literal]) -> Option<Vec<page::Literal>> {
+    if SOURCE {
+        return published::check(puzzle, decided);
+    }
+    plain::reason(puzzle, decided)
+}

@@ -51,6 +51,15 @@ pub fn check(board: &Board) -> Option<Hit> {
         .or_else(|| view.step3())
 }
 
+/// The reason of the first hit on a puzzle with just these literals decided, or none for a pass.
+pub fn reason(puzzle: &Puzzle, decided: &[Literal]) -> Option<Vec<Literal>> {
+    let board = Board {
+        puzzle: puzzle.clone(),
+        decided: decided.to_vec(),
+    };
+    check(&board).map(|hit| hit.reason)
+}
+
 /// Groups numbered by first cell; `joins` says of a border with its cells whether it joins them.
 fn groups(puzzle: &Puzzle, joins: impl Fn(usize, usize, usize) -> bool) -> Groups {
     let mut ids = vec![usize::MAX; puzzle.cells()];

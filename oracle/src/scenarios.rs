@@ -35,6 +35,7 @@ pub fn scenarios() -> Vec<Scenario> {
     all.extend(of_mistakes(&pool));
     all.extend(long_lists());
     all.extend(of_orders());
+    all.extend(of_drafts());
     all
 }
 
@@ -328,5 +329,21 @@ fn of_orders() -> Vec<Scenario> {
             page(1, 4, "0110", &[(0, 2)]),
             decided(&above),
         ),
+    ]
+}
+
+/// Pages with a clue above half the cells: where a potential unit has so many cells, and where none
+/// has.
+fn of_drafts() -> Vec<Scenario> {
+    let mut calls = vec![CHECK];
+    calls.extend(decided(&[(1, true)]));
+    calls.push(Call::Undo);
+    calls.extend(decided(&[(0, true), (6, true)]));
+    let most = page(2, 4, "00010011", &[(0, 5)]);
+    let largest = page(2, 4, "00110011", &[(5, i32::MAX)]);
+    let walls = decided(&[(4, true), (1, true), (6, false)]);
+    vec![
+        scenario("a clue above half the cells", most, calls),
+        scenario("the largest clue between walls", largest, walls),
     ]
 }

@@ -1,17 +1,9 @@
 //! The plain image calls: they answer as the book, and damaged images are alien.
 
 use oracle::book::{Answer, Book, Call, PLACES};
-use oracle::page::{code, Board, Literal, Puzzle};
+use oracle::page::{code, Board, Puzzle};
 use oracle::random::Random;
 use oracle::{generate, image, plain};
-
-fn check(puzzle: &Puzzle, decided: &[Literal]) -> Option<Vec<Literal>> {
-    let board = Board {
-        puzzle: puzzle.clone(),
-        decided: decided.to_vec(),
-    };
-    plain::check(&board).map(|hit| hit.reason)
-}
 
 /// The number that 01 gives to an answer.
 fn number(answer: &Answer) -> u32 {
@@ -40,7 +32,7 @@ fn calls_on_an_image_answer_as_the_book() {
             let (call, got) = match random.below(6) {
                 0 => (Call::Undo, image::undo(&mut image)),
                 1 | 2 => {
-                    let got = image::check(&image, &mut memory, &mut check);
+                    let got = image::check(&image, &mut memory, &mut plain::reason);
                     (Call::Check(PLACES), got)
                 }
                 _ => {
@@ -48,7 +40,7 @@ fn calls_on_an_image_answer_as_the_book() {
                     (Call::Decide((border, side != 0)), got)
                 }
             };
-            let answer = book.answer(call, &mut check);
+            let answer = book.answer(call, &mut plain::reason);
             assert_eq!(got, number(&answer));
             assert_eq!(memory, memory_after(&answer));
             let decided = book.sequence().to_vec();
@@ -109,7 +101,7 @@ fn damaged_images_are_alien() {
         let mut memory = [7; 10];
         assert_eq!(image::decide(&mut bad, 9, 1), 5, "{at} {byte}");
         assert_eq!(image::undo(&mut bad), 5, "{at} {byte}");
-        assert_eq!(image::check(&bad, &mut memory, &mut check), 5);
+        assert_eq!(image::check(&bad, &mut memory, &mut plain::reason), 5);
         assert_eq!((bad, memory), (before, [7; 10]));
     }
     assert!(image::read(&good[1..]).is_none());
@@ -128,8 +120,8 @@ fn harmless_changes_are_not_alien() {
     );
     assert_eq!(image::read(&good).unwrap().decided, [(1, true), (0, false)]);
     let mut short = vec![7; 2 * PLACES - 1];
-    assert_eq!(image::check(&good, &mut short, &mut check), 9);
+    assert_eq!(image::check(&good, &mut short, &mut plain::reason), 9);
     assert!(short.iter().all(|&byte| byte == 7));
     let mut odd = vec![7; 2 * PLACES + 1];
-    assert_eq!(image::check(&good, &mut odd, &mut check), 65_536 + 1);
+    assert_eq!(image::check(&good, &mut odd, &mut plain::reason), 65_536 + 1);
 }

@@ -26,14 +26,7 @@ fn the_file_is_as_written() {
 fn the_plain_check_gives_the_file() {
     let path = Path::new(vectors::FOLDER).join(vectors::FILE);
     let file = fs::read_to_string(path).expect("vectors are written");
-    let mut check = |puzzle: &oracle::page::Puzzle, decided: &[oracle::page::Literal]| {
-        let board = oracle::page::Board {
-            puzzle: puzzle.clone(),
-            decided: decided.to_vec(),
-        };
-        plain::check(&board).map(|hit| hit.reason)
-    };
-    assert!(file == vectors::text(&mut check));
+    assert!(file == vectors::text(&mut plain::reason));
 }
 
 #[test]

@@ -83,7 +83,7 @@ impl Trial {
 }
 
 /// How many literals an answer's number tells of.
-fn reason_length(number: usize) -> usize {
+pub fn reason_length(number: usize) -> usize {
     number.saturating_sub(65_536)
 }
 
@@ -92,7 +92,7 @@ fn literal(code: &u16) -> Literal {
 }
 
 /// The answer with this number.
-fn answer(number: usize, written: &[u16]) -> Answer {
+pub fn answer(number: usize, written: &[u16]) -> Answer {
     match number {
         0 => Answer::Done,
         1..=31 => Answer::Refused(number as u32),

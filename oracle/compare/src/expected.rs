@@ -3,7 +3,7 @@
 
 use oracle::book::Answer;
 use oracle::page::{code, Board, Groups, Kind, Literal, Transform, KINDS};
-use oracle::plain::{self, View};
+use oracle::plain::View;
 use oracle::published::Published;
 use oracle::shapes;
 
@@ -25,11 +25,7 @@ pub fn published(board: &Board) -> Published {
 
 /// The reason of a check, or none for a pass.
 pub fn reason(board: &Board) -> Option<Vec<Literal>> {
-    if oracle::SOURCE {
-        published(board).check()
-    } else {
-        plain::check(board).map(|hit| hit.reason)
-    }
+    oracle::check(&board.puzzle, &board.decided)
 }
 
 /// What a check answers.

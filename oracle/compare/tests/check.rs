@@ -5,10 +5,10 @@ use compare::checks::Trial;
 use compare::many::Judge;
 use compare::ours::{Memory, ROOM};
 use compare::{boards, expected};
-use oracle::bench;
 use oracle::book::{self, Answer};
 use oracle::page::{Board, Puzzle};
 use oracle::random::Random;
+use oracle::{bench, drafts};
 
 #[test]
 fn small_pages_whole() {
@@ -44,6 +44,26 @@ fn generated_boards() {
     println!("{:?}", judge.tally);
     assert!(judge.tally.passes > 500 && judge.tally.conflicts > 500);
     assert!(judge.tally.longest > 1000);
+}
+
+/// Pages with clues at, above and far above half the cells.
+#[test]
+fn drafts() {
+    let mut judge = Judge::new(71);
+    judge.page(2, 2, &[-1, 3, i32::MAX]);
+    println!("{:?}", judge.tally);
+    assert!(judge.tally.passes > 500 && judge.tally.literals > 10_000);
+    let mut judge = Judge::new(72);
+    let mut random = Random::new(73);
+    for turn in 0..2_640 {
+        let board = drafts::draft(&mut random, turn);
+        if drafts::is_draft(&board.puzzle) {
+            judge.judge(&board);
+        }
+    }
+    println!("{:?}", judge.tally);
+    assert!(judge.tally.passes > 20 && judge.tally.literals > 1_000);
+    assert!(judge.tally.empty_reasons > 200);
 }
 
 fn chosen() -> Vec<Board> {

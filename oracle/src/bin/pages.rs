@@ -1,27 +1,19 @@
 //! Pages for the trials of the page program (`../tools/page_trials`):
 //!
-//!     cargo run --release --bin pages -- write N SEED DIR   N generated pages with their answers
-//!     cargo run --release --bin pages -- answer FILE..      the answers beside accepted pages
+//!     cargo run --release --bin pages -- write N SEED DIR    N generated pages with their answers
+//!     cargo run --release --bin pages -- drafts N SEED DIR   N drafts, clues of every size, likewise
+//!     cargo run --release --bin pages -- answer FILE..       the answers beside accepted pages
+//!     cargo run --release --bin pages -- vectors02 DIR       the vectors of document 02 as pages
 //!
-//! The answers are those of the published Rust, or of the plain check where its source is not there.
+//! The answers are those of the published Rust, or of the plain check where its source is not there;
+//! those of the vectors of document 02 are the vectors' own, in which a reason has no repeats.
 
-use oracle::book::{Call, PLACES};
-use oracle::page::{Board, Literal, Puzzle};
+use oracle::book::{Answer, Call, PLACES};
+use oracle::page::Board;
 use oracle::random::Random;
-use oracle::{generate, plain, published, sheet};
+use oracle::{drafts, generate, sheet, vectors02};
 use std::path::{Path, PathBuf};
 use std::{env, fs, process::ExitCode};
-
-fn check(puzzle: &Puzzle, decided: &[Literal]) -> Option<Vec<Literal>> {
-    if oracle::SOURCE {
-        return published::check(puzzle, decided);
-    }
-    let board = Board {
-        puzzle: puzzle.clone(),
-        decided: decided.to_vec(),
-    };
-    plain::check(&board).map(|hit| hit.reason)
-}
 
 /// The board's literals, with checks, undos and unfit calls between them, and a check at the end.
 fn calls(random: &mut Random, board: &Board) -> Vec<Call> {
@@ -44,33 +36,65 @@ fn calls(random: &mut Random, board: &Board) -> Vec<Call> {
     calls
 }
 
-fn write(count: usize, seed: u64, folder: &Path) -> std::io::Result<()> {
+/// A generated board; three sizes take turns.
+fn generated(random: &mut Random, turn: usize) -> Board {
+    let side = match turn % 10 {
+        0 => 32,
+        1..=3 => 10,
+        _ => 5,
+    };
+    generate::board(random, side, side)
+}
+
+/// A page with its answers.
+fn put(folder: &Path, name: &str, page: String, answers: String) -> std::io::Result<()> {
+    let path = folder.join(name);
+    fs::write(path.with_extension("page"), page)?;
+    fs::write(path.with_extension("answers"), answers)
+}
+
+fn write(
+    made: impl Fn(&mut Random, usize) -> Board,
+    count: usize,
+    seed: u64,
+    folder: &Path,
+) -> std::io::Result<()> {
     let mut random = Random::new(seed);
     fs::create_dir_all(folder)?;
     for number in 0..count {
-        let side = match number % 10 {
-            0 => 32,
-            1..=3 => 10,
-            _ => 5,
-        };
-        let board = generate::board(&mut random, side, side);
+        let board = made(&mut random, number);
         let calls = calls(&mut random, &board);
-        let name = folder.join(format!("{number:05}"));
-        fs::write(
-            name.with_extension("page"),
-            sheet::page(&board.puzzle, &calls),
-        )?;
-        let answers = sheet::answers(&board.puzzle, &calls, &mut check);
-        fs::write(name.with_extension("answers"), answers)?;
+        let page = sheet::page(&board.puzzle, &calls);
+        let answers = sheet::answers(&board.puzzle, &calls, &mut oracle::check);
+        put(folder, &format!("{number:05}"), page, answers)?;
     }
     Ok(())
 }
 
-fn answer(files: &[String]) -> std::io::Result<()> {
+/// The vectors of document 02 as pages, without the checks that name another length of reason memory.
+fn vectors(folder: &Path) -> std::io::Result<()> {
+    fs::create_dir_all(folder)?;
+    let (makes, scripts) = vectors02::flat().unwrap_or_default();
+    for make in makes {
+        let answers = make.refusal.map_or(Ok(vec![]), Err);
+        let page = sheet::page(&make.puzzle, &[]);
+        put(folder, &make.id, page, sheet::printed(&answers))?;
+    }
+    for script in scripts {
+        let spelled = |call: &(Call, Answer)| !matches!(call.0, Call::Check(n) if n != PLACES);
+        let (calls, answers) = script.calls.into_iter().filter(spelled).unzip();
+        let calls: Vec<Call> = calls;
+        let page = sheet::page(&script.puzzle, &calls);
+        put(folder, &script.id, page, sheet::printed(&Ok(answers)))?;
+    }
+    Ok(())
+}
+
+fn answer(files: &[&str]) -> std::io::Result<()> {
     for file in files {
         let path = PathBuf::from(file);
         let (puzzle, calls) = sheet::read(&fs::read_to_string(&path)?);
-        let answers = sheet::answers(&puzzle, &calls, &mut check);
+        let answers = sheet::answers(&puzzle, &calls, &mut oracle::check);
         fs::write(path.with_extension("answers"), answers)?;
     }
     Ok(())
@@ -78,12 +102,23 @@ fn answer(files: &[String]) -> std::io::Result<()> {
 
 fn main() -> ExitCode {
     let words: Vec<String> = env::args().skip(1).collect();
-    let done = match words.first().map(String::as_str) {
-        Some("write") if words.len() == 4 => match (words[1].parse(), words[2].parse()) {
-            (Ok(count), Ok(seed)) => write(count, seed, Path::new(&words[3])),
-            _ => return ExitCode::FAILURE,
-        },
-        Some("answer") => answer(&words[1..]),
+    let words: Vec<&str> = words.iter().map(String::as_str).collect();
+    let number = |word: &str| word.parse().expect("a number");
+    let done = match words[..] {
+        ["write", n, seed, folder] => write(
+            generated,
+            number(n) as usize,
+            number(seed),
+            Path::new(folder),
+        ),
+        ["drafts", n, seed, folder] => write(
+            drafts::draft,
+            number(n) as usize,
+            number(seed),
+            Path::new(folder),
+        ),
+        ["vectors02", folder] => vectors(Path::new(folder)),
+        ["answer", ref files @ ..] => answer(files),
         _ => return ExitCode::FAILURE,
     };
     match done {
