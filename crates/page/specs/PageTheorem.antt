@@ -3,7 +3,7 @@
 --   Spells s p          the bytes s are the text of the page p, and all that 01 asks of form holds
 --   page-sound, page-complete   `pageOf s ≡ some p` exactly where s spells p
 --   PagePuzzle s p      the bytes s are accepted as the page p: what its arrays hold
---   page-puzzle, page-accepts   the bytes s are accepted as p exactly where s spells p and p makes a board
+--   page-puzzle, page-accepts   the bytes s are accepted as p exactly where they are well formed and p makes a board
 use mathlib.Core.Path.{_≡_, refl, sym, ap, _∙_, subst}
 use mathlib.Core.Bool.{Bool, true, false, cond}
 use mathlib.Core.List.{List, [], _∷_, append-nil}
@@ -95,7 +95,7 @@ page-puzzle s p e = go (pageOf s) refl e
         let j : Makes p = subst (λ (r : Sheet). Makes r) (m .0) (m .1) in
         all (h ∙ ap some (m .0)) j
 
--- "Such a page is to be loaded like any other": no clue that the grammar reads is too big
-pub page-accepts : (s : List ℕ) (p : Sheet) → Spells s p → Makes p → judgementOf s ≡ accepted p
-page-accepts s p k m =
-    formed s p (page-complete s p k) ∙ right p (size-is (m .size)) (m .rows) (m .colours)
+-- a well formed page of a right size, right rows and two colours is accepted, whatever its clues: "Such a page is to be
+-- loaded like any other"
+pub page-accepts : (s : List ℕ) (p : Sheet) → pageOf s ≡ some p → Makes p → judgementOf s ≡ accepted p
+page-accepts s p e m = formed s p e ∙ right p (size-is (m .size)) (m .rows) (m .colours)
