@@ -22,8 +22,8 @@ pub const SIZES: [(usize, usize); 11] = [
 /// How many clues take turns on each size.
 pub const CLUES: usize = 8;
 
-/// Half the cells, one more, all cells, one more, half the cells again if it is cut to 8 or to 16
-/// bits, and the two largest.
+/// Half the cells, one more, all cells, one more, numbers that a cut to 8 or to 16 bits makes half the
+/// cells, and the two largest.
 fn clues(cells: usize) -> [i32; CLUES] {
     let (half, all) = ((cells / 2) as i32, cells as i32);
     [

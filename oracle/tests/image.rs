@@ -123,5 +123,8 @@ fn harmless_changes_are_not_alien() {
     assert_eq!(image::check(&good, &mut short, &mut plain::reason), 9);
     assert!(short.iter().all(|&byte| byte == 7));
     let mut odd = vec![7; 2 * PLACES + 1];
-    assert_eq!(image::check(&good, &mut odd, &mut plain::reason), 65_536 + 1);
+    assert_eq!(
+        image::check(&good, &mut odd, &mut plain::reason),
+        65_536 + 1
+    );
 }

@@ -54,7 +54,7 @@ fn put(folder: &Path, name: &str, page: String, answers: String) -> std::io::Res
 }
 
 fn write(
-    made: impl Fn(&mut Random, usize) -> Board,
+    made: fn(&mut Random, usize) -> Board,
     count: usize,
     seed: u64,
     folder: &Path,
@@ -103,20 +103,17 @@ fn answer(files: &[&str]) -> std::io::Result<()> {
 fn main() -> ExitCode {
     let words: Vec<String> = env::args().skip(1).collect();
     let words: Vec<&str> = words.iter().map(String::as_str).collect();
-    let number = |word: &str| word.parse().expect("a number");
     let done = match words[..] {
-        ["write", n, seed, folder] => write(
-            generated,
-            number(n) as usize,
-            number(seed),
-            Path::new(folder),
-        ),
-        ["drafts", n, seed, folder] => write(
-            drafts::draft,
-            number(n) as usize,
-            number(seed),
-            Path::new(folder),
-        ),
+        [kind @ ("write" | "drafts"), count, seed, folder] => {
+            let made = [generated, drafts::draft][usize::from(kind == "drafts")];
+            let count = count.parse().expect("how many pages");
+            write(
+                made,
+                count,
+                seed.parse().expect("a seed"),
+                Path::new(folder),
+            )
+        }
         ["vectors02", folder] => vectors(Path::new(folder)),
         ["answer", ref files @ ..] => answer(files),
         _ => return ExitCode::FAILURE,
