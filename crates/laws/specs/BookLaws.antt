@@ -294,18 +294,18 @@ module _ (Z : Puzzle) (ls : List Literal) where
 
 -- a call with memory that is not short is refused with 6, 7 or 8
 module _ (Z : Puzzle) (m n : ℕ) (l : 16384 ≤ m) where
-  number-is : (k : ℕ) → refused k ≡ refused n → n ≡ k
-  number-is k e = cc
+  refused-is : (k : ℕ) → refused k ≡ refused n → n ≡ k
+  refused-is k e = cc
 
   call-refused : (ls : List Literal) (c : Call) → replyTo Z ls m c ≡ refused n → n ∈ (6 ∷ 7 ∷ 8 ∷ [])
   unfolding replyTo decideReply
   call-refused ls (Decide k) e = go (ltb (k .border) (Z .page .borders)) (names ls (k .border)) e
     where
       go : (a b : Bool) → cond a (cond b (refused 7) done) (refused 6) ≡ refused n → n ∈ (6 ∷ 7 ∷ 8 ∷ [])
-      go true true f = List·Memᴰ·tail (List·Memᴰ·head (number-is 7 f))
+      go true true f = List·Memᴰ·tail (List·Memᴰ·head (refused-is 7 f))
       go true false f = let z : _≡_ {A = ℕ} 0 1 = cc in absurd (omega arith)
-      go false b f = List·Memᴰ·head (number-is 6 f)
-  call-refused [] Undo e = List·Memᴰ·tail (List·Memᴰ·tail (List·Memᴰ·head (number-is 8 e)))
+      go false b f = List·Memᴰ·head (refused-is 6 f)
+  call-refused [] Undo e = List·Memᴰ·tail (List·Memᴰ·tail (List·Memᴰ·head (refused-is 8 e)))
   call-refused (k ∷ ls) Undo e = let z : _≡_ {A = ℕ} 0 1 = cc in absurd (omega arith)
   call-refused ls Check e = go (rw (le-ltb m 16384 l) at e)
     where

@@ -119,8 +119,8 @@ module _ (s : List ℕ) where
   formed p e = rw e
 
 -- the numbers with which a page is rejected
-number-is : (k n : ℕ) → rejected k ≡ rejected n → n ≡ k
-number-is k n e = cc
+rejected-is : (k n : ℕ) → rejected k ≡ rejected n → n ≡ k
+rejected-is k n e = cc
 
 sheet-number : (p : Sheet) (n : ℕ) → judgeSheet p ≡ rejected n → n ∈ (1 ∷ 2 ∷ 3 ∷ [])
 unfolding judgeSheet
@@ -131,9 +131,9 @@ sheet-number p n e =
         → cond a (cond b (cond c (accepted p) (rejected 3)) (rejected 2)) (rejected 1) ≡ rejected n
         → n ∈ (1 ∷ 2 ∷ 3 ∷ [])
     go true true true q = let z : _≡_ {A = ℕ} 0 1 = cc in absurd (omega arith)
-    go true true false q = List·Memᴰ·tail (List·Memᴰ·tail (List·Memᴰ·head (number-is 3 n q)))
-    go true false c q = List·Memᴰ·tail (List·Memᴰ·head (number-is 2 n q))
-    go false b c q = List·Memᴰ·head (number-is 1 n q)
+    go true true false q = List·Memᴰ·tail (List·Memᴰ·tail (List·Memᴰ·head (rejected-is 3 n q)))
+    go true false c q = List·Memᴰ·tail (List·Memᴰ·head (rejected-is 2 n q))
+    go false b c q = List·Memᴰ·head (rejected-is 1 n q)
 
 -- "a page gives 1 to 3, 10", and no other: "Number 11 is retired and not used again"
 pub judgement-number : (s : List ℕ) (n : ℕ) → judgementOf s ≡ rejected n → n ∈ (10 ∷ 1 ∷ 2 ∷ 3 ∷ [])
@@ -141,5 +141,5 @@ unfolding judgementOf judgeRead
 judgement-number s n e = go (pageOf s) e
   where
     go : (o : Option Sheet) → judgeRead o ≡ rejected n → n ∈ (10 ∷ 1 ∷ 2 ∷ 3 ∷ [])
-    go none q = List·Memᴰ·head (number-is 10 n q)
+    go none q = List·Memᴰ·head (rejected-is 10 n q)
     go (some p) q = List·Memᴰ·tail (sheet-number p n q)
