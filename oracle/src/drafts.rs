@@ -39,7 +39,7 @@ fn clues(cells: usize) -> [i32; CLUES] {
 }
 
 /// Whether a clue is above half the cells.
-pub fn is_draft(puzzle: &Puzzle) -> bool {
+pub fn above_half(puzzle: &Puzzle) -> bool {
     let half = (puzzle.cells() / 2) as i32;
     puzzle.clues.iter().any(|&clue| clue > half)
 }

@@ -340,8 +340,8 @@ fn of_drafts() -> Vec<Scenario> {
     calls.push(Call::Undo);
     calls.extend(decided(&[(0, true), (6, true)]));
     let most = page(2, 4, "00010011", &[(0, 5)]);
-    let largest = page(2, 4, "00110011", &[(5, i32::MAX)]);
-    let walls = decided(&[(4, true), (1, true), (6, false)]);
+    let largest = page(2, 4, "00110011", &[(0, i32::MAX)]);
+    let walls = decided(&[(0, true), (6, true)]);
     vec![
         scenario("a clue above half the cells", most, calls),
         scenario("the largest clue between walls", largest, walls),

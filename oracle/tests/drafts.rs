@@ -3,7 +3,7 @@
 mod common;
 
 use common::{holds, published, skipped};
-use oracle::drafts::{draft, is_draft};
+use oracle::drafts::{above_half, draft};
 use oracle::random::Random;
 use oracle::{plain, rules};
 
@@ -21,7 +21,7 @@ fn plain_check_is_the_published_one() {
         assert_eq!(plain, reason, "{board:?}");
         let states = board.states();
         match reason {
-            _ if !is_draft(&board.puzzle) => {}
+            _ if !above_half(&board.puzzle) => {}
             None => passes += 1,
             Some(reason) if reason.is_empty() => empty += 1,
             Some(reason) => {
@@ -45,7 +45,7 @@ fn a_clue_above_half_the_cells_has_no_solution() {
             continue;
         }
         let solutions = rules::all_solutions(&puzzle).len();
-        assert!(solutions == 0 || !is_draft(&puzzle), "{puzzle:?}");
+        assert!(solutions == 0 || !above_half(&puzzle), "{puzzle:?}");
         solved += solutions;
     }
     assert!(solved > 0);

@@ -2,7 +2,7 @@
 //! the plain one where the source is not there.
 
 use oracle::book::{self, Book};
-use oracle::drafts::is_draft;
+use oracle::drafts::above_half;
 use oracle::vectors02::{self, struck};
 
 #[test]
@@ -22,7 +22,7 @@ fn the_book_has_their_answers() {
         }
         assert_eq!(book.sequence(), script.end, "{}", script.id);
         calls += script.calls.len();
-        drafts += usize::from(is_draft(&script.puzzle));
+        drafts += usize::from(above_half(&script.puzzle));
     }
     println!(
         "{} made, {} scripts, {drafts} drafts, {calls} calls",

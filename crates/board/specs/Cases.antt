@@ -1,4 +1,5 @@
--- The definitions by cases: what `isAlien`, `freshOf`, `decideOf` and `undoOf` give where their tests are known.
+-- The definitions by cases: what `isAlien`, `freshOf`, `decideOf` and `undoOf` give where their tests are known. And
+-- the number that no outcome has.
 use mathlib.Core.Path.{_≡_, refl, ap, _∙_}
 use mathlib.Core.Bool.{Bool, true, false, not, cond}
 use mathlib.Core.List.{List}
@@ -15,7 +16,7 @@ use Rattle.rules.specs.Codes.{codeOf}
 use Rattle.board.specs.declared.Board.{Board}
 use Rattle.board.specs.declared.Outcome.{Outcome}
 use Rattle.board.specs.declared.Outcome.the-variants.{Done, Size, Ragged, Colour, Clue}
-use Rattle.board.specs.declared.Outcome.the-variants.{Alien, Border, Taken, Bare}
+use Rattle.board.specs.declared.Outcome.the-variants.{Alien, Border, Taken, Bare, Short}
 use Rattle.board.specs.Alien.{sizeRight, coloursRight, cluesRight, entriesRight, onceEach, borderRight}
 use Rattle.board.specs.Alien.{bordersRight, bordersBy, Flags, zerosFrom, zeroCluesFrom, puzzleRight}
 use Rattle.board.specs.Alien.{decisionsIn, unusedIn, cellCountOf, borderCountOf, isAlien}
@@ -240,3 +241,16 @@ module _ (h w : ℕ) (cs : List ℕ) (ks : List ℤ) where
   pub fresh-done : sizeRight h w ≡ true → length cs ≡ h * w → length ks ≡ h * w → coloursRight cs (h * w) ≡ true
       → cluesRight ks (h * w) ≡ true → returned Done (freshBoard h w cs ks) ≡ freshOf h w cs ks
   fresh-done p r s t u = fresh-free p Done (puzzle-none (h * w) cs ks r s t u) refl
+
+-- ---- "Number 11 is retired and not used again"
+pub outcome-never-eleven : (o : Outcome) → numberOf o ≡ 11 → ⊥
+outcome-never-eleven Done e = omega arith
+outcome-never-eleven Size e = omega arith
+outcome-never-eleven Ragged e = omega arith
+outcome-never-eleven Colour e = omega arith
+outcome-never-eleven Clue e = omega arith
+outcome-never-eleven Alien e = omega arith
+outcome-never-eleven Border e = omega arith
+outcome-never-eleven Taken e = omega arith
+outcome-never-eleven Bare e = omega arith
+outcome-never-eleven Short e = omega arith

@@ -8,7 +8,7 @@
 --   call-range        what a call answers is in range, on every board
 --   answer-from       the answer is read back from its number
 --   number-once       two answers with one number are equal
---   never-eleven      no answer has the number 11
+--   answer-never-eleven   no answer has the number 11
 use mathlib.Core.Path.{_≡_, refl, ap, sym, _∙_}
 use mathlib.Core.Bool.{Bool, true, false, cond}
 use mathlib.Core.List.{List}
@@ -32,6 +32,7 @@ use Rattle.board.specs.declared.Outcome.the-variants.{Alien, Border, Taken, Bar
 use Rattle.board.specs.Alien.{isAlien}
 use Rattle.board.specs.Board.{numberOf, decideOf, undoOf}
 use Rattle.board.specs.View.{puzzleOf, statesOf}
+use Rattle.board.specs.Cases.{outcome-never-eleven}
 use Rattle.board.specs.NativeLaws.{native-has}
 use Rattle.calls.specs.declared.Answer.{Answer}
 use Rattle.calls.specs.declared.Answer.the-variants.{Done, Pass, Conflict, Refused}
@@ -156,12 +157,8 @@ pub number-once : (a c : Answer) → InRange a → InRange c → answerNumber a 
 number-once a c h k e = sym (answer-from a h) ∙ ap answerFrom e ∙ answer-from c k
 
 -- "Number 11 is retired and not used again"
-pub never-eleven : (a : Answer) → answerNumber a ≡ 11 → ⊥
-unfolding outcomeOf
-never-eleven Done e = omega arith
-never-eleven (Pass n) e = omega arith
-never-eleven (Conflict n) e = omega arith
-never-eleven (Refused o) e =
-    let f : Fine ≡ o = ap outcomeOf (sym e) ∙ outcome-of o .0 in
-    let z : _≡_ {A = ℕ} 0 11 = ap numberOf f ∙ e in
-    omega arith
+pub answer-never-eleven : (a : Answer) → answerNumber a ≡ 11 → ⊥
+answer-never-eleven Done e = omega arith
+answer-never-eleven (Pass n) e = omega arith
+answer-never-eleven (Conflict n) e = omega arith
+answer-never-eleven (Refused o) e = outcome-never-eleven o e

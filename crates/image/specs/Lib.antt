@@ -16,3 +16,4 @@ pub mod Producing
 pub mod ProducingLaws
 pub mod Making
 pub mod MakingLaws
+pub mod RetiredLaws

@@ -57,7 +57,7 @@ fn drafts() {
     let mut random = Random::new(73);
     for turn in 0..2_640 {
         let board = drafts::draft(&mut random, turn);
-        if drafts::is_draft(&board.puzzle) {
+        if drafts::above_half(&board.puzzle) {
             judge.judge(&board);
         }
     }
