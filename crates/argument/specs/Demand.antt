@@ -2,12 +2,12 @@
 --
 --   Full Z s                    the setting s leaves no border of the page undecided
 --   SameSides Z s σ             s and σ have the same states on the page's borders
---   BookAnswered Z calls ls r   somewhere in the list a check was answered with r, when the sequence was ls
---   BookHandedOut Z calls ls r  somewhere in the list the reason r was handed out, when the sequence was ls
+--   BookAnswered Z calls ls r   somewhere in the list a check or a preview, which looked at ls, was answered with r
+--   BookHandedOut Z calls ls r  somewhere in the list a check or a preview, which looked at ls, handed out the reason r
 --   BookRuledOut Z calls σ      σ contains all literals of some reason handed out in the list
---   BookStoodAt Z calls σ r     σ stood at a check of the list that was answered with r
+--   BookStoodAt Z calls σ r     σ stood at a check or a preview of the list that was answered with r
 --   Passes r                    the answer r is a pass
---   BookPassedAt Z calls σ      σ stood at a check of the list that was answered with a pass
+--   BookPassedAt Z calls σ      σ stood at a check or a preview of the list that was answered with a pass
 --   BookDemand Z calls          the claim
 use mathlib.Core.Path.{_≡_}
 use mathlib.Core.Logic.{_↔_}
@@ -17,7 +17,7 @@ use Rattle.rules.specs.declared.Literal.{Literal}
 use Rattle.rules.specs.Page.{Puzzle, State, undecided, Contains}
 use Rattle.rules.specs.Rules.{Solution}
 use Rattle.rules.specs.Check.{Reason, Verdict, pass, conflict}
-use Rattle.rules.specs.Book.{Asked, answered, states, reply, sequence}
+use Rattle.rules.specs.Book.{Asked, answered, states, looked, reply, bookAfter}
 
 module _ (Z : Puzzle) where
   -- "A full setting makes each border wall or open"
@@ -27,16 +27,17 @@ module _ (Z : Puzzle) where
   unfoldable pub SameSides : (ℕ → State) → (ℕ → State) → Type 0
   SameSides s σ = (b : ℕ) → b < Z .page .borders → s b ≡ σ b
 
-  -- "A check is answered if not refused"; the sequence then is the one that the calls before it lead to
+  -- "A check is answered if not refused"; ls is the sequence that the calls before it lead to, and for a preview a copy
+  -- of it with the preview's literal put last
   pub record BookAnswered (calls : List Asked) (ls : List Literal) (r : Verdict) : Type 0 where
     pub earlier : List Asked
     pub call : Asked
     pub later : List Asked
     pub split : calls ≡ earlier ++ (call ∷ later)
-    pub standing : sequence Z earlier ≡ ls
-    pub answer : reply Z ls call ≡ answered r
+    pub standing : looked (bookAfter Z earlier .sequence) (call .call) ≡ ls
+    pub answer : reply Z (bookAfter Z earlier) call ≡ answered r
 
-  -- "a reason handed out is the literals it wrote"
+  -- "a reason handed out is the literals it wrote"; a preview's "counts as handed out"
   abbrev pub BookHandedOut : List Asked → List Literal → Reason → Type 0
   BookHandedOut calls ls r = BookAnswered calls ls (conflict r)
 
@@ -47,7 +48,8 @@ module _ (Z : Puzzle) where
     pub given : BookHandedOut calls sequence reason
     pub contains : Contains σ reason
 
-  -- "A full setting stood at a check if the board then had no undecided border and the setting's sides"
+  -- "A full setting stood at a check if the board then had no undecided border and the setting's sides"; "a full setting
+  -- on the copy counts as one that stood at the check"
   pub record BookStoodAt (calls : List Asked) (σ : ℕ → State) (r : Verdict) : Type 0 where
     pub sequence : List Literal
     pub check : BookAnswered calls sequence r

@@ -10,9 +10,9 @@ use Rattle.rules.specs.declared.Literal.{Literal}
 use Rattle.rules.specs.Page.{Puzzle, State, Contains}
 use Rattle.rules.specs.Rules.{Solution}
 use Rattle.rules.specs.Check.{Reason, Verdict, pass, conflict, check}
-use Rattle.rules.specs.Book.{Asked, states, sequence}
+use Rattle.rules.specs.Book.{Asked, states, bookAfter}
 use Rattle.laws.specs.PageLaws.{Bordered, CellsPlaced, TurnsListed}
-use Rattle.laws.specs.BookLaws.{Clean, decided-mem, sequence-clean, answered-check}
+use Rattle.laws.specs.BookLaws.{Clean, decided-mem, book-clean, answered-check, looked-clean}
 use Rattle.argument.specs.Demand.{SameSides, BookAnswered, BookRuledOut, BookStoodAt, Passes, BookDemand}
 use Rattle.argument.specs.Agrees.{sides-sym, solution-agrees}
 use Rattle.argument.specs.Checks.{check-kind, check-holds, check-sound, check-full}
@@ -47,9 +47,11 @@ module _ (Z : Puzzle) where
     sides = q .sides;
   }
 
-  -- the answer is check's, on the states of the sequence
+  -- the answer is check's, on the states of the sequence that was looked at
   checked : (calls : List Asked) (ls : List Literal) (r : Verdict) → BookAnswered Z calls ls r → check Z (states ls) ≡ r
-  checked calls ls r a = answered-check Z ls (a .call) r (a .answer) .1
+  checked calls ls r a =
+      ap (λ (ks : List Literal). check Z (states ks)) (sym (a .standing))
+      ∙ answered-check Z (bookAfter Z (a .earlier)) (a .call) r (a .answer)
 
   -- the setting that stood has the literals of a reason that holds there
   stood-contains : (calls : List Asked) (σ : ℕ → State) (r : Verdict) (q : BookStoodAt Z calls σ r) (reason : Reason)
@@ -57,7 +59,8 @@ module _ (Z : Puzzle) where
   unfolding Contains SameSides
   stood-contains calls σ r q reason c l m =
       let a = q .check in
-      let clean : Clean Z (q .sequence) = subst (Clean Z) (a .standing) (sequence-clean Z (a .earlier)) in
+      let clean : Clean Z (q .sequence) = subst (Clean Z) (a .standing)
+      (looked-clean Z (bookAfter Z (a .earlier)) (a .call) r (a .answer) (book-clean Z (a .earlier))) in
       let h = clean .below l (decided-mem (q .sequence) l (c l m)) in
       sym (q .sides (l .border) h) ∙ c l m
 

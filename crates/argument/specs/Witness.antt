@@ -1,5 +1,5 @@
 -- A closed witness: on the 1×2 page with the colours 01 and the clue 1, the open border is a solution and the wall is
--- none, by the rules alone; and two lists of calls in which these full settings stood at a check.
+-- none, by the rules alone; and lists of calls in which these full settings stood at a check and at a preview.
 use mathlib.Core.Path.{_≡_, refl, sym, ap, _∙_, subst}
 use mathlib.Core.Bool.{Bool, true, false}
 use mathlib.Core.List.{List, [], _∷_, List·Memᴰ·head, List·Memᴰ·tail, List·Memᴰ·not-nil}
@@ -12,7 +12,7 @@ use Rattle.lists.specs.Lists.{_∈_, any}
 use Rattle.rules.specs.declared.Side.{Side}
 use Rattle.rules.specs.declared.Side.the-variants.{Wall, Open}
 use Rattle.rules.specs.declared.Literal.{Literal}
-use Rattle.rules.specs.declared.Call.the-variants.{Decide, Check}
+use Rattle.rules.specs.declared.Call.the-variants.{Decide, Check, Preview}
 use Rattle.rules.specs.Page.{Puzzle, State, undecided, decided, Point, _⊕_, opposite, openAt, wallAt}
 use Rattle.rules.specs.Rules.{Joined, stay, oneColour, joinsBlock, joinsUnit, SameBlock, SameUnit, UnitHas, Congruent}
 use Rattle.rules.specs.Rules.{Solution, step}
@@ -20,8 +20,8 @@ use Rattle.rules.specs.Turns.{apply, keep}
 use Rattle.rules.specs.Codes.{coloursIn, cluesIn}
 use Rattle.rules.specs.Flat.{flat, cellAt, rightOf, borderCount, hopIf, hopAbove, hopBelow, hopLeft, hopRight, aroundAt}
 use Rattle.rules.specs.Flat.{flatFirst, flatSecond}
-use Rattle.rules.specs.Book.{Asked, ask, states, stateIf, names, sequence, replies, done, answered, sequenceFrom}
-use Rattle.rules.specs.Book.{repliesFrom, replyTo, afterCall, decideReply, decideAfter}
+use Rattle.rules.specs.Book.{Asked, ask, done, answered, freshBook, stateIf, states, names, looked, doneBook}
+use Rattle.rules.specs.Book.{decideReply, checkReply, replyTo, after, bookFrom, repliesFrom, bookAfter, replies}
 use Rattle.rules.specs.Check.{check}
 use Rattle.laws.specs.PageLaws.{Bordered}
 use Rattle.laws.specs.PointLaws.{add-assoc, add-comm, add-opposite, add-origin, origin}
@@ -181,19 +181,30 @@ wall-fails S =
 abbrev pub calls : Literal → List Asked
 calls l = ask 0 (Decide l) ∷ ask 16384 Check ∷ []
 
+-- a preview, with memory enough
+abbrev pub previews : Literal → List Asked
+previews l = ask 16384 (Preview l) ∷ []
+
 pub record Witness : Type 0 where
   -- a solution, and a full setting that is none
   pub solves : Solution small opened
   pub fails : Solution small walled → ⊥
   pub full : (b : ℕ) → b < small .page .borders → walled b ≡ undecided → ⊥
   -- each stood at a check that was answered
-  pub open-stood : sequence small (calls (openAt 0)) ≡ openAt 0 ∷ []
+  pub open-stood : bookAfter small (calls (openAt 0)) .sequence ≡ openAt 0 ∷ []
   pub open-answered : replies small (calls (openAt 0)) ≡ done ∷ answered (check small opened) ∷ []
-  pub wall-stood : sequence small (calls (wallAt 0)) ≡ wallAt 0 ∷ []
+  pub wall-stood : bookAfter small (calls (wallAt 0)) .sequence ≡ wallAt 0 ∷ []
   pub wall-answered : replies small (calls (wallAt 0)) ≡ done ∷ answered (check small walled) ∷ []
+  -- each stood at a preview that was answered alike, and the book's sequence is still empty
+  pub open-looked : looked [] (Preview (openAt 0)) ≡ openAt 0 ∷ []
+  pub open-previewed : replies small (previews (openAt 0)) ≡ answered (check small opened) ∷ []
+  pub open-left : bookAfter small (previews (openAt 0)) ≡ freshBook
+  pub wall-looked : looked [] (Preview (wallAt 0)) ≡ wallAt 0 ∷ []
+  pub wall-previewed : replies small (previews (wallAt 0)) ≡ answered (check small walled) ∷ []
+  pub wall-left : bookAfter small (previews (wallAt 0)) ≡ freshBook
 
 pub witness : Witness
-unfolding flat borderCount sequenceFrom repliesFrom replyTo afterCall decideReply decideAfter names any
+unfolding flat borderCount bookFrom repliesFrom after doneBook replyTo decideReply checkReply names any
 witness =
     record {
       solves = open-solves;
@@ -203,4 +214,10 @@ witness =
       open-answered = refl;
       wall-stood = refl;
       wall-answered = refl;
+      open-looked = refl;
+      open-previewed = refl;
+      open-left = refl;
+      wall-looked = refl;
+      wall-previewed = refl;
+      wall-left = refl;
     }

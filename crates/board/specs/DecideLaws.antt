@@ -111,16 +111,16 @@ stacked-set s c n x h =
     (ap (λ y. eqb y x) (getD-set-same s c n 0 h))
 
 -- ---- a decide
-module _ (b : Board) (N : Native b) (T : Typed b) (n v : ℕ) (k : n < borderCountOf b)
-    (p : getD (b .borders) n 0 ≡ 0) where
+module _ (b : Board) (N : Native b) (B : length (b .borders) ≡ 1984) (S : length (b .stack) ≡ 1984) (n v : ℕ)
+    (k : n < borderCountOf b) (p : getD (b .borders) n 0 ≡ 0) where
   abbrev s : List ℕ
   s = set (b .stack) (b .count) n
 
   place : b .count < length (b .stack)
-  place = omega (arith, stack-room b N n k p, borders-fit b N, T .stack)
+  place = omega (arith, stack-room b N n k p, borders-fit b N, S)
 
   index : n < length (b .borders)
-  index = omega (arith, borders-fit b N, T .borders)
+  index = omega (arith, borders-fit b N, B)
 
   pub new-entry : getD s (b .count) 0 ≡ n
   new-entry = getD-set-same (b .stack) (b .count) n 0 place
@@ -190,8 +190,8 @@ module _ (b : Board) (N : Native b) (T : Typed b) (n v : ℕ) (k : n < borderCou
           )
           (N .held x h)
 
-  pub pushed-typed : Typed (pushed b n v)
-  pushed-typed =
+  pub pushed-typed : Typed b → Typed (pushed b n v)
+  pushed-typed T =
       record {
         colours = T .colours;
         clues = T .clues;
@@ -301,17 +301,18 @@ module _ (b : Board) (N : Native b) (T : Typed b) (k : ℕ) (e : b .count ≡ k 
       }
 
 -- ---- the calls
-pub decide-keeps : (b : Board) (l : Literal) {d : Board} → Typed b → decideOf b l ≡ returned Done d → isAlien d ≡ false
-decide-keeps b l T e =
+pub decide-keeps : (b : Board) (l : Literal) {d : Board} → length (b .borders) ≡ 1984 → length (b .stack) ≡ 1984
+    → decideOf b l ≡ returned Done d → isAlien d ≡ false
+decide-keeps b l B S e =
     let f = decided-is e in
     let c = side-code (l .side) in
     ap isAlien (f .is)
-    ∙ native-of _ (pushed-native b (native-has b (f .known)) T _ _ (f .below) (f .free) (c .0) (c .1))
+    ∙ native-of _ (pushed-native b (native-has b (f .known)) B S _ _ (f .below) (f .free) (c .0) (c .1))
 
 pub decided-typed : (b : Board) (l : Literal) {d : Board} → Typed b → decideOf b l ≡ returned Done d → Typed d
 decided-typed b l T e =
     let f = decided-is e in
-    rw (f .is) (pushed-typed b (native-has b (f .known)) T _ _ (f .below) (f .free))
+    rw (f .is) (pushed-typed b (native-has b (f .known)) (T .borders) (T .stack) _ _ (f .below) (f .free) T)
 
 pub undone-typed : (b : Board) {d : Board} → Typed b → undoOf b ≡ returned Done d → Typed d
 undone-typed b T e =
@@ -333,6 +334,8 @@ undo-decide b l {d} T e =
     let f = decided-is e in
     let N = native-has b (f .known) in
     sym
-    (undo-done d (decide-keeps b l T e)
+    (undo-done d (decide-keeps b l (T .borders) (T .stack) e)
     (λ q. let z : b .count + 1 ≡ 0 = sym (ap (λ (y : Board). y .count) (f .is)) ∙ q in omega arith))
-    ∙ ap (returned Done) (ap popped (f .is) ∙ popped-pushed b N T (l .border) (codeOf (l .side)) (f .below) (f .free))
+    ∙ ap (returned Done)
+    (ap popped (f .is)
+    ∙ popped-pushed b N (T .borders) (T .stack) (l .border) (codeOf (l .side)) (f .below) (f .free))

@@ -45,7 +45,7 @@ module _ (b : Board) (N : Native b) (T : Typed b) (l : Literal) (k : l .border <
       (table-cong (b .count) _ _
       (λ i h.
       literal-same (set (b .borders) (l .border) v) (b .borders) _ _
-      (old-entry b N T (l .border) v k p i (λ z. let q : i ≡ b .count = z in omega arith))
+      (old-entry b N (T .borders) (T .stack) (l .border) v k p i (λ z. let q : i ≡ b .count = z in omega arith))
       (getD-set-other (b .borders) (l .border) (getD (b .stack) i 0) v 0 (other i h))))
       last
     where
@@ -54,7 +54,7 @@ module _ (b : Board) (N : Native b) (T : Typed b) (l : Literal) (k : l .border <
 
       last : literalIn (set (b .borders) (l .border) v) (getD (set (b .stack) (b .count) (l .border)) (b .count) 0) ≡ l
       last =
-          ap (literalIn (set (b .borders) (l .border) v)) (new-entry b N T (l .border) v k p)
+          ap (literalIn (set (b .borders) (l .border) v)) (new-entry b N (T .borders) (T .stack) (l .border) v k p)
           ∙ (λ i.
           record {
             border = l .border;

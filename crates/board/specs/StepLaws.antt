@@ -16,14 +16,23 @@ use Rattle.rules.specs.Flat.{flat}
 use Rattle.rules.specs.Codes.{codeOf}
 use Rattle.rules.specs.Book.{Reply, refused, done, bareOr, withLast, decideReply}
 use Rattle.board.specs.declared.Board.{Board}
+use Rattle.board.specs.declared.Outcome.{Outcome}
 use Rattle.board.specs.declared.Outcome.the-variants.{Done, Border, Taken}
 use Rattle.board.specs.Alien.{borderCountOf, isAlien}
-use Rattle.board.specs.Board.{pushed, decideRefusal, endedBy, decideOf, undoOf, Typed}
+use Rattle.board.specs.Board.{numberOf, pushed, decideRefusal, endedBy, decideOf, undoOf, Typed}
 use Rattle.board.specs.View.{puzzleOf, literalIn, literalsOf, replyOf}
 use Rattle.board.specs.Cases.{undo-bare, undo-done, decide-done}
 use Rattle.board.specs.NativeLaws.{native-has}
 use Rattle.board.specs.DecideLaws.{decide-keeps, decided-typed, undo-keeps, undone-typed}
 use Rattle.board.specs.ViewLaws.{names-decided, decided-puzzle, undone-puzzle}
+
+-- a reply that is done comes of an outcome that is
+pub reply-done : (o : Outcome) → replyOf o ≡ done → numberOf o ≡ 0
+reply-done o e = go (eqb (numberOf o) 0) refl e
+  where
+    go : (x : Bool) → eqb (numberOf o) 0 ≡ x → cond x done (refused (numberOf o)) ≡ done → numberOf o ≡ 0
+    go true p q = eqb-true (numberOf o) 0 p
+    go false p q = let z : _≡_ {A = ℕ} 0 1 = cc in absurd (omega arith)
 
 -- the board d keeps what the next call needs
 pub record BoardKept (b d : Board) : Type 0 where
@@ -67,7 +76,7 @@ module _ (b : Board) (t : isAlien b ≡ false) where
               let e =
               sym (decide-done b l t (ltb-true (l .border) m p) (eqb-true (getD (b .borders) (l .border) 0) 0 q)) in
               record {
-                known = decide-keeps b l T e;
+                known = decide-keeps b l (T .borders) (T .stack) e;
                 typed = decided-typed b l T e;
                 puzzle = decided-puzzle b l e;
               }

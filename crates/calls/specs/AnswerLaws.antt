@@ -3,7 +3,7 @@
 --   literal-of          a literal read from its code
 --   reason-in           a reason read from memory that begins with its codes
 --   put-start           memory with a reason written from its start
---   length-written, length-call   an answered check and a call keep the length of the memory
+--   length-written, length-check, length-call   an answered check, a check and a call keep the length of the memory
 --   check-alien, check-short, check-found   the answer of a check by its cases
 --   memory-alien, memory-short, memory-found   the memory after it by its cases
 use mathlib.Core.Path.{_≡_, refl, ap, _∙_}
@@ -20,15 +20,17 @@ use Rattle.rules.specs.declared.Side.{Side}
 use Rattle.rules.specs.declared.Side.the-variants.{Wall, Open}
 use Rattle.rules.specs.declared.Literal.{Literal}
 use Rattle.rules.specs.declared.Call.{Call}
-use Rattle.rules.specs.declared.Call.the-variants.{Decide, Undo, Check}
+use Rattle.rules.specs.declared.Call.the-variants.{Decide, Undo, Check, Preview}
 use Rattle.rules.specs.Codes.{sideCode, literalCode, put}
 use Rattle.rules.specs.Check.{Verdict, pass, conflict, check}
 use Rattle.board.specs.declared.Board.{Board}
 use Rattle.board.specs.declared.Outcome.the-variants.{Alien, Short}
 use Rattle.board.specs.Alien.{isAlien}
+use Rattle.board.specs.Board.{decideOf}
 use Rattle.board.specs.View.{puzzleOf, statesOf}
 use Rattle.calls.specs.declared.Answer.the-variants.{Refused}
-use Rattle.calls.specs.Answers.{literalOf, reasonIn, asAnswer, written, checkAnswer, checkMemory, callMemory}
+use Rattle.calls.specs.Answers.{literalOf, reasonIn, asAnswer, written, checkAnswer, checkMemory, isDone}
+use Rattle.calls.specs.Answers.{previewMemory, callMemory}
 
 -- ---- literals and their codes
 code-half : (n : ℕ) (d : Side) → (2 * n + sideCode d) / 2 ≡ n
@@ -113,8 +115,17 @@ length-check b m = go (isAlien b) (ltb (length m) 16384)
     go false true = refl
     go false false = length-written m f
 
+length-preview : (b : Board) (l : Literal) (m : List ℕ) → length (previewMemory b l m) ≡ length m
+unfolding previewMemory
+length-preview b l m = go (isDone (decideOf b l .outcome))
+  where
+    go : (x : Bool) → length (cond x (checkMemory (decideOf b l .board) m) m) ≡ length m
+    go true = length-check (decideOf b l .board) m
+    go false = refl
+
 pub length-call : (b : Board) (c : Call) (m : List ℕ) → length (callMemory b c m) ≡ length m
 unfolding callMemory
 length-call b (Decide l) m = refl
 length-call b Undo m = refl
 length-call b Check m = length-check b m
+length-call b (Preview l) m = length-preview b l m

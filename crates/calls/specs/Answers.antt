@@ -1,4 +1,4 @@
--- Answers: what a check and a call return, refused ones too, and the memory lent to them afterwards.
+-- Answers: what a check, a preview and a call return, refused ones too, and the memory lent to them afterwards.
 --
 --   answerNumber a    an answer as one number
 --   literalOf v       the literal that the number v stands for in reason memory
@@ -9,12 +9,15 @@
 --   written m f       the memory m after that answer
 --   checkAnswer b n   what a check of the board b answers, where n is the length of the memory
 --   checkMemory b m   the memory m after it
+--   isDone o          the outcome o is no refusal
+--   previewAnswer b l n   what a preview of the literal l answers on the board b, where n is the length of the memory
+--   previewMemory b l m   the memory m after it
 --   ended o           how a decide or an undo ended, as the answer of a call
 --   stepped b a       a board with an answer
 --   steppedBy r       what a decide or an undo returned, as a board with an answer
 --   callOf b c m      what the call c returns on the board b with the memory m lent
 --   callMemory b c m  the memory m after it
-use mathlib.Core.Bool.{cond}
+use mathlib.Core.Bool.{Bool, cond}
 use mathlib.Core.List.{List, _++_, map}
 use Prim.Native.Nat.{ℕ, _+_, _/_, _%_}
 use lib.Dec.{eqb, ltb}
@@ -22,7 +25,7 @@ use lib.ListN.{length, take, drop}
 use Rattle.rules.specs.declared.Side.the-variants.{Wall, Open}
 use Rattle.rules.specs.declared.Literal.{Literal}
 use Rattle.rules.specs.declared.Call.{Call}
-use Rattle.rules.specs.declared.Call.the-variants.{Decide, Undo, Check}
+use Rattle.rules.specs.declared.Call.the-variants.{Decide, Undo, Check, Preview}
 use Rattle.rules.specs.Codes.{literalCode, put}
 use Rattle.rules.specs.Check.{Verdict, pass, conflict, check}
 use Rattle.rules.specs.Book.{Reply, refused, done, answered}
@@ -90,9 +93,22 @@ checkMemory b m =
     (cond (ltb (length m) 16384) m
     (written m (check (puzzleOf b) (statesOf b))))
 
+-- ---- preview
+abbrev pub isDone : Outcome → Bool
+isDone o = eqb (numberOf o) 0
+
+-- "It returns .. what decide followed by check would on a copy of the board"
+unfoldable pub previewAnswer : Board → Literal → ℕ → Answer
+previewAnswer b l n =
+    cond (isDone (decideOf b l .outcome)) (checkAnswer (decideOf b l .board) n) (Refused (decideOf b l .outcome))
+
+-- "and writes what decide followed by check would"
+unfoldable pub previewMemory : Board → Literal → List ℕ → List ℕ
+previewMemory b l m = cond (isDone (decideOf b l .outcome)) (checkMemory (decideOf b l .board) m) m
+
 -- ---- any call
 abbrev pub ended : Outcome → Answer
-ended o = cond (eqb (numberOf o) 0) Done (Refused o)
+ended o = cond (isDone o) Done (Refused o)
 
 abbrev pub stepped : Board → Answer → Stepped
 stepped b a = record { board = b; answer = a }
@@ -100,13 +116,15 @@ stepped b a = record { board = b; answer = a }
 abbrev pub steppedBy : Returned → Stepped
 steppedBy r = stepped (r .board) (ended (r .outcome))
 
--- "A check never alters the board"
+-- "A check never alters the board"; at a preview "The board given is unaltered"
 unfoldable pub callOf : Board → Call → List ℕ → Stepped
 callOf b (Decide l) m = steppedBy (decideOf b l)
 callOf b Undo m = steppedBy (undoOf b)
 callOf b Check m = stepped b (checkAnswer b (length m))
+callOf b (Preview l) m = stepped b (previewAnswer b l (length m))
 
 unfoldable pub callMemory : Board → Call → List ℕ → List ℕ
 callMemory b (Decide l) m = m
 callMemory b Undo m = m
 callMemory b Check m = checkMemory b m
+callMemory b (Preview l) m = previewMemory b l m

@@ -4,32 +4,37 @@
 --   check-written       the memory after a conflict
 --   call-told           the answer of a call is the book's reply
 --   call-written        the memory after a call is what the book's reply says
-use mathlib.Core.Path.{_≡_, refl, ap, sym, _∙_}
+use mathlib.Core.Path.{_≡_, refl, ap, ap₂, sym, _∙_}
 use mathlib.Core.Bool.{Bool, true, false, cond}
 use mathlib.Core.List.{List, _++_, map}
 use Prim.Native.Nat.{ℕ, _≤_}
 use native.Mathlib.Omega.{arith}
-use borrow.Author.Tests.{ltb-false}
+use borrow.Author.Tests.{ltb-false, eqb-true}
 use lib.Dec.{eqb, ltb}
 use lib.ListN.{length, drop}
+use Rattle.rules.specs.declared.Literal.{Literal}
 use Rattle.rules.specs.declared.Call.{Call}
-use Rattle.rules.specs.declared.Call.the-variants.{Decide, Undo, Check}
+use Rattle.rules.specs.declared.Call.the-variants.{Decide, Undo, Check, Preview}
+use Rattle.rules.specs.Page.{Puzzle}
 use Rattle.rules.specs.Codes.{literalCode}
 use Rattle.rules.specs.Check.{Reason, Verdict, pass, conflict, check}
-use Rattle.rules.specs.Book.{refused, done, answered, states, replyTo}
+use Rattle.rules.specs.Book.{Reply, refused, done, answered, states, withLast, thenReply, decideReply, checkReply}
+use Rattle.rules.specs.Book.{replyTo}
 use Rattle.argument.specs.FlatDemand.{flat-short}
 use Rattle.board.specs.declared.Board.{Board}
 use Rattle.board.specs.declared.Outcome.{Outcome}
-use Rattle.board.specs.declared.Outcome.the-variants.{Short}
+use Rattle.board.specs.declared.Outcome.the-variants.{Done as Fine, Short}
 use Rattle.board.specs.Alien.{isAlien}
-use Rattle.board.specs.Board.{numberOf, decideOf, undoOf}
+use Rattle.board.specs.Board.{numberOf, returned, decideOf, undoOf, Typed}
 use Rattle.board.specs.View.{puzzleOf, statesOf, literalsOf, replyOf}
 use Rattle.board.specs.NativeLaws.{native-has}
-use Rattle.board.specs.ViewLaws.{states-literals}
+use Rattle.board.specs.DecideLaws.{done-returned, decide-keeps}
+use Rattle.board.specs.ViewLaws.{states-literals, decided-puzzle}
+use Rattle.board.specs.LiteralLaws.{literals-decided}
 use Rattle.board.specs.StepLaws.{decide-reply, undo-reply}
 use Rattle.calls.specs.declared.Answer.the-variants.{Done, Refused}
-use Rattle.calls.specs.Answers.{reasonIn, told, memoryAs, asAnswer, written, checkAnswer, checkMemory, ended}
-use Rattle.calls.specs.Answers.{callOf, callMemory}
+use Rattle.calls.specs.Answers.{reasonIn, told, memoryAs, asAnswer, written, checkAnswer, checkMemory, isDone}
+use Rattle.calls.specs.Answers.{ended, previewAnswer, previewMemory, callOf, callMemory}
 use Rattle.calls.specs.AnswerLaws.{reason-in, put-start, memory-found}
 
 -- how a decide or an undo ended
@@ -83,8 +88,8 @@ module _ (b : Board) (t : isAlien b ≡ false) where
     fits q r e = let k = reason-short r e in let h = ltb-false (length m) 16384 q in omega arith
 
     check-told : told (checkAnswer b (length m)) (checkMemory b m)
-        ≡ replyTo (puzzleOf b) (literalsOf b) (length m) Check
-    unfolding checkAnswer checkMemory replyTo found
+        ≡ checkReply (puzzleOf b) (literalsOf b) (length m)
+    unfolding checkAnswer checkMemory checkReply found
     check-told = rw (t, found-states) (go (ltb (length m) 16384) refl)
       where
         go : (x : Bool) → ltb (length m) 16384 ≡ x
@@ -93,8 +98,8 @@ module _ (b : Board) (t : isAlien b ≡ false) where
         go true q = refl
         go false q = found-told m found (fits q)
 
-    check-memory : checkMemory b m ≡ memoryAs m (replyTo (puzzleOf b) (literalsOf b) (length m) Check)
-    unfolding checkMemory replyTo found
+    check-memory : checkMemory b m ≡ memoryAs m (checkReply (puzzleOf b) (literalsOf b) (length m))
+    unfolding checkMemory checkReply found
     check-memory = rw (t, found-states) (go (ltb (length m) 16384) refl)
       where
         go : (x : Bool) → ltb (length m) 16384 ≡ x
@@ -108,12 +113,82 @@ module _ (b : Board) (t : isAlien b ≡ false) where
       let k = reason-short r e in
       sym (memory-found b m t h) ∙ ap (written m) e ∙ put-start m r (omega arith)
 
+-- ---- a preview
+-- what a decide on the copy leads to, where it is done
+record Copied (b : Board) (l : Literal) (d : Board) : Type 0 where
+  known : isAlien d ≡ false
+  puzzle : puzzleOf d ≡ puzzleOf b
+  stack : literalsOf d ≡ withLast (literalsOf b) l
+
+module _ (b : Board) (t : isAlien b ≡ false) (T : Typed b) where
+  copied : (l : Literal) → isDone (decideOf b l .outcome) ≡ true → Copied b l (decideOf b l .board)
+  copied l e =
+      let r = done-returned (decideOf b l) (eqb-true (numberOf (decideOf b l .outcome)) 0 e) in
+      record {
+        known = decide-keeps b l (T .borders) (T .stack) r;
+        puzzle = decided-puzzle b l r;
+        stack = literals-decided b l T r;
+      }
+
+  module _ (l : Literal) (m : List ℕ) where
+    -- the check's reply on the copy is that of the sequence with the literal put last
+    copy-reply : isDone (decideOf b l .outcome) ≡ true
+        → checkReply (puzzleOf (decideOf b l .board)) (literalsOf (decideOf b l .board)) (length m)
+        ≡ checkReply (puzzleOf b) (withLast (literalsOf b) l) (length m)
+    copy-reply e =
+        let c = copied l e in
+        ap₂ (λ (Z : Puzzle) (ls : List Literal). checkReply Z ls (length m)) (c .puzzle) (c .stack)
+
+    preview-told : told (previewAnswer b l (length m)) (previewMemory b l m)
+        ≡ replyTo (puzzleOf b) (literalsOf b) (length m) (Preview l)
+    unfolding previewAnswer previewMemory replyTo
+    preview-told =
+        go (isDone (decideOf b l .outcome)) refl
+        ∙ ap (λ (r : Reply). thenReply r (checkReply (puzzleOf b) (withLast (literalsOf b) l) (length m)))
+        (decide-reply b t l)
+      where
+        o : Outcome
+        o = decideOf b l .outcome
+
+        d : Board
+        d = decideOf b l .board
+
+        go : (x : Bool) → isDone o ≡ x
+            → told (cond x (checkAnswer d (length m)) (Refused o)) (cond x (checkMemory d m) m)
+            ≡ thenReply (cond x done (refused (numberOf o)))
+            (checkReply (puzzleOf b) (withLast (literalsOf b) l) (length m))
+        go true e = check-told d (copied l e .known) m ∙ copy-reply e
+        go false e = refl
+
+    preview-written : previewMemory b l m
+        ≡ memoryAs m (replyTo (puzzleOf b) (literalsOf b) (length m) (Preview l))
+    unfolding previewMemory replyTo
+    preview-written =
+        go (isDone (decideOf b l .outcome)) refl
+        ∙ ap (λ (r : Reply). memoryAs m (thenReply r (checkReply (puzzleOf b) (withLast (literalsOf b) l) (length m))))
+        (decide-reply b t l)
+      where
+        o : Outcome
+        o = decideOf b l .outcome
+
+        d : Board
+        d = decideOf b l .board
+
+        go : (x : Bool) → isDone o ≡ x
+            → cond x (checkMemory d m) m
+            ≡ memoryAs m (thenReply (cond x done (refused (numberOf o)))
+            (checkReply (puzzleOf b) (withLast (literalsOf b) l) (length m)))
+        go true e = check-memory d (copied l e .known) m ∙ ap (memoryAs m) (copy-reply e)
+        go false e = refl
+
+  -- ---- any call
   pub call-told : (c : Call) (m : List ℕ)
       → told (callOf b c m .answer) (callMemory b c m) ≡ replyTo (puzzleOf b) (literalsOf b) (length m) c
   unfolding callOf callMemory replyTo
   call-told (Decide l) m = told-ended (decideOf b l .outcome) m ∙ decide-reply b t l
   call-told Undo m = told-ended (undoOf b .outcome) m ∙ undo-reply b t
-  call-told Check m = check-told m
+  call-told Check m = check-told b t m
+  call-told (Preview l) m = preview-told l m
 
   pub call-written : (c : Call) (m : List ℕ)
       → callMemory b c m ≡ memoryAs m (replyTo (puzzleOf b) (literalsOf b) (length m) c)
@@ -121,4 +196,5 @@ module _ (b : Board) (t : isAlien b ≡ false) where
   call-written (Decide l) m =
       kept-ended (decideOf b l .outcome) m ∙ ap (memoryAs m) (decide-reply b t l)
   call-written Undo m = kept-ended (undoOf b .outcome) m ∙ ap (memoryAs m) (undo-reply b t)
-  call-written Check m = check-memory m
+  call-written Check m = check-memory b t m
+  call-written (Preview l) m = preview-written l m

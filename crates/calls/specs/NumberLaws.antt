@@ -19,8 +19,9 @@ use borrow.Author.Tests.{eqb-false, ne-eqb, lt-ltb, le-ltb}
 use lib.Dec.{eqb, ltb}
 use lib.ListN.{length}
 use Rattle.lists.specs.CountLaws.{count-le}
+use Rattle.rules.specs.declared.Literal.{Literal}
 use Rattle.rules.specs.declared.Call.{Call}
-use Rattle.rules.specs.declared.Call.the-variants.{Decide, Undo, Check}
+use Rattle.rules.specs.declared.Call.the-variants.{Decide, Undo, Check, Preview}
 use Rattle.rules.specs.Page.{Puzzle, State, isUndecided}
 use Rattle.rules.specs.Flat.{flat}
 use Rattle.rules.specs.Check.{Reason, Verdict as Found, pass, conflict, hit, undecidedCount, verdictOf, check}
@@ -36,7 +37,7 @@ use Rattle.board.specs.Cases.{outcome-never-eleven}
 use Rattle.board.specs.NativeLaws.{native-has}
 use Rattle.calls.specs.declared.Answer.{Answer}
 use Rattle.calls.specs.declared.Answer.the-variants.{Done, Pass, Conflict, Refused}
-use Rattle.calls.specs.Answers.{answerNumber, asAnswer, checkAnswer, ended, callOf}
+use Rattle.calls.specs.Answers.{answerNumber, asAnswer, checkAnswer, isDone, previewAnswer, ended, callOf}
 use Rattle.calls.specs.CallLaws.{reason-short}
 
 unfoldable pub outcomeOf : ℕ → Outcome
@@ -73,12 +74,16 @@ check-count Z s n e = go (hit Z s) e
     go none f = cc
     go (some r) f = let z : _≡_ {A = ℕ} 0 1 = cc in absurd (omega arith)
 
-ended-range : (o : Outcome) → InRange (ended o)
-ended-range o = go (eqb (numberOf o) 0) refl
+-- the answer a where the outcome is done, otherwise the refusal
+ended-by : (o : Outcome) (a : Answer) → InRange a → InRange (cond (isDone o) a (Refused o))
+ended-by o a h = go (isDone o) refl
   where
-    go : (x : Bool) → eqb (numberOf o) 0 ≡ x → InRange (cond x Done (Refused o))
-    go true e = tt
-    go false e = let h = eqb-false (numberOf o) 0 e in omega arith
+    go : (x : Bool) → isDone o ≡ x → InRange (cond x a (Refused o))
+    go true e = h
+    go false e = let k = eqb-false (numberOf o) 0 e in omega arith
+
+ended-range : (o : Outcome) → InRange (ended o)
+ended-range o = ended-by o Done tt
 
 pass-range : (b : Board) → isAlien b ≡ false → (n : ℕ) → check (puzzleOf b) (statesOf b) ≡ pass n → n ≤ 1984
 unfolding puzzleOf undecidedCount flat
@@ -106,11 +111,17 @@ check-range b n = go (isAlien b) (ltb n 16384) refl
     go false true e = omega arith
     go false false e = found-range b e (check (puzzleOf b) (statesOf b)) refl
 
+preview-range : (b : Board) (l : Literal) (n : ℕ) → InRange (previewAnswer b l n)
+unfolding previewAnswer
+preview-range b l n =
+    ended-by (decideOf b l .outcome) (checkAnswer (decideOf b l .board) n) (check-range (decideOf b l .board) n)
+
 pub call-range : (b : Board) (c : Call) (m : List ℕ) → InRange (callOf b c m .answer)
 unfolding callOf
 call-range b (Decide l) m = ended-range (decideOf b l .outcome)
 call-range b Undo m = ended-range (undoOf b .outcome)
 call-range b Check m = check-range b (length m)
+call-range b (Preview l) m = preview-range b l (length m)
 
 -- ---- read back
 outcome-of : (o : Outcome) → (outcomeOf (numberOf o) ≡ o) × (numberOf o < 32)

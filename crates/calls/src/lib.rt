@@ -1,15 +1,16 @@
-// `check`, `call`, and the check on a board's lent arrays.
+// `check`, `preview`, `call`, and the check on a board's lent arrays.
 ghost use mathlib.Core.Path.{_≡_};
 ghost use Prim.Native.Nat.{_*_, _≤_};
 ghost use lib.ListN.{length};
 ghost use Rattle.board.specs.Alien.{boardOf};
-ghost use Rattle.calls.specs.Answers.{asAnswer, written, ended, steppedBy, checkAnswer, checkMemory, callOf};
-ghost use Rattle.calls.specs.Answers.{callMemory};
+ghost use Rattle.calls.specs.Answers.{asAnswer, written, ended, steppedBy, checkAnswer, checkMemory};
+ghost use Rattle.calls.specs.Answers.{previewAnswer, previewMemory, callOf, callMemory};
 ghost use Rattle.calls.specs.Known.{KnownBoard, foundIn};
 use board::Board;
 use board::Outcome;
 use board::Returned;
 use rules::Call;
+use rules::Literal;
 use steps::Found;
 
 // What a call answers: done, a pass with the count of undecided borders, a conflict with the count of literals of its
@@ -122,6 +123,42 @@ pub fn check(board: Board, memory: &mut [u16]) -> Answer
     )
 }
 
+// What a check would answer after a decide of the literal; the board given stays as it is. Borders and stack alone are
+// copied. The decide has tested the board, and what it leaves is not tested again.
+pub fn preview(board: Board, l: Literal, memory: &mut [u16]) -> Answer
+    ensures { λ r.
+        ⌜ (r ≡ previewAnswer board l (length (now (memory .entry))))
+        × (now (memory .exit) ≡ previewMemory board l (now (memory .entry))) ⌝ }
+{
+    let mut borders = board.borders;
+    let mut stack = board.stack;
+    let outcome = board::decide_lent(
+        board.height,
+        board.width,
+        &board.colours,
+        &board.clues,
+        &mut borders,
+        &mut stack,
+        board.count,
+        l,
+    );
+    if board::number(outcome) != 0 {
+        return Answer::Refused(outcome);
+    }
+    if memory.len() < 16384 {
+        return Answer::Refused(Outcome::Short);
+    }
+    answer_known(
+        board.height,
+        board.width,
+        &board.colours,
+        &board.clues,
+        &borders,
+        board.count + 1,
+        memory,
+    )
+}
+
 // One call on a board: the board afterwards, and the answer.
 pub fn call(board: Board, call: Call, memory: &mut [u16]) -> Stepped
     ensures { λ r.
@@ -133,6 +170,10 @@ pub fn call(board: Board, call: Call, memory: &mut [u16]) -> Stepped
         Call::Undo => step(board.undo()),
         Call::Check => {
             let a = check(board, memory);
+            Stepped { board, answer: a }
+        }
+        Call::Preview(l) => {
+            let a = preview(board, l, memory);
             Stepped { board, answer: a }
         }
     }

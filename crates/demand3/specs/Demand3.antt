@@ -1,55 +1,55 @@
 -- Demand 3: a single claim about an accepted puzzle and a whole list of calls on its board.
 --
---   Standing start Z ls b       the board b is start with exactly the literals ls decided, of the puzzle Z
---   Answered start calls b f    somewhere in the list a check was answered with f, on the board b
---   HandedOut start calls b r   somewhere in the list the reason r was handed out, on the board b
+--   Standing start Z k b        the board b is start with exactly the literals of the book k decided, of the puzzle Z
+--   Answered start calls b f    somewhere in the list a check or a preview, which looked at b, was answered with f
+--   HandedOut start calls b r   somewhere in the list a check or a preview, which looked at b, handed out the reason r
 --   RuledOut start calls σ      σ contains all literals of some reason handed out in the list
---   StoodAt start calls σ f     σ stood at a check of the list that was answered with f
---   PassedAt start calls σ      σ stood at a check of the list that was answered with a pass
+--   StoodAt start calls σ f     σ stood at a check or a preview of the list that was answered with f
+--   PassedAt start calls σ      σ stood at a check or a preview of the list that was answered with a pass
 --   Demand3 start Z calls       the claim
 --
--- All of it speaks of what freshOf, decideOf, undoOf, checkAnswer and checkMemory give, which the contracts of the code
--- cite, on the boards that the calls return. The book (crate rules, Book) takes the puzzle and the calls, and no board.
+-- All of it speaks of what freshOf, callOf and callMemory give, which the contracts of the code cite, on the boards that
+-- the calls return. The book (crate rules, Book) takes the puzzle and the calls, and no board.
 use mathlib.Core.Path.{_≡_}
 use mathlib.Core.Bool.{false}
 use mathlib.Core.Logic.{_↔_}
 use mathlib.Core.List.{List, _∷_, _++_, map}
 use Prim.Native.Nat.{ℕ}
-use Rattle.rules.specs.declared.Literal.{Literal}
 use Rattle.rules.specs.Page.{Puzzle, State, Contains}
 use Rattle.rules.specs.Rules.{Solution}
 use Rattle.rules.specs.Check.{Reason, Verdict, pass, conflict}
-use Rattle.rules.specs.Book.{answered, states, sequence, replies}
+use Rattle.rules.specs.Book.{Book, answered, states, bookAfter, replies}
 use Rattle.argument.specs.Demand.{Full, SameSides, Passes}
 use Rattle.board.specs.declared.Board.{Board}
 use Rattle.board.specs.Alien.{isAlien}
 use Rattle.board.specs.Accepted.{decidesOf}
 use Rattle.board.specs.View.{puzzleOf, statesOf, literalsOf}
-use Rattle.demand3.specs.Runs.{Lent, askedBy, Given, givenBy, toldBy, boardAfter, runFrom}
+use Rattle.demand3.specs.Runs.{Lent, askedBy, Given, givenBy, toldBy, lookedOn, boardAfter, runFrom}
 use Rattle.demand3.specs.Runs.{memories}
 
-pub record Standing (start : Board) (Z : Puzzle) (ls : List Literal) (b : Board) : Type 0 where
+pub record Standing (start : Board) (Z : Puzzle) (k : Book) (b : Board) : Type 0 where
   -- its stack with the sides, oldest first
-  pub stack : literalsOf b ≡ ls
+  pub stack : literalsOf b ≡ k .sequence
   -- its borders: "exactly the sequence's literals decided"
-  pub borders : statesOf b ≡ states ls
+  pub borders : statesOf b ≡ states (k .sequence)
   -- its size, colours and clues
   pub puzzle : puzzleOf b ≡ Z
   pub known : isAlien b ≡ false
   -- no board but one
-  pub only : b ≡ decidesOf start ls
+  pub only : b ≡ decidesOf start (k .sequence)
 
 module _ (start : Board) where
-  -- "A check is answered if not refused"; a reason is read from the memory as it stood when the check returned
+  -- "A check is answered if not refused"; b is the board that the calls before it lead to, and for a preview the copy
+  -- with its literal decided; a reason is read from the memory as it stood when the call returned
   pub record Answered (calls : List Lent) (b : Board) (f : Verdict) : Type 0 where
     pub earlier : List Lent
     pub call : Lent
     pub later : List Lent
     pub split : calls ≡ earlier ++ (call ∷ later)
-    pub standing : boardAfter start earlier ≡ b
-    pub answer : toldBy (givenBy b call) ≡ answered f
+    pub standing : lookedOn (boardAfter start earlier) (call .call) ≡ b
+    pub answer : toldBy (givenBy (boardAfter start earlier) call) ≡ answered f
 
-  -- "a reason handed out is the literals it wrote, as they stood when it returned"
+  -- "a reason handed out is the literals it wrote, as they stood when it returned"; a preview's "counts as handed out"
   abbrev pub HandedOut : List Lent → Board → Reason → Type 0
   HandedOut calls b r = Answered calls b (conflict r)
 
@@ -60,7 +60,8 @@ module _ (start : Board) where
     pub given : HandedOut calls board reason
     pub contains : Contains σ reason
 
-  -- "A full setting stood at a check if the board then had no undecided border and the setting's sides"
+  -- "A full setting stood at a check if the board then had no undecided border and the setting's sides"; "a full setting
+  -- on the copy counts as one that stood at the check"
   pub record StoodAt (calls : List Lent) (σ : ℕ → State) (f : Verdict) : Type 0 where
     pub board : Board
     pub check : Answered calls board f
@@ -79,7 +80,7 @@ pub record Demand3 (start : Board) (Z : Puzzle) (calls : List Lent) : Type 0 whe
   -- 2. after every part of the list from its start, the board is the fresh one with exactly the literals of the book's
   -- sequence decided
   pub stack : (earlier later : List Lent) → calls ≡ earlier ++ later
-      → Standing start Z (sequence Z (map askedBy earlier)) (boardAfter start earlier)
+      → Standing start Z (bookAfter Z (map askedBy earlier)) (boardAfter start earlier)
   -- 3. each reason handed out held on the board it was handed out on
   pub held : (b : Board) (r : Reason) → HandedOut start calls b r → Contains (statesOf b) r
   -- 4. a longer list rules out no less

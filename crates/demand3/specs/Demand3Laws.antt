@@ -3,34 +3,38 @@
 --   answered-book, answered-run   what a check of the run answers is what the book answers, and back
 --   ruled-book, ruled-run         a setting is ruled out by the run exactly if it is by the book
 --   stood-book, stood-run         a setting stood at a check of the run exactly if it did in the book
+--   preview-handed                a preview's reason counts as handed out, on the copy
+--   preview-stood                 a full setting on the copy counts as one that stood at the check
 --   from-book                     demand 3 for the book gives demand 3 for the run
 --   demand3                       the claim, for every accepted puzzle and every list
-use mathlib.Core.Path.{_≡_, refl, ap, sym, subst, _∙_}
+use mathlib.Core.Path.{_≡_, refl, ap, ap₂, sym, subst, _∙_}
 use mathlib.Core.Logic.{_↔_}
 use mathlib.Core.List.{List, [], _∷_, _++_, map, map-append, append-assoc}
 use Prim.Native.Nat.{ℕ}
 use native.Mathlib.Omega.{arith}
 use lib.IntN.{ℤ}
+use lib.ListN.{length}
 use Rattle.rules.specs.declared.Literal.{Literal}
+use Rattle.rules.specs.declared.Call.the-variants.{Preview}
 use Rattle.rules.specs.Page.{State, Contains}
 use Rattle.rules.specs.Rules.{Solution}
 use Rattle.rules.specs.Codes.{coloursIn, cluesIn, puzzleIn}
 use Rattle.rules.specs.Check.{Reason, Verdict, pass, conflict}
-use Rattle.rules.specs.Book.{Asked, states, reply, sequence}
-use Rattle.argument.specs.Demand.{BookAnswered, BookRuledOut, BookStoodAt, Passes, BookDemand}
+use Rattle.rules.specs.Book.{Asked, answered, freshBook, states, looked, reply, bookAfter}
+use Rattle.argument.specs.Demand.{Full, SameSides, BookAnswered, BookRuledOut, BookStoodAt, Passes, BookDemand}
 use Rattle.argument.specs.FlatDemand.{flat-demand}
 use Rattle.board.specs.declared.Board.{Board}
 use Rattle.board.specs.declared.Outcome.{Outcome}
-use Rattle.board.specs.Board.{returned}
+use Rattle.board.specs.Board.{returned, decideOf}
 use Rattle.board.specs.Accepted.{Accepted, madeBoard}
 use Rattle.board.specs.View.{puzzleOf, statesOf, literalsOf}
 use Rattle.board.specs.NativeLaws.{native-has}
 use Rattle.board.specs.FreshLaws.{Made, made-is, made-keeps, made-typed}
 use Rattle.board.specs.ViewLaws.{fresh-puzzle, literals-fresh, states-literals}
-use Rattle.demand3.specs.Runs.{Lent, askedBy, givenBy, toldBy, boardAfter}
-use Rattle.demand3.specs.Demand3.{Standing, Answered, RuledOut, StoodAt, Demand3}
-use Rattle.demand3.specs.RunLaws.{Built, none, Facts, Bare, built-facts, built-after, step-told, run-told}
-use Rattle.demand3.specs.RunLaws.{run-written}
+use Rattle.demand3.specs.Runs.{Lent, lend, askedBy, givenBy, toldBy, lookedOn, boardAfter}
+use Rattle.demand3.specs.Demand3.{Standing, Answered, HandedOut, RuledOut, StoodAt, Demand3}
+use Rattle.demand3.specs.RunLaws.{Built, none, Facts, Bare, built-facts, built-looked, built-after, step-told}
+use Rattle.demand3.specs.RunLaws.{run-told, run-written}
 
 -- a list of calls, split where the book's list is
 record Split (calls : List Lent) (earlier : List Asked) (a : Asked) : Type 0 where
@@ -68,50 +72,61 @@ split-asked (c ∷ calls) (k ∷ earlier) a later e =
 module _ (start : Board) (S : Bare start) where
   -- the board after some calls
   after-built : (calls : List Lent)
-      → Built start (sequence (puzzleOf start) (map askedBy calls)) (boardAfter start calls)
-  after-built calls = built-after start S none calls
+      → Built start (bookAfter (puzzleOf start) (map askedBy calls) .sequence) (boardAfter start calls)
+  after-built calls = built-after start S freshBook none calls
 
   after-facts : (calls : List Lent)
-      → Facts start (sequence (puzzleOf start) (map askedBy calls)) (boardAfter start calls)
+      → Facts start (bookAfter (puzzleOf start) (map askedBy calls) .sequence) (boardAfter start calls)
   after-facts calls = built-facts start S (after-built calls)
 
   facts-states : (ls : List Literal) (b : Board) → Facts start ls b → statesOf b ≡ states ls
   facts-states ls b f = states-literals b (native-has b (f .known)) ∙ ap states (f .stack)
 
+  -- the book's answer to a call after some others
+  told-after : (calls : List Lent) (c : Lent)
+      → toldBy (givenBy (boardAfter start calls) c)
+      ≡ reply (puzzleOf start) (bookAfter (puzzleOf start) (map askedBy calls)) (askedBy c)
+  told-after calls c = step-told start S (bookAfter (puzzleOf start) (map askedBy calls)) (after-built calls) c
+
+  -- the board that it looked at, where it is answered
+  looked-facts : (calls : List Lent) (c : Lent) (f : Verdict)
+      → reply (puzzleOf start) (bookAfter (puzzleOf start) (map askedBy calls)) (askedBy c) ≡ answered f
+      → Facts start (looked (bookAfter (puzzleOf start) (map askedBy calls) .sequence) (c .call))
+      (lookedOn (boardAfter start calls) (c .call))
+  looked-facts calls c f e =
+      built-facts start S (built-looked start S (after-built calls) (c .call) (length (c .memory)) f e)
+
   -- ---- what the run answers is what the book answers
   module _ (calls : List Lent) where
+    -- what the run's answered call looked at
+    run-facts : {b : Board} {f : Verdict} (a : Answered start calls b f)
+        → Facts start (looked (bookAfter (puzzleOf start) (map askedBy (a .earlier)) .sequence) (a .call .call)) b
+    run-facts {f = f} a =
+        subst (Facts start _) (a .standing)
+        (looked-facts (a .earlier) (a .call) f (sym (told-after (a .earlier) (a .call)) ∙ a .answer))
+
     pub answered-facts : {b : Board} {f : Verdict} → Answered start calls b f → Facts start (literalsOf b) b
-    answered-facts {b} a =
-        let g = after-facts (a .earlier) in
-        subst (λ c. Facts start (literalsOf c) c) (a .standing)
-        (subst (λ ls. Facts start ls (boardAfter start (a .earlier))) (sym (g .stack)) g)
+    answered-facts {b} a = let g = run-facts a in subst (λ ls. Facts start ls b) (sym (g .stack)) g
 
     pub answered-book : {b : Board} {f : Verdict} → Answered start calls b f
         → BookAnswered (puzzleOf start) (map askedBy calls) (literalsOf b) f
-    answered-book {b} {f} a =
-        let g = after-facts (a .earlier) in
-        let e : sequence (puzzleOf start) (map askedBy (a .earlier)) ≡ literalsOf b =
-        sym (g .stack) ∙ ap literalsOf (a .standing) in
+    answered-book a =
         record {
           earlier = map askedBy (a .earlier);
           call = askedBy (a .call);
           later = map askedBy (a .later);
           split = ap (map askedBy) (a .split) ∙ map-append askedBy (a .earlier) (a .call ∷ a .later);
-          standing = e;
-          answer =
-              ap (λ (ls : List Literal). reply (puzzleOf start) ls (askedBy (a .call))) (sym e)
-              ∙ sym (step-told start S (after-built (a .earlier)) (a .call))
-              ∙ ap (λ (c : Board). toldBy (givenBy c (a .call))) (a .standing)
-              ∙ a .answer;
+          standing = sym (run-facts a .stack);
+          answer = sym (told-after (a .earlier) (a .call)) ∙ a .answer;
         }
 
     pub answered-run : {ls : List Literal} {f : Verdict} → BookAnswered (puzzleOf start) (map askedBy calls) ls f
         → (b : Board) × Answered start calls b f × Facts start ls b
     answered-run {ls} {f} a =
         let s = split-asked calls (a .earlier) (a .call) (a .later) (a .split) in
-        let b = boardAfter start (s .before) in
-        let e : sequence (puzzleOf start) (map askedBy (s .before)) ≡ ls =
-        ap (sequence (puzzleOf start)) (s .same) ∙ a .standing in (
+        let b = lookedOn (boardAfter start (s .before)) (s .call .call) in
+        let e = ap₂ (λ (asked : List Asked) (c : Asked). reply (puzzleOf start) (bookAfter (puzzleOf start) asked) c)
+        (s .same) (s .at) ∙ a .answer in (
           b,
           record {
             earlier = s .before;
@@ -119,13 +134,12 @@ module _ (start : Board) (S : Bare start) where
             later = s .later;
             split = s .split;
             standing = refl;
-            answer =
-                step-told start S (after-built (s .before)) (s .call)
-                ∙ ap (λ (k : List Literal). reply (puzzleOf start) k (askedBy (s .call))) e
-                ∙ ap (reply (puzzleOf start) ls) (s .at)
-                ∙ a .answer;
+            answer = told-after (s .before) (s .call) ∙ e;
           },
-          subst (λ k. Facts start k b) e (after-facts (s .before)),
+          subst (λ k. Facts start k b)
+              (ap₂ (λ (asked : List Asked) (c : Asked). looked (bookAfter (puzzleOf start) asked .sequence) (c .call))
+              (s .same) (s .at) ∙ a .standing)
+              (looked-facts (s .before) (s .call) f e),
         )
 
     -- ---- ruled out
@@ -168,6 +182,40 @@ module _ (start : Board) (S : Bare start) where
           sides = rw (e, r .2 .puzzle) (q .sides);
         }
 
+-- ---- a preview in a list
+module _ (start : Board) (earlier later : List Lent) (l : Literal) (m : List ℕ) where
+  abbrev withPreview : List Lent
+  withPreview = earlier ++ (lend m (Preview l) ∷ later)
+
+  abbrev copy : Board
+  copy = decideOf (boardAfter start earlier) l .board
+
+  preview-answered : (f : Verdict) → toldBy (givenBy (boardAfter start earlier) (lend m (Preview l))) ≡ answered f
+      → Answered start withPreview copy f
+  preview-answered f e =
+      record {
+        earlier = earlier;
+        call = lend m (Preview l);
+        later = later;
+        split = refl;
+        standing = refl;
+        answer = e;
+      }
+
+  -- "A preview's reason holds on the copy and counts as handed out"
+  pub preview-handed : (r : Reason)
+      → toldBy (givenBy (boardAfter start earlier) (lend m (Preview l))) ≡ answered (conflict r)
+      → HandedOut start withPreview copy r
+  preview-handed r e = preview-answered (conflict r) e
+
+  -- "a full setting on the copy counts as one that stood at the check"
+  pub preview-stood : (σ : ℕ → State) (f : Verdict)
+      → toldBy (givenBy (boardAfter start earlier) (lend m (Preview l))) ≡ answered f
+      → Full (puzzleOf copy) (statesOf copy) → SameSides (puzzleOf copy) (statesOf copy) σ
+      → StoodAt start withPreview σ f
+  preview-stood σ f e full sides =
+      record { board = copy; check = preview-answered f e; full = full; sides = sides }
+
 -- ---- a longer list
 answered-longer : (start : Board) (calls more : List Lent) {b : Board} {f : Verdict} → Answered start calls b f
     → Answered start (calls ++ more) b f
@@ -194,7 +242,7 @@ ruled-longer start calls more σ q =
 -- ---- the claim
 module _ (start : Board) (S : Bare start) (D : (asked : List Asked) → BookDemand (puzzleOf start) asked) where
   stands : (calls : List Lent)
-      → Standing start (puzzleOf start) (sequence (puzzleOf start) (map askedBy calls)) (boardAfter start calls)
+      → Standing start (puzzleOf start) (bookAfter (puzzleOf start) (map askedBy calls)) (boardAfter start calls)
   stands calls =
       let f = after-facts start S calls in
       record {
@@ -220,8 +268,8 @@ module _ (start : Board) (S : Bare start) (D : (asked : List Asked) → BookDema
   pub from-book : (calls : List Lent) → Demand3 start (puzzleOf start) calls
   from-book calls =
       record {
-        answers = run-told start S none calls;
-        memory = run-written start S none calls;
+        answers = run-told start S freshBook none calls;
+        memory = run-written start S freshBook none calls;
         stack = λ earlier later e. stands earlier;
         held = holds calls;
         monotone = ruled-longer start calls;

@@ -5,12 +5,13 @@
 --   Facts start ls b    what such a board has
 --   Bare start          a board that is not alien, with an empty stack
 --   built-step          a call leads to the board with the book's sequence decided
+--   built-looked        the board that an answered call looked at is the one with the sequence that the book looked at
 --   step-told, step-written   the answer of a call is the book's, and the memory afterwards what that answer says
 --   built-after         and so does a list of calls
 --   run-told            the answers of a list of calls are the book's
 --   run-written         the memories afterwards are what the book's answers say
 --   run-append          the run of a list that is followed by another
-use mathlib.Core.Path.{_≡_, refl, ap, ap₂, sym, _∙_}
+use mathlib.Core.Path.{_≡_, refl, ap, ap₂, sym, subst, _∙_}
 use mathlib.Core.Bool.{Bool, true, false, not, cond}
 use mathlib.Core.List.{List, [], _∷_, _++_, map}
 use Prim.Native.Nat.{ℕ}
@@ -19,27 +20,29 @@ use lib.Dec.{eqb, ltb}
 use lib.ListN.{length, getD}
 use Rattle.rules.specs.declared.Literal.{Literal}
 use Rattle.rules.specs.declared.Call.{Call}
-use Rattle.rules.specs.declared.Call.the-variants.{Decide, Undo, Check}
+use Rattle.rules.specs.declared.Call.the-variants.{Decide, Undo, Check, Preview}
 use Rattle.rules.specs.Page.{Puzzle}
 use Rattle.rules.specs.Flat.{flat}
 use Rattle.rules.specs.Codes.{codeOf}
-use Rattle.rules.specs.Book.{Reply, names, withLast, withoutLast, decideAfter, reply, afterCall, after}
-use Rattle.rules.specs.Book.{sequenceFrom, repliesFrom}
-use Rattle.laws.specs.BookLaws.{without-last}
+use Rattle.rules.specs.Check.{Verdict}
+use Rattle.rules.specs.Book.{ask, Reply, refused, done, answered, Book, names, withLast, withoutLast, looked}
+use Rattle.rules.specs.Book.{doneBook, afterBy, decideReply, replyTo, reply, after, bookFrom, repliesFrom}
+use Rattle.laws.specs.BookLaws.{without-last, undo-takes, check-leaves, preview-leaves, preview-decides}
 use Rattle.board.specs.declared.Board.{Board}
 use Rattle.board.specs.declared.Outcome.the-variants.{Done, Border, Taken}
 use Rattle.board.specs.declared.Returned.{Returned}
 use Rattle.board.specs.Alien.{borderCountOf, isAlien}
 use Rattle.board.specs.Board.{returned, pushed, decideRefusal, endedBy, decideOf, undoOf, Typed}
 use Rattle.board.specs.Accepted.{decidesOf}
-use Rattle.board.specs.View.{puzzleOf, literalsOf}
+use Rattle.board.specs.View.{puzzleOf, literalsOf, replyOf}
 use Rattle.board.specs.Cases.{decide-done, undo-bare}
 use Rattle.board.specs.NativeLaws.{native-has}
-use Rattle.board.specs.DecideLaws.{decide-keeps, decided-typed, undo-decide}
+use Rattle.board.specs.DecideLaws.{done-returned, decide-keeps, decided-typed, undo-decide}
 use Rattle.board.specs.ViewLaws.{decided-puzzle, literals-length, names-decided}
 use Rattle.board.specs.LiteralLaws.{literals-decided}
+use Rattle.board.specs.StepLaws.{decide-reply, reply-done}
 use Rattle.calls.specs.Answers.{memoryAs, callOf}
-use Rattle.demand3.specs.Runs.{Lent, askedBy, Given, givenBy, toldBy, nextBoard, boardAfter}
+use Rattle.demand3.specs.Runs.{Lent, askedBy, Given, givenBy, toldBy, lookedOn, nextBoard, boardAfter}
 use Rattle.demand3.specs.Runs.{runFrom, memories}
 use Rattle.calls.specs.CallLaws.{call-told, call-written}
 
@@ -74,7 +77,7 @@ module _ (start : Board) (S : Bare start) where
   built-facts (more {ls} {b} l d B e) =
       let f = built-facts B in
       record {
-        known = decide-keeps b l (f .typed) e;
+        known = decide-keeps b l (f .typed .borders) (f .typed .stack) e;
         typed = decided-typed b l (f .typed) e;
         puzzle = decided-puzzle b l e ∙ f .puzzle;
         stack = literals-decided b l (f .typed) e ∙ ap (λ k. withLast k l) (f .stack);
@@ -90,13 +93,13 @@ module _ (start : Board) (S : Bare start) where
   unfolding puzzleOf flat
   borders-are b e = ap (λ (Z : Puzzle). Z .page .borders) (sym e)
 
-  built-decide : {ls : List Literal} {b : Board} → Built start ls b → (l : Literal)
-      → Built start (decideAfter (puzzleOf start) ls l) (decideOf b l .board)
-  unfolding decideOf decideRefusal decideAfter
-  built-decide {ls} {b} B l =
+  built-decide : (k : Book) {b : Board} → Built start (k .sequence) b → (l : Literal) (n : ℕ)
+      → Built start (after (puzzleOf start) k (ask n (Decide l)) .sequence) (decideOf b l .board)
+  unfolding decideOf decideRefusal after replyTo decideReply doneBook
+  built-decide k {b} B l n =
       let f = built-facts B in
-      let named : names ls (l .border) ≡ not (eqb (getD (b .borders) (l .border) 0) 0) =
-      ap (λ k. names k (l .border)) (sym (f .stack)) ∙ names-decided b (native-has b (f .known)) (l .border) in
+      let named : names (k .sequence) (l .border) ≡ not (eqb (getD (b .borders) (l .border) 0) 0) =
+      ap (λ ls. names ls (l .border)) (sym (f .stack)) ∙ names-decided b (native-has b (f .known)) (l .border) in
       rw (f .known, borders-are b (f .puzzle), named)
       (go (f .known) (ltb (l .border) m) (eqb (getD (b .borders) (l .border) 0) 0) refl refl)
     where
@@ -104,7 +107,9 @@ module _ (start : Board) (S : Bare start) where
       m = borderCountOf b
 
       go : isAlien b ≡ false → (x y : Bool) → ltb (l .border) m ≡ x → eqb (getD (b .borders) (l .border) 0) 0 ≡ y
-          → Built start (cond x (cond (not y) ls (withLast ls l)) ls)
+          → Built start
+          (afterBy (cond x (cond (not y) (refused 7) done) (refused 6)) k
+          (record { sequence = withLast (k .sequence) l }) .sequence)
           (endedBy b (pushed b (l .border) (codeOf (l .side))) (cond x (cond y Done Taken) Border) .board)
       go t true true p q =
           more l (pushed b (l .border) (codeOf (l .side))) B
@@ -120,52 +125,73 @@ module _ (start : Board) (S : Bare start) where
   built-undo (more {ls} {b} l d B e) =
       rw (without-last ls l, undo-decide b l (built-facts B .typed) e) B
 
-  built-call : {ls : List Literal} {b : Board} → Built start ls b → (c : Call) (m : List ℕ)
-      → Built start (afterCall (puzzleOf start) ls c) (callOf b c m .board)
-  unfolding callOf afterCall
-  built-call B (Decide l) m = built-decide B l
-  built-call B Undo m = built-undo B
-  built-call B Check m = B
+  built-call : (k : Book) {b : Board} → Built start (k .sequence) b → (c : Call) (m : List ℕ)
+      → Built start (after (puzzleOf start) k (ask (length m) c) .sequence) (callOf b c m .board)
+  unfolding callOf
+  built-call k B (Decide l) m = built-decide k B l (length m)
+  built-call k {b} B Undo m =
+      subst (λ ls. Built start ls (undoOf b .board)) (sym (undo-takes (puzzleOf start) k (length m))) (built-undo B)
+  built-call k {b} B Check m =
+      subst (λ (j : Book). Built start (j .sequence) b) (sym (check-leaves (puzzleOf start) k (length m))) B
+  built-call k {b} B (Preview l) m =
+      subst (λ (j : Book). Built start (j .sequence) b) (sym (preview-leaves (puzzleOf start) k (length m) l)) B
 
-  pub built-step : {ls : List Literal} {b : Board} → Built start ls b → (c : Lent)
-      → Built start (after (puzzleOf start) ls (askedBy c)) (nextBoard b c)
-  built-step B c = built-call B (c .call) (c .memory)
+  pub built-step : (k : Book) {b : Board} → Built start (k .sequence) b → (c : Lent)
+      → Built start (after (puzzleOf start) k (askedBy c) .sequence) (nextBoard b c)
+  built-step k B c = built-call k B (c .call) (c .memory)
 
-  pub step-told : {ls : List Literal} {b : Board} → Built start ls b → (c : Lent)
-      → toldBy (givenBy b c) ≡ reply (puzzleOf start) ls (askedBy c)
-  step-told {ls} {b} B c =
+  -- what an answered call looked at
+  pub built-looked : {ls : List Literal} {b : Board} → Built start ls b → (c : Call) (n : ℕ) (f : Verdict)
+      → replyTo (puzzleOf start) ls n c ≡ answered f → Built start (looked ls c) (lookedOn b c)
+  built-looked B (Decide l) n f e = B
+  built-looked B Undo n f e = B
+  built-looked B Check n f e = B
+  built-looked {ls} {b} B (Preview l) n f e =
+      let g = built-facts B in
+      let d : replyOf (decideOf b l .outcome) ≡ done =
+      decide-reply b (g .known) l
+      ∙ ap₂ (λ (Z : Puzzle) (ks : List Literal). decideReply Z ks l) (g .puzzle) (g .stack)
+      ∙ preview-decides (puzzleOf start) ls n l f e in
+      more l (decideOf b l .board) B (done-returned (decideOf b l) (reply-done (decideOf b l .outcome) d))
+
+  pub step-told : (k : Book) {b : Board} → Built start (k .sequence) b → (c : Lent)
+      → toldBy (givenBy b c) ≡ reply (puzzleOf start) k (askedBy c)
+  step-told k {b} B c =
       let f = built-facts B in
-      call-told b (f .known) (c .call) (c .memory)
-      ∙ ap₂ (λ (Z : Puzzle) (k : List Literal). reply Z k (askedBy c)) (f .puzzle) (f .stack)
+      call-told b (f .known) (f .typed) (c .call) (c .memory)
+      ∙ ap₂ (λ (Z : Puzzle) (ls : List Literal). replyTo Z ls (length (c .memory)) (c .call)) (f .puzzle) (f .stack)
 
-  step-written : {ls : List Literal} {b : Board} → Built start ls b → (c : Lent)
-      → givenBy b c .memory ≡ memoryAs (c .memory) (reply (puzzleOf start) ls (askedBy c))
-  step-written {ls} {b} B c =
+  step-written : (k : Book) {b : Board} → Built start (k .sequence) b → (c : Lent)
+      → givenBy b c .memory ≡ memoryAs (c .memory) (reply (puzzleOf start) k (askedBy c))
+  step-written k {b} B c =
       let f = built-facts B in
-      call-written b (f .known) (c .call) (c .memory)
-      ∙ ap₂ (λ (Z : Puzzle) (k : List Literal). memoryAs (c .memory) (reply Z k (askedBy c))) (f .puzzle) (f .stack)
+      call-written b (f .known) (f .typed) (c .call) (c .memory)
+      ∙ ap₂ (λ (Z : Puzzle) (ls : List Literal).
+      memoryAs (c .memory) (replyTo Z ls (length (c .memory)) (c .call))) (f .puzzle) (f .stack)
 
   -- ---- a list of calls
-  pub built-after : {ls : List Literal} {b : Board} → Built start ls b → (calls : List Lent)
-      → Built start (sequenceFrom (puzzleOf start) ls (map askedBy calls)) (boardAfter b calls)
-  unfolding sequenceFrom boardAfter
-  built-after B [] = B
-  built-after B (c ∷ calls) = built-after (built-step B c) calls
+  pub built-after : (k : Book) {b : Board} → Built start (k .sequence) b → (calls : List Lent)
+      → Built start (bookFrom (puzzleOf start) k (map askedBy calls) .sequence) (boardAfter b calls)
+  unfolding bookFrom boardAfter
+  built-after k B [] = B
+  built-after k B (c ∷ calls) = built-after (after (puzzleOf start) k (askedBy c)) (built-step k B c) calls
 
-  pub run-told : {ls : List Literal} {b : Board} → Built start ls b → (calls : List Lent)
-      → map toldBy (runFrom b calls) ≡ repliesFrom (puzzleOf start) ls (map askedBy calls)
+  pub run-told : (k : Book) {b : Board} → Built start (k .sequence) b → (calls : List Lent)
+      → map toldBy (runFrom b calls) ≡ repliesFrom (puzzleOf start) k (map askedBy calls)
   unfolding repliesFrom runFrom
-  run-told B [] = refl
-  run-told B (c ∷ calls) =
-      ap₂ (λ (r : Reply) (rs : List Reply). r ∷ rs) (step-told B c) (run-told (built-step B c) calls)
+  run-told k B [] = refl
+  run-told k B (c ∷ calls) =
+      ap₂ (λ (r : Reply) (rs : List Reply). r ∷ rs) (step-told k B c)
+      (run-told (after (puzzleOf start) k (askedBy c)) (built-step k B c) calls)
 
-  pub run-written : {ls : List Literal} {b : Board} → Built start ls b → (calls : List Lent)
+  pub run-written : (k : Book) {b : Board} → Built start (k .sequence) b → (calls : List Lent)
       → map (λ (g : Given). g .memory) (runFrom b calls)
-      ≡ memories calls (repliesFrom (puzzleOf start) ls (map askedBy calls))
+      ≡ memories calls (repliesFrom (puzzleOf start) k (map askedBy calls))
   unfolding repliesFrom runFrom memories
-  run-written B [] = refl
-  run-written B (c ∷ calls) =
-      ap₂ (λ (m : List ℕ) (ms : List (List ℕ)). m ∷ ms) (step-written B c) (run-written (built-step B c) calls)
+  run-written k B [] = refl
+  run-written k B (c ∷ calls) =
+      ap₂ (λ (m : List ℕ) (ms : List (List ℕ)). m ∷ ms) (step-written k B c)
+      (run-written (after (puzzleOf start) k (askedBy c)) (built-step k B c) calls)
 
 -- ---- a list of calls that is followed by another
 pub run-append : (b : Board) (calls later : List Lent)

@@ -6,6 +6,7 @@
 --   Given                what a call gives: its answer, and the memory as it stands when the call returns
 --   givenBy b c          what the call c gives on the board b
 --   toldBy g             that as the book's reply
+--   lookedOn b c         the board that the call c is answered from, where b is the board given
 --   nextBoard b c        the board that the call c returns on the board b
 --   boardAfter b calls   the board after the calls, from the board b
 --   runFrom b calls      what the calls give, from the board b
@@ -14,8 +15,10 @@ use mathlib.Core.List.{List, [], _∷_}
 use Prim.Native.Nat.{ℕ}
 use lib.ListN.{length}
 use Rattle.rules.specs.declared.Call.{Call}
+use Rattle.rules.specs.declared.Call.the-variants.{Decide, Undo, Check, Preview}
 use Rattle.rules.specs.Book.{Asked, ask, Reply}
 use Rattle.board.specs.declared.Board.{Board}
+use Rattle.board.specs.Board.{decideOf}
 use Rattle.calls.specs.declared.Answer.{Answer}
 use Rattle.calls.specs.Answers.{told, memoryAs, callOf, callMemory}
 
@@ -41,6 +44,13 @@ givenBy b c =
 
 abbrev pub toldBy : Given → Reply
 toldBy g = told (g .answer) (g .memory)
+
+-- for a preview "a copy of the board", with its literal decided
+abbrev pub lookedOn : Board → Call → Board
+lookedOn b (Decide l) = b
+lookedOn b Undo = b
+lookedOn b Check = b
+lookedOn b (Preview l) = decideOf b l .board
 
 abbrev pub nextBoard : Board → Lent → Board
 nextBoard b c = callOf b (c .call) (c .memory) .board

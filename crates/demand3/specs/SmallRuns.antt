@@ -1,10 +1,10 @@
 -- 01's small boards marked P, through the calls: from making the board on, what each call answers.
 --
 --   RunAnswers h w cs ks calls rs   the calls answer rs on that puzzle's board, each with memory for 16,384 literals
---   small-clues, run-answers        how that follows from the book
+--   small-clues, asked-lent, run-answers   how that follows from the book
 --   Pair ks calls rs                so they do on 1×2 with the colours 01 and the clues ks
 --   Four calls rs                   so they do on 1×4 with the colours 0011, without clues
---   SmallRuns                       the boards, and the page of 01's example
+--   SmallRuns                       the boards, the page of 01's example, and previews
 use mathlib.Core.Path.{_≡_, refl, ap, _∙_}
 use mathlib.Core.Bool.{true}
 use mathlib.Core.List.{List, [], _∷_, map}
@@ -17,7 +17,7 @@ use Rattle.lists.specs.Tests.{allBelow}
 use Rattle.lists.specs.Count.{countBelow}
 use Rattle.lists.specs.Booleans.{and-left, and-right}
 use Rattle.rules.specs.declared.Call.{Call}
-use Rattle.rules.specs.declared.Call.the-variants.{Decide, Undo, Check}
+use Rattle.rules.specs.declared.Call.the-variants.{Decide, Undo, Check, Preview}
 use Rattle.rules.specs.Page.{wallAt, openAt, _⊕_, opposite}
 use Rattle.rules.specs.Codes.{statesIn, coloursIn, cluesIn, puzzleIn}
 use Rattle.rules.specs.Rules.{oneColour, joinsBlock, joinsUnit}
@@ -32,8 +32,8 @@ use Rattle.rules.specs.Check.{wallHit, wallHits, touches, adjacent, mates, judg
 use Rattle.rules.specs.Check.{farWallsAt, farWalls, unitReason, unitHitIn, unitHitOn, unitHit, hit, undecidedCount}
 use Rattle.rules.specs.Flat.{flat, cellAt, rightOf, belowOf, borderCount, hopIf, hopAbove, hopBelow, hopLeft}
 use Rattle.rules.specs.Flat.{hopRight, aroundAt, aheadAt, flatFirst, flatSecond, flatPlace, flatReadsAt, flatReads}
-use Rattle.rules.specs.Book.{Asked, ask, Reply, refused, done, answered, states, names, withoutLast, decideReply}
-use Rattle.rules.specs.Book.{decideAfter, replyTo, afterCall, repliesFrom, replies}
+use Rattle.rules.specs.Book.{Asked, ask, Reply, refused, done, answered, states, names, withoutLast, doneBook}
+use Rattle.rules.specs.Book.{decideReply, checkReply, replyTo, after, repliesFrom, replies}
 use Rattle.board.specs.declared.Outcome.the-variants.{Done}
 use Rattle.board.specs.Alien.{sizeRight, coloursRight, cluesRight}
 use Rattle.board.specs.Board.{puzzleRefusal, freshOf, SmallClues}
@@ -45,7 +45,7 @@ pub record RunAnswers (h w : ℕ) (cs : List ℕ) (ks : List ℤ) (calls : List 
   pub answers : (m : List ℕ) → length m ≡ 16384
       → map toldBy (runFrom (madeBoard h w cs ks) (map (lend m) calls)) ≡ rs
 
-asked-lent : (m : List ℕ) (calls : List Call) → map askedBy (map (lend m) calls) ≡ map (ask (length m)) calls
+pub asked-lent : (m : List ℕ) (calls : List Call) → map askedBy (map (lend m) calls) ≡ map (ask (length m)) calls
 asked-lent m [] = refl
 asked-lent m (c ∷ calls) = ap (λ (asked : List Asked). ask (length m) c ∷ asked) (asked-lent m calls)
 
@@ -110,6 +110,13 @@ pub record SmallRuns : Type 0 where
   pub refusals : Pair (noClue ∷ noClue ∷ [])
       (Undo ∷ Decide (openAt 1) ∷ Decide (openAt 0) ∷ Decide (wallAt 0) ∷ Check ∷ [])
       (refused 8 ∷ refused 6 ∷ done ∷ refused 7 ∷ answered (pass 0) ∷ [])
+  -- "what decide followed by check would on a copy of the board": the check after a preview is that of the board given,
+  -- and the border can be decided still
+  pub previews : Pair (noClue ∷ noClue ∷ [])
+      (Preview (wallAt 0) ∷ Preview (openAt 0) ∷ Check ∷ Preview (openAt 1) ∷ Decide (openAt 0) ∷ Preview (wallAt 0) ∷
+      Check ∷ [])
+      (answered (conflict (wallAt 0 ∷ [])) ∷ answered (pass 0) ∷ answered (pass 1) ∷ refused 6 ∷ done ∷ refused 7 ∷
+      answered (pass 0) ∷ [])
 
 pub small-runs : SmallRuns
 unfolding filter any all orElse flatMap firstHit countBelow _⊕_ opposite statesIn coloursIn cluesIn oneColour joinsBlock
@@ -119,7 +126,7 @@ unfolding filter any all orElse flatMap firstHit countBelow _⊕_ opposite state
     cellHit cellHits smallHit bigHit clueHit blockHitOn blockHit wallHit wallHits touches adjacent mates judge laid
     transformsOf placements farWallsAt farWalls unitReason unitHitIn unitHitOn unitHit hit undecidedCount flat cellAt
     rightOf belowOf borderCount hopIf hopAbove hopBelow hopLeft hopRight aroundAt aheadAt flatFirst flatSecond
-    flatPlace flatReadsAt flatReads states names withoutLast decideReply decideAfter replyTo afterCall
+    flatPlace flatReadsAt flatReads states names withoutLast doneBook decideReply checkReply replyTo after
     repliesFrom freshOf puzzleRefusal sizeRight coloursRight cluesRight allBelow
 small-runs =
     record {
@@ -134,4 +141,5 @@ small-runs =
       four-wall = run-answers refl refl refl;
       wall-in-block = run-answers refl refl refl;
       refusals = run-answers refl refl refl;
+      previews = run-answers refl refl refl;
     }

@@ -1,5 +1,5 @@
--- Laws of the book: what is put last in a sequence of literals and taken off it, what states reads in it, and the
--- sequence and the answers of a list of calls.
+-- Laws of the book: what is put last in a sequence of literals and taken off it, what states reads in it, what the book
+-- keeps after a list of calls, and its answers.
 --
 --   states-none         a border that the sequence does not name is undecided
 --   names-table         the borders that a sequence names, by its places
@@ -11,9 +11,14 @@
 --   decided-mem         a decided border has its literal in the sequence
 --   states-exact        exactly the sequence's literals are decided
 --   undecided-left      so the undecided borders are those that the sequence leaves
---   after-clean, sequence-clean       the book's sequence is so
---   from-append, sequence-append, replies-append   the sequence and the answers of a list that is followed by another
---   answered-check      only a check is answered, and with what check gives
+--   after-clean, book-clean           the book's sequence is so
+--   from-append, book-append, replies-append   the book and the answers of a list that is followed by another
+--   undo-takes          an undo takes the last literal off
+--   check-leaves, preview-leaves       a check and a preview leave the book as it is
+--   preview-follows, preview-refused   a preview is answered as the check after the decide, or refused as the decide
+--   preview-decides     the decide of a preview that is answered is done
+--   answered-check      an answered call is answered with what check gives of the sequence that it looked at ..
+--   looked-clean        .. which names borders of the page, none of them twice
 --   replies-refused     the numbers of refused calls, where no memory is short
 use mathlib.Core.Path.{_≡_, _∙_, refl, ap, sym, subst}
 use mathlib.Core.Logic.{_⊎_, inl, inr, _↔_}
@@ -35,12 +40,12 @@ use Rattle.lists.specs.Count.{countBelow}
 use Rattle.lists.specs.CountLaws.{count-cong, count-more}
 use Rattle.rules.specs.declared.Literal.{Literal}
 use Rattle.rules.specs.declared.Call.{Call}
-use Rattle.rules.specs.declared.Call.the-variants.{Decide, Undo, Check}
+use Rattle.rules.specs.declared.Call.the-variants.{Decide, Undo, Check, Preview}
 use Rattle.rules.specs.Page.{Puzzle, State, undecided, decided, Has, isUndecided}
 use Rattle.rules.specs.Check.{Verdict, undecidedCount, check}
-use Rattle.rules.specs.Book.{Asked, ask, Reply, refused, done, answered, stateIf, states, names, withLast, withoutLast}
-use Rattle.rules.specs.Book.{bareOr, decideReply, decideAfter, replyTo, reply, afterCall, after, sequenceFrom}
-use Rattle.rules.specs.Book.{repliesFrom, sequence, replies}
+use Rattle.rules.specs.Book.{Asked, ask, Reply, refused, done, answered, Book, freshBook, stateIf, states, names}
+use Rattle.rules.specs.Book.{withLast, withoutLast, bareOr, looked, thenReply, doneBook, afterBy, decideReply, checkReply}
+use Rattle.rules.specs.Book.{replyTo, reply, after, bookFrom, repliesFrom, bookAfter, replies}
 
 pub states-none : (ls : List Literal) (x : ℕ) → names ls x ≡ false → states ls x ≡ undecided
 unfolding names any states
@@ -214,110 +219,214 @@ pub undecided-left : (Z : Puzzle) (ls : List Literal) → Clean Z ls
 unfolding undecidedCount
 undecided-left Z ls c = left-count (Z .page .borders) ls (c .once) (c .below)
 
+-- ---- the kinds of replies
+not-done : (n : ℕ) → refused n ≡ done → ⊥
+not-done n e = let z : _≡_ {A = ℕ} 0 1 = cc in omega arith
+
+not-answered : (n : ℕ) (f : Verdict) → refused n ≡ answered f → ⊥
+not-answered n f e = let z : _≡_ {A = ℕ} 0 1 = cc in omega arith
+
+done-answered : (f : Verdict) → done ≡ answered f → ⊥
+done-answered f e = let z : _≡_ {A = ℕ} 0 1 = cc in omega arith
+
+-- ---- the book's sequence is clean
 module _ (Z : Puzzle) where
-  call-clean : (ls : List Literal) (c : Call) → Clean Z ls → Clean Z (afterCall Z ls c)
-  unfolding afterCall decideAfter
-  call-clean ls (Decide l) c = go (ltb (l .border) (Z .page .borders)) refl (names ls (l .border)) refl
+  -- a decide that is done
+  decided-clean : (ls : List Literal) (l : Literal) → Clean Z ls → decideReply Z ls l ≡ done → Clean Z (withLast ls l)
+  unfolding decideReply
+  decided-clean ls l c e = go (ltb (l .border) (Z .page .borders)) refl (names ls (l .border)) refl e
     where
       go : (t : Bool) → ltb (l .border) (Z .page .borders) ≡ t → (u : Bool) → names ls (l .border) ≡ u
-          → Clean Z (cond t (cond u ls (withLast ls l)) ls)
-      go true q true r = c
-      go true q false r = clean-with Z ls l c (ltb→lt (l .border) (Z .page .borders) (rw q tt)) r
-      go false q u r = c
-  call-clean ls Undo c = clean-without Z ls c
-  call-clean ls Check c = c
+          → cond t (cond u (refused 7) done) (refused 6) ≡ done → Clean Z (withLast ls l)
+      go true q true r f = absurd (not-done 7 f)
+      go true q false r f = clean-with Z ls l c (ltb→lt (l .border) (Z .page .borders) (rw q tt)) r
+      go false q u r f = absurd (not-done 6 f)
 
-  pub after-clean : (ls : List Literal) (a : Asked) → Clean Z ls → Clean Z (after Z ls a)
-  after-clean ls a c = call-clean ls (a .call) c
+  done-clean : (k : Book) (n : ℕ) (c : Call) → Clean Z (k .sequence) → replyTo Z (k .sequence) n c ≡ done
+      → Clean Z (doneBook k c .sequence)
+  unfolding doneBook replyTo
+  done-clean k n (Decide l) c e = decided-clean (k .sequence) l c e
+  done-clean k n Undo c e = clean-without Z (k .sequence) c
+  done-clean k n Check c e = c
+  done-clean k n (Preview l) c e = c
 
-  from-clean : (ls : List Literal) (calls : List Asked) → Clean Z ls → Clean Z (sequenceFrom Z ls calls)
-  unfolding sequenceFrom
-  from-clean ls [] c = c
-  from-clean ls (a ∷ calls) c = from-clean (after Z ls a) calls (after-clean ls a c)
+  pub after-clean : (k : Book) (a : Asked) → Clean Z (k .sequence) → Clean Z (after Z k a .sequence)
+  unfolding after
+  after-clean k a c = go (reply Z k a) refl
+    where
+      go : (r : Reply) → reply Z k a ≡ r → Clean Z (afterBy r k (doneBook k (a .call)) .sequence)
+      go (refused n) e = c
+      go done e = done-clean k (a .places) (a .call) c e
+      go (answered f) e = c
 
-  pub sequence-clean : (calls : List Asked) → Clean Z (sequence Z calls)
-  sequence-clean calls = from-clean [] calls (clean-none Z)
+  from-clean : (k : Book) (calls : List Asked) → Clean Z (k .sequence) → Clean Z (bookFrom Z k calls .sequence)
+  unfolding bookFrom
+  from-clean k [] c = c
+  from-clean k (a ∷ calls) c = from-clean (after Z k a) calls (after-clean k a c)
 
-  pub from-append : (ls : List Literal) (calls more : List Asked)
-      → sequenceFrom Z ls (calls ++ more) ≡ sequenceFrom Z (sequenceFrom Z ls calls) more
-  unfolding sequenceFrom
-  from-append ls [] more = refl
-  from-append ls (a ∷ calls) more = from-append (after Z ls a) calls more
+  pub book-clean : (calls : List Asked) → Clean Z (bookAfter Z calls .sequence)
+  book-clean calls = from-clean freshBook calls (clean-none Z)
 
-  pub sequence-append : (calls more : List Asked)
-      → sequence Z (calls ++ more) ≡ sequenceFrom Z (sequence Z calls) more
-  sequence-append calls more = from-append [] calls more
+  -- ---- a list that is followed by another
+  pub from-append : (k : Book) (calls more : List Asked)
+      → bookFrom Z k (calls ++ more) ≡ bookFrom Z (bookFrom Z k calls) more
+  unfolding bookFrom
+  from-append k [] more = refl
+  from-append k (a ∷ calls) more = from-append (after Z k a) calls more
 
-replies-from : (Z : Puzzle) (ls : List Literal) (calls more : List Asked)
-    → repliesFrom Z ls (calls ++ more) ≡ repliesFrom Z ls calls ++ repliesFrom Z (sequenceFrom Z ls calls) more
-unfolding repliesFrom sequenceFrom
-replies-from Z ls [] more = refl
-replies-from Z ls (a ∷ calls) more =
-    ap (λ (rs : List Reply). reply Z ls a ∷ rs) (replies-from Z (after Z ls a) calls more)
+  pub book-append : (calls more : List Asked) → bookAfter Z (calls ++ more) ≡ bookFrom Z (bookAfter Z calls) more
+  book-append calls more = from-append freshBook calls more
 
--- a call in the middle of a list is answered on the sequence of the calls before it
+replies-from : (Z : Puzzle) (k : Book) (calls more : List Asked)
+    → repliesFrom Z k (calls ++ more) ≡ repliesFrom Z k calls ++ repliesFrom Z (bookFrom Z k calls) more
+unfolding repliesFrom bookFrom
+replies-from Z k [] more = refl
+replies-from Z k (a ∷ calls) more =
+    ap (λ (rs : List Reply). reply Z k a ∷ rs) (replies-from Z (after Z k a) calls more)
+
+-- a call in the middle of a list is answered by the book after the calls before it
 pub replies-append : (Z : Puzzle) (calls : List Asked) (a : Asked) (more : List Asked)
     → replies Z (calls ++ (a ∷ more))
-    ≡ replies Z calls ++ (reply Z (sequence Z calls) a ∷ repliesFrom Z (sequence Z (calls ++ (a ∷ []))) more)
-unfolding repliesFrom sequenceFrom
+    ≡ replies Z calls ++ (reply Z (bookAfter Z calls) a ∷ repliesFrom Z (bookAfter Z (calls ++ (a ∷ []))) more)
+unfolding repliesFrom bookFrom
 replies-append Z calls a more =
-    replies-from Z [] calls (a ∷ more)
-    ∙ ap (λ (ls : List Literal). replies Z calls ++ (reply Z (sequence Z calls) a ∷ repliesFrom Z ls more))
-    (sym (sequence-append Z calls (a ∷ [])))
+    replies-from Z freshBook calls (a ∷ more)
+    ∙ ap (λ (k : Book). replies Z calls ++ (reply Z (bookAfter Z calls) a ∷ repliesFrom Z k more))
+    (sym (book-append Z calls (a ∷ [])))
 
+-- ---- after an undo, a check and a preview
+by-same : (r : Reply) (k : Book) → afterBy r k k ≡ k
+by-same (refused number) k = refl
+by-same done k = refl
+by-same (answered f) k = refl
+
+module _ (Z : Puzzle) (k : Book) (n : ℕ) where
+  pub undo-takes : after Z k (ask n Undo) .sequence ≡ withoutLast (k .sequence)
+  unfolding after replyTo doneBook withoutLast
+  undo-takes = go (k .sequence) refl
+    where
+      go : (ls : List Literal) → k .sequence ≡ ls
+          → afterBy (bareOr ls done) k (record { sequence = withoutLast (k .sequence) }) .sequence
+          ≡ withoutLast (k .sequence)
+      go [] e = e ∙ ap withoutLast (sym e)
+      go (l ∷ ls) e = refl
+
+  -- "Checks and refused calls do not change the sequence"
+  pub check-leaves : after Z k (ask n Check) ≡ k
+  unfolding after doneBook
+  check-leaves = by-same (reply Z k (ask n Check)) k
+
+  module _ (l : Literal) where
+    -- "and leaves the sequence"
+    pub preview-leaves : after Z k (ask n (Preview l)) ≡ k
+    unfolding after doneBook
+    preview-leaves = by-same (reply Z k (ask n (Preview l))) k
+
+    -- "what decide followed by check would on a copy"
+    pub preview-follows : reply Z k (ask n (Decide l)) ≡ done
+        → reply Z k (ask n (Preview l)) ≡ reply Z (after Z k (ask n (Decide l))) (ask n Check)
+    unfolding after replyTo doneBook
+    preview-follows e = rw e
+
+    pub preview-refused : (number : ℕ) → reply Z k (ask n (Decide l)) ≡ refused number
+        → reply Z k (ask n (Preview l)) ≡ refused number
+    unfolding replyTo
+    preview-refused number e = rw e
+
+-- ---- what is answered
 module _ (Z : Puzzle) (ls : List Literal) where
-  call-answered : (n : ℕ) (c : Call) (r : Verdict) → replyTo Z ls n c ≡ answered r
-      → (c ≡ Check) × (check Z (states ls) ≡ r)
-  unfolding replyTo decideReply
-  call-answered n (Decide l) r e = go (ltb (l .border) (Z .page .borders)) (names ls (l .border)) e
-    where
-      go : (b c : Bool) → cond b (cond c (refused 7) done) (refused 6) ≡ answered r
-          → (Decide l ≡ Check) × (check Z (states ls) ≡ r)
-      go true true f = let z : _≡_ {A = ℕ} 0 1 = cc in absurd (omega arith)
-      go true false f = let z : _≡_ {A = ℕ} 0 1 = cc in absurd (omega arith)
-      go false c f = let z : _≡_ {A = ℕ} 0 1 = cc in absurd (omega arith)
-  call-answered n Undo r e = go ls e
-    where
-      go : (ks : List Literal) → bareOr ks done ≡ answered r → (Undo ≡ Check) × (check Z (states ls) ≡ r)
-      go [] f = let z : _≡_ {A = ℕ} 0 1 = cc in absurd (omega arith)
-      go (k ∷ ks) f = let z : _≡_ {A = ℕ} 0 1 = cc in absurd (omega arith)
-  call-answered n Check r e = go (ltb n 16384) e
-    where
-      go : (b : Bool) → cond b (refused 9) (answered (check Z (states ls))) ≡ answered r
-          → (Check ≡ Check) × (check Z (states ls) ≡ r)
-      go true f = let z : _≡_ {A = ℕ} 0 1 = cc in absurd (omega arith)
-      go false f = let u : check Z (states ls) ≡ r = cc in (refl, u)
+  -- the verdict is check's of the sequence that the call looked at
+  record LooksAt (c : Call) (f : Verdict) : Type 0 where
+    verdict : check Z (states (looked ls c)) ≡ f
+    clean : Clean Z ls → Clean Z (looked ls c)
 
-  pub answered-check : (a : Asked) (r : Verdict) → reply Z ls a ≡ answered r
-      → (a .call ≡ Check) × (check Z (states ls) ≡ r)
-  answered-check a r e = call-answered (a .places) (a .call) r e
+  checked : (ks : List Literal) (n : ℕ) (f : Verdict) → checkReply Z ks n ≡ answered f → check Z (states ks) ≡ f
+  unfolding checkReply
+  checked ks n f e = go (ltb n 16384) e
+    where
+      go : (b : Bool) → cond b (refused 9) (answered (check Z (states ks))) ≡ answered f → check Z (states ks) ≡ f
+      go true q = absurd (not-answered 9 f q)
+      go false q = cc
+
+  decide-never : (l : Literal) (f : Verdict) → decideReply Z ls l ≡ answered f → ⊥
+  unfolding decideReply
+  decide-never l f e = go (ltb (l .border) (Z .page .borders)) (names ls (l .border)) e
+    where
+      go : (b c : Bool) → cond b (cond c (refused 7) done) (refused 6) ≡ answered f → ⊥
+      go true true q = not-answered 7 f q
+      go true false q = done-answered f q
+      go false c q = not-answered 6 f q
+
+  pub preview-decides : (n : ℕ) (l : Literal) (f : Verdict) → replyTo Z ls n (Preview l) ≡ answered f
+      → decideReply Z ls l ≡ done
+  unfolding replyTo
+  preview-decides n l f e = go (decideReply Z ls l) refl e
+    where
+      go : (d : Reply) → decideReply Z ls l ≡ d → thenReply d (checkReply Z (withLast ls l) n) ≡ answered f → d ≡ done
+      go (refused m) q r = absurd (not-answered m f r)
+      go done q r = refl
+      go (answered g) q r = absurd (decide-never l g q)
+
+  call-looks : (n : ℕ) (c : Call) (f : Verdict) → replyTo Z ls n c ≡ answered f → LooksAt c f
+  unfolding replyTo
+  call-looks n (Decide l) f e = absurd (decide-never l f e)
+  call-looks n Undo f e = absurd (go ls e)
+    where
+      go : (ks : List Literal) → bareOr ks done ≡ answered f → ⊥
+      go [] q = not-answered 8 f q
+      go (k ∷ ks) q = done-answered f q
+  call-looks n Check f e = record { verdict = checked ls n f e; clean = λ c. c }
+  call-looks n (Preview l) f e =
+      let d = preview-decides n l f e in
+      record { verdict = checked (withLast ls l) n f (rw d at e); clean = λ c. decided-clean Z ls l c d }
+
+module _ (Z : Puzzle) (k : Book) (a : Asked) (f : Verdict) (e : reply Z k a ≡ answered f) where
+  looks : LooksAt Z (k .sequence) (a .call) f
+  looks = call-looks Z (k .sequence) (a .places) (a .call) f e
+
+  pub answered-check : check Z (states (looked (k .sequence) (a .call))) ≡ f
+  answered-check = looks .verdict
+
+  pub looked-clean : Clean Z (k .sequence) → Clean Z (looked (k .sequence) (a .call))
+  looked-clean = looks .clean
 
 -- a call with memory that is not short is refused with 6, 7 or 8
 module _ (Z : Puzzle) (m n : ℕ) (l : 16384 ≤ m) where
   refused-is : (k : ℕ) → refused k ≡ refused n → n ≡ k
   refused-is k e = cc
 
-  call-refused : (ls : List Literal) (c : Call) → replyTo Z ls m c ≡ refused n → n ∈ (6 ∷ 7 ∷ 8 ∷ [])
-  unfolding replyTo decideReply
-  call-refused ls (Decide k) e = go (ltb (k .border) (Z .page .borders)) (names ls (k .border)) e
+  decide-refused : (ls : List Literal) (k : Literal) → decideReply Z ls k ≡ refused n → n ∈ (6 ∷ 7 ∷ 8 ∷ [])
+  unfolding decideReply
+  decide-refused ls k e = go (ltb (k .border) (Z .page .borders)) (names ls (k .border)) e
     where
       go : (a b : Bool) → cond a (cond b (refused 7) done) (refused 6) ≡ refused n → n ∈ (6 ∷ 7 ∷ 8 ∷ [])
       go true true f = List·Memᴰ·tail (List·Memᴰ·head (refused-is 7 f))
-      go true false f = let z : _≡_ {A = ℕ} 0 1 = cc in absurd (omega arith)
+      go true false f = absurd (not-done n (sym f))
       go false b f = List·Memᴰ·head (refused-is 6 f)
-  call-refused [] Undo e = List·Memᴰ·tail (List·Memᴰ·tail (List·Memᴰ·head (refused-is 8 e)))
-  call-refused (k ∷ ls) Undo e = let z : _≡_ {A = ℕ} 0 1 = cc in absurd (omega arith)
-  call-refused ls Check e = go (rw (le-ltb m 16384 l) at e)
-    where
-      go : answered (check Z (states ls)) ≡ refused n → n ∈ (6 ∷ 7 ∷ 8 ∷ [])
-      go f = let z : _≡_ {A = ℕ} 0 1 = cc in absurd (omega arith)
 
-  from-refused : (ls : List Literal) (cs : List Call) → refused n ∈ repliesFrom Z ls (map (ask m) cs)
-      → n ∈ (6 ∷ 7 ∷ 8 ∷ [])
+  check-refused : (ls : List Literal) → checkReply Z ls m ≡ refused n → ⊥
+  unfolding checkReply
+  check-refused ls e = not-answered n (check Z (states ls)) (sym (rw (le-ltb m 16384 l) at e))
+
+  call-refused : (ls : List Literal) (c : Call) → replyTo Z ls m c ≡ refused n → n ∈ (6 ∷ 7 ∷ 8 ∷ [])
+  unfolding replyTo
+  call-refused ls (Decide k) e = decide-refused ls k e
+  call-refused [] Undo e = List·Memᴰ·tail (List·Memᴰ·tail (List·Memᴰ·head (refused-is 8 e)))
+  call-refused (k ∷ ls) Undo e = absurd (not-done n (sym e))
+  call-refused ls Check e = absurd (check-refused ls e)
+  call-refused ls (Preview k) e = go (decideReply Z ls k) refl e
+    where
+      go : (d : Reply) → decideReply Z ls k ≡ d → thenReply d (checkReply Z (withLast ls k) m) ≡ refused n
+          → n ∈ (6 ∷ 7 ∷ 8 ∷ [])
+      go (refused j) q r = decide-refused ls k (q ∙ r)
+      go done q r = absurd (check-refused (withLast ls k) r)
+      go (answered f) q r = absurd (not-answered n f (sym r))
+
+  from-refused : (k : Book) (cs : List Call) → refused n ∈ repliesFrom Z k (map (ask m) cs) → n ∈ (6 ∷ 7 ∷ 8 ∷ [])
   unfolding repliesFrom
-  from-refused ls [] i = absurd (List·Memᴰ·not-nil i)
-  from-refused ls (c ∷ cs) (List·Memᴰ·head e) = call-refused ls c (sym e)
-  from-refused ls (c ∷ cs) (List·Memᴰ·tail i) = from-refused (afterCall Z ls c) cs i
+  from-refused k [] i = absurd (List·Memᴰ·not-nil i)
+  from-refused k (c ∷ cs) (List·Memᴰ·head e) = call-refused (k .sequence) c (sym e)
+  from-refused k (c ∷ cs) (List·Memᴰ·tail i) = from-refused (after Z k (ask m c)) cs i
 
   pub replies-refused : (cs : List Call) → refused n ∈ replies Z (map (ask m) cs) → n ∈ (6 ∷ 7 ∷ 8 ∷ [])
-  replies-refused cs i = from-refused [] cs i
+  replies-refused cs i = from-refused freshBook cs i

@@ -4,7 +4,7 @@
 --   Count n             n is at most 2147483647
 --   showSize, showRow, showClue, showCall   the text of a line
 --   showSide side       the end of a decide's line, from its side on
---   ClueFit, CallFit    the numbers of the line are at most 2147483647
+--   ClueFit, CallFit    the numbers of the line are at most 2147483647; a page has no preview
 --   showSheet p         the text of a page
 --   SheetFit p          so are those of the page, and each row has digits only, and one at least
 use mathlib.Core.Path.{_≡_, refl}
@@ -18,7 +18,7 @@ use Rattle.lists.specs.Lists.{orElse}
 use Rattle.rules.specs.declared.Side.{Side}
 use Rattle.rules.specs.declared.Side.the-variants.{Wall, Open}
 use Rattle.rules.specs.declared.Call.{Call}
-use Rattle.rules.specs.declared.Call.the-variants.{Decide, Undo, Check}
+use Rattle.rules.specs.declared.Call.the-variants.{Decide, Undo, Check, Preview}
 use Rattle.page.specs.declared.Clue.{Clue}
 use Rattle.page.specs.Parsers.{also, onto, lead, either, mapR, give, strip, number}
 use Rattle.page.specs.Grammar.{Sheet, clueFrom, decideFrom, sheetFrom, space, bracket, newline}
@@ -50,10 +50,12 @@ unfoldable pub showSide : Side → List ℕ
 showSide Wall = wallWord
 showSide Open = openWord
 
+-- "Image and page program gain no preview": it has no text
 unfoldable pub showCall : Call → List ℕ
 showCall (Decide l) = decideWord ++ (counted (l .border) space ++ showSide (l .side))
 showCall Undo = undoWord
 showCall Check = checkWord
+showCall (Preview l) = []
 
 abbrev pub ClueFit : Clue → Type 0
 ClueFit c = Count (c .y) × (Count (c .x) × Count (c .n))
@@ -62,6 +64,7 @@ unfoldable pub CallFit : Call → Type 0
 CallFit (Decide l) = Count (l .border)
 CallFit Undo = Unit {0}
 CallFit Check = Unit {0}
+CallFit (Preview l) = ⊥
 
 spaced : Prints (number space) (λ n. counted n space) Count
 spaced = number-prints space (inr (omega arith))
@@ -103,6 +106,7 @@ unfoldable DecideFit : Call → Type 0
 DecideFit (Decide l) = Count (l .border)
 DecideFit Undo = ⊥
 DecideFit Check = ⊥
+DecideFit (Preview l) = ⊥
 
 decide-prints : Prints decideCall showCall DecideFit
 unfolding decideCall showCall DecideFit
@@ -114,6 +118,7 @@ decide-prints =
     from (Decide l) f = ((l .border, l .side), ((f, tt), refl))
     from Undo f = absurd f
     from Check f = absurd f
+    from (Preview l) f = absurd f
 
 pub call-prints : Prints call showCall CallFit
 unfolding call showCall lead onto strip CallFit DecideFit
@@ -131,11 +136,13 @@ call-prints =
     decide-check (Decide l) t f = refl
     decide-check Undo t f = absurd f
     decide-check Check t f = absurd f
+    decide-check (Preview l) t f = absurd f
 
     decide-undo : (a : Call) (t : List ℕ) → DecideFit a → lead undoWord (give Undo) (showCall a ++ t) ≡ none
     decide-undo (Decide l) t f = refl
     decide-undo Undo t f = absurd f
     decide-undo Check t f = absurd f
+    decide-undo (Preview l) t f = absurd f
 
     to : (a : Call) → (Undo ≡ a) ⊎ ((Check ≡ a) ⊎ DecideFit a) → CallFit a
     to (Decide l) (inl e) = let z : _≡_ {A = ℕ} 0 1 = cc in absurd (omega arith)
@@ -143,50 +150,58 @@ call-prints =
     to (Decide l) (inr (inr f)) = f
     to Undo f = tt
     to Check f = tt
+    to (Preview l) (inl e) = let z : _≡_ {A = ℕ} 0 1 = cc in absurd (omega arith)
+    to (Preview l) (inr (inl e)) = let z : _≡_ {A = ℕ} 0 1 = cc in absurd (omega arith)
+    to (Preview l) (inr (inr f)) = f
 
     from : (a : Call) → CallFit a → (Undo ≡ a) ⊎ ((Check ≡ a) ⊎ DecideFit a)
     from (Decide l) f = inr (inr f)
     from Undo f = inl refl
     from Check f = inr (inl refl)
+    from (Preview l) f = absurd f
 
 -- each line takes a byte at least
 pub row-takes : Takes 1 row
 unfolding showRow
-row-takes = takes-printed row showRow RowFit 1 row-prints (λ ds. omega arith)
+row-takes = takes-printed row showRow RowFit 1 row-prints (λ ds f. omega arith)
 
 pub clue-takes : Takes 1 clue
 unfolding showClue
-clue-takes = takes-printed clue showClue ClueFit 1 clue-prints (λ c. omega arith)
+clue-takes = takes-printed clue showClue ClueFit 1 clue-prints (λ c f. omega arith)
 
 pub call-takes : Takes 1 call
-unfolding showCall
+unfolding showCall CallFit
 call-takes = takes-printed call showCall CallFit 1 call-prints long
   where
-    long : (a : Call) → 1 ≤ length (showCall a)
-    long (Decide l) = omega arith
-    long Undo = omega arith
-    long Check = omega arith
+    long : (a : Call) → CallFit a → 1 ≤ length (showCall a)
+    long (Decide l) f = omega arith
+    long Undo f = omega arith
+    long Check f = omega arith
+    long (Preview l) f = absurd f
 
 -- a line is not read where one of a later kind stands
 call-not : (t : List ℕ) → call (bracket ∷ t) ≡ none
 unfolding call decideCall either orElse mapR also lead onto strip
 call-not t = refl
 
-clue-not : (ks : List Call) (u t : List ℕ) → clue ((showAll showCall ks ++ (bracket ∷ u)) ++ t) ≡ none
-unfolding clue mapR also lead onto strip showAll showCall
-clue-not [] u t = refl
-clue-not (Decide l ∷ ks) u t = refl
-clue-not (Undo ∷ ks) u t = refl
-clue-not (Check ∷ ks) u t = refl
+clue-not : (ks : List Call) (u t : List ℕ) → AllFit CallFit ks
+    → clue ((showAll showCall ks ++ (bracket ∷ u)) ++ t) ≡ none
+unfolding clue mapR also lead onto strip showAll showCall AllFit CallFit
+clue-not [] u t f = refl
+clue-not (Decide l ∷ ks) u t f = refl
+clue-not (Undo ∷ ks) u t f = refl
+clue-not (Check ∷ ks) u t f = refl
+clue-not (Preview l ∷ ks) u t f = absurd (f .0)
 
-row-not : (cs : List Clue) (ks : List Call) (u t : List ℕ)
+row-not : (cs : List Clue) (ks : List Call) (u t : List ℕ) → AllFit CallFit ks
     → row ((showAll showClue cs ++ (showAll showCall ks ++ (bracket ∷ u))) ++ t) ≡ none
-unfolding row lead onto strip showAll showCall showClue
-row-not [] [] u t = refl
-row-not [] (Decide l ∷ ks) u t = refl
-row-not [] (Undo ∷ ks) u t = refl
-row-not [] (Check ∷ ks) u t = refl
-row-not (c ∷ cs) ks u t = refl
+unfolding row lead onto strip showAll showCall showClue AllFit CallFit
+row-not [] [] u t f = refl
+row-not [] (Decide l ∷ ks) u t f = refl
+row-not [] (Undo ∷ ks) u t f = refl
+row-not [] (Check ∷ ks) u t f = refl
+row-not [] (Preview l ∷ ks) u t f = absurd (f .0)
+row-not (c ∷ cs) ks u t f = refl
 
 unfoldable pub showSheet : Sheet → List ℕ
 showSheet p =
@@ -210,8 +225,8 @@ sheet-prints =
     (rep-prints row-prints
     (rep-prints clue-prints
     (rep-prints call-prints (lead-prints endWord (give-prints (tt {0}))) call-takes (λ b t f. call-not (10 ∷ t)))
-    clue-takes (λ c t f. clue-not (c .0) (10 ∷ []) t))
-    row-takes (λ c t f. row-not (c .0) (c .1 .0) (10 ∷ []) t))))
+    clue-takes (λ c t f. clue-not (c .0) (10 ∷ []) t (f .0)))
+    row-takes (λ c t f. row-not (c .0) (c .1 .0) (10 ∷ []) t (f .1 .0)))))
     (λ a f. (
       refl,
       record {

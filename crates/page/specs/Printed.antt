@@ -23,10 +23,10 @@ abbrev pub Takes : {A : Type 0} → ℕ → Parser A → Type 0
 Takes {A} n r = (s : List ℕ) (a : A) (t : List ℕ) → r s ≡ some (a, t) → n + length t ≤ length s
 
 pub takes-printed : {A : Type 0} (r : Parser A) (show : A → List ℕ) (F : A → Type 0) (n : ℕ) → Prints r show F
-    → ((a : A) → n ≤ length (show a)) → Takes n r
+    → ((a : A) → F a → n ≤ length (show a)) → Takes n r
 takes-printed r show F n R long s a t e =
     let q : length s ≡ length (show a ++ t) = ap length (R .sound s a t e .0) in
-    omega (arith, long a, length-append (show a) t)
+    omega (arith, long a (R .sound s a t e .1), length-append (show a) t)
 
 -- words
 pub strip-sound : (w s t : List ℕ) → strip w s ≡ some t → s ≡ w ++ t

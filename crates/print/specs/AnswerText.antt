@@ -98,7 +98,7 @@ literal-prints =
 
 literal-takes : Takes 1 literal
 unfolding showLiteral
-literal-takes = takes-printed literal showLiteral LiteralFit 1 literal-prints (λ l. omega arith)
+literal-takes = takes-printed literal showLiteral LiteralFit 1 literal-prints (λ l f. omega arith)
 
 numbered : (word : List ℕ)
     → Prints (lead word (followed (number bracket) newline)) (λ n. word ++ (counted n bracket ++ newline)) Count

@@ -5,3 +5,5 @@ pub mod ProbeAsked
 pub mod ProbeAskedLaws
 pub mod ProbeChecks
 pub mod ProbeChecksLaws
+pub mod ProbePreviews
+pub mod ProbePreviewsLaws

@@ -18,7 +18,7 @@ use rules::Side;
 use rules::index;
 
 // The literal with the code n.
-fn literal(n: usize) -> Literal
+pub fn literal(n: usize) -> Literal
     ensures { λ r. ⌜ r ≡ literalOf n ⌝ }
 {
     if n % 2 == 1 {
@@ -61,7 +61,7 @@ fn refusal(o: Outcome) -> usize
 }
 
 // The number of an answer.
-fn number(a: Answer) -> usize
+pub fn number(a: Answer) -> usize
     requires { ⌜ InRange a ⌝ }
     ensures { λ r. ⌜ r ≡ answerNumber a ⌝ }
 {

@@ -36,7 +36,7 @@ use Rattle.reach.specs.Produced.{next, Reached}
 pub produced-known : (b : Board) → Produced b → (isAlien b ≡ false) × Typed b
 produced-known b (made h w cs ks _ s e) = (made-keeps (made-is e), made-typed (made-is e) s)
 produced-known b (afterDecide c l _ p e) =
-    let r = produced-known c p in (decide-keeps c l (r .1) e, decided-typed c l (r .1) e)
+    let r = produced-known c p in (decide-keeps c l (r .1 .borders) (r .1 .stack) e, decided-typed c l (r .1) e)
 produced-known b (afterUndo c _ p e) =
     let r = produced-known c p in (undo-keeps c (r .1) e, undone-typed c (r .1) e)
 

@@ -3,21 +3,26 @@
 --   Asked                 a call with its arguments; of reason memory only the length
 --   ask n c               the call c, with n places of reason memory lent
 --   Reply                 refused with a number, done, or the answer of a check
+--   Book                  what the book keeps: a sequence of literals
+--   freshBook             what it keeps at first
 --   stateIf test m n      the state m where the test holds, otherwise n
 --   states ls             the borders with exactly the literals ls decided
 --   names ls b            the border b is in the sequence ls
 --   withLast ls l         the sequence ls with the literal l put last
 --   withoutLast ls        ls with the last literal taken off
 --   bareOr ls r           refused with 8 on the empty sequence, otherwise r
+--   looked ls c           the sequence that the call c is answered from, where the book's is ls
+--   thenReply d r         the reply d where it is not done, otherwise r
+--   doneBook k c          what the book keeps after the call c, where it is done
+--   afterBy r k m         the book m where the reply r is done, otherwise k
 --   decideReply Z ls l    what a decide of l answers: refused with 6 or 7, or done
---   decideAfter Z ls l    the sequence after it
+--   checkReply Z ls n     what a check answers, where reason memory has n places
 --   replyTo Z ls n c      what the call c answers, where reason memory has n places
---   reply Z ls a          what the book answers to a when its sequence is ls
---   afterCall Z ls c      the sequence after the call c
---   after Z ls a          the book's sequence after a
---   sequenceFrom Z ls as  the sequence after the list as, where it is ls before
---   repliesFrom Z ls as   the answers to the list as, where the sequence is ls before
---   sequence Z as         the book's sequence after the list as
+--   reply Z k a           what the book k answers to a
+--   after Z k a           the book after a
+--   bookFrom Z k as       the book after the list as, where it is k before
+--   repliesFrom Z k as    the answers to the list as, where the book is k before
+--   bookAfter Z as        the book after the list as
 --   replies Z as          its answers to the list
 use mathlib.Core.Bool.{Bool, true, false, cond}
 use mathlib.Core.List.{List, [], _∷_, _++_}
@@ -26,7 +31,7 @@ use lib.Dec.{eqb, ltb}
 use Rattle.lists.specs.Lists.{any}
 use Rattle.rules.specs.declared.Literal.{Literal}
 use Rattle.rules.specs.declared.Call.{Call}
-use Rattle.rules.specs.declared.Call.the-variants.{Decide, Undo, Check}
+use Rattle.rules.specs.declared.Call.the-variants.{Decide, Undo, Check, Preview}
 use Rattle.rules.specs.Page.{Puzzle, State, undecided, decided}
 use Rattle.rules.specs.Check.{Verdict, check}
 
@@ -42,6 +47,13 @@ pub data Reply : Type 0 where
   refused : ℕ → Reply
   done : Reply
   answered : Verdict → Reply
+
+pub record Book : Type 0 where
+  pub sequence : List Literal
+
+-- "It keeps a sequence of literals, at first empty"
+abbrev pub freshBook : Book
+freshBook = record { sequence = [] }
 
 abbrev pub stateIf : Bool → State → State → State
 stateIf true m n = m
@@ -69,6 +81,32 @@ abbrev pub bareOr : List Literal → Reply → Reply
 bareOr [] r = refused 8
 bareOr (l ∷ ls) r = r
 
+-- "the book answers it likewise, from a copy of its sequence": with the preview's literal put last
+abbrev pub looked : List Literal → Call → List Literal
+looked ls (Decide l) = ls
+looked ls Undo = ls
+looked ls Check = ls
+looked ls (Preview l) = withLast ls l
+
+-- "what decide followed by check would": the decide's reply d where it is refused, the check's r where it is done
+abbrev pub thenReply : Reply → Reply → Reply
+thenReply (refused n) r = refused n
+thenReply done r = r
+thenReply (answered f) r = answered f
+
+-- a decide "puts its literal last", an undo "takes the last literal off"
+unfoldable pub doneBook : Book → Call → Book
+doneBook k (Decide l) = record { sequence = withLast (k .sequence) l }
+doneBook k Undo = record { sequence = withoutLast (k .sequence) }
+doneBook k Check = k
+doneBook k (Preview l) = k
+
+-- "Checks and refused calls do not change the sequence"; a preview "leaves the sequence"
+abbrev pub afterBy : Reply → Book → Book → Book
+afterBy (refused n) k m = k
+afterBy done k m = m
+afterBy (answered f) k m = k
+
 module _ (Z : Puzzle) where
   -- "A decide answers 6 if its number is not below the border count, 7 if its border is in the sequence; else it is
   -- done"
@@ -76,39 +114,33 @@ module _ (Z : Puzzle) where
   decideReply ls l = cond (ltb (l .border) (Z .page .borders)) (cond (names ls (l .border)) (refused 7) done)
       (refused 6)
 
-  -- "and puts its literal last"
-  unfoldable pub decideAfter : List Literal → Literal → List Literal
-  decideAfter ls l = cond (ltb (l .border) (Z .page .borders)) (cond (names ls (l .border)) ls (withLast ls l)) ls
+  -- "A check answers 9 if its memory is short; else what Check gives"
+  unfoldable pub checkReply : List Literal → ℕ → Reply
+  checkReply ls places = cond (ltb places 16384) (refused 9) (answered (check Z (states ls)))
 
-  -- "An undo answers 8 on the empty sequence"; "A check answers 9 if its memory is short; else what Check gives"
+  -- "An undo answers 8 on the empty sequence"; a preview "returns .. what decide followed by check would"
   unfoldable pub replyTo : List Literal → ℕ → Call → Reply
   replyTo ls places (Decide l) = decideReply ls l
   replyTo ls places Undo = bareOr ls done
-  replyTo ls places Check = cond (ltb places 16384) (refused 9) (answered (check Z (states ls)))
+  replyTo ls places Check = checkReply ls places
+  replyTo ls places (Preview l) = thenReply (decideReply ls l) (checkReply (withLast ls l) places)
 
-  abbrev pub reply : List Literal → Asked → Reply
-  reply ls a = replyTo ls (a .places) (a .call)
+  abbrev pub reply : Book → Asked → Reply
+  reply k a = replyTo (k .sequence) (a .places) (a .call)
 
-  -- "Checks and refused calls do not change the sequence"
-  unfoldable pub afterCall : List Literal → Call → List Literal
-  afterCall ls (Decide l) = decideAfter ls l
-  afterCall ls Undo = withoutLast ls
-  afterCall ls Check = ls
+  unfoldable pub after : Book → Asked → Book
+  after k a = afterBy (reply k a) k (doneBook k (a .call))
 
-  abbrev pub after : List Literal → Asked → List Literal
-  after ls a = afterCall ls (a .call)
+  unfoldable pub bookFrom : Book → List Asked → Book
+  bookFrom k [] = k
+  bookFrom k (a ∷ calls) = bookFrom (after k a) calls
 
-  unfoldable pub sequenceFrom : List Literal → List Asked → List Literal
-  sequenceFrom ls [] = ls
-  sequenceFrom ls (a ∷ calls) = sequenceFrom (after ls a) calls
+  unfoldable pub repliesFrom : Book → List Asked → List Reply
+  repliesFrom k [] = []
+  repliesFrom k (a ∷ calls) = reply k a ∷ repliesFrom (after k a) calls
 
-  unfoldable pub repliesFrom : List Literal → List Asked → List Reply
-  repliesFrom ls [] = []
-  repliesFrom ls (a ∷ calls) = reply ls a ∷ repliesFrom (after ls a) calls
-
-  -- "It keeps a sequence of literals, at first empty"
-  abbrev pub sequence : List Asked → List Literal
-  sequence calls = sequenceFrom [] calls
+  abbrev pub bookAfter : List Asked → Book
+  bookAfter calls = bookFrom freshBook calls
 
   abbrev pub replies : List Asked → List Reply
-  replies calls = repliesFrom [] calls
+  replies calls = repliesFrom freshBook calls

@@ -19,6 +19,7 @@ pub enum Call {
     Decide(Literal),
     Undo,
     Check,
+    Preview(Literal),
 }
 
 // What laying a transform at a cell gives.

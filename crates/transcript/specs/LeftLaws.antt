@@ -18,24 +18,17 @@ use Prim.Native.Nat.{ℕ, zero, suc, _+_, _-_, _*_, _/_, _%_, _<_, _≤_}
 use native.Mathlib.Decide.{decLt}
 use native.Mathlib.Omega.{arith}
 use borrow.Author.Tests.{lt-ltb, le-ltb}
-use lib.Dec.{eqb, ltb}
+use lib.Dec.{eqb}
 use lib.ListN.{length, take, drop, getD, length-take}
 use lib.Seq.{drop-cons, getD-take}
 use Rattle.rules.specs.declared.Side.the-variants.{Wall, Open}
 use Rattle.rules.specs.declared.Call.{Call}
-use Rattle.rules.specs.declared.Call.the-variants.{Decide, Undo, Check}
-use Rattle.rules.specs.Check.{Verdict, pass, conflict, check}
 use Rattle.rules.specs.Book.{refused}
 use Rattle.board.specs.declared.Board.{Board}
-use Rattle.board.specs.declared.Outcome.{Outcome}
-use Rattle.board.specs.declared.Outcome.the-variants.{Alien, Short}
-use Rattle.board.specs.Alien.{isAlien}
-use Rattle.board.specs.Board.{numberOf, decideOf, undoOf}
-use Rattle.board.specs.View.{puzzleOf, statesOf}
 use Rattle.calls.specs.declared.Answer.{Answer}
 use Rattle.calls.specs.declared.Stepped.{Stepped}
-use Rattle.calls.specs.Answers.{literalOf, reasonIn, told, asAnswer, checkAnswer, ended, callOf, callMemory}
-use Rattle.calls.specs.CallLaws.{reason-short}
+use Rattle.calls.specs.Answers.{literalOf, reasonIn, told, callOf, callMemory}
+use Rattle.calls.specs.NumberLaws.{InRange, call-range}
 use Rattle.page.specs.declared.Parts.{Parts}
 use Rattle.page.specs.FormLaws.{from-none, from-more}
 use Rattle.page.specs.Grammar.{endWord, call}
@@ -155,40 +148,9 @@ module _ (s : List ℕ) (b : Board) (at : ℕ) (m : List ℕ) where
       (sym (append-assoc (showAll codeText (take n m)) endWord (linesFrom s b at m))))
 
 -- a reason is short
-Few : Answer → Type 0
-Few answer.Done = Unit {0}
-Few (answer.Pass n) = Unit {0}
-Few (answer.Conflict n) = n ≤ 16120
-Few (answer.Refused o) = Unit {0}
-
-ended-few : (o : Outcome) → Few (ended o)
-unfolding Few
-ended-few o = go (eqb (numberOf o) 0)
-  where
-    go : (x : Bool) → Few (cond x answer.Done (answer.Refused o))
-    go true = tt
-    go false = tt
-
-check-few : (b : Board) (n : ℕ) → Few (checkAnswer b n)
-unfolding checkAnswer Few
-check-few b n = go (isAlien b) refl (ltb n 16384) (check (puzzleOf b) (statesOf b)) refl
-  where
-    go : (x : Bool) → isAlien b ≡ x → (y : Bool) (f : Verdict) → check (puzzleOf b) (statesOf b) ≡ f
-        → Few (cond x (answer.Refused Alien) (cond y (answer.Refused Short) (asAnswer f)))
-    go true t y f e = tt
-    go false t true f e = tt
-    go false t false (pass k) e = tt
-    go false t false (conflict r) e = reason-short b t r e
-
-call-few : (b : Board) (c : Call) (m : List ℕ) → Few (callOf b c m .answer)
-unfolding callOf
-call-few b (Decide l) m = ended-few (decideOf b l .outcome)
-call-few b Undo m = ended-few (undoOf b .outcome)
-call-few b Check m = check-few b (length m)
-
-few-less : (s : List ℕ) (a : Answer) (at next : ℕ) → Few a → length s - next < length s - at
+few-less : (s : List ℕ) (a : Answer) (at next : ℕ) → InRange a → length s - next < length s - at
     → stepsAt s (stageOf a) next < (length s - at) * 20000 + 2
-unfolding Few stageOf stepsAt
+unfolding stageOf stepsAt
 few-less s answer.Done at next f h = omega arith
 few-less s (answer.Pass n) at next f h = omega arith
 few-less s (answer.Conflict n) at next f h = omega arith
@@ -196,7 +158,7 @@ few-less s (answer.Refused o) at next f h = omega arith
 
 pub turn-less : (s : List ℕ) (b : Board) (c : Call) (m : List ℕ) (at next : ℕ) → length s - next < length s - at
     → stepsAt s (stageOf (callOf b c m .answer)) next < (length s - at) * 20000 + 2
-turn-less s b c m at next h = few-less s (callOf b c m .answer) at next (call-few b c m) h
+turn-less s b c m at next h = few-less s (callOf b c m .answer) at next (call-range b c m) h
 
 -- ---- the page
 module _ (s m : List ℕ) where

@@ -30,6 +30,12 @@ enum-told-2 c = search needs
 check-requires : tie.Need-check-requires
 check-requires c κs = search needs
 
+enum-known-call-2 : tie.Need-enum-known-call-2
+enum-known-call-2 c = search needs
+
+preview-requires : tie.Need-preview-requires
+preview-requires c κs = search needs
+
 returns : tie.Need-returns
 unfolding callOf callMemory
 returns c =
@@ -63,6 +69,19 @@ returns-3 c =
       f .1 ∙ sym (ap (λ k. callMemory (a .board) k (now (a .memory))) e),
     )
 
+same-length-2 : tie.Need-same-length-2
+same-length-2 c = search needs
+
+returns-4 : tie.Need-returns-4
+unfolding callOf callMemory
+returns-4 c =
+    let a = c .before .before .before .before .before .before .before .before .args in
+    let e = c .before .before .before .before .before .call2 .given .1 in
+    let f = c .before .before .preview .ensures in (
+      ap (stepped (a .board)) (f .0) ∙ sym (ap (λ k. callOf (a .board) k (now (a .memory))) e),
+      f .1 ∙ sym (ap (λ k. callMemory (a .board) k (now (a .memory))) e),
+    )
+
 pub call-spec : {M : Type 1} → statement M
 call-spec =
     tie.close
@@ -75,7 +94,11 @@ call-spec =
     step-requires-2
     enum-told-2
     check-requires
+    enum-known-call-2
+    preview-requires
     returns
     returns-2
     same-length
-    returns-3)
+    returns-3
+    same-length-2
+    returns-4)
