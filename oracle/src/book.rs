@@ -29,6 +29,8 @@ pub enum Call {
     Undo,
     /// A check with this many places of reason memory.
     Check(usize),
+    /// A preview of the literal with this many places of reason memory.
+    Preview(Literal, usize),
 }
 
 #[derive(Clone, Debug, PartialEq, Eq)]
@@ -62,6 +64,7 @@ pub fn refusal(puzzle: &Puzzle) -> Option<u32> {
 }
 
 /// The book of an accepted puzzle.
+#[derive(Clone)]
 pub struct Book {
     puzzle: Puzzle,
     sequence: Vec<Literal>,
@@ -87,11 +90,26 @@ impl Book {
         match call {
             Call::Decide(literal) => self.decide(literal),
             Call::Undo => self.undo(),
-            Call::Check(places) if places < PLACES => Answer::Refused(SHORT),
-            Call::Check(_) => match check(&self.puzzle, &self.sequence) {
-                None => Answer::Pass(self.puzzle.borders() - self.sequence.len()),
-                Some(reason) => Answer::Conflict(reason),
-            },
+            Call::Check(places) => self.check(places, check),
+            Call::Preview(literal, places) => self.clone().preview(literal, places, check),
+        }
+    }
+
+    fn check(&self, places: usize, check: &mut Check) -> Answer {
+        if places < PLACES {
+            return Answer::Refused(SHORT);
+        }
+        match check(&self.puzzle, &self.sequence) {
+            None => Answer::Pass(self.puzzle.borders() - self.sequence.len()),
+            Some(reason) => Answer::Conflict(reason),
+        }
+    }
+
+    /// A decide, and a check where it is done: of a copy, which is not kept.
+    fn preview(mut self, literal: Literal, places: usize, check: &mut Check) -> Answer {
+        match self.decide(literal) {
+            Answer::Done => self.check(places, check),
+            refused => refused,
         }
     }
 

@@ -36,6 +36,7 @@ pub fn scenarios() -> Vec<Scenario> {
     all.extend(long_lists());
     all.extend(of_orders());
     all.extend(of_drafts());
+    all.extend(of_previews());
     all
 }
 
@@ -345,5 +346,35 @@ fn of_drafts() -> Vec<Scenario> {
     vec![
         scenario("a clue above half the cells", most, calls),
         scenario("the largest clue between walls", largest, walls),
+    ]
+}
+
+/// Previews between other calls: they leave the literals that stand, and are refused with 6, then 7,
+/// then 9.
+fn of_previews() -> Vec<Scenario> {
+    let preview = |border: usize, wall: bool| Call::Preview((border, wall), PLACES);
+    let small = vec![
+        preview(0, true),
+        preview(0, false),
+        CHECK,
+        preview(1, true),
+        Call::Preview((1, false), 0),
+        Call::Preview((0, false), PLACES - 1),
+        Call::Decide((0, false)),
+        preview(0, true),
+        Call::Preview((0, false), 0),
+        CHECK,
+        Call::Undo,
+        preview(0, true),
+    ];
+    let mut calls = vec![];
+    for border in [1, 2, 0, 6, 3] {
+        calls.extend((0..7).flat_map(|other| [preview(other, true), preview(other, false)]));
+        calls.push(Call::Decide((border, border % 2 == 1)));
+    }
+    calls.push(CHECK);
+    vec![
+        scenario("previews on 1x2", page(1, 2, "01", &[]), small),
+        scenario("previews on 2x3", page(2, 3, "001011", &[(0, 3)]), calls),
     ]
 }

@@ -34,6 +34,7 @@ pub fn page(puzzle: &Puzzle, calls: &[Call]) -> String {
             }
             Call::Undo => text.push_str("(undo)\n"),
             Call::Check(_) => text.push_str("(check)\n"),
+            Call::Preview(..) => panic!("no page has a preview"),
         }
     }
     text + ")\n"
@@ -102,8 +103,17 @@ fn spelled(puzzle: &Puzzle) -> bool {
     refusal(puzzle).is_none() || bare && digits
 }
 
-/// The vectors as pages: every list of calls that a page can spell, without the checks that name
-/// another length of reason memory, which a page cannot.
+/// Whether a page can spell the call: it is no preview, and names no other length of reason memory.
+pub fn has(call: &Call) -> bool {
+    match call {
+        Call::Check(places) => *places == PLACES,
+        Call::Preview(..) => false,
+        _ => true,
+    }
+}
+
+/// The vectors as pages: every list of calls without previews that a page can spell, without the
+/// checks that name another length of reason memory.
 pub fn samples(check: &mut Check) -> Vec<Sample> {
     let mut all = vec![];
     for (number, scenario) in scenarios().into_iter().enumerate() {
@@ -112,8 +122,9 @@ pub fn samples(check: &mut Check) -> Vec<Sample> {
             puzzle,
             mut calls,
         } = scenario;
-        if spelled(&puzzle) {
-            calls.retain(|call| !matches!(call, Call::Check(places) if *places != PLACES));
+        let preview = |call: &Call| matches!(call, Call::Preview(..));
+        if spelled(&puzzle) && !calls.iter().any(preview) {
+            calls.retain(has);
             let word = |c: char| if c.is_ascii_alphanumeric() { c } else { '-' };
             let words: String = title.chars().map(word).collect();
             let words: Vec<&str> = words.split('-').filter(|word| !word.is_empty()).collect();

@@ -20,6 +20,7 @@ const HEAD: &str = "\
 #   2 border side             decide: side 1 is wall, 0 is open
 #   3                         undo
 #   4 places                  check with this many places of reason memory
+#   5 border side places      preview with this many places of reason memory
 # After each of these stands what is expected:
 #   9 number                  0 made or done, otherwise the refusal
 #   10 count                  pass, with the count of undecided borders
@@ -64,6 +65,9 @@ fn write_call(text: &mut String, call: Call) {
         Call::Decide((border, wall)) => writeln!(text, "2 {border} {}", u8::from(wall)),
         Call::Undo => writeln!(text, "3"),
         Call::Check(places) => writeln!(text, "4 {places}"),
+        Call::Preview((border, wall), places) => {
+            writeln!(text, "5 {border} {} {places}", u8::from(wall))
+        }
     }
     .unwrap();
 }

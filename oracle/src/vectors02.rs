@@ -1,10 +1,11 @@
 //! The vectors for document 02, made by an independent model with all its requests in force: of the
-//! flat pages what is in force here, which is making a board, decides, undos and checks.
+//! flat pages what is in force here, which is making a board, decides, undos, checks and previews.
 //!
 //! A script has other calls too. Those leave the board, but for a player whose board the script goes
 //! on with: its trail is decided. Calls refused with 5, 14 or 15 are left out, since only damage, a
 //! lent record or a role brings these about. Until request No. 4 the vectors' reasons are ours with
-//! later repeats struck, and a check here has memory for 16,384 literals where theirs has enough.
+//! later repeats struck, and a check or preview here has memory for 16,384 literals where theirs has
+//! enough.
 
 use crate::book::{Answer, Call, PLACES};
 use crate::json::Json;
@@ -127,11 +128,17 @@ fn calls(call: &Json) -> Vec<(Call, Answer)> {
     if matches!(answer, Answer::Refused(5 | 14 | 15)) {
         return vec![];
     }
+    let literal = || (number("b"), number("s") == 1);
+    // A refused call keeps its memory, so that 6 and 7 are seen to come before 9.
+    let places = || match answer {
+        Answer::Refused(_) => number("mem"),
+        _ => PLACES,
+    };
     match call.at("op").text() {
-        "decide" => vec![(Call::Decide((number("b"), number("s") == 1)), answer)],
+        "decide" => vec![(Call::Decide(literal()), answer)],
         "undo" => vec![(Call::Undo, answer)],
-        "check" if answer == Answer::Refused(9) => vec![(Call::Check(number("mem")), answer)],
-        "check" => vec![(Call::Check(PLACES), answer)],
+        "check" => vec![(Call::Check(places()), answer)],
+        "preview" => vec![(Call::Preview(literal(), places()), answer)],
         "player" if call.get("keep") == Some(&Json::Number(1)) => {
             let trail = literals(&call.at("a").list()[1]);
             let decided = |literal| (Call::Decide(literal), Answer::Done);

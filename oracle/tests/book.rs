@@ -1,4 +1,4 @@
-//! The book over random lists of calls, refused ones included.
+//! The book over random lists of calls, previews and refused ones included.
 
 mod common;
 
@@ -9,22 +9,37 @@ use oracle::published::{self, Published};
 use oracle::random::Random;
 use oracle::{generate, rules};
 
-fn call(random: &mut Random, borders: usize) -> Call {
-    match random.below(10) {
-        0 => Call::Decide((borders + random.below(3), random.chance(50))),
-        1..=5 => Call::Decide((random.below(borders + 1), random.chance(50))),
-        6 | 7 => Call::Undo,
-        8 if random.chance(30) => Call::Check(random.below(PLACES)),
-        _ => Call::Check(PLACES + random.below(3)),
+fn places(random: &mut Random) -> usize {
+    match random.chance(20) {
+        true => random.below(PLACES),
+        false => PLACES + random.below(3),
     }
 }
 
-/// What 01 says of one call, told from the literals that stand and a board that was led along.
+fn call(random: &mut Random, borders: usize) -> Call {
+    let literal = (random.below(borders + 1), random.chance(50));
+    match random.below(13) {
+        0 => Call::Decide((borders + random.below(3), random.chance(50))),
+        1..=5 => Call::Decide(literal),
+        6 | 7 => Call::Undo,
+        8 | 9 => Call::Check(places(random)),
+        _ => Call::Preview(literal, places(random)),
+    }
+}
+
+/// What 01 and 02 say of one call, told from the literals that stand and a board that was led along; a
+/// preview takes its decision back.
 fn told(board: &mut Published, borders: usize, call: Call) -> Answer {
     let stack = board.stack();
     match call {
-        Call::Decide((border, _)) if border >= borders => Answer::Refused(6),
-        Call::Decide((border, _)) if stack.iter().any(|l| l.0 == border) => Answer::Refused(7),
+        Call::Decide((border, _)) | Call::Preview((border, _), _) if border >= borders => {
+            Answer::Refused(6)
+        }
+        Call::Decide((border, _)) | Call::Preview((border, _), _)
+            if stack.iter().any(|l| l.0 == border) =>
+        {
+            Answer::Refused(7)
+        }
         Call::Decide((border, wall)) => {
             board.decide(border, wall);
             Answer::Done
@@ -34,11 +49,17 @@ fn told(board: &mut Published, borders: usize, call: Call) -> Answer {
             board.undo();
             Answer::Done
         }
-        Call::Check(places) if places < 16_384 => Answer::Refused(9),
+        Call::Check(places) | Call::Preview(_, places) if places < 16_384 => Answer::Refused(9),
         Call::Check(_) => match board.check() {
             None => Answer::Pass(borders - stack.len()),
             Some(reason) => Answer::Conflict(reason),
         },
+        Call::Preview((border, wall), places) => {
+            board.decide(border, wall);
+            let answer = told(board, borders, Call::Check(places));
+            board.undo();
+            answer
+        }
     }
 }
 
@@ -84,10 +105,19 @@ fn sequence(borders: usize, calls: &[Call]) -> Vec<Literal> {
             Call::Undo => {
                 kept.pop();
             }
-            Call::Check(_) => {}
+            Call::Check(_) | Call::Preview(..) => {}
         }
     }
     kept
+}
+
+/// The literals that the last of the calls looks at: those that stand, and a preview's own.
+fn looked_at(borders: usize, calls: &[Call]) -> Vec<Literal> {
+    let mut standing = sequence(borders, calls);
+    if let Some(Call::Preview(literal, _)) = calls.last() {
+        standing.push(*literal);
+    }
+    standing
 }
 
 #[test]
@@ -105,7 +135,7 @@ fn the_book_asks_the_check_on_its_sequence() {
         let answers = book::book(&puzzle, &calls, &mut check).unwrap();
         let mut asked = asked.into_iter();
         for (i, answer) in answers.iter().enumerate() {
-            let standing = sequence(borders, &calls[..i]);
+            let standing = looked_at(borders, &calls[..=i]);
             match answer {
                 Answer::Pass(count) => assert_eq!(*count, borders - standing.len()),
                 Answer::Conflict(reason) => assert_eq!(reason, &standing),
@@ -123,7 +153,7 @@ fn no_reason_of_a_list_rules_out_a_solution() {
         return;
     }
     let mut random = Random::new(43);
-    let mut stood = 0;
+    let (mut stood, mut previewed) = (0, 0);
     for _ in 0..60 {
         let puzzle = generate::cut_board(&mut random, 2, 4).puzzle;
         let solutions = rules::all_solutions(&puzzle);
@@ -134,7 +164,7 @@ fn no_reason_of_a_list_rules_out_a_solution() {
         calls.retain(|call| *call != Call::Undo || random.chance(40));
         let answers = book::book(&puzzle, &calls, &mut published::check).unwrap();
         for (i, answer) in answers.iter().enumerate() {
-            let mut standing = sequence(puzzle.borders(), &calls[..i]);
+            let mut standing = looked_at(puzzle.borders(), &calls[..=i]);
             standing.sort();
             let walls: Vec<bool> = standing.iter().map(|literal| literal.1).collect();
             let full = walls.len() == puzzle.borders();
@@ -144,12 +174,13 @@ fn no_reason_of_a_list_rules_out_a_solution() {
                     assert!(!full || !solutions.contains(&walls));
                     assert!(!solutions.iter().any(|s| common::contained(s, reason)));
                     stood += usize::from(full);
+                    previewed += usize::from(matches!(calls[i], Call::Preview(..)));
                 }
                 _ => {}
             }
         }
     }
-    assert!(stood > 20, "{stood}");
+    assert!(stood > 20 && previewed > 100, "{stood} {previewed}");
 }
 
 #[test]

@@ -1,7 +1,7 @@
 //! The vectors of document 02, by an independent model, against the book and the published check, or
 //! the plain one where the source is not there.
 
-use oracle::book::{self, Book};
+use oracle::book::{self, Book, Call};
 use oracle::drafts::above_half;
 use oracle::vectors02::{self, struck};
 
@@ -13,7 +13,7 @@ fn the_book_has_their_answers() {
     for make in &makes {
         assert_eq!(book::refusal(&make.puzzle), make.refusal, "{}", make.id);
     }
-    let (mut calls, mut drafts) = (0, 0);
+    let (mut calls, mut previews, mut drafts) = (0, 0, 0);
     for script in &scripts {
         let mut book = Book::open(&script.puzzle).unwrap_or_else(|_| panic!("{}", script.id));
         for (call, wanted) in &script.calls {
@@ -22,12 +22,14 @@ fn the_book_has_their_answers() {
         }
         assert_eq!(book.sequence(), script.end, "{}", script.id);
         calls += script.calls.len();
+        let preview = |call: &&(Call, _)| matches!(call.0, Call::Preview(..));
+        previews += script.calls.iter().filter(preview).count();
         drafts += usize::from(above_half(&script.puzzle));
     }
     println!(
-        "{} made, {} scripts, {drafts} drafts, {calls} calls",
+        "{} made, {} scripts, {drafts} drafts, {calls} calls, {previews} previews",
         makes.len(),
         scripts.len()
     );
-    assert!(!makes.is_empty() && drafts > 10 && calls > 1_000);
+    assert!(!makes.is_empty() && drafts > 10 && calls > 1_000 && previews > 500);
 }

@@ -1,4 +1,4 @@
-// `check`, `preview`, `call`, and the check on a board's lent arrays.
+// `check`, `preview`, `call`, and check and preview on a board's lent arrays.
 ghost use mathlib.Core.Path.{_≡_};
 ghost use Prim.Native.Nat.{_*_, _≤_};
 ghost use lib.ListN.{length};
@@ -123,38 +123,55 @@ pub fn check(board: Board, memory: &mut [u16]) -> Answer
     )
 }
 
-// What a check would answer after a decide of the literal; the board given stays as it is. Borders and stack alone are
-// copied. The decide has tested the board, and what it leaves is not tested again.
-pub fn preview(board: Board, l: Literal, memory: &mut [u16]) -> Answer
+// What a check would answer after a decide of the literal, on a board whose arrays are lent. Of the board borders and
+// stack are copied, once. The decide has tested it, and what the decide leaves is not tested again.
+pub fn preview_lent<'a>(
+    h: usize,
+    w: usize,
+    colours: &'a [u8; Board::CELL_LIMIT],
+    clues: &'a [i32; Board::CELL_LIMIT],
+    borders: &'a [u8; Board::BORDER_LIMIT],
+    stack: &'a [u16; Board::BORDER_LIMIT],
+    count: usize,
+    l: Literal,
+    memory: &mut [u16],
+) -> Answer
     ensures { λ r.
-        ⌜ (r ≡ previewAnswer board l (length (now (memory .entry))))
-        × (now (memory .exit) ≡ previewMemory board l (now (memory .entry))) ⌝ }
+        ⌜ (r ≡ previewAnswer (boardOf h w (now (colours .entry)) (now (clues .entry)) (now (borders .entry))
+        (now (stack .entry)) count) l (length (now (memory .entry))))
+        × (now (memory .exit) ≡ previewMemory (boardOf h w (now (colours .entry)) (now (clues .entry))
+        (now (borders .entry)) (now (stack .entry)) count) l (now (memory .entry))) ⌝ }
 {
-    let mut borders = board.borders;
-    let mut stack = board.stack;
-    let outcome = board::decide_lent(
-        board.height,
-        board.width,
-        &board.colours,
-        &board.clues,
-        &mut borders,
-        &mut stack,
-        board.count,
-        l,
-    );
+    // as slices, so that the proof knows their lengths
+    let given: &[u8] = borders;
+    let order: &[u16] = stack;
+    let mut states = *borders;
+    let mut entries = *stack;
+    let outcome = board::decide_lent(h, w, colours, clues, &mut states, &mut entries, count, l);
     if board::number(outcome) != 0 {
         return Answer::Refused(outcome);
     }
     if memory.len() < 16384 {
         return Answer::Refused(Outcome::Short);
     }
-    answer_known(
+    answer_known(h, w, colours, clues, &states, count + 1, memory)
+}
+
+// What a check would answer after a decide of the literal; the board given stays as it is.
+pub fn preview(board: Board, l: Literal, memory: &mut [u16]) -> Answer
+    ensures { λ r.
+        ⌜ (r ≡ previewAnswer board l (length (now (memory .entry))))
+        × (now (memory .exit) ≡ previewMemory board l (now (memory .entry))) ⌝ }
+{
+    preview_lent(
         board.height,
         board.width,
         &board.colours,
         &board.clues,
-        &borders,
-        board.count + 1,
+        &board.borders,
+        &board.stack,
+        board.count,
+        l,
         memory,
     )
 }

@@ -1,5 +1,7 @@
 -- What the probes write, and what they give.
 --
+--   boardFrom s           the board that the image s spells; the all-zero board, which is alien, where s has another
+--                         length
 --   placesOf n l          a list of n places: the list l, cut off or filled up with 0
 --   probeFits h w room    h and w are a page's, and the memory has 16,384 places
 --   kindOf k              the kind of groups with the number k: blocks, units, potential units
@@ -22,13 +24,19 @@ use Rattle.rules.specs.declared.Side.{Side}
 use Rattle.rules.specs.Flat.{flat}
 use Rattle.rules.specs.Codes.{literalCode}
 use Rattle.rules.specs.Groups.{entry}
+use Rattle.board.specs.declared.Board.{Board}
 use Rattle.board.specs.Alien.{cellsOf}
+use Rattle.board.specs.Board.{zeroBoard}
 use Rattle.groups.specs.declared.Kind.{Kind}
 use Rattle.groups.specs.declared.Kind.the-variants.{Blocks, Units, Potential}
 use Rattle.groups.specs.Kinds.{joinsIn}
 use Rattle.groups.specs.Parts.{Groups, groupsOf}
 use Rattle.reasons.specs.Arrays.{groupReason}
 use Rattle.reasons.specs.Search.{pathIn}
+use Rattle.image.specs.Image.{rightLength, spelledBoard}
+
+unfoldable pub boardFrom : List ℕ → Board
+boardFrom s = cond (rightLength s) (spelledBoard s) zeroBoard
 
 unfoldable pub placesOf : ℕ → List ℕ → List ℕ
 placesOf n l = table n (entry l)

@@ -1,4 +1,5 @@
--- Laws of the probes: the lengths of their arrays and words, a group, and the two cases of an answer.
+-- Laws of the probes: the two cases of an image's length, the lengths of their arrays and words, a group, and the two
+-- cases of an answer.
 use mathlib.Core.Path.{_≡_, refl}
 use mathlib.Core.Bool.{Bool, true, false, _&&_, cond}
 use mathlib.Core.List.{List, [], map}
@@ -6,7 +7,7 @@ use Prim.Native.Nat.{ℕ, _*_, _<_, _≤_}
 use native.Mathlib.Omega.{arith}
 use native.Mathlib.Nat.{le-trans}
 use lib.Dec.{leb}
-use borrow.Author.Tests.{leb-true}
+use borrow.Author.Tests.{leb-true, ne-eqb}
 use lib.ListN.{length, length-map}
 use Rattle.rules.specs.declared.Side.{Side}
 use Rattle.rules.specs.declared.Side.the-variants.{Wall, Open}
@@ -22,6 +23,7 @@ use Rattle.laws.specs.FlatLaws.{counts}
 use Rattle.laws.specs.GroupLaws.{members-none}
 use Rattle.laws.specs.FlatReasons.{flat-inside-le, flat-edge-le, flat-path-le}
 use Rattle.board.specs.Alien.{sizeRight, cellsOf}
+use Rattle.board.specs.Board.{zeroBoard}
 use Rattle.board.specs.ConditionLaws.{sized}
 use Rattle.groups.specs.Kinds.{joinsIn}
 use Rattle.groups.specs.Grouping.{countIn, Filled}
@@ -33,8 +35,18 @@ use Rattle.reasons.specs.Arrays.{GroupAt, groupReason, insideIn, edgeIn}
 use Rattle.reasons.specs.Memory.{Wrote}
 use Rattle.reasons.specs.MemoryLaws.{wrote-put, wrote-next}
 use Rattle.reasons.specs.Search.{pathIn}
-use Rattle.probe.specs.Probe.{placesOf, probeFits, kindOf, kindGroups, reasonWords}
+use Rattle.image.specs.Image.{rightLength, spelledBoard}
+use Rattle.image.specs.RoundLaws.{long-is}
+use Rattle.probe.specs.Probe.{boardFrom, placesOf, probeFits, kindOf, kindGroups, reasonWords}
 use Rattle.probe.specs.Probe.{ProbeWritten, ProbeAnswered}
+
+pub from-other : (s : List ℕ) → (length s ≡ 11076 → ⊥) → zeroBoard ≡ boardFrom s
+unfolding boardFrom rightLength
+from-other s e = rw (ne-eqb (length s) 11076 e)
+
+pub from-right : (s : List ℕ) → length s ≡ 11076 → spelledBoard s ≡ boardFrom s
+unfolding boardFrom
+from-right s e = rw (long-is s e)
 
 pub places-length : (n : ℕ) (l : List ℕ) → length (placesOf n l) ≡ n
 unfolding placesOf

@@ -1,21 +1,13 @@
 -- What the previews give: the number of the last of several previews of one literal, and the memory after them.
 --
---   boardFrom s                  the board that the image s spells; the all-zero board, which is alien, where s has
---                                another length
 --   previewsNumber b l n times   the number of the last of so many previews of the literal l on the board b, where n is
 --                                the length of the memory; 0 if there was none
 --   previewsMemory b l times m   the memory m after them
-use mathlib.Core.Bool.{cond}
 use mathlib.Core.List.{List}
 use Prim.Native.Nat.{ℕ, zero, suc}
 use Rattle.rules.specs.declared.Literal.{Literal}
 use Rattle.board.specs.declared.Board.{Board}
-use Rattle.board.specs.Board.{zeroBoard}
 use Rattle.calls.specs.Answers.{answerNumber, previewAnswer, previewMemory}
-use Rattle.image.specs.Image.{rightLength, spelledBoard}
-
-unfoldable pub boardFrom : List ℕ → Board
-boardFrom s = cond (rightLength s) (spelledBoard s) zeroBoard
 
 unfoldable pub previewsNumber : Board → Literal → ℕ → ℕ → ℕ
 previewsNumber b l n zero = 0

@@ -1,28 +1,16 @@
--- Laws of the previews: the two cases of an image's length, one preview, and one more.
+-- Laws of the previews: one preview, and one more.
 use mathlib.Core.Path.{_≡_, refl, _∙_}
 use mathlib.Core.List.{List}
 use Prim.Native.Nat.{ℕ, zero, suc, _+_}
 use native.Mathlib.Numerals.{add-one}
-use borrow.Author.Tests.{ne-eqb}
 use lib.ListN.{length}
 use Rattle.rules.specs.declared.Literal.{Literal}
 use Rattle.rules.specs.declared.Call.the-variants.{Preview}
 use Rattle.board.specs.declared.Board.{Board}
-use Rattle.board.specs.Board.{zeroBoard}
 use Rattle.calls.specs.Answers.{answerNumber, previewAnswer, previewMemory, callOf, callMemory}
 use Rattle.calls.specs.AnswerLaws.{length-call}
 use Rattle.calls.specs.NumberLaws.{InRange, call-range}
-use Rattle.image.specs.Image.{rightLength, spelledBoard}
-use Rattle.image.specs.RoundLaws.{long-is}
-use Rattle.probe.specs.ProbePreviews.{boardFrom, previewsNumber, previewsMemory}
-
-pub from-other : (s : List ℕ) → (length s ≡ 11076 → ⊥) → zeroBoard ≡ boardFrom s
-unfolding boardFrom rightLength
-from-other s e = rw (ne-eqb (length s) 11076 e)
-
-pub from-right : (s : List ℕ) → length s ≡ 11076 → spelledBoard s ≡ boardFrom s
-unfolding boardFrom
-from-right s e = rw (long-is s e)
+use Rattle.probe.specs.ProbePreviews.{previewsNumber, previewsMemory}
 
 module _ (b : Board) (l : Literal) where
   pub preview-in-range : (m : List ℕ) → InRange (previewAnswer b l (length m))

@@ -8,8 +8,10 @@ ghost use Rattle.board.specs.Board.{numberOf, decideOf};
 ghost use Rattle.board.specs.Accepted.{decidesOf};
 ghost use Rattle.calls.specs.Answers.{literalOf, answerNumber, checkAnswer, checkMemory};
 ghost use Rattle.calls.specs.NumberLaws.{InRange};
+ghost use Rattle.probe.specs.Probe.{boardFrom};
 ghost use Rattle.probe.specs.ProbeChecks.{checksNumber, checksMemory, decidesMemory};
 ghost use Rattle.probe.specs.ProbeChecks.{checkedNumber, checkedMemory};
+use crate::board_from;
 use board::Board;
 use board::Outcome;
 use calls::Answer;
@@ -203,6 +205,27 @@ pub extern "C" fn probe_checks(
         &borders,
         &stack,
         count,
+        memory,
+        times,
+    )
+}
+
+// So many checks of the board that the image s spells: the number of the last answer, 0 if there was none.
+#[no_mangle]
+pub extern "C" fn probe_board_checks(s: &[u8], times: usize, memory: &mut [u16]) -> usize
+    ensures { λ r.
+        ⌜ (r ≡ checksNumber (boardFrom (now (s .entry))) (length (now (memory .entry))) times)
+        × (now (memory .exit) ≡ checksMemory (boardFrom (now (s .entry))) times (now (memory .entry))) ⌝ }
+{
+    let b = board_from(s);
+    checks(
+        b.height,
+        b.width,
+        &b.colours,
+        &b.clues,
+        &b.borders,
+        &b.stack,
+        b.count,
         memory,
         times,
     )

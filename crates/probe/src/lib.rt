@@ -8,7 +8,7 @@ ghost use lib.ListN.{length};
 ghost use Rattle.rules.specs.Flat.{Sized};
 ghost use Rattle.rules.specs.Groups.{entry};
 ghost use Rattle.groups.specs.Grouping.{arrayOf, Filled};
-ghost use Rattle.probe.specs.Probe.{placesOf, probeFits, kindOf, kindGroups};
+ghost use Rattle.probe.specs.Probe.{boardFrom, placesOf, probeFits, kindOf, kindGroups};
 ghost use Rattle.image.specs.Image.{sideOf};
 ghost use Rattle.probe.specs.Probe.{reasonWords, pathWords, ProbeWritten, ProbeAnswered};
 use board::Board;
@@ -26,6 +26,16 @@ const ROOM: usize = 16384;
 
 // What an unfit call gives.
 const UNFIT: usize = 65535;
+
+// The board that the image s spells; the all-zero board, which is alien, where s has another length.
+fn board_from(s: &[u8]) -> Board
+    ensures { λ r. ⌜ r ≡ boardFrom (now (s .entry)) ⌝ }
+{
+    if s.len() != image::LENGTH {
+        return Board::zero();
+    }
+    image::reading::board(s)
+}
 
 // The byte of s at a place; 0 past its end.
 fn byte(s: &[u8], i: usize) -> u8

@@ -20,6 +20,27 @@ extern "C" {
         memory: *mut u16,
         memory_length: usize,
     ) -> usize;
+    fn probe_board_checks(
+        image: *const u8,
+        image_length: usize,
+        times: usize,
+        memory: *mut u16,
+        memory_length: usize,
+    ) -> usize;
+}
+
+/// The number of the last of so many checks of the board that an image spells; 0 for none.
+pub fn board_checks(image: &[u8], times: usize, memory: &mut [u16]) -> usize {
+    // SAFETY: addresses and lengths are those of slices that live through the call.
+    unsafe {
+        probe_board_checks(
+            image.as_ptr(),
+            image.len(),
+            times,
+            memory.as_mut_ptr(),
+            memory.len(),
+        )
+    }
 }
 
 /// A puzzle and literals to decide, as the proved functions take them. Nothing is promised of them.

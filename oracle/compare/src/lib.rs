@@ -7,4 +7,5 @@ pub mod expected;
 pub mod images;
 pub mod many;
 pub mod ours;
+pub mod previews;
 pub mod timing;

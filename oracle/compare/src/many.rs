@@ -107,7 +107,7 @@ impl Judge {
 }
 
 /// All lists of this length with entries from `from`.
-fn lists(from: &[i32], length: usize) -> Vec<Vec<i32>> {
+pub fn lists(from: &[i32], length: usize) -> Vec<Vec<i32>> {
     let mut all = vec![vec![]];
     for _ in 0..length {
         let longer = |list: &Vec<i32>| -> Vec<Vec<i32>> {

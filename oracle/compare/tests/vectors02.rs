@@ -1,9 +1,10 @@
-//! The vectors of document 02, by an independent model: through the exported calls on an image, and
-//! its checks through crate probe on a board too.
+//! The vectors of document 02, by an independent model: through the exported calls on an image, its
+//! checks through crate probe on a board too, and its previews through crate probe.
 
 use compare::checks::{self, Trial};
 use compare::images::{our_fresh, ours, ImageCall};
 use compare::ours::{Memory, ROOM};
+use compare::previews::previews;
 use oracle::book::{Answer, Call};
 use oracle::image;
 use oracle::page::Puzzle;
@@ -19,38 +20,56 @@ fn made(puzzle: &Puzzle) -> (Vec<u8>, u32) {
     (bytes, number)
 }
 
-/// What the call answers on an image. Memory has the vectors' contents, and must keep them beyond the
-/// reason.
-fn answered(bytes: &mut [u8], call: Call) -> Answer {
-    let (call, places) = match call {
-        Call::Decide((border, wall)) => (ImageCall::Decide(border as u32, u32::from(wall)), 0),
-        Call::Undo => (ImageCall::Undo, 0),
-        Call::Check(places) => (ImageCall::Check, places),
-    };
-    let content = |place: usize| ((40_503 * place + 12_345) as u16).to_le_bytes();
-    let before: Vec<u8> = (0..places).flat_map(content).collect();
-    let mut memory = before.clone();
-    let number = ours(bytes, &mut memory, call) as usize;
-    let end = 2 * checks::reason_length(number);
-    assert!(memory[end..] == before[end..], "memory beyond");
-    let word = |pair: &[u8]| u16::from_le_bytes([pair[0], pair[1]]);
-    let written: Vec<u16> = memory[..end].chunks(2).map(word).collect();
-    checks::answer(number, &written)
+/// The number of a call on an image, with memory of two bytes for each literal.
+fn on_image(bytes: &mut [u8], memory: &mut [u16], call: ImageCall) -> usize {
+    let mut lent: Vec<u8> = memory.iter().flat_map(|word| word.to_le_bytes()).collect();
+    let number = ours(bytes, &mut lent, call) as usize;
+    for (word, pair) in memory.iter_mut().zip(lent.chunks(2)) {
+        *word = u16::from_le_bytes([pair[0], pair[1]]);
+    }
+    number
 }
 
-/// The calls of a script on its image; how many of them are answered checks.
-fn replayed(script: &Script, memory: &mut Memory) -> usize {
+/// What the call answers. Memory has the vectors' contents, and must keep them beyond the reason.
+fn answered(bytes: &mut [u8], call: Call) -> Answer {
+    let places = match call {
+        Call::Check(places) | Call::Preview(_, places) => places,
+        _ => 0,
+    };
+    let content = |place: usize| (40_503 * place + 12_345) as u16;
+    let before: Vec<u16> = (0..places).map(content).collect();
+    let mut memory = before.clone();
+    let number = match call {
+        Call::Decide((border, wall)) => {
+            let call = ImageCall::Decide(border as u32, u32::from(wall));
+            on_image(bytes, &mut memory, call)
+        }
+        Call::Undo => on_image(bytes, &mut memory, ImageCall::Undo),
+        Call::Check(_) => on_image(bytes, &mut memory, ImageCall::Check),
+        Call::Preview(literal, _) => previews(bytes, literal, 1, &mut memory),
+    };
+    let end = checks::reason_length(number);
+    assert!(memory[end..] == before[end..], "memory beyond");
+    checks::answer(number, &memory[..end])
+}
+
+/// The calls of a script on its image; how many of them are answered checks and previews.
+fn replayed(script: &Script, memory: &mut Memory) -> [usize; 2] {
     let (mut bytes, number) = made(&script.puzzle);
     assert_eq!(number, 0, "{}", script.id);
-    let mut answers = 0;
+    let mut answers = [0; 2];
     for (call, wanted) in &script.calls {
         let answer = struck(answered(&mut bytes, *call));
         assert_eq!(&answer, wanted, "{} {call:?}", script.id);
         if matches!(answer, Answer::Pass(_) | Answer::Conflict(_)) {
-            let board = image::read(&bytes).expect("no alien image");
+            let mut board = image::read(&bytes).expect("no alien image");
+            let preview = matches!(call, Call::Preview(..));
+            if let Call::Preview(literal, _) = call {
+                board.decided.push(*literal);
+            }
             let answer = struck(Trial::new(&board).answer(memory));
             assert_eq!(&answer, wanted, "{} on a board", script.id);
-            answers += 1;
+            answers[usize::from(preview)] += 1;
         }
     }
     let end = image::read(&bytes).expect("no alien image").decided;
@@ -68,11 +87,16 @@ fn the_exported_calls_have_their_answers() {
         assert_eq!(number, make.refusal.unwrap_or(0), "{}", make.id);
     }
     let mut memory = Memory::new(&mut Random::new(70), ROOM);
-    let answers: usize = scripts.iter().map(|s| replayed(s, &mut memory)).sum();
+    let (mut checks, mut previews) = (0, 0);
+    for script in &scripts {
+        let [checked, previewed] = replayed(script, &mut memory);
+        checks += checked;
+        previews += previewed;
+    }
     println!(
-        "{} made, {} scripts, {answers} checks",
+        "{} made, {} scripts, {checks} checks and {previews} previews answered",
         makes.len(),
         scripts.len()
     );
-    assert!(!makes.is_empty() && answers > 1_000);
+    assert!(!makes.is_empty() && checks > 1_000 && previews > 500);
 }

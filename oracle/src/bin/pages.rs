@@ -71,7 +71,7 @@ fn write(
     Ok(())
 }
 
-/// The vectors of document 02 as pages, without the checks that name another length of reason memory.
+/// The vectors of document 02 as pages, without the calls that no page has.
 fn vectors(folder: &Path) -> std::io::Result<()> {
     fs::create_dir_all(folder)?;
     let (makes, scripts) = vectors02::flat().unwrap_or_default();
@@ -81,7 +81,7 @@ fn vectors(folder: &Path) -> std::io::Result<()> {
         put(folder, &make.id, page, sheet::printed(&answers))?;
     }
     for script in scripts {
-        let spelled = |call: &(Call, Answer)| !matches!(call.0, Call::Check(n) if n != PLACES);
+        let spelled = |call: &(Call, Answer)| sheet::has(&call.0);
         let (calls, answers) = script.calls.into_iter().filter(spelled).unzip();
         let calls: Vec<Call> = calls;
         let page = sheet::page(&script.puzzle, &calls);

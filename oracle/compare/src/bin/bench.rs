@@ -1,15 +1,17 @@
 //! Times of the proved code and of the published, in one process: `cargo run --release --bin bench`.
-//! Words after `--` take only the parts with that name (groups, check, stream, image-fresh, image-decide,
-//! image-undo, image-calls, image-check), and only the boards whose name has one of the other words.
+//! Words after `--` take only the parts with that name (groups, check, stream, preview, preview-check,
+//! image-fresh, image-decide, image-undo, image-calls, image-check), and only the boards whose name has
+//! one of the other words.
 //!
 //! A part of the work is a line of PARTS: how to make its two sides ready on a board.
 
 use compare::boards;
-use compare::checks::Trial;
+use compare::checks::{board_checks, Trial};
 use compare::expected::published;
 use compare::images::{self, our_calls, our_fresh, ImageCall, MEMORY, UNDO};
 use compare::ours::{Ours, ROOM};
-use compare::timing::{least, plain, times_of, Run, Side, BATCHES, FEWEST};
+use compare::previews::previews;
+use compare::timing::{least, plain, times_of, Side, BATCHES, FEWEST};
 use oracle::bench::{self, Named};
 use oracle::generate;
 use oracle::image;
@@ -17,29 +19,35 @@ use oracle::page::{code, Board, Literal, Puzzle, KINDS};
 use oracle::random::Random;
 use std::hint::black_box;
 
-/// Our work and the published work on a board.
+/// Our work on a board, and the work that it is held against.
 type Ready = fn(&Board) -> [Side; 2];
 
 struct Part {
     name: &'static str,
     title: &'static str,
+    /// What it is held against.
+    other: &'static str,
     ready: Ready,
     boards: fn() -> Vec<Named>,
     /// How many units of work are one time on a board.
     units: fn(&Board) -> usize,
 }
 
-const PARTS: [Part; 8] = [
+const RUST: &str = "the Rust";
+
+const PARTS: [Part; 10] = [
     Part {
         name: "groups",
         title: "the three groupings",
+        other: RUST,
         ready: groupings,
         boards: all_boards,
         units: |_| 1,
     },
     Part {
         name: "check",
-        title: "one check, of one board again and again",
+        title: "one check",
+        other: RUST,
         ready: check,
         boards: bench::boards,
         units: |_| 1,
@@ -47,13 +55,31 @@ const PARTS: [Part; 8] = [
     Part {
         name: "stream",
         title: "one check, of a board that has one more border decided each time",
+        other: RUST,
         ready: stream,
         boards: streams,
         units: |board| board.decided.len().max(1),
     },
     Part {
+        name: "preview",
+        title: "one preview; the Rust decides, checks and undoes",
+        other: RUST,
+        ready: preview,
+        boards: bench::boards,
+        units: |_| 1,
+    },
+    Part {
+        name: "preview-check",
+        title: "one preview, and one check of the board with the literal decided",
+        other: "the check",
+        ready: preview_check,
+        boards: bench::boards,
+        units: |_| 1,
+    },
+    Part {
         name: "image-fresh",
         title: "a fresh image; the Rust makes its board",
+        other: RUST,
         ready: image_fresh,
         boards: bench::boards,
         units: |_| 1,
@@ -61,6 +87,7 @@ const PARTS: [Part; 8] = [
     Part {
         name: "image-decide",
         title: "decide on an image; the Rust decides and undoes",
+        other: RUST,
         ready: image_decide,
         boards: bench::boards,
         units: |_| 1,
@@ -68,6 +95,7 @@ const PARTS: [Part; 8] = [
     Part {
         name: "image-undo",
         title: "undo on an image; the Rust undoes and decides",
+        other: RUST,
         ready: image_undo,
         boards: bench::boards,
         units: |_| 1,
@@ -75,6 +103,7 @@ const PARTS: [Part; 8] = [
     Part {
         name: "image-calls",
         title: "one undo or decide on an image, of a list of up to 200 in one call",
+        other: RUST,
         ready: image_calls,
         boards: bench::boards,
         units: |board| 2 * board.decided.len().clamp(1, 100),
@@ -82,6 +111,7 @@ const PARTS: [Part; 8] = [
     Part {
         name: "image-check",
         title: "check on an image",
+        other: RUST,
         ready: image_check,
         boards: bench::boards,
         units: |_| 1,
@@ -108,25 +138,32 @@ fn groupings(board: &Board) -> [Side; 2] {
     [plain(our_work), plain(their_work)]
 }
 
-/// Checks of one board, so many for each time.
-fn checks(board: &Board, each: usize) -> Run {
-    let trial = Trial::new(board);
-    let mut memory = vec![0; ROOM];
-    Box::new(move |times| {
-        black_box(trial.check(each * times, &mut memory));
+/// Our work on the board that an image spells, so many times for each reading. The reading is taken
+/// off. One time for each: of several in one call the compiler does at once what is the same in all.
+fn on_board(board: &Board, work: impl Fn(&[u8], usize, &mut [u16]) + Clone + 'static) -> Side {
+    let image = image::write(board);
+    let run = |each: usize| {
+        let (image, work, mut memory) = (image.clone(), work.clone(), vec![0; ROOM]);
+        times_of(move || work(&image, black_box(each), &mut memory))
+    };
+    Side {
+        run: run(1),
+        less: Some(run(0)),
+    }
+}
+
+fn checking(board: &Board) -> Side {
+    on_board(board, |image, times, memory| {
+        black_box(board_checks(image, times, memory));
     })
 }
 
 fn check(board: &Board) -> [Side; 2] {
-    let ours = Side {
-        run: checks(board, 2),
-        less: Some(checks(board, 1)),
-    };
     let mut theirs = published(board);
     let their_work = move || {
         black_box(theirs.check());
     };
-    [ours, plain(their_work)]
+    [checking(board), plain(their_work)]
 }
 
 fn image_fresh(board: &Board) -> [Side; 2] {
@@ -175,6 +212,39 @@ fn with_room(board: &Board) -> Board {
 fn undecided(board: &Board) -> Option<usize> {
     let taken = |border: &usize| board.decided.iter().any(|literal| literal.0 == *border);
     (0..board.puzzle.borders()).find(|border| !taken(border))
+}
+
+fn previewing(board: &Board, literal: Literal) -> Side {
+    on_board(board, move |image, times, memory| {
+        black_box(previews(image, literal, times, memory));
+    })
+}
+
+/// The preview of a wall on the first undecided border.
+fn preview(board: &Board) -> [Side; 2] {
+    let board = with_room(board);
+    let border = undecided(&board);
+    let mut theirs = published(&board);
+    let their_work = move || {
+        if let Some(border) = black_box(border) {
+            theirs.decide(border, true);
+            black_box(theirs.check());
+            theirs.undo();
+        }
+    };
+    let literal = (border.unwrap_or(0), true);
+    [previewing(&board, literal), plain(their_work)]
+}
+
+fn preview_check(board: &Board) -> [Side; 2] {
+    let board = with_room(board);
+    let literal = undecided(&board).map(|border| (border, true));
+    let mut copy = board.clone();
+    copy.decided.extend(literal);
+    [
+        previewing(&board, literal.unwrap_or((0, true))),
+        checking(&copy),
+    ]
 }
 
 fn image_decide(board: &Board) -> [Side; 2] {
@@ -313,7 +383,7 @@ fn measure(part: &Part, list: &[Named]) {
         "{}: µs of processor time, least of {FEWEST} to {BATCHES} batches\n",
         part.title
     );
-    println!("| board | the Rust | here | ratio |");
+    println!("| board | {} | here | ratio |", part.other);
     println!("|---|---|---|---|");
     if part.name != "stream" {
         line(part, &one_cell());
@@ -323,7 +393,7 @@ fn measure(part: &Part, list: &[Named]) {
     let largest = ratios.iter().copied().fold(0.0, f64::max);
     let slower = ratios.iter().filter(|&&ratio| ratio > 1.0).count();
     println!("\ngeometric mean {mean:.3}, largest {largest:.3}");
-    println!("slower than the Rust on {slower} of {}", ratios.len());
+    println!("slower than {} on {slower} of {}", part.other, ratios.len());
     println!("(a page of one cell does not count)\n");
 }
 

@@ -4,6 +4,8 @@ use Prim.Native.Nat.{_-_, _≤_}
 use native.Mathlib.Omega.{arith}
 use borrow.Author.Needs.{needs}
 use lib.ListN.{length}
+use Rattle.board.specs.declared.Board.{Board}
+use Rattle.board.specs.Alien.{boardOf}
 use Rattle.calls.specs.Answers.{answerNumber, previewAnswer, previewMemory}
 use Rattle.probe.specs.ProbePreviews.{previewsNumber, previewsMemory}
 use Rattle.probe.specs.ProbePreviewsLaws.{previews-length, previews-memory-more, previews-number-more}
@@ -11,13 +13,19 @@ use Rattle.probe.proofs.previews.previews.Statement.{statement}
 use Rattle.probe.proofs.previews.previews.Tie as tie
 
 abbrev Inv-loop : tie.InvT-loop
-Inv-loop board l times memory₀ last₀ i₀ memory last i =
+Inv-loop h w colours clues borders stack count l times memory₀ last₀ i₀ memory last i =
     (i ≤ times)
-    × (last ≡ previewsNumber board l (length memory₀) i)
-    × (memory ≡ previewsMemory board l i memory₀)
+    × (last ≡ previewsNumber (boardOf h w colours clues borders stack count) l (length memory₀) i)
+    × (memory ≡ previewsMemory (boardOf h w colours clues borders stack count) l i memory₀)
 
 abbrev μ-loop : tie.MeasureT-loop
-μ-loop board l times memory₀ last₀ i₀ memory last i = times - i
+μ-loop h w colours clues borders stack count l times memory₀ last₀ i₀ memory last i = times - i
+
+-- the board whose arrays are lent
+abbrev lent : tie.Start Inv-loop μ-loop → Board
+lent s =
+    let a = s .args in
+    boardOf (a .h) (a .w) (a .colours .now) (a .clues .now) (a .borders .now) (a .stack .now) (a .count)
 
 loop-holds : tie.Need-loop-holds Inv-loop μ-loop
 unfolding previewsNumber previewsMemory
@@ -36,7 +44,7 @@ loop-again : tie.Need-loop-again Inv-loop μ-loop
 loop-again c =
     let p = c .before .before .before .before .before in
     let a = p .before .before .args in
-    let b = a .board in
+    let b = lent (p .before .before) in
     let m = a .memory .now in
     let e = c .before .before .preview-once .ensures in
     let long = ap length (p .loop .inv .2) ∙ previews-length b (a .l) (p .loop .i) m in (
@@ -54,10 +62,11 @@ same-length c =
 returns : tie.Need-returns Inv-loop μ-loop
 returns c =
     let l = c .before .loop in
-    let a = c .before .before .before .args in
+    let s = c .before .before .before in
+    let a = s .args in
     let e : l .i ≡ a .times = omega (arith, l .inv .0) in (
-      l .inv .1 ∙ ap (previewsNumber (a .board) (a .l) (length (a .memory .now))) e,
-      l .inv .2 ∙ ap (λ k. previewsMemory (a .board) (a .l) k (a .memory .now)) e,
+      l .inv .1 ∙ ap (previewsNumber (lent s) (a .l) (length (a .memory .now))) e,
+      l .inv .2 ∙ ap (λ k. previewsMemory (lent s) (a .l) k (a .memory .now)) e,
     )
 
 pub previews-spec : {M : Type 1} → statement M

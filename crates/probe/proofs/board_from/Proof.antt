@@ -1,9 +1,9 @@
 -- The two cases of the image's length.
 use mathlib.Core.Path.{_∙_}
 use borrow.Author.Needs.{needs}
-use Rattle.probe.specs.ProbePreviewsLaws.{from-other, from-right}
-use Rattle.probe.proofs.previews.board_from.Statement.{statement}
-use Rattle.probe.proofs.previews.board_from.Tie as tie
+use Rattle.probe.specs.ProbeLaws.{from-other, from-right}
+use Rattle.probe.proofs.board_from.Statement.{statement}
+use Rattle.probe.proofs.board_from.Tie as tie
 
 zero-requires : tie.Need-zero-requires
 zero-requires c κs = search needs
