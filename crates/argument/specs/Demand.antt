@@ -48,8 +48,8 @@ module _ (Z : Puzzle) where
     pub given : BookHandedOut calls sequence reason
     pub contains : Contains σ reason
 
-  -- "A full setting stood at a check if the board then had no undecided border and the setting's sides"; "a full setting
-  -- on the copy counts as one that stood at the check"
+  -- "A full setting stood at a check if the board then had no undecided border and the setting's sides"; "a full
+  -- setting on the copy counts as one that stood at the check"
   pub record BookStoodAt (calls : List Asked) (σ : ℕ → State) (r : Verdict) : Type 0 where
     pub sequence : List Literal
     pub check : BookAnswered calls sequence r

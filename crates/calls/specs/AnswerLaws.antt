@@ -4,8 +4,8 @@
 --   reason-in           a reason read from memory that begins with its codes
 --   put-start           memory with a reason written from its start
 --   length-written, length-check, length-call   an answered check, a check and a call keep the length of the memory
---   check-alien, check-short, check-found   the answer of a check by its cases
---   memory-alien, memory-short, memory-found   the memory after it by its cases
+--   found-short, found-long      what a check answers of a board that is not alien, and the memory after it, by cases
+--   check-alien, check-known     a check's answer and the memory after it, of an alien board and of another
 use mathlib.Core.Path.{_≡_, refl, ap, _∙_}
 use mathlib.Core.Bool.{Bool, true, false, cond}
 use mathlib.Core.List.{List, [], _∷_, _++_, map}
@@ -29,8 +29,8 @@ use Rattle.board.specs.Alien.{isAlien}
 use Rattle.board.specs.Board.{decideOf}
 use Rattle.board.specs.View.{puzzleOf, statesOf}
 use Rattle.calls.specs.declared.Answer.the-variants.{Refused}
-use Rattle.calls.specs.Answers.{literalOf, reasonIn, asAnswer, written, checkAnswer, checkMemory, isDone}
-use Rattle.calls.specs.Answers.{previewMemory, callMemory}
+use Rattle.calls.specs.Answers.{literalOf, reasonIn, asAnswer, written, foundAnswer, foundMemory, checkAnswer}
+use Rattle.calls.specs.Answers.{checkMemory, isDone, previewMemory, callMemory}
 
 -- ---- literals and their codes
 code-half : (n : ℕ) (d : Side) → (2 * n + sideCode d) / 2 ≡ n
@@ -77,31 +77,23 @@ unfolding put
 length-written m (pass n) = refl
 length-written m (conflict r) = simp length-sets
 
+module _ (f : Verdict) (m : List ℕ) where
+  pub found-short : length m < 16384 → (Refused Short ≡ foundAnswer f (length m)) × (m ≡ foundMemory f m)
+  found-short h = let e = lt-ltb (length m) 16384 h in (rw e, rw e)
+
+  pub found-long : 16384 ≤ length m → (asAnswer f ≡ foundAnswer f (length m)) × (written m f ≡ foundMemory f m)
+  found-long h = let e = le-ltb (length m) 16384 h in (rw e, rw e)
+
 module _ (b : Board) (m : List ℕ) where
-  pub check-alien : isAlien b ≡ true → Refused Alien ≡ checkAnswer b (length m)
-  unfolding checkAnswer
-  check-alien t = rw t
+  pub check-alien : isAlien b ≡ true → (Refused Alien ≡ checkAnswer b (length m)) × (m ≡ checkMemory b m)
+  unfolding checkAnswer checkMemory
+  check-alien t = (rw t, rw t)
 
-  pub memory-alien : isAlien b ≡ true → m ≡ checkMemory b m
-  unfolding checkMemory
-  memory-alien t = rw t
-
-  module _ (t : isAlien b ≡ false) where
-    pub check-short : length m < 16384 → Refused Short ≡ checkAnswer b (length m)
-    unfolding checkAnswer
-    check-short h = rw (t, lt-ltb (length m) 16384 h)
-
-    pub memory-short : length m < 16384 → m ≡ checkMemory b m
-    unfolding checkMemory
-    memory-short h = rw (t, lt-ltb (length m) 16384 h)
-
-    pub check-found : 16384 ≤ length m → asAnswer (check (puzzleOf b) (statesOf b)) ≡ checkAnswer b (length m)
-    unfolding checkAnswer
-    check-found h = rw (t, le-ltb (length m) 16384 h)
-
-    pub memory-found : 16384 ≤ length m → written m (check (puzzleOf b) (statesOf b)) ≡ checkMemory b m
-    unfolding checkMemory
-    memory-found h = rw (t, le-ltb (length m) 16384 h)
+  pub check-known : isAlien b ≡ false
+      → (foundAnswer (check (puzzleOf b) (statesOf b)) (length m) ≡ checkAnswer b (length m))
+      × (foundMemory (check (puzzleOf b) (statesOf b)) m ≡ checkMemory b m)
+  unfolding checkAnswer checkMemory
+  check-known t = (rw t, rw t)
 
 pub length-check : (b : Board) (m : List ℕ) → length (checkMemory b m) ≡ length m
 unfolding checkMemory

@@ -7,6 +7,8 @@
 --   memoryAs m r      the memory m after the reply r of the book
 --   asAnswer f        what Check gives, as the answer of a call
 --   written m f       the memory m after that answer
+--   foundAnswer f n   what a check answers where Check gives f, and n is the length of the memory
+--   foundMemory f m   the memory m after it
 --   checkAnswer b n   what a check of the board b answers, where n is the length of the memory
 --   checkMemory b m   the memory m after it
 --   isDone o          the outcome o is no refusal
@@ -79,19 +81,21 @@ abbrev pub written : List ℕ → Verdict → List ℕ
 written m (pass n) = m
 written m (conflict r) = put m 0 r
 
--- 5 for an alien board, 9 for short memory, else what Check gives
+-- 9 for short memory, else what Check gives
+abbrev pub foundAnswer : Verdict → ℕ → Answer
+foundAnswer f n = cond (ltb n 16384) (Refused Short) (asAnswer f)
+
+-- "lent memory stays"
+abbrev pub foundMemory : Verdict → List ℕ → List ℕ
+foundMemory f m = cond (ltb (length m) 16384) m (written m f)
+
+-- 5 for an alien board comes first
 unfoldable pub checkAnswer : Board → ℕ → Answer
-checkAnswer b n =
-    cond (isAlien b) (Refused Alien)
-    (cond (ltb n 16384) (Refused Short)
-    (asAnswer (check (puzzleOf b) (statesOf b))))
+checkAnswer b n = cond (isAlien b) (Refused Alien) (foundAnswer (check (puzzleOf b) (statesOf b)) n)
 
 -- "Other refusals return the board given; lent memory stays"
 unfoldable pub checkMemory : Board → List ℕ → List ℕ
-checkMemory b m =
-    cond (isAlien b) m
-    (cond (ltb (length m) 16384) m
-    (written m (check (puzzleOf b) (statesOf b))))
+checkMemory b m = cond (isAlien b) m (foundMemory (check (puzzleOf b) (statesOf b)) m)
 
 -- ---- preview
 abbrev pub isDone : Outcome → Bool

@@ -35,7 +35,7 @@ use Rattle.board.specs.StepLaws.{decide-reply, undo-reply}
 use Rattle.calls.specs.declared.Answer.the-variants.{Done, Refused}
 use Rattle.calls.specs.Answers.{reasonIn, told, memoryAs, asAnswer, written, checkAnswer, checkMemory, isDone}
 use Rattle.calls.specs.Answers.{ended, previewAnswer, previewMemory, callOf, callMemory}
-use Rattle.calls.specs.AnswerLaws.{reason-in, put-start, memory-found}
+use Rattle.calls.specs.AnswerLaws.{reason-in, put-start, found-long, check-known}
 
 -- how a decide or an undo ended
 told-ended : (o : Outcome) (m : List ℕ) → told (ended o) m ≡ replyOf o
@@ -111,7 +111,9 @@ module _ (b : Board) (t : isAlien b ≡ false) where
       → checkMemory b m ≡ map literalCode r ++ drop (length r) m
   check-written m r h e =
       let k = reason-short r e in
-      sym (memory-found b m t h) ∙ ap (written m) e ∙ put-start m r (omega arith)
+      sym (check-known b m t .1) ∙ sym (found-long (check (puzzleOf b) (statesOf b)) m h .1)
+      ∙ ap (written m) e
+      ∙ put-start m r (omega arith)
 
 -- ---- a preview
 -- what a decide on the copy leads to, where it is done

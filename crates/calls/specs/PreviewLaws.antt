@@ -27,8 +27,8 @@ use Rattle.board.specs.View.{puzzleOf, statesOf}
 use Rattle.board.specs.Cases.{decide-done}
 use Rattle.board.specs.DecideLaws.{done-returned, decide-keeps}
 use Rattle.calls.specs.declared.Answer.the-variants.{Done, Refused}
-use Rattle.calls.specs.Answers.{asAnswer, checkAnswer, checkMemory, isDone, previewAnswer, previewMemory, ended}
-use Rattle.calls.specs.Answers.{callOf, callMemory}
+use Rattle.calls.specs.Answers.{asAnswer, foundAnswer, checkAnswer, checkMemory, isDone, previewAnswer}
+use Rattle.calls.specs.Answers.{previewMemory, ended, callOf, callMemory}
 
 module _ (b : Board) (l : Literal) {o : Outcome} {d : Board} (e : returned o d ≡ decideOf b l) where
   module _ (m : List ℕ) where
@@ -82,11 +82,11 @@ module _ (b : Board) (l : Literal) (m : List ℕ) where
 -- "Numbers 5, 6, 7 and 9 apply in that order"
 module _ (b : Board) (l : Literal) (n : ℕ) (B : length (b .borders) ≡ 1984) (S : length (b .stack) ≡ 1984) where
   -- the copy with the literal decided
-  abbrev copy : Board
-  copy = pushed b (l .border) (codeOf (l .side))
+  abbrev pushedCopy : Board
+  pushedCopy = pushed b (l .border) (codeOf (l .side))
 
   known : isAlien b ≡ false → ltb (l .border) (borderCountOf b) ≡ true → eqb (getD (b .borders) (l .border) 0) 0 ≡ true
-      → isAlien copy ≡ false
+      → isAlien pushedCopy ≡ false
   known t x y =
       decide-keeps b l B S
       (sym (decide-done b l t (ltb-true (l .border) (borderCountOf b) x)
@@ -97,7 +97,7 @@ module _ (b : Board) (l : Literal) (n : ℕ) (B : length (b .borders) ≡ 1984) 
       (cond (ltb (l .border) (borderCountOf b))
       (cond (eqb (getD (b .borders) (l .border) 0) 0)
       (cond (ltb n 16384) (Refused Short)
-      (asAnswer (check (puzzleOf copy) (statesOf copy))))
+      (asAnswer (check (puzzleOf pushedCopy) (statesOf pushedCopy))))
       (Refused Taken))
       (Refused Border))
   unfolding previewAnswer decideOf decideRefusal checkAnswer
@@ -109,11 +109,11 @@ module _ (b : Board) (l : Literal) (n : ℕ) (B : length (b .borders) ≡ 1984) 
 
       go : (t x y : Bool) → isAlien b ≡ t → ltb (l .border) (borderCountOf b) ≡ x
           → eqb (getD (b .borders) (l .border) 0) 0 ≡ y
-          → (let r = cond t (returned Alien b) (endedBy b copy (o x y)) in
+          → (let r = cond t (returned Alien b) (endedBy b pushedCopy (o x y)) in
           cond (isDone (r .outcome)) (checkAnswer (r .board) n) (Refused (r .outcome)))
           ≡ cond t (Refused Alien)
           (cond x
-          (cond y (cond (ltb n 16384) (Refused Short) (asAnswer (check (puzzleOf copy) (statesOf copy)))) (Refused Taken))
+          (cond y (foundAnswer (check (puzzleOf pushedCopy) (statesOf pushedCopy)) n) (Refused Taken))
           (Refused Border))
       go true x y p q r = refl
       go false true true p q r = rw (known p q r)

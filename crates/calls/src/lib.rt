@@ -3,8 +3,8 @@ ghost use mathlib.Core.Path.{_≡_};
 ghost use Prim.Native.Nat.{_*_, _≤_};
 ghost use lib.ListN.{length};
 ghost use Rattle.board.specs.Alien.{boardOf};
-ghost use Rattle.calls.specs.Answers.{asAnswer, written, ended, steppedBy, checkAnswer, checkMemory};
-ghost use Rattle.calls.specs.Answers.{previewAnswer, previewMemory, callOf, callMemory};
+ghost use Rattle.calls.specs.Answers.{asAnswer, written, foundAnswer, foundMemory, ended, steppedBy};
+ghost use Rattle.calls.specs.Answers.{checkAnswer, checkMemory, previewAnswer, previewMemory, callOf, callMemory};
 ghost use Rattle.calls.specs.Known.{KnownBoard, foundIn};
 use board::Board;
 use board::Outcome;
@@ -78,6 +78,29 @@ pub fn answer_known<'a>(
     }
 }
 
+// What a check answers of a board that is not alien: refused where the memory is short, else as above.
+fn answer_tested<'a>(
+    h: usize,
+    w: usize,
+    colours: &'a [u8; Board::CELL_LIMIT],
+    clues: &'a [i32; Board::CELL_LIMIT],
+    borders: &'a [u8; Board::BORDER_LIMIT],
+    count: usize,
+    memory: &mut [u16],
+) -> Answer
+    requires { ⌜ KnownBoard h w (now colours) (now clues) (now borders) count ⌝ }
+    ensures { λ r.
+        ⌜ (r ≡ foundAnswer (foundIn h w (now (colours .entry)) (now (clues .entry)) (now (borders .entry)))
+        (length (now (memory .entry))))
+        × (now (memory .exit) ≡ foundMemory (foundIn h w (now (colours .entry)) (now (clues .entry))
+        (now (borders .entry))) (now (memory .entry))) ⌝ }
+{
+    if memory.len() < 16384 {
+        return Answer::Refused(Outcome::Short);
+    }
+    answer_known(h, w, colours, clues, borders, count, memory)
+}
+
 // What a check of a board answers whose arrays are lent; a reason's literals stand from the start of the memory. No
 // board is copied.
 pub fn check_lent<'a>(
@@ -99,10 +122,7 @@ pub fn check_lent<'a>(
     if board::is_alien(h, w, colours, clues, borders, stack, count) {
         return Answer::Refused(Outcome::Alien);
     }
-    if memory.len() < 16384 {
-        return Answer::Refused(Outcome::Short);
-    }
-    answer_known(h, w, colours, clues, borders, count, memory)
+    answer_tested(h, w, colours, clues, borders, count, memory)
 }
 
 // What a check of a board answers.
@@ -151,10 +171,7 @@ pub fn preview_lent<'a>(
     if board::number(outcome) != 0 {
         return Answer::Refused(outcome);
     }
-    if memory.len() < 16384 {
-        return Answer::Refused(Outcome::Short);
-    }
-    answer_known(h, w, colours, clues, &states, count + 1, memory)
+    answer_tested(h, w, colours, clues, &states, count + 1, memory)
 }
 
 // What a check would answer after a decide of the literal; the board given stays as it is.

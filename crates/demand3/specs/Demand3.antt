@@ -8,8 +8,8 @@
 --   PassedAt start calls σ      σ stood at a check or a preview of the list that was answered with a pass
 --   Demand3 start Z calls       the claim
 --
--- All of it speaks of what freshOf, callOf and callMemory give, which the contracts of the code cite, on the boards that
--- the calls return. The book (crate rules, Book) takes the puzzle and the calls, and no board.
+-- All of it speaks of what freshOf, callOf and callMemory give, which the contracts of the code cite, on the boards
+-- that the calls return. The book (crate rules, Book) takes the puzzle and the calls, and no board.
 use mathlib.Core.Path.{_≡_}
 use mathlib.Core.Bool.{false}
 use mathlib.Core.Logic.{_↔_}
@@ -60,8 +60,8 @@ module _ (start : Board) where
     pub given : HandedOut calls board reason
     pub contains : Contains σ reason
 
-  -- "A full setting stood at a check if the board then had no undecided border and the setting's sides"; "a full setting
-  -- on the copy counts as one that stood at the check"
+  -- "A full setting stood at a check if the board then had no undecided border and the setting's sides"; "a full
+  -- setting on the copy counts as one that stood at the check"
   pub record StoodAt (calls : List Lent) (σ : ℕ → State) (f : Verdict) : Type 0 where
     pub board : Board
     pub check : Answered calls board f

@@ -25,7 +25,7 @@ use Rattle.argument.specs.Demand.{Full, SameSides, BookAnswered, BookRuledOut, 
 use Rattle.argument.specs.FlatDemand.{flat-demand}
 use Rattle.board.specs.declared.Board.{Board}
 use Rattle.board.specs.declared.Outcome.{Outcome}
-use Rattle.board.specs.Board.{returned, decideOf}
+use Rattle.board.specs.Board.{returned}
 use Rattle.board.specs.Accepted.{Accepted, madeBoard}
 use Rattle.board.specs.View.{puzzleOf, statesOf, literalsOf}
 use Rattle.board.specs.NativeLaws.{native-has}
@@ -187,11 +187,12 @@ module _ (start : Board) (earlier later : List Lent) (l : Literal) (m : List ℕ
   abbrev withPreview : List Lent
   withPreview = earlier ++ (lend m (Preview l) ∷ later)
 
-  abbrev copy : Board
-  copy = decideOf (boardAfter start earlier) l .board
+  -- the copy that it looks at
+  abbrev previewedBoard : Board
+  previewedBoard = lookedOn (boardAfter start earlier) (Preview l)
 
   preview-answered : (f : Verdict) → toldBy (givenBy (boardAfter start earlier) (lend m (Preview l))) ≡ answered f
-      → Answered start withPreview copy f
+      → Answered start withPreview previewedBoard f
   preview-answered f e =
       record {
         earlier = earlier;
@@ -205,16 +206,17 @@ module _ (start : Board) (earlier later : List Lent) (l : Literal) (m : List ℕ
   -- "A preview's reason holds on the copy and counts as handed out"
   pub preview-handed : (r : Reason)
       → toldBy (givenBy (boardAfter start earlier) (lend m (Preview l))) ≡ answered (conflict r)
-      → HandedOut start withPreview copy r
+      → HandedOut start withPreview previewedBoard r
   preview-handed r e = preview-answered (conflict r) e
 
   -- "a full setting on the copy counts as one that stood at the check"
   pub preview-stood : (σ : ℕ → State) (f : Verdict)
       → toldBy (givenBy (boardAfter start earlier) (lend m (Preview l))) ≡ answered f
-      → Full (puzzleOf copy) (statesOf copy) → SameSides (puzzleOf copy) (statesOf copy) σ
+      → Full (puzzleOf previewedBoard) (statesOf previewedBoard)
+      → SameSides (puzzleOf previewedBoard) (statesOf previewedBoard) σ
       → StoodAt start withPreview σ f
   preview-stood σ f e full sides =
-      record { board = copy; check = preview-answered f e; full = full; sides = sides }
+      record { board = previewedBoard; check = preview-answered f e; full = full; sides = sides }
 
 -- ---- a longer list
 answered-longer : (start : Board) (calls more : List Lent) {b : Board} {f : Verdict} → Answered start calls b f

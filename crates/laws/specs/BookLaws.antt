@@ -44,8 +44,8 @@ use Rattle.rules.specs.declared.Call.the-variants.{Decide, Undo, Check, Preview
 use Rattle.rules.specs.Page.{Puzzle, State, undecided, decided, Has, isUndecided}
 use Rattle.rules.specs.Check.{Verdict, undecidedCount, check}
 use Rattle.rules.specs.Book.{Asked, ask, Reply, refused, done, answered, Book, freshBook, stateIf, states, names}
-use Rattle.rules.specs.Book.{withLast, withoutLast, bareOr, looked, thenReply, doneBook, afterBy, decideReply, checkReply}
-use Rattle.rules.specs.Book.{replyTo, reply, after, bookFrom, repliesFrom, bookAfter, replies}
+use Rattle.rules.specs.Book.{withLast, withoutLast, bareOr, looked, thenReply, doneBook, afterBy, decideReply}
+use Rattle.rules.specs.Book.{checkReply, replyTo, reply, after, bookFrom, repliesFrom, bookAfter, replies}
 
 pub states-none : (ls : List Literal) (x : ℕ) → names ls x ≡ false → states ls x ≡ undecided
 unfolding names any states

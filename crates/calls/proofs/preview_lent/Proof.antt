@@ -1,20 +1,21 @@
--- `preview_lent` meets its contract: the decide's refusal, short memory, and what a check answers of the copy, which is a
--- board that is not alien since the decide was done.
+-- `preview_lent` meets its contract: the decide's refusal, and what a check answers of the copy, which is a board that
+-- is not alien since the decide was done.
 use mathlib.Core.Path.{_≡_, sym, ap, _∙_}
 use mathlib.Core.Bool.{false}
 use Prim.Native.Nat.{_+_}
 use native.Mathlib.Omega.{arith}
 use borrow.Author.Tests.{eq-eqb}
 use borrow.Author.Needs.{needs}
-use Rattle.laws.specs.FlatLaws.{counts}
+use lib.ListN.{length}
+use Rattle.rules.specs.Check.{Verdict}
 use Rattle.board.specs.declared.Board.{Board}
 use Rattle.board.specs.Alien.{boardOf, boardWith, isAlien}
 use Rattle.board.specs.Board.{numberOf, returned, decideOf}
 use Rattle.board.specs.NativeLaws.{native-has, borders-fit}
-use Rattle.calls.specs.Answers.{asAnswer, written}
-use Rattle.calls.specs.AnswerLaws.{check-short, check-found, memory-short, memory-found}
+use Rattle.calls.specs.Answers.{foundAnswer, foundMemory}
+use Rattle.calls.specs.AnswerLaws.{check-known}
 use Rattle.calls.specs.PreviewLaws.{preview-stopped, preview-goes, preview-known}
-use Rattle.calls.specs.CheckLaws.{drawn-of, same-found}
+use Rattle.calls.specs.CheckLaws.{same-found}
 use Rattle.calls.proofs.preview_lent.Statement.{statement}
 use Rattle.calls.proofs.preview_lent.Tie as tie
 
@@ -56,42 +57,31 @@ returns c =
     preview-stopped _ _ (c .before .before .decide-lent .ensures) _
     (λ z. c .if1 .taken (c .before .number .ensures ∙ z))
 
-returns-2 : tie.Need-returns-2
-returns-2 c =
-    let k = c .before in
-    let m = k .before .before .before .before .before .before .before .before .before .before .args .memory .now in
-    let g = preview-goes _ _ (decided k) m (zero k) in (
-      check-short (copy (k .before .before)) m (known k) (c .if2 .taken) ∙ g .0,
-      memory-short (copy (k .before .before)) m (known k) (c .if2 .taken) ∙ g .1,
-    )
-
-add-answer-known : tie.Need-add-answer-known
+add-answer-tested : tie.Need-add-answer-tested
 unfolding copy
-add-answer-known c =
-    let N = native-has _ (known (c .before .before)) in
+add-answer-tested c =
+    let N = native-has _ (known (c .before)) in
     omega (arith, N .few, borders-fit _ N)
 
-answer-known-requires : tie.Need-answer-known-requires
+answer-tested-requires : tie.Need-answer-tested-requires
 unfolding copy
-answer-known-requires c κs =
-    let k = c .before .before .before in (
-      record { stack = k .before .before .decide-lent .last .1 .1 .1 .1 .1 .0; native = known k },
-      omega (arith, c .before .before .if2 .left, counts (drawn-of _ (known k) .sized) .cells),
-    )
+answer-tested-requires c κs =
+    let k = c .before .before in
+    record { stack = k .before .before .decide-lent .last .1 .1 .1 .1 .1 .0; native = known k }
 
 same-length : tie.Need-same-length
 same-length c = search needs
 
-returns-3 : tie.Need-returns-3
+returns-2 : tie.Need-returns-2
 unfolding copy
-returns-3 c =
-    let i = c .before .before .before .before .before in
-    let k = i .before in
+returns-2 c =
+    let k = c .before .before .before .before .before in
     let m = k .before .before .before .before .before .before .before .before .before .before .args .memory .now in
     let g = preview-goes _ _ (decided k) m (zero k) in
-    let r = c .before .before .answer-known .ensures in (
-      r .0 ∙ ap asAnswer (same-found _) ∙ check-found _ m (known k) (i .if2 .left) ∙ g .0,
-      r .1 ∙ ap (written m) (same-found _) ∙ memory-found _ m (known k) (i .if2 .left) ∙ g .1,
+    let h = check-known _ m (known k) in
+    let r = c .before .before .answer-tested .ensures in (
+      r .0 ∙ ap (λ (f : Verdict). foundAnswer f (length m)) (same-found _) ∙ h .0 ∙ g .0,
+      r .1 ∙ ap (λ (f : Verdict). foundMemory f m) (same-found _) ∙ h .1 ∙ g .1,
     )
 
 pub preview-lent-spec : {M : Type 1} → statement M
@@ -101,8 +91,7 @@ preview-lent-spec =
     decide-lent-requires
     number-requires
     returns
-    returns-2
-    add-answer-known
-    answer-known-requires
+    add-answer-tested
+    answer-tested-requires
     same-length
-    returns-3)
+    returns-2)

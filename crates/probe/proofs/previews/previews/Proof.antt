@@ -4,35 +4,35 @@ use Prim.Native.Nat.{_-_, _≤_}
 use native.Mathlib.Omega.{arith}
 use borrow.Author.Needs.{needs}
 use lib.ListN.{length}
-use Rattle.board.specs.declared.Board.{Board}
-use Rattle.board.specs.Alien.{boardOf}
 use Rattle.calls.specs.Answers.{answerNumber, previewAnswer, previewMemory}
 use Rattle.probe.specs.ProbePreviews.{previewsNumber, previewsMemory}
-use Rattle.probe.specs.ProbePreviewsLaws.{previews-length, previews-memory-more, previews-number-more}
+use Rattle.probe.specs.ProbePreviewsLaws.{preview-in-range, previews-length, previews-memory-more}
+use Rattle.probe.specs.ProbePreviewsLaws.{previews-number-more}
 use Rattle.probe.proofs.previews.previews.Statement.{statement}
 use Rattle.probe.proofs.previews.previews.Tie as tie
 
 abbrev Inv-loop : tie.InvT-loop
-Inv-loop h w colours clues borders stack count l times memory₀ last₀ i₀ memory last i =
+Inv-loop l times memory₀ board last₀ i₀ memory last i =
     (i ≤ times)
-    × (last ≡ previewsNumber (boardOf h w colours clues borders stack count) l (length memory₀) i)
-    × (memory ≡ previewsMemory (boardOf h w colours clues borders stack count) l i memory₀)
+    × (last ≡ previewsNumber board l (length memory₀) i)
+    × (memory ≡ previewsMemory board l i memory₀)
 
 abbrev μ-loop : tie.MeasureT-loop
-μ-loop h w colours clues borders stack count l times memory₀ last₀ i₀ memory last i = times - i
-
--- the board whose arrays are lent
-abbrev lent : tie.Start Inv-loop μ-loop → Board
-lent s =
-    let a = s .args in
-    boardOf (a .h) (a .w) (a .colours .now) (a .clues .now) (a .borders .now) (a .stack .now) (a .count)
+μ-loop l times memory₀ board last₀ i₀ memory last i = times - i
 
 loop-holds : tie.Need-loop-holds Inv-loop μ-loop
 unfolding previewsNumber previewsMemory
 loop-holds c = (search needs, refl, refl)
 
-preview-once-requires : tie.Need-preview-once-requires Inv-loop μ-loop
-preview-once-requires c κs = search needs
+preview-lent-requires : tie.Need-preview-lent-requires Inv-loop μ-loop
+preview-lent-requires c κs = search needs
+
+number-requires : tie.Need-number-requires Inv-loop μ-loop
+number-requires c κs =
+    let v = c .before .before in
+    let p = v .before .before .before .before .before .before .before .before in
+    let a = p .before .before .args in
+    rw (v .preview-lent .ensures .0) (preview-in-range (a .t1) (a .l) (p .loop .memory))
 
 add-i : tie.Need-add-i Inv-loop μ-loop
 add-i c = omega arith
@@ -42,14 +42,15 @@ loop-less c = omega arith
 
 loop-again : tie.Need-loop-again Inv-loop μ-loop
 loop-again c =
-    let p = c .before .before .before .before .before in
+    let v = c .before .before .before in
+    let p = v .before .before .before .before .before .before .before .before in
     let a = p .before .before .args in
-    let b = lent (p .before .before) in
+    let b = a .t1 in
     let m = a .memory .now in
-    let e = c .before .before .preview-once .ensures in
+    let e = v .preview-lent .ensures in
     let long = ap length (p .loop .inv .2) ∙ previews-length b (a .l) (p .loop .i) m in (
       omega arith,
-      e .0 ∙ ap (λ n. answerNumber (previewAnswer b (a .l) n)) long
+      c .number .ensures ∙ ap answerNumber (e .0) ∙ ap (λ n. answerNumber (previewAnswer b (a .l) n)) long
           ∙ previews-number-more b (a .l) (length m) (p .loop .i),
       e .1 ∙ ap (previewMemory b (a .l)) (p .loop .inv .2) ∙ previews-memory-more b (a .l) (p .loop .i) m,
     )
@@ -62,11 +63,10 @@ same-length c =
 returns : tie.Need-returns Inv-loop μ-loop
 returns c =
     let l = c .before .loop in
-    let s = c .before .before .before in
-    let a = s .args in
+    let a = c .before .before .before .args in
     let e : l .i ≡ a .times = omega (arith, l .inv .0) in (
-      l .inv .1 ∙ ap (previewsNumber (lent s) (a .l) (length (a .memory .now))) e,
-      l .inv .2 ∙ ap (λ k. previewsMemory (lent s) (a .l) k (a .memory .now)) e,
+      l .inv .1 ∙ ap (previewsNumber (a .t1) (a .l) (length (a .memory .now))) e,
+      l .inv .2 ∙ ap (λ k. previewsMemory (a .t1) (a .l) k (a .memory .now)) e,
     )
 
 pub previews-spec : {M : Type 1} → statement M
@@ -76,7 +76,8 @@ previews-spec =
     Inv-loop
     μ-loop
     loop-holds
-    preview-once-requires
+    preview-lent-requires
+    number-requires
     add-i
     loop-less
     loop-again

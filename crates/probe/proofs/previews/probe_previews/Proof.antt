@@ -22,15 +22,14 @@ same-length c = search needs
 
 returns : tie.Need-returns
 returns c =
-    let l = c .before .before .before .before in
-    let b = l .before .before .before .before .before .before in
-    let a = b .before .before .before .args in
+    let p = c .before .before in
+    let a = p .before .before .before .before .before .before .args in
     let m = a .memory .now in
-    let e = c .before .before .previews .ensures in
-    let f = b .board-from .ensures in
-    let g = l .literal .ensures in (
-      e .0 ∙ ap₂ (λ (d : Board) (k : Literal). previewsNumber d k (length m) (a .times)) f g,
-      e .1 ∙ ap₂ (λ (d : Board) (k : Literal). previewsMemory d k (a .times) m) f g,
+    let b = p .before .before .before .board-from .ensures in
+    let l = p .before .before .literal .ensures in
+    let e = p .previews .ensures in (
+      e .0 ∙ ap₂ (λ (d : Board) (k : Literal). previewsNumber d k (length m) (a .times)) b l,
+      e .1 ∙ ap₂ (λ (d : Board) (k : Literal). previewsMemory d k (a .times) m) b l,
     )
 
 pub probe-previews-spec : {M : Type 1} → statement M
