@@ -25,7 +25,7 @@ use Rattle.argument.specs.Demand.{Full, SameSides, BookAnswered, BookRuledOut, 
 use Rattle.argument.specs.FlatDemand.{flat-demand}
 use Rattle.board.specs.declared.Board.{Board}
 use Rattle.board.specs.declared.Outcome.{Outcome}
-use Rattle.board.specs.Board.{returned}
+use Rattle.board.specs.Board.{returned, decideOf}
 use Rattle.board.specs.Accepted.{Accepted, madeBoard}
 use Rattle.board.specs.View.{puzzleOf, statesOf, literalsOf}
 use Rattle.board.specs.NativeLaws.{native-has}
@@ -187,9 +187,9 @@ module _ (start : Board) (earlier later : List Lent) (l : Literal) (m : List ℕ
   abbrev withPreview : List Lent
   withPreview = earlier ++ (lend m (Preview l) ∷ later)
 
-  -- the copy that it looks at
+  -- the copy, with the literal decided
   abbrev previewedBoard : Board
-  previewedBoard = lookedOn (boardAfter start earlier) (Preview l)
+  previewedBoard = decideOf (boardAfter start earlier) l .board
 
   preview-answered : (f : Verdict) → toldBy (givenBy (boardAfter start earlier) (lend m (Preview l))) ≡ answered f
       → Answered start withPreview previewedBoard f
