@@ -59,33 +59,8 @@ impl Judge {
     /// Every colouring of a page, with each list of clues from these numbers, and each border
     /// undecided, wall or open.
     pub fn page(&mut self, h: usize, w: usize, clues: &[i32]) {
-        for colours in lists(&[0, 1], h * w) {
-            for clues in lists(clues, h * w) {
-                let puzzle = Puzzle {
-                    h,
-                    w,
-                    colours: colours.clone(),
-                    clues,
-                };
-                let mut board = Board {
-                    puzzle,
-                    decided: vec![],
-                };
-                self.settings(&mut board, 0);
-            }
-        }
-    }
-
-    /// Tries undecided, wall and open on each border from this one on.
-    fn settings(&mut self, board: &mut Board, border: usize) {
-        if border == board.puzzle.borders() {
-            return self.judge(board);
-        }
-        self.settings(board, border + 1);
-        for wall in [true, false] {
-            board.decided.push((border, wall));
-            self.settings(board, border + 1);
-            board.decided.pop();
+        for puzzle in puzzles(h, w, clues) {
+            settings(&puzzle, &mut |board| self.judge(board));
         }
     }
 
@@ -106,8 +81,46 @@ impl Judge {
     }
 }
 
+/// Every colouring of a page with each list of clues from these numbers.
+pub fn puzzles(h: usize, w: usize, clues: &[i32]) -> Vec<Puzzle> {
+    let clues = lists(clues, h * w);
+    let coloured = |colours: Vec<i32>| {
+        let puzzle = |clues: &Vec<i32>| Puzzle {
+            h,
+            w,
+            colours: colours.clone(),
+            clues: clues.clone(),
+        };
+        clues.iter().map(puzzle).collect::<Vec<Puzzle>>()
+    };
+    let colourings = lists(&[0, 1], h * w).into_iter();
+    colourings.flat_map(coloured).collect()
+}
+
+/// Every board of the puzzle: each border undecided, wall or open.
+pub fn settings(puzzle: &Puzzle, each: &mut dyn FnMut(&Board)) {
+    let mut board = Board {
+        puzzle: puzzle.clone(),
+        decided: vec![],
+    };
+    settings_from(&mut board, 0, each);
+}
+
+/// Tries undecided, wall and open on each border from this one on.
+fn settings_from(board: &mut Board, border: usize, each: &mut dyn FnMut(&Board)) {
+    if border == board.puzzle.borders() {
+        return each(board);
+    }
+    settings_from(board, border + 1, each);
+    for wall in [true, false] {
+        board.decided.push((border, wall));
+        settings_from(board, border + 1, each);
+        board.decided.pop();
+    }
+}
+
 /// All lists of this length with entries from `from`.
-pub fn lists(from: &[i32], length: usize) -> Vec<Vec<i32>> {
+fn lists(from: &[i32], length: usize) -> Vec<Vec<i32>> {
     let mut all = vec![vec![]];
     for _ in 0..length {
         let longer = |list: &Vec<i32>| -> Vec<Vec<i32>> {

@@ -6,7 +6,7 @@ use compare::boards;
 use compare::checks::{board_checks, Trial};
 use compare::expected::{self, note_source};
 use compare::images::{damage, ours, ImageCall, Judge, DAMAGES, MEMORY};
-use compare::many::lists;
+use compare::many::{puzzles, settings};
 use compare::ours::{Memory, ROOM};
 use compare::previews::{preview, previews};
 use oracle::book::{Answer, Book, Call};
@@ -124,19 +124,6 @@ struct Walk {
 }
 
 impl Walk {
-    /// Tries undecided, wall and open on each border from this one on.
-    fn settings(&mut self, board: &mut Board, border: usize) {
-        if border == board.puzzle.borders() {
-            return self.every_preview(board);
-        }
-        self.settings(board, border + 1);
-        for wall in [true, false] {
-            board.decided.push((border, wall));
-            self.settings(board, border + 1);
-            board.decided.pop();
-        }
-    }
-
     fn every_preview(&mut self, board: &Board) {
         let image = image::write(board);
         for border in 0..=board.puzzle.borders() {
@@ -202,18 +189,9 @@ fn every_preview_of_small_pages() {
         (3, 2, &[-1]),
     ];
     for (h, w, numbers) in pages {
-        for colours in lists(&[0, 1], h * w) {
-            for clues in lists(numbers, h * w) {
-                let puzzle = Puzzle {
-                    h,
-                    w,
-                    colours: colours.clone(),
-                    clues,
-                };
-                walk.solutions = rules::all_solutions(&puzzle);
-                let decided = vec![];
-                walk.settings(&mut Board { puzzle, decided }, 0);
-            }
+        for puzzle in puzzles(h, w, numbers) {
+            walk.solutions = rules::all_solutions(&puzzle);
+            settings(&puzzle, &mut |board| walk.every_preview(board));
         }
     }
     let Walk { seen, full, .. } = walk;
