@@ -112,6 +112,16 @@ fn literal(code: &u16) -> Literal {
     (usize::from(code / 2), code % 2 == 1)
 }
 
+/// The number that document 01 gives to an answer.
+pub fn number(answer: &Answer) -> u32 {
+    match answer {
+        Answer::Done => 0,
+        Answer::Refused(number) => *number,
+        Answer::Pass(count) => 32 + *count as u32,
+        Answer::Conflict(reason) => 65_536 + reason.len() as u32,
+    }
+}
+
 /// The answer with this number.
 pub fn answer(number: usize, written: &[u16]) -> Answer {
     match number {

@@ -2,22 +2,13 @@
 //! settings against the rules by brute force.
 
 use compare::boards;
+use compare::checks::number;
 use compare::expected::note_source;
 use compare::images::{compare_calls, ours, ImageCall, Judge, Lent, MEMORY, UNDO};
-use oracle::book::{Answer, Book, Call};
+use oracle::book::{Book, Call};
 use oracle::page::{Board, Literal, Puzzle};
 use oracle::random::Random;
 use oracle::{generate, image, rules};
-
-/// The number that document 01 gives to an answer.
-fn number(answer: &Answer) -> u32 {
-    match answer {
-        Answer::Done => 0,
-        Answer::Refused(number) => *number,
-        Answer::Pass(count) => 32 + *count as u32,
-        Answer::Conflict(reason) => 65_536 + reason.len() as u32,
-    }
-}
 
 /// The image of a fresh board, as the host's crate makes it.
 fn fresh(puzzle: &Puzzle) -> Vec<u8> {

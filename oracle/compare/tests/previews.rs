@@ -3,7 +3,7 @@
 //! images, and memory that is short.
 
 use compare::boards;
-use compare::checks::{board_checks, Trial};
+use compare::checks::{board_checks, number, Trial};
 use compare::expected::{self, note_source};
 use compare::images::{damage, ours, ImageCall, Judge, DAMAGES, MEMORY};
 use compare::many::{puzzles, settings};
@@ -65,14 +65,9 @@ fn other_call(random: &mut Random, book: &mut Book, image: &mut [u8], literals: 
             (call, Call::Decide((border, wall)))
         }
     };
-    let number = ours(image, &mut [0; MEMORY], call);
-    let wanted = match book.answer(asked, &mut |page, decided| judge.reason(page, decided)) {
-        Answer::Done => 0,
-        Answer::Refused(number) => number,
-        Answer::Pass(count) => 32 + count as u32,
-        Answer::Conflict(reason) => 65_536 + reason.len() as u32,
-    };
-    assert_eq!(number, wanted, "{call:?}");
+    let got = ours(image, &mut [0; MEMORY], call);
+    let wanted = book.answer(asked, &mut |page, decided| judge.reason(page, decided));
+    assert_eq!(got, number(&wanted), "{call:?}");
 }
 
 #[test]
