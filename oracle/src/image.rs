@@ -35,6 +35,28 @@ fn put(image: &mut [u8], at: usize, number: usize) {
     image[at..at + 2].copy_from_slice(&(number as u16).to_le_bytes());
 }
 
+/// A place of an image set to a number: the field by its name in the vectors of document 02, and for
+/// an array the index.
+pub fn set(image: &mut [u8], field: &str, index: usize, number: i64) {
+    let (at, width) = match field {
+        "h" => (0, 1),
+        "w" => (1, 1),
+        "col" => (COLOURS_AT + index, 1),
+        "clue" => (CLUES_AT + 4 * index, 4),
+        "bor" => (BORDERS_AT + index, 1),
+        "cnt" => (COUNT_AT, 2),
+        "stk" => (STACK_AT + 2 * index, 2),
+        _ => panic!("an image has no {field}"),
+    };
+    let bytes = number.to_le_bytes();
+    image[at..at + width].copy_from_slice(&bytes[..width]);
+    let kept = match (width, number < 0) {
+        (4, true) => -1,
+        _ => 0,
+    };
+    assert_eq!(number >> (8 * width), kept, "{field} holds no {number}");
+}
+
 fn get(image: &[u8], at: usize) -> usize {
     usize::from(u16::from_le_bytes([image[at], image[at + 1]]))
 }

@@ -2,8 +2,9 @@
 //! flat pages what is in force here, which is making a board, decides, undos, checks and previews.
 //!
 //! A script has other calls too. Those leave the board, but for a player whose board the script goes
-//! on with: its trail is decided. Calls refused with 5, 14 or 15 are left out, since only damage, a
-//! lent record or a role brings these about. Until request No. 4 the vectors' reasons are ours with
+//! on with: its trail is decided. Calls refused with 14 or 15, and with 5 for a lent record, a mark or
+//! a tally, are left out; those on a board that is damaged otherwise stand by themselves. Until request
+//! No. 4 the vectors' reasons are ours with
 //! later repeats struck, and a check or preview here has memory for 16,384 literals where theirs has
 //! enough.
 
@@ -25,7 +26,17 @@ pub struct Script {
     pub id: String,
     pub puzzle: Puzzle,
     pub calls: Vec<(Call, Answer)>,
+    pub damaged: Vec<Damaged>,
     pub end: Vec<Literal>,
+}
+
+/// A call on a damaged copy of the board that stands after so many calls of the script. It is refused
+/// with 5.
+pub struct Damaged {
+    pub after: usize,
+    /// Field, index and number of each place that is damaged.
+    pub places: Vec<(String, usize, i64)>,
+    pub call: Call,
 }
 
 /// The file: the environment variable DBCHOCO_VECTORS02, or where it lies beside the repository.
@@ -94,11 +105,16 @@ fn script(line: &Json, size: &Json) -> Script {
         let [cell, number] = [0, 1].map(|at| clue.numbers()[at]);
         clues[cell as usize] = number as i32;
     }
-    let calls = line.at("calls").list().iter().flat_map(calls).collect();
+    let (mut calls, mut damaged) = (vec![], vec![]);
+    for call in line.at("calls").list() {
+        damaged.extend(on_damage(call, calls.len()));
+        calls.extend(in_force(call));
+    }
     Script {
         id: id(line),
         puzzle: puzzle(size, colours, clues),
         calls,
+        damaged,
         end: literals(line.at("end").at("st")),
     }
 }
@@ -121,31 +137,55 @@ fn answer(answer: &Json) -> Answer {
     }
 }
 
-/// What of a call is in force here.
-fn calls(call: &Json) -> Vec<(Call, Answer)> {
+/// The call, where it is a decide, an undo, a check or a preview.
+fn asked(call: &Json) -> Option<Call> {
     let number = |key: &str| call.at(key).number() as usize;
-    let answer = answer(call.at("a"));
-    if matches!(answer, Answer::Refused(5 | 14 | 15)) {
-        return vec![];
-    }
     let literal = || (number("b"), number("s") == 1);
-    // A refused call keeps its memory, so that 6 and 7 are seen to come before 9.
-    let places = || match answer {
+    // A refused call keeps its memory, so that 5, 6 and 7 are seen to come before 9.
+    let places = || match answer(call.at("a")) {
         Answer::Refused(_) => number("mem"),
         _ => PLACES,
     };
     match call.at("op").text() {
-        "decide" => vec![(Call::Decide(literal()), answer)],
-        "undo" => vec![(Call::Undo, answer)],
-        "check" => vec![(Call::Check(places()), answer)],
-        "preview" => vec![(Call::Preview(literal(), places()), answer)],
-        "player" if call.get("keep") == Some(&Json::Number(1)) => {
-            let trail = literals(&call.at("a").list()[1]);
-            let decided = |literal| (Call::Decide(literal), Answer::Done);
-            trail.into_iter().map(decided).collect()
-        }
-        _ => vec![],
+        "decide" => Some(Call::Decide(literal())),
+        "undo" => Some(Call::Undo),
+        "check" => Some(Call::Check(places())),
+        "preview" => Some(Call::Preview(literal(), places())),
+        _ => None,
     }
+}
+
+/// What of a call is in force here.
+fn in_force(call: &Json) -> Vec<(Call, Answer)> {
+    let answer = answer(call.at("a"));
+    if matches!(answer, Answer::Refused(5 | 14 | 15)) {
+        return vec![];
+    }
+    if call.at("op").text() == "player" && call.get("keep") == Some(&Json::Number(1)) {
+        let trail = literals(&call.at("a").list()[1]);
+        let decided = |literal| (Call::Decide(literal), Answer::Done);
+        return trail.into_iter().map(decided).collect();
+    }
+    asked(call).map(|call| (call, answer)).into_iter().collect()
+}
+
+/// The call on a damaged board, after so many calls; none where nothing but the tally is damaged.
+fn on_damage(call: &Json, after: usize) -> Option<Damaged> {
+    let place = |damage: &Json| {
+        let [field, numbers @ .., number] = damage.list() else {
+            panic!("no damage: {damage:?}");
+        };
+        let index = numbers.first().map_or(0, |index| index.number() as usize);
+        (field.text().to_string(), index, number.number())
+    };
+    let places: Vec<_> = call.get("hurt")?.list().iter().map(place).collect();
+    let image_has = |place: &(String, usize, i64)| place.0 != "tal";
+    let call = asked(call)?;
+    places.iter().all(image_has).then_some(Damaged {
+        after,
+        places,
+        call,
+    })
 }
 
 /// An answer whose reason keeps the first of equal literals.

@@ -9,7 +9,7 @@ use oracle::book::{Answer, Call};
 use oracle::image;
 use oracle::page::Puzzle;
 use oracle::random::Random;
-use oracle::vectors02::{self, struck, Script};
+use oracle::vectors02::{self, struck, Damaged, Script};
 
 /// An image made of a puzzle, and the number.
 fn made(puzzle: &Puzzle) -> (Vec<u8>, u32) {
@@ -53,12 +53,35 @@ fn answered(bytes: &mut [u8], call: Call) -> Answer {
     checks::answer(number, &memory[..end])
 }
 
-/// The calls of a script on its image; how many of them are answered checks and previews.
-fn replayed(script: &Script, memory: &mut Memory) -> [usize; 2] {
+/// The script's calls on damaged copies of the image that stands after so many calls: each is refused
+/// with 5, and leaves the copy. A copy that is still a board's is passed over: only a tally would tell.
+fn damaged(script: &Script, after: usize, bytes: &[u8]) -> usize {
+    let calls = script.damaged.iter().filter(|call| call.after == after);
+    let mut count = 0;
+    for Damaged { places, call, .. } in calls {
+        let mut copy = bytes.to_vec();
+        for (field, index, number) in places {
+            image::set(&mut copy, field, *index, *number);
+        }
+        if image::read(&copy).is_some() {
+            continue;
+        }
+        let before = copy.clone();
+        let answer = answered(&mut copy, *call);
+        assert_eq!(answer, Answer::Refused(5), "{} {call:?}", script.id);
+        assert!(copy == before, "{} {call:?}", script.id);
+        count += 1;
+    }
+    count
+}
+
+/// The calls of a script on its image; how many are answered checks, answered previews, and calls on
+/// damage.
+fn replayed(script: &Script, memory: &mut Memory) -> [usize; 3] {
     let (mut bytes, number) = made(&script.puzzle);
     assert_eq!(number, 0, "{}", script.id);
-    let mut answers = [0; 2];
-    for (call, wanted) in &script.calls {
+    let mut answers = [0, 0, damaged(script, 0, &bytes)];
+    for (i, (call, wanted)) in script.calls.iter().enumerate() {
         let answer = struck(answered(&mut bytes, *call));
         assert_eq!(&answer, wanted, "{} {call:?}", script.id);
         if matches!(answer, Answer::Pass(_) | Answer::Conflict(_)) {
@@ -71,6 +94,7 @@ fn replayed(script: &Script, memory: &mut Memory) -> [usize; 2] {
             assert_eq!(&answer, wanted, "{} on a board", script.id);
             answers[usize::from(preview)] += 1;
         }
+        answers[2] += damaged(script, i + 1, &bytes);
     }
     let end = image::read(&bytes).expect("no alien image").decided;
     assert_eq!(end, script.end, "{}", script.id);
@@ -87,16 +111,17 @@ fn the_exported_calls_have_their_answers() {
         assert_eq!(number, make.refusal.unwrap_or(0), "{}", make.id);
     }
     let mut memory = Memory::new(&mut Random::new(70), ROOM);
-    let (mut checks, mut previews) = (0, 0);
+    let mut counts = [0; 3];
     for script in &scripts {
-        let [checked, previewed] = replayed(script, &mut memory);
-        checks += checked;
-        previews += previewed;
+        for (count, more) in counts.iter_mut().zip(replayed(script, &mut memory)) {
+            *count += more;
+        }
     }
+    let [checks, previews, damaged] = counts;
     println!(
-        "{} made, {} scripts, {checks} checks and {previews} previews answered",
+        "{} made, {} scripts, {checks} checks and {previews} previews answered, {damaged} alien",
         makes.len(),
         scripts.len()
     );
-    assert!(!makes.is_empty() && checks > 1_000 && previews > 500);
+    assert!(!makes.is_empty() && checks > 1_000 && previews > 500 && damaged > 100);
 }
