@@ -18,14 +18,13 @@ use Rattle.rules.specs.declared.Call.the-variants.{Decide, Undo, Check, Preview
 use Rattle.rules.specs.Page.{Puzzle}
 use Rattle.rules.specs.Codes.{literalCode}
 use Rattle.rules.specs.Check.{Reason, Verdict, pass, conflict, check}
-use Rattle.rules.specs.Book.{Reply, refused, done, answered, states, withLast, thenReply, decideReply, checkReply}
-use Rattle.rules.specs.Book.{replyTo}
+use Rattle.rules.specs.Book.{Reply, refused, done, answered, states, withLast, thenReply, checkReply, replyTo}
 use Rattle.argument.specs.FlatDemand.{flat-short}
 use Rattle.board.specs.declared.Board.{Board}
 use Rattle.board.specs.declared.Outcome.{Outcome}
-use Rattle.board.specs.declared.Outcome.the-variants.{Done as Fine, Short}
+use Rattle.board.specs.declared.Outcome.the-variants.{Short}
 use Rattle.board.specs.Alien.{isAlien}
-use Rattle.board.specs.Board.{numberOf, returned, decideOf, undoOf, Typed}
+use Rattle.board.specs.Board.{numberOf, decideOf, undoOf, Typed}
 use Rattle.board.specs.View.{puzzleOf, statesOf, literalsOf, replyOf}
 use Rattle.board.specs.NativeLaws.{native-has}
 use Rattle.board.specs.DecideLaws.{done-returned, decide-keeps}
