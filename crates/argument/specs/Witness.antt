@@ -182,8 +182,8 @@ abbrev pub calls : Literal → List Asked
 calls l = ask 0 (Decide l) ∷ ask 16384 Check ∷ []
 
 -- a preview, with memory enough
-abbrev pub previews : Literal → List Asked
-previews l = ask 16384 (Preview l) ∷ []
+abbrev pub previewOnly : Literal → List Asked
+previewOnly l = ask 16384 (Preview l) ∷ []
 
 pub record Witness : Type 0 where
   -- a solution, and a full setting that is none
@@ -197,11 +197,11 @@ pub record Witness : Type 0 where
   pub wall-answered : replies small (calls (wallAt 0)) ≡ done ∷ answered (check small walled) ∷ []
   -- each stood at a preview that was answered alike, and the book's sequence is still empty
   pub open-looked : looked [] (Preview (openAt 0)) ≡ openAt 0 ∷ []
-  pub open-previewed : replies small (previews (openAt 0)) ≡ answered (check small opened) ∷ []
-  pub open-left : bookAfter small (previews (openAt 0)) ≡ freshBook
+  pub open-previewed : replies small (previewOnly (openAt 0)) ≡ answered (check small opened) ∷ []
+  pub open-left : bookAfter small (previewOnly (openAt 0)) ≡ freshBook
   pub wall-looked : looked [] (Preview (wallAt 0)) ≡ wallAt 0 ∷ []
-  pub wall-previewed : replies small (previews (wallAt 0)) ≡ answered (check small walled) ∷ []
-  pub wall-left : bookAfter small (previews (wallAt 0)) ≡ freshBook
+  pub wall-previewed : replies small (previewOnly (wallAt 0)) ≡ answered (check small walled) ∷ []
+  pub wall-left : bookAfter small (previewOnly (wallAt 0)) ≡ freshBook
 
 pub witness : Witness
 unfolding flat borderCount bookFrom repliesFrom after doneBook replyTo decideReply checkReply names any

@@ -1,6 +1,7 @@
 -- Board: what making a board, a decide and an undo return, refused ones too.
 --
 --   numberOf o       the number of a refusal; 0 where the call is done
+--   isDone o         the outcome o is no refusal
 --   zeroBoard        the all-zero board
 --   freshBoard       the board of a puzzle, every border undecided
 --   returned o b     an outcome with a board
@@ -17,7 +18,7 @@
 --   SmallClues ks    the clues fit 32 bits
 --   Typed b          what every value of the code's type Board has
 use mathlib.Core.Path.{_≡_}
-use mathlib.Core.Bool.{true, cond, _&&_}
+use mathlib.Core.Bool.{Bool, true, cond, _&&_}
 use mathlib.Core.List.{List}
 use Prim.Native.Nat.{ℕ, _+_, _-_, _*_}
 use lib.Dec.{ltb, eqb}
@@ -47,6 +48,9 @@ numberOf Taken = 7
 numberOf Bare = 8
 numberOf Short = 9
 
+abbrev pub isDone : Outcome → Bool
+isDone o = eqb (numberOf o) 0
+
 abbrev pub zeroBoard : Board
 zeroBoard =
     boardOf 0 0 (replicate 1024 0) (replicate 1024 (pos 0)) (replicate 1984 0) (replicate 1984 0) 0
@@ -68,7 +72,7 @@ puzzleRefusal n cs ks =
 
 -- a call that is done gives the board d, a refused one b
 abbrev pub endedBy : Board → Board → Outcome → Returned
-endedBy b d o = returned o (cond (eqb (numberOf o) 0) d b)
+endedBy b d o = returned o (cond (isDone o) d b)
 
 -- "The lowest applicable number is given"; "Making a board when refused returns the all-zero board"
 unfoldable pub freshOf : ℕ → ℕ → List ℕ → List ℤ → Returned
@@ -101,7 +105,7 @@ decideOf b l =
 
 -- one more where the decide is done
 abbrev pub countAfter : Outcome → ℕ → ℕ
-countAfter o n = cond (eqb (numberOf o) 0) (n + 1) n
+countAfter o n = cond (isDone o) (n + 1) n
 
 -- 8: "undo with an empty stack"; on a board that is not alien
 unfoldable pub undoRefusal : ℕ → Outcome

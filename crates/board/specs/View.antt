@@ -23,7 +23,7 @@ use Rattle.rules.specs.Codes.{statesIn, puzzleIn}
 use Rattle.rules.specs.Book.{Reply, refused, done}
 use Rattle.board.specs.declared.Board.{Board}
 use Rattle.board.specs.declared.Outcome.{Outcome}
-use Rattle.board.specs.Board.{numberOf}
+use Rattle.board.specs.Board.{numberOf, isDone}
 
 unfoldable pub puzzleOf : Board → Puzzle
 puzzleOf b = puzzleIn (b .height) (b .width) (b .colours) (b .clues)
@@ -42,4 +42,4 @@ unfoldable pub literalsOf : Board → List Literal
 literalsOf b = table (b .count) (λ i. literalIn (b .borders) (getD (b .stack) i 0))
 
 abbrev pub replyOf : Outcome → Reply
-replyOf o = cond (eqb (numberOf o) 0) done (refused (numberOf o))
+replyOf o = cond (isDone o) done (refused (numberOf o))

@@ -26,11 +26,11 @@ use Rattle.rules.specs.Check.{Verdict, pass, conflict, check}
 use Rattle.board.specs.declared.Board.{Board}
 use Rattle.board.specs.declared.Outcome.the-variants.{Alien, Short}
 use Rattle.board.specs.Alien.{isAlien}
-use Rattle.board.specs.Board.{decideOf}
+use Rattle.board.specs.Board.{isDone, decideOf}
 use Rattle.board.specs.View.{puzzleOf, statesOf}
 use Rattle.calls.specs.declared.Answer.the-variants.{Refused}
 use Rattle.calls.specs.Answers.{literalOf, reasonIn, asAnswer, written, foundAnswer, foundMemory, checkAnswer}
-use Rattle.calls.specs.Answers.{checkMemory, isDone, previewMemory, callMemory}
+use Rattle.calls.specs.Answers.{checkMemory, previewMemory, callMemory}
 
 -- ---- literals and their codes
 code-half : (n : ℕ) (d : Side) → (2 * n + sideCode d) / 2 ≡ n

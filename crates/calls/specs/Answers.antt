@@ -11,7 +11,6 @@
 --   foundMemory f m   the memory m after it
 --   checkAnswer b n   what a check of the board b answers, where n is the length of the memory
 --   checkMemory b m   the memory m after it
---   isDone o          the outcome o is no refusal
 --   previewAnswer b l n   what a preview of the literal l answers on the board b, where n is the length of the memory
 --   previewMemory b l m   the memory m after it
 --   ended o           how a decide or an undo ended, as the answer of a call
@@ -19,7 +18,7 @@
 --   steppedBy r       what a decide or an undo returned, as a board with an answer
 --   callOf b c m      what the call c returns on the board b with the memory m lent
 --   callMemory b c m  the memory m after it
-use mathlib.Core.Bool.{Bool, cond}
+use mathlib.Core.Bool.{cond}
 use mathlib.Core.List.{List, _++_, map}
 use Prim.Native.Nat.{ℕ, _+_, _/_, _%_}
 use lib.Dec.{eqb, ltb}
@@ -36,7 +35,7 @@ use Rattle.board.specs.declared.Outcome.{Outcome}
 use Rattle.board.specs.declared.Outcome.the-variants.{Alien, Short}
 use Rattle.board.specs.declared.Returned.{Returned}
 use Rattle.board.specs.Alien.{isAlien}
-use Rattle.board.specs.Board.{numberOf, decideOf, undoOf}
+use Rattle.board.specs.Board.{numberOf, isDone, decideOf, undoOf}
 use Rattle.board.specs.View.{puzzleOf, statesOf}
 use Rattle.calls.specs.declared.Answer.{Answer}
 use Rattle.calls.specs.declared.Answer.the-variants.{Done, Pass, Conflict, Refused}
@@ -81,7 +80,7 @@ abbrev pub written : List ℕ → Verdict → List ℕ
 written m (pass n) = m
 written m (conflict r) = put m 0 r
 
--- 9 for short memory, else what Check gives
+-- "A check answers 9 if its memory is short; else what Check gives"
 abbrev pub foundAnswer : Verdict → ℕ → Answer
 foundAnswer f n = cond (ltb n 16384) (Refused Short) (asAnswer f)
 
@@ -89,7 +88,7 @@ foundAnswer f n = cond (ltb n 16384) (Refused Short) (asAnswer f)
 abbrev pub foundMemory : Verdict → List ℕ → List ℕ
 foundMemory f m = cond (ltb (length m) 16384) m (written m f)
 
--- 5 for an alien board comes first
+-- "The lowest applicable number is given": 5 for an alien board
 unfoldable pub checkAnswer : Board → ℕ → Answer
 checkAnswer b n = cond (isAlien b) (Refused Alien) (foundAnswer (check (puzzleOf b) (statesOf b)) n)
 
@@ -98,9 +97,6 @@ unfoldable pub checkMemory : Board → List ℕ → List ℕ
 checkMemory b m = cond (isAlien b) m (foundMemory (check (puzzleOf b) (statesOf b)) m)
 
 -- ---- preview
-abbrev pub isDone : Outcome → Bool
-isDone o = eqb (numberOf o) 0
-
 -- "It returns .. what decide followed by check would on a copy of the board"
 unfoldable pub previewAnswer : Board → Literal → ℕ → Answer
 previewAnswer b l n =

@@ -24,7 +24,7 @@ use Rattle.board.specs.declared.Board.{Board}
 use Rattle.board.specs.declared.Outcome.{Outcome}
 use Rattle.board.specs.declared.Outcome.the-variants.{Short}
 use Rattle.board.specs.Alien.{isAlien}
-use Rattle.board.specs.Board.{numberOf, decideOf, undoOf, Typed}
+use Rattle.board.specs.Board.{numberOf, isDone, decideOf, undoOf, Typed}
 use Rattle.board.specs.View.{puzzleOf, statesOf, literalsOf, replyOf}
 use Rattle.board.specs.NativeLaws.{native-has}
 use Rattle.board.specs.DecideLaws.{done-returned, decide-keeps}
@@ -32,8 +32,8 @@ use Rattle.board.specs.ViewLaws.{states-literals, decided-puzzle}
 use Rattle.board.specs.LiteralLaws.{literals-decided}
 use Rattle.board.specs.StepLaws.{decide-reply, undo-reply}
 use Rattle.calls.specs.declared.Answer.the-variants.{Done, Refused}
-use Rattle.calls.specs.Answers.{reasonIn, told, memoryAs, asAnswer, written, checkAnswer, checkMemory, isDone}
-use Rattle.calls.specs.Answers.{ended, previewAnswer, previewMemory, callOf, callMemory}
+use Rattle.calls.specs.Answers.{reasonIn, told, memoryAs, asAnswer, written, checkAnswer, checkMemory, ended}
+use Rattle.calls.specs.Answers.{previewAnswer, previewMemory, callOf, callMemory}
 use Rattle.calls.specs.AnswerLaws.{reason-in, put-start, found-long, check-known}
 
 -- how a decide or an undo ended

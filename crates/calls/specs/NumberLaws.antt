@@ -31,13 +31,13 @@ use Rattle.board.specs.declared.Outcome.{Outcome}
 use Rattle.board.specs.declared.Outcome.the-variants.{Done as Fine, Size, Ragged, Colour, Clue}
 use Rattle.board.specs.declared.Outcome.the-variants.{Alien, Border, Taken, Bare, Short}
 use Rattle.board.specs.Alien.{isAlien}
-use Rattle.board.specs.Board.{numberOf, decideOf, undoOf}
+use Rattle.board.specs.Board.{numberOf, isDone, decideOf, undoOf}
 use Rattle.board.specs.View.{puzzleOf, statesOf}
 use Rattle.board.specs.Cases.{outcome-never-eleven}
 use Rattle.board.specs.NativeLaws.{native-has}
 use Rattle.calls.specs.declared.Answer.{Answer}
 use Rattle.calls.specs.declared.Answer.the-variants.{Done, Pass, Conflict, Refused}
-use Rattle.calls.specs.Answers.{answerNumber, asAnswer, checkAnswer, isDone, previewAnswer, ended, callOf}
+use Rattle.calls.specs.Answers.{answerNumber, asAnswer, checkAnswer, previewAnswer, ended, callOf}
 use Rattle.calls.specs.CallLaws.{reason-short}
 
 unfoldable pub outcomeOf : ℕ → Outcome

@@ -22,12 +22,12 @@ use Rattle.board.specs.declared.Board.{Board}
 use Rattle.board.specs.declared.Outcome.{Outcome}
 use Rattle.board.specs.declared.Outcome.the-variants.{Done as Fine, Alien, Border, Taken, Short}
 use Rattle.board.specs.Alien.{borderCountOf, isAlien}
-use Rattle.board.specs.Board.{numberOf, returned, endedBy, pushed, decideRefusal, decideOf}
+use Rattle.board.specs.Board.{numberOf, isDone, returned, endedBy, pushed, decideRefusal, decideOf}
 use Rattle.board.specs.View.{puzzleOf, statesOf}
 use Rattle.board.specs.Cases.{decide-done}
 use Rattle.board.specs.DecideLaws.{done-returned, decide-keeps}
 use Rattle.calls.specs.declared.Answer.the-variants.{Done, Refused}
-use Rattle.calls.specs.Answers.{asAnswer, foundAnswer, checkAnswer, checkMemory, isDone, previewAnswer}
+use Rattle.calls.specs.Answers.{asAnswer, foundAnswer, checkAnswer, checkMemory, previewAnswer}
 use Rattle.calls.specs.Answers.{previewMemory, ended, callOf, callMemory}
 
 module _ (b : Board) (l : Literal) {o : Outcome} {d : Board} (e : returned o d ≡ decideOf b l) where

@@ -1,7 +1,7 @@
 -- A closed witness: lists of calls on one board, a decide and a check or a preview alone, at which full settings stood.
 -- One of these is a solution, and passed; the other is none, and is ruled out.
 use mathlib.Core.Path.{_≡_, _∙_, refl, ap, sym, subst}
-use mathlib.Core.List.{List, [], _∷_, map}
+use mathlib.Core.List.{List, [], _∷_, _++_, map}
 use Prim.Native.Nat.{ℕ, zero, suc, _<_}
 use native.Mathlib.Omega.{arith}
 use lib.IntN.{ℤ, pos, negsuc}
@@ -16,7 +16,8 @@ use Rattle.rules.specs.declared.Call.the-variants.{Decide, Check, Preview}
 use Rattle.rules.specs.Page.{Puzzle, State, undecided}
 use Rattle.rules.specs.Flat.{flat, borderCount}
 use Rattle.rules.specs.Check.{Verdict, check}
-use Rattle.rules.specs.Book.{Asked, ask, states, names, doneBook, decideReply, checkReply, replyTo, after, bookFrom}
+use Rattle.rules.specs.Book.{Asked, ask, answered, states, names, looked, doneBook, decideReply, checkReply, replyTo}
+use Rattle.rules.specs.Book.{reply, after, bookFrom, bookAfter}
 use Rattle.rules.specs.Codes.{puzzleIn}
 use Rattle.argument.specs.Demand.{Full, SameSides, BookStoodAt, Passes}
 use Rattle.argument.specs.Witness.{open-solves, wall-fails}
@@ -71,41 +72,28 @@ unfolding states
 side-full d zero h e = let z : _≡_ {A = ℕ} 0 1 = cc in omega arith
 side-full d (suc b) h e = omega arith
 
-book-decided : (d : Side) → BookStood d (map (ask 16384) (deciding d))
-unfolding flat borderCount bookFrom after doneBook replyTo decideReply checkReply names any Full SameSides
-book-decided d =
+-- a call that looked at the border's side alone, and is answered by what Check gives there
+book-stood : (d : Side) (earlier : List Asked) (call : Asked)
+    → looked (bookAfter (puzzleIn 1 2 cs ks) earlier .sequence) (call .call) ≡ first d ∷ []
+    → reply (puzzleIn 1 2 cs ks) (bookAfter (puzzleIn 1 2 cs ks) earlier) call ≡ answered (found d)
+    → BookStood d (earlier ++ (call ∷ []))
+unfolding flat borderCount Full SameSides
+book-stood d earlier call e f =
     record {
       sequence = first d ∷ [];
       check =
-          record {
-            earlier = ask 16384 (Decide (first d)) ∷ [];
-            call = ask 16384 Check;
-            later = [];
-            split = refl;
-            standing = refl;
-            answer = refl;
-          };
+          record { earlier = earlier; call = call; later = []; split = refl; standing = e; answer = f };
       full = λ b h. side-full d b h;
       sides = λ b h. refl;
     }
 
+book-decided : (d : Side) → BookStood d (map (ask 16384) (deciding d))
+unfolding flat borderCount bookFrom after doneBook replyTo decideReply checkReply names any
+book-decided d = book-stood d (ask 16384 (Decide (first d)) ∷ []) (ask 16384 Check) refl refl
+
 book-previewed : (d : Side) → BookStood d (map (ask 16384) (previewing d))
-unfolding flat borderCount bookFrom replyTo decideReply checkReply names any Full SameSides
-book-previewed d =
-    record {
-      sequence = first d ∷ [];
-      check =
-          record {
-            earlier = [];
-            call = ask 16384 (Preview (first d));
-            later = [];
-            split = refl;
-            standing = refl;
-            answer = refl;
-          };
-      full = λ b h. side-full d b h;
-      sides = λ b h. refl;
-    }
+unfolding flat borderCount bookFrom replyTo decideReply checkReply names any
+book-previewed d = book-stood d [] (ask 16384 (Preview (first d))) refl refl
 
 module _ (m : List ℕ) (p : length m ≡ 16384) where
   side-stood : (d : Side) (calls : List Call) → BookStood d (map (ask 16384) calls)
