@@ -12,28 +12,36 @@
 --   borderRight v on        the border place v is right, where `on` says that its border is on the stack
 --   bordersRight bs s n m   the first m borders are right beside the first n entries of s
 --   bordersBy bs seen m     the same, where a list says which borders are on the stack
---   Flags s n once seen     what a run over n entries finds: whether none is an earlier one, and which borders they are
+--   codeSum bs s n          the sum of the codes of the borders that the first n entries of s name
+--   Flags bs s n once sum seen   what a run over n entries finds: whether none is an earlier one, that sum, and which
+--                           borders they are
 --   zerosFrom l from        the places of l from `from` on are 0
 --   clueZero k              k is 0
 --   zeroCluesFrom ks from   the clues from `from` on are 0
 --   puzzleRight n cs ks     the colours and the clues of n cells are right
 --   decisionsIn m bs s k    the k entries of the stack s are exactly the decided of m borders, each once
+--   codeCount bs m v        how many of the first m borders have the code v
+--   tallyIn bs m            the tally of the first m borders
+--   decidedIn m bs s k t    decisionsIn, and t is the tally of the m borders
 --   unusedIn n m cs ks bs s k   the places that n cells, m borders and k entries do not use are 0
 --   cellCountOf b, borderCountOf b   how many cells and borders the page of a board has
 --   cellsRight b, decisionsRight b, unusedZero b   the three of a board
---   boardOf h w cs ks bs st n   the board with these arrays
---   boardWith b bs st n     the board b with these borders, this stack and this count
+--   boardOf h w cs ks bs st n t   the board with these arrays, this count and this tally
+--   boardWith b bs st n t   the board b with these borders, this stack, this count and this tally
 --   isAlien b               decides and undos cannot produce b from a fresh board; crate reach has the proof
 use mathlib.Core.Path.{_≡_}
 use mathlib.Core.Bool.{Bool, false, not, cond, _&&_, Bool·beq}
 use mathlib.Core.List.{List}
-use Prim.Native.Nat.{ℕ, _*_, _<_}
+use Prim.Native.Nat.{ℕ, zero, suc, _+_, _*_, _<_}
 use lib.Dec.{leb, ltb, eqb}
 use lib.IntN.{ℤ, pos, negsuc}
 use lib.ListN.{length, getD}
 use lib.Signed.{leZ}
 use Rattle.lists.specs.Tests.{allBelow, anyBelow, allBetween}
+use Rattle.lists.specs.Count.{countBelow}
+use Rattle.rules.specs.declared.Tally.{Tally}
 use Rattle.rules.specs.Flat.{borderCount}
+use Rattle.rules.specs.Book.{tallyOf, sameTally}
 use Rattle.board.specs.declared.Board.{Board}
 
 -- "Height h and width w are 1 to 32"
@@ -79,8 +87,13 @@ bordersRight bs s n m = allBelow m (λ x. borderRight (getD bs x 0) (stacked s n
 unfoldable pub bordersBy : List ℕ → List Bool → ℕ → Bool
 bordersBy bs seen m = allBelow m (λ x. borderRight (getD bs x 0) (getD seen x false))
 
-pub record Flags (s : List ℕ) (n : ℕ) (once : Bool) (seen : List Bool) : Type 0 where
+unfoldable pub codeSum : List ℕ → List ℕ → ℕ → ℕ
+codeSum bs s zero = 0
+codeSum bs s (suc n) = codeSum bs s n + getD bs (getD s n 0) 0
+
+pub record Flags (bs s : List ℕ) (n : ℕ) (once : Bool) (sum : ℕ) (seen : List Bool) : Type 0 where
   pub tells : once ≡ onceEach s n
+  pub summed : sum ≡ codeSum bs s n
   pub flagged : (x : ℕ) → x < 1984 → getD seen x false ≡ stacked s n x
 
 unfoldable pub zerosFrom : List ℕ → ℕ → Bool
@@ -100,6 +113,18 @@ puzzleRight n cs ks = coloursRight cs n && cluesRight ks n
 unfoldable pub decisionsIn : ℕ → List ℕ → List ℕ → ℕ → Bool
 decisionsIn m bs s k = leb k m && entriesRight s m k && onceEach s k && bordersRight bs s k m
 
+-- "borders (0 undecided, 1 wall, 2 open)"
+unfoldable pub codeCount : List ℕ → ℕ → ℕ → ℕ
+codeCount bs m v = countBelow m (λ i. eqb (getD bs i 0) v)
+
+-- "undecided, walls and opens"
+abbrev pub tallyIn : List ℕ → ℕ → Tally
+tallyIn bs m = tallyOf (codeCount bs m 0) (codeCount bs m 1) (codeCount bs m 2)
+
+-- "The board shall store undecided, walls and opens"
+unfoldable pub decidedIn : ℕ → List ℕ → List ℕ → ℕ → Tally → Bool
+decidedIn m bs s k t = decisionsIn m bs s k && sameTally t (tallyIn bs m)
+
 -- "Unused places of a board are 0"
 unfoldable pub unusedIn : ℕ → ℕ → List ℕ → List ℤ → List ℕ → List ℕ → ℕ → Bool
 unusedIn n m cs ks bs s k = zerosFrom cs n && zeroCluesFrom ks n && zerosFrom bs m && zerosFrom s k
@@ -115,17 +140,26 @@ abbrev pub cellsRight : Board → Bool
 cellsRight b = puzzleRight (cellCountOf b) (b .colours) (b .clues)
 
 abbrev pub decisionsRight : Board → Bool
-decisionsRight b = decisionsIn (borderCountOf b) (b .borders) (b .stack) (b .count)
+decisionsRight b = decidedIn (borderCountOf b) (b .borders) (b .stack) (b .count) (b .tally)
 
 abbrev pub unusedZero : Board → Bool
 unusedZero b = unusedIn (cellCountOf b) (borderCountOf b) (b .colours) (b .clues) (b .borders) (b .stack) (b .count)
 
-abbrev pub boardOf : ℕ → ℕ → List ℕ → List ℤ → List ℕ → List ℕ → ℕ → Board
-boardOf h w cs ks bs st n =
-    record { height = h; width = w; colours = cs; clues = ks; borders = bs; stack = st; count = n }
+abbrev pub boardOf : ℕ → ℕ → List ℕ → List ℤ → List ℕ → List ℕ → ℕ → Tally → Board
+boardOf h w cs ks bs st n t =
+    record {
+      height = h;
+      width = w;
+      colours = cs;
+      clues = ks;
+      borders = bs;
+      stack = st;
+      count = n;
+      tally = t;
+    }
 
-abbrev pub boardWith : Board → List ℕ → List ℕ → ℕ → Board
-boardWith b bs st n = boardOf (b .height) (b .width) (b .colours) (b .clues) bs st n
+abbrev pub boardWith : Board → List ℕ → List ℕ → ℕ → Tally → Board
+boardWith b bs st n t = boardOf (b .height) (b .width) (b .colours) (b .clues) bs st n t
 
 -- "a board or image that decides and undos cannot produce from a fresh board"
 unfoldable pub isAlien : Board → Bool

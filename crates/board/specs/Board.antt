@@ -8,11 +8,15 @@
 --   puzzleRefusal n cs ks   how making a board of n cells ends after the test of its size: refused, or done
 --   endedBy b d o    the outcome o with the board d where it is done, with b where it is a refusal
 --   freshOf          what making a board returns
+--   sideCount t d    how many borders the tally t has on the side d
+--   tallyMore t d    the tally t with one border more decided, on the side d
+--   tallyLess t d    the tally t with one border less decided, which was on the side d
 --   pushed b n v     the board with border n set to v and put on the stack
 --   popped b         the board with the last border taken off the stack and made undecided
 --   decideRefusal m bs n   how a decide of border n ends, where the m borders are bs: refused, or done
 --   decideOf b l     what a decide returns
 --   countAfter o n   the count of a board after a decide with the outcome o, where it was n
+--   talliedBy o t v  its tally after a decide with the outcome o of a border to the code v, where it was t
 --   undoRefusal n    how an undo ends, where the stack has n borders: refused, or done
 --   undoOf b         what an undo returns
 --   SmallClues ks    the clues fit 32 bits
@@ -26,8 +30,13 @@ use lib.IntN.{ℤ, pos}
 use lib.ListN.{length, getD, set, replicate}
 use lib.Signed.{leZ}
 use Rattle.lists.specs.Padded.{padded}
+use Rattle.rules.specs.declared.Side.{Side}
+use Rattle.rules.specs.declared.Side.the-variants.{Wall, Open}
 use Rattle.rules.specs.declared.Literal.{Literal}
-use Rattle.rules.specs.Codes.{codeOf}
+use Rattle.rules.specs.declared.Tally.{Tally}
+use Rattle.rules.specs.Flat.{borderCount}
+use Rattle.rules.specs.Codes.{codeOf, sideIn}
+use Rattle.rules.specs.Book.{tallyOf}
 use Rattle.board.specs.declared.Board.{Board}
 use Rattle.board.specs.declared.Outcome.{Outcome}
 use Rattle.board.specs.declared.Outcome.the-variants.{Done, Size, Ragged, Colour, Clue}
@@ -53,12 +62,13 @@ isDone o = eqb (numberOf o) 0
 
 abbrev pub zeroBoard : Board
 zeroBoard =
-    boardOf 0 0 (replicate 1024 0) (replicate 1024 (pos 0)) (replicate 1984 0) (replicate 1984 0) 0
+    boardOf 0 0 (replicate 1024 0) (replicate 1024 (pos 0)) (replicate 1984 0) (replicate 1984 0) 0 (tallyOf 0 0 0)
 
 -- "A fresh board has every border undecided"
 abbrev pub freshBoard : ℕ → ℕ → List ℕ → List ℤ → Board
 freshBoard h w cs ks =
     boardOf h w (padded 1024 0 cs) (padded 1024 (pos 0) ks) (replicate 1984 0) (replicate 1984 0) 0
+    (tallyOf (borderCount h w) 0 0)
 
 abbrev pub returned : Outcome → Board → Returned
 returned o b = record { outcome = o; board = b }
@@ -81,15 +91,30 @@ freshOf h w cs ks =
     (endedBy zeroBoard (freshBoard h w cs ks) (puzzleRefusal (h * w) cs ks))
     (returned Size zeroBoard)
 
+abbrev pub sideCount : Tally → Side → ℕ
+sideCount t Wall = t .walls
+sideCount t Open = t .opens
+
+-- "Decide and undo keep all three true"
+abbrev pub tallyMore : Tally → Side → Tally
+tallyMore t Wall = tallyOf (t .undecided - 1) (t .walls + 1) (t .opens)
+tallyMore t Open = tallyOf (t .undecided - 1) (t .walls) (t .opens + 1)
+
+abbrev pub tallyLess : Tally → Side → Tally
+tallyLess t Wall = tallyOf (t .undecided + 1) (t .walls - 1) (t .opens)
+tallyLess t Open = tallyOf (t .undecided + 1) (t .walls) (t .opens - 1)
+
 -- "Decide sets a border and pushes it"
 abbrev pub pushed : Board → ℕ → ℕ → Board
-pushed b n v = boardWith b (set (b .borders) n v) (set (b .stack) (b .count) n) (b .count + 1)
+pushed b n v =
+    boardWith b (set (b .borders) n v) (set (b .stack) (b .count) n) (b .count + 1) (tallyMore (b .tally) (sideIn v))
 
 -- "undo pops the last and makes it undecided"; the freed place of the stack is 0
 abbrev pub popped : Board → Board
 popped b =
-    boardWith b (set (b .borders) (getD (b .stack) (b .count - 1) 0) 0) (set (b .stack) (b .count - 1) 0)
-    (b .count - 1)
+    let n = getD (b .stack) (b .count - 1) 0 in
+    boardWith b (set (b .borders) n 0) (set (b .stack) (b .count - 1) 0) (b .count - 1)
+    (tallyLess (b .tally) (sideIn (getD (b .borders) n 0)))
 
 -- 6: "number not below the border count"; 7: "border already decided"; on a board that is not alien
 unfoldable pub decideRefusal : ℕ → List ℕ → ℕ → Outcome
@@ -106,6 +131,9 @@ decideOf b l =
 -- one more where the decide is done
 abbrev pub countAfter : Outcome → ℕ → ℕ
 countAfter o n = cond (isDone o) (n + 1) n
+
+abbrev pub talliedBy : Outcome → Tally → ℕ → Tally
+talliedBy o t v = cond (isDone o) (tallyMore t (sideIn v)) t
 
 -- 8: "undo with an empty stack"; on a board that is not alien
 unfoldable pub undoRefusal : ℕ → Outcome

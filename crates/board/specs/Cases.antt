@@ -12,14 +12,16 @@ use lib.IntN.{ℤ}
 use lib.ListN.{length, getD}
 use Rattle.lists.specs.TestLaws.{all-cong}
 use Rattle.rules.specs.declared.Literal.{Literal}
+use Rattle.rules.specs.declared.Tally.{Tally}
 use Rattle.rules.specs.Codes.{codeOf}
+use Rattle.rules.specs.Book.{sameTally}
 use Rattle.board.specs.declared.Board.{Board}
 use Rattle.board.specs.declared.Outcome.{Outcome}
 use Rattle.board.specs.declared.Outcome.the-variants.{Done, Size, Ragged, Colour, Clue}
 use Rattle.board.specs.declared.Outcome.the-variants.{Alien, Border, Taken, Bare, Short}
 use Rattle.board.specs.Alien.{sizeRight, coloursRight, cluesRight, entriesRight, onceEach, borderRight}
 use Rattle.board.specs.Alien.{bordersRight, bordersBy, Flags, zerosFrom, zeroCluesFrom, puzzleRight}
-use Rattle.board.specs.Alien.{decisionsIn, unusedIn, cellCountOf, borderCountOf, isAlien}
+use Rattle.board.specs.Alien.{decisionsIn, tallyIn, decidedIn, unusedIn, cellCountOf, borderCountOf, isAlien}
 use Rattle.board.specs.Board.{numberOf, zeroBoard, freshBoard, returned, puzzleRefusal, freshOf, pushed, popped}
 use Rattle.board.specs.Board.{decideRefusal, decideOf, undoRefusal, undoOf}
 
@@ -60,23 +62,33 @@ module _ (m : ℕ) (bs st : List ℕ) (count : ℕ) where
     unfolding unusedIn
     unused-stack a r s t u = rw (r, s, t) u
 
-  pub decisions-many : m < count → false ≡ decisionsIn m bs st count
-  unfolding decisionsIn
-  decisions-many t = rw (lt-leb count m t)
+  module _ (y : Tally) where
+    pub decisions-many : m < count → false ≡ decidedIn m bs st count y
+    unfolding decidedIn decisionsIn
+    decisions-many t = rw (lt-leb count m t)
 
-  pub decisions-entries : count ≤ m → entriesRight st m count ≡ false → false ≡ decisionsIn m bs st count
-  unfolding decisionsIn
-  decisions-entries t u = rw (le-leb count m t, u)
+    pub decisions-entries : count ≤ m → entriesRight st m count ≡ false → false ≡ decidedIn m bs st count y
+    unfolding decidedIn decisionsIn
+    decisions-entries t u = rw (le-leb count m t, u)
 
-  pub decisions-twice : count ≤ m → entriesRight st m count ≡ true → onceEach st count ≡ false
-      → false ≡ decisionsIn m bs st count
-  unfolding decisionsIn
-  decisions-twice t u v = rw (le-leb count m t, u, v)
+    pub decisions-twice : count ≤ m → entriesRight st m count ≡ true → onceEach st count ≡ false
+        → false ≡ decidedIn m bs st count y
+    unfolding decidedIn decisionsIn
+    decisions-twice t u v = rw (le-leb count m t, u, v)
 
-  pub decisions-borders : (vs : List Bool) (a : Bool) → count ≤ m → m ≤ 1984 → entriesRight st m count ≡ true
-      → Flags st count true vs → a ≡ bordersBy bs vs m → a ≡ decisionsIn m bs st count
+    pub decisions-wrong : decisionsIn m bs st count ≡ false → false ≡ decidedIn m bs st count y
+    unfolding decidedIn
+    decisions-wrong e = rw e
+
+    pub decisions-tally : (a : Bool) → decisionsIn m bs st count ≡ true → a ≡ sameTally y (tallyIn bs m)
+        → a ≡ decidedIn m bs st count y
+    unfolding decidedIn
+    decisions-tally a e f = rw e f
+
+  pub decisions-borders : (sum : ℕ) (vs : List Bool) (a : Bool) → count ≤ m → m ≤ 1984 → entriesRight st m count ≡ true
+      → Flags bs st count true sum vs → a ≡ bordersBy bs vs m → a ≡ decisionsIn m bs st count
   unfolding decisionsIn bordersBy bordersRight
-  decisions-borders vs a t l r u e =
+  decisions-borders sum vs a t l r u e =
       e
       ∙ all-cong m _ _ (λ x k. ap (λ (v : Bool). borderRight (getD bs x 0) v) (u .flagged x (omega arith)))
       ∙ rw (le-leb count m t, r, ← (u .tells))
@@ -94,11 +106,11 @@ module _ (b : Board) where
     alien-cells s = rw (p, ← q, s)
 
     module _ (s : puzzleRight n (b .colours) (b .clues) ≡ true) where
-      pub alien-decisions : decisionsIn m (b .borders) (b .stack) (b .count) ≡ false → true ≡ isAlien b
+      pub alien-decisions : decidedIn m (b .borders) (b .stack) (b .count) (b .tally) ≡ false → true ≡ isAlien b
       unfolding isAlien
       alien-decisions t = rw (p, ← q, s, ← r, t)
 
-      pub alien-unused : (a : Bool) → decisionsIn m (b .borders) (b .stack) (b .count) ≡ true
+      pub alien-unused : (a : Bool) → decidedIn m (b .borders) (b .stack) (b .count) (b .tally) ≡ true
           → a ≡ unusedIn n m (b .colours) (b .clues) (b .borders) (b .stack) (b .count) → not a ≡ isAlien b
       unfolding isAlien
       alien-unused a t u = rw (p, ← q, s, ← r, t, u)

@@ -1,7 +1,7 @@
 -- Decide and undo that are done: what they say of the board, that they keep a board from being alien, and that an undo
 -- after a decide gives the board back.
 use mathlib.Core.Path.{_≡_, refl, ap, ap₂, sym, _∙_}
-use mathlib.Core.Bool.{Bool, true, false, not, _||_, or-true, or-false}
+use mathlib.Core.Bool.{Bool, true, false, not, _||_, or-true, or-false, false≢true}
 use mathlib.Core.List.{List}
 use Prim.Native.Nat.{ℕ, _+_, _-_, _<_, _≤_}
 use native.Mathlib.Decide.{ℕ-discrete}
@@ -14,18 +14,22 @@ use Rattle.lists.specs.TestLaws.{any-cong}
 use Rattle.rules.specs.declared.Side.{Side}
 use Rattle.rules.specs.declared.Side.the-variants.{Wall, Open}
 use Rattle.rules.specs.declared.Literal.{Literal}
-use Rattle.rules.specs.Codes.{codeOf}
+use Rattle.rules.specs.declared.Tally.{Tally}
+use Rattle.rules.specs.Codes.{codeOf, sideIn}
 use Rattle.board.specs.declared.Board.{Board}
 use Rattle.board.specs.declared.Outcome.{Outcome}
 use Rattle.board.specs.declared.Outcome.the-variants.{Done, Size, Ragged, Colour, Clue}
 use Rattle.board.specs.declared.Outcome.the-variants.{Alien, Border, Taken, Bare, Short}
 use Rattle.board.specs.declared.Returned.{Returned}
-use Rattle.board.specs.Alien.{stacked, borderCountOf, boardWith, isAlien}
-use Rattle.board.specs.Board.{numberOf, returned, pushed, popped, decideRefusal, decideOf, undoOf, Typed}
+use Rattle.board.specs.Alien.{stacked, tallyIn, borderCountOf, boardWith, isAlien}
+use Rattle.board.specs.Board.{numberOf, returned, sideCount, tallyMore, tallyLess, pushed, popped, decideRefusal}
+use Rattle.board.specs.Board.{decideOf, undoOf, Typed}
 use Rattle.board.specs.ConditionLaws.{stacked-more}
 use Rattle.board.specs.Cases.{refusal-free, decide-alien, decide-refused, decide-done}
 use Rattle.board.specs.Cases.{undo-alien, undo-bare, undo-done}
+use Rattle.board.specs.TallyLaws.{tally-set, less-more, codes-some}
 use Rattle.board.specs.NativeLaws.{Native, native-has, native-of, borders-fit, free-unstacked, stack-room}
+use Rattle.board.specs.NativeLaws.{free-left}
 
 pub side-code : (d : Side) → (1 ≤ codeOf d) × (codeOf d ≤ 2)
 side-code Wall = (omega arith, omega arith)
@@ -142,6 +146,9 @@ module _ (b : Board) (N : Native b) (B : length (b .borders) ≡ 1984) (S : leng
         once = λ i h. once i h (ℕ-discrete i (b .count));
         code = λ x h. code x h (ℕ-discrete x n);
         held = λ x h. held x h (ℕ-discrete x n);
+        tally =
+            ap (λ (t : Tally). tallyMore t (sideIn v)) (N .tally)
+            ∙ sym (tally-set (b .borders) (borderCountOf b) n v k index p w z);
         noColour = N .noColour;
         noClue = N .noClue;
         noBorder = λ x h. getD-set-other (b .borders) n x v 0 (λ q. let e : x ≡ n = q in omega arith) ∙ N .noBorder x h;
@@ -213,20 +220,90 @@ module _ (b : Board) (N : Native b) (B : length (b .borders) ≡ 1984) (S : leng
       ∙ set-set (b .stack) (b .count) n 0
       ∙ ap (λ y. set (b .stack) (b .count) y) (sym (N .noEntry (b .count) (omega arith)))
       ∙ set-getD (b .stack) (b .count) 0 in
-      λ i. boardWith b (eb i) (es i) (ec i)
+      let et : tallyLess (tallyMore (b .tally) (sideIn v))
+      (sideIn (getD (set (b .borders) n v) (getD s (b .count + 1 - 1) 0) 0)) ≡ b .tally =
+      ap (λ y. tallyLess (tallyMore (b .tally) (sideIn v)) (sideIn (getD (set (b .borders) n v) y 0)))
+      (ap (λ q. getD s q 0) ec ∙ new-entry)
+      ∙ ap (λ y. tallyLess (tallyMore (b .tally) (sideIn v)) (sideIn y)) (getD-set-same (b .borders) n v 0 index)
+      ∙ less-more (b .tally) (sideIn v) (free-left b N n k p) in
+      λ i. boardWith b (eb i) (es i) (ec i) (et i)
 
 -- ---- an undo
 -- the board with its entry k taken off
 abbrev pub poppedAt : Board → ℕ → Board
-poppedAt b k = boardWith b (set (b .borders) (getD (b .stack) k 0) 0) (set (b .stack) k 0) k
+poppedAt b k =
+    let n = getD (b .stack) k 0 in
+    boardWith b (set (b .borders) n 0) (set (b .stack) k 0) k (tallyLess (b .tally) (sideIn (getD (b .borders) n 0)))
 
-module _ (b : Board) (N : Native b) (T : Typed b) (k : ℕ) (e : b .count ≡ k + 1) where
+module _ (b : Board) (N : Native b) (B : length (b .borders) ≡ 1984) (S : length (b .stack) ≡ 1984) (k : ℕ)
+    (e : b .count ≡ k + 1) where
   last : ℕ
   last = getD (b .stack) k 0
 
   last-below : last < borderCountOf b
   unfolding last
   last-below = N .entry k (omega arith)
+
+  -- its border is decided
+  last-held : getD (b .borders) last 0 ≡ 0 → ⊥
+  unfolding last
+  last-held z =
+      false≢true
+      (sym
+      (ap not
+      (ap (λ j. stacked (b .stack) j last) e
+      ∙ stacked-more (b .stack) k last
+      ∙ ap (λ (t : Bool). stacked (b .stack) k last || t) (eq-eqb last last refl)
+      ∙ or-true (stacked (b .stack) k last)))
+      ∙ sym (N .held last last-below)
+      ∙ eq-eqb (getD (b .borders) last 0) 0 z)
+
+  last-index : last < length (b .borders)
+  last-index = omega (arith, last-below, borders-fit b N, B)
+
+  -- the side of that border, and the tally without it
+  abbrev side : Side
+  side = sideIn (getD (b .borders) last 0)
+
+  abbrev rest : Tally
+  rest = tallyIn (set (b .borders) last 0) (borderCountOf b)
+
+  rest-some : 0 < rest .undecided
+  rest-some =
+      codes-some (set (b .borders) last 0) (borderCountOf b) last 0 last-below
+      (getD-set-same (b .borders) last 0 0 last-index)
+
+  rest-more : b .tally ≡ tallyMore rest side
+  rest-more =
+      let v = getD (b .borders) last 0 in
+      let c = N .code last last-below in
+      N .tally
+      ∙ ap (λ (bs : List ℕ). tallyIn bs (borderCountOf b))
+      (sym (set-set (b .borders) last 0 v ∙ set-getD (b .borders) last 0))
+      ∙ tally-set (set (b .borders) last 0) (borderCountOf b) last v last-below
+      (let q = length-set (b .borders) last 0 in let r = last-index in omega arith)
+      (getD-set-same (b .borders) last 0 0 last-index) (one-up v last-held) c
+    where
+      one-up : (v : ℕ) → (v ≡ 0 → ⊥) → 1 ≤ v
+      one-up v f = omega arith
+
+  rest-is : tallyLess (b .tally) side ≡ rest
+  rest-is = ap (λ (t : Tally). tallyLess t side) rest-more ∙ less-more rest side rest-some
+
+  -- the last decision made again
+  pub tally-again : tallyMore (tallyLess (b .tally) (sideIn (getD (b .borders) (getD (b .stack) k 0) 0)))
+      (sideIn (getD (b .borders) (getD (b .stack) k 0) 0)) ≡ b .tally
+  unfolding last
+  tally-again = ap (λ (t : Tally). tallyMore t side) rest-is ∙ sym rest-more
+
+  -- its side is counted
+  pub side-counted : 0 < sideCount (b .tally) (sideIn (getD (b .borders) (getD (b .stack) k 0) 0))
+  unfolding last
+  side-counted = rw rest-more (more-some rest side)
+    where
+      more-some : (t : Tally) (d : Side) → 0 < sideCount (tallyMore t d) d
+      more-some t Wall = omega arith
+      more-some t Open = omega arith
 
   pub popped-native : Native (poppedAt b k)
   unfolding last
@@ -244,6 +321,7 @@ module _ (b : Board) (N : Native b) (T : Typed b) (k : ℕ) (e : b .count ≡ k 
             ∙ N .once i (omega arith);
         code = λ x h. code x h (ℕ-discrete x last);
         held = λ x h. held x h (ℕ-discrete x last);
+        tally = rest-is;
         noColour = N .noColour;
         noClue = N .noClue;
         noBorder =
@@ -256,14 +334,11 @@ module _ (b : Board) (N : Native b) (T : Typed b) (k : ℕ) (e : b .count ≡ k 
       m : ℕ
       m = borderCountOf b
 
-      index : last < length (b .borders)
-      index = omega (arith, last-below, borders-fit b N, T .borders)
-
       old : (i : ℕ) → (i ≡ k → ⊥) → getD (set (b .stack) k 0) i 0 ≡ getD (b .stack) i 0
       old i d = getD-set-other (b .stack) k i 0 0 d
 
       code : (x : ℕ) → x < m → Dec (x ≡ last) → getD (set (b .borders) last 0) x 0 ≤ 2
-      code x h (yes d) = rw (d, getD-set-same (b .borders) last 0 0 index) (omega arith)
+      code x h (yes d) = rw (d, getD-set-same (b .borders) last 0 0 last-index) (omega arith)
       code x h (no d) = rw (getD-set-other (b .borders) last x 0 0 d) (N .code x h)
 
       held : (x : ℕ) → x < m → Dec (x ≡ last)
@@ -271,7 +346,7 @@ module _ (b : Board) (N : Native b) (T : Typed b) (k : ℕ) (e : b .count ≡ k 
       held x h (yes d) =
           rw (
             d,
-            getD-set-same (b .borders) last 0 0 index,
+            getD-set-same (b .borders) last 0 0 last-index,
             stacked-before (b .stack) k 0 k last (omega arith),
             N .once k (omega arith),
           )
@@ -286,12 +361,12 @@ module _ (b : Board) (N : Native b) (T : Typed b) (k : ℕ) (e : b .count ≡ k 
 
       noEntry : (i : ℕ) → k ≤ i → Dec (i ≡ k) → getD (set (b .stack) k 0) i 0 ≡ 0
       noEntry i h (yes d) =
-          let g = T .stack in
+          let g = S in
           rw d (getD-set-same (b .stack) k 0 0 (omega (arith, borders-fit b N, N .few)))
       noEntry i h (no d) = old i d ∙ N .noEntry i (omega arith)
 
-  pub popped-typed : Typed (poppedAt b k)
-  popped-typed =
+  pub popped-typed : Typed b → Typed (poppedAt b k)
+  popped-typed T =
       record {
         colours = T .colours;
         clues = T .clues;
@@ -318,14 +393,14 @@ pub undone-typed : (b : Board) {d : Board} → Typed b → undoOf b ≡ returned
 undone-typed b T e =
     let f = undone-is e in
     let c : b .count ≡ b .count - 1 + 1 = omega arith in
-    rw (f .is) (popped-typed b (native-has b (f .known)) T (b .count - 1) c)
+    rw (f .is) (popped-typed b (native-has b (f .known)) (T .borders) (T .stack) (b .count - 1) c T)
 
 pub undo-keeps : (b : Board) {d : Board} → Typed b → undoOf b ≡ returned Done d → isAlien d ≡ false
 undo-keeps b T e =
     let f = undone-is e in
     let N = native-has b (f .known) in
     let c : b .count ≡ b .count - 1 + 1 = omega arith in
-    ap isAlien (f .is) ∙ native-of _ (popped-native b N T (b .count - 1) c)
+    ap isAlien (f .is) ∙ native-of _ (popped-native b N (T .borders) (T .stack) (b .count - 1) c)
 
 -- after a decide that was done, an undo is done and gives back the board that the decide was given
 pub undo-decide : (b : Board) (l : Literal) {d : Board} → Typed b → decideOf b l ≡ returned Done d

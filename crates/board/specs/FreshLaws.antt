@@ -11,7 +11,7 @@ use lib.IntN.{ℤ, pos}
 use lib.ListN.{getD, replicate, length-replicate, List·getD-eq-default}
 use Rattle.lists.specs.PaddedLaws.{zeros, getD-padded, length-padded}
 use Rattle.lists.specs.TestLaws.{all-at}
-use Rattle.rules.specs.Flat.{Sized}
+use Rattle.rules.specs.Flat.{Sized, borderCount}
 use Rattle.laws.specs.FlatLaws.{counts}
 use Rattle.board.specs.declared.Board.{Board}
 use Rattle.board.specs.declared.Outcome.{Outcome}
@@ -22,6 +22,7 @@ use Rattle.board.specs.Board.{numberOf, zeroBoard, freshBoard, returned,
 use Rattle.board.specs.Board.{Typed}
 use Rattle.board.specs.ConditionLaws.{sized, stacked-none}
 use Rattle.board.specs.Cases.{PuzzleFit, puzzle-free, fresh-size, fresh-refused, fresh-free, alien-size}
+use Rattle.board.specs.TallyLaws.{tally-fresh}
 use Rattle.board.specs.NativeLaws.{Native, native-of}
 use Rattle.board.specs.DecideLaws.{one-number}
 
@@ -70,6 +71,7 @@ module _ {h w : ℕ} {cs : List ℕ} {ks : List ℤ} {d : Board} (M : Made h w c
         once = λ i l. absurd (omega arith);
         code = λ x l. rw (zeros 1984 x) (omega arith);
         held = λ x l. rw (zeros 1984 x, stacked-none (replicate 1984 0) x);
+        tally = sym (tally-fresh 1984 (borderCount h w));
         noColour = λ i l. let c = M .fit .colours in getD-padded 1024 0 cs i ∙ List·getD-eq-default cs 0 (omega arith);
         noClue =
             λ i l.

@@ -8,16 +8,17 @@ use lib.ListN.{length, getD, set}
 use lib.Seq.{getD-set-same, getD-set-other}
 use Rattle.lists.specs.TableLaws.{table-cong, table-more}
 use Rattle.rules.specs.declared.Literal.{Literal}
-use Rattle.rules.specs.Codes.{codeOf}
+use Rattle.rules.specs.Codes.{codeOf, sideIn}
 use Rattle.rules.specs.Book.{withLast}
+use Rattle.laws.specs.CodeLaws.{side-in}
 use Rattle.board.specs.declared.Board.{Board}
 use Rattle.board.specs.declared.Outcome.the-variants.{Done}
 use Rattle.board.specs.Alien.{stacked, borderCountOf}
 use Rattle.board.specs.Board.{returned, pushed, decideOf, Typed}
-use Rattle.board.specs.View.{sideIn, literalIn, literalsOf}
+use Rattle.board.specs.View.{literalIn, literalsOf}
 use Rattle.board.specs.NativeLaws.{Native, native-has, borders-fit, free-unstacked}
 use Rattle.board.specs.DecideLaws.{decided-is, new-entry, old-entry}
-use Rattle.board.specs.ViewLaws.{side-in, stacked-at}
+use Rattle.board.specs.ViewLaws.{stacked-at}
 
 -- a literal is the same where its border and its code are
 literal-same : (bs cs : List ℕ) (m n : ℕ) → m ≡ n → getD bs n 0 ≡ getD cs n 0 → literalIn bs m ≡ literalIn cs n

@@ -1,29 +1,32 @@
 -- Boards that are not alien: what they have, in plain facts, and how many borders are on their stack.
 use mathlib.Core.Path.{_≡_, refl, ap, sym, _∙_}
-use mathlib.Core.Bool.{Bool, true, false, not, _&&_, _||_, Bool·beq, false≢true}
+use mathlib.Core.Bool.{Bool, true, false, not, _&&_, _||_, or-true, or-false, Bool·beq, false≢true}
 use mathlib.Core.List.{List}
-use Prim.Native.Nat.{ℕ, zero, suc, _-_, _<_, _≤_}
+use Prim.Native.Nat.{ℕ, zero, suc, _+_, _-_, _*_, _<_, _≤_}
 use native.Mathlib.Numerals.{add-one}
-use native.Mathlib.Decide.{decLt}
+use native.Mathlib.Decide.{ℕ-discrete, decLt}
 use native.Mathlib.Omega.{arith}
-use borrow.Author.Tests.{leb-true, le-leb, ltb-true, lt-ltb, eq-eqb, eqb-true, not-true, not-false}
+use borrow.Author.Tests.{leb-true, le-leb, ltb-true, lt-ltb, eq-eqb, ne-eqb, eqb-true, eqb-false, not-true}
+use borrow.Author.Tests.{not-false}
 use lib.Dec.{leb, ltb, eqb}
 use lib.IntN.{ℤ, pos, negsuc}
 use lib.ListN.{length, getD, List·getD-eq-default}
-use Rattle.lists.specs.Count.{countBelow}
+use Rattle.lists.specs.Count.{bit, countBelow}
 use Rattle.lists.specs.Booleans.{and-left, and-right, beq-eq, eq-beq, T-true}
-use Rattle.lists.specs.TestLaws.{all-at, all-every, between-at, between-every}
-use Rattle.lists.specs.CountLaws.{count-cong, count-none, count-lt, count-more, count-not}
+use Rattle.lists.specs.TestLaws.{any-some, all-at, all-every, between-at, between-every}
+use Rattle.lists.specs.CountLaws.{count-cong, count-none, count-le, count-lt, count-more, count-not}
 use Rattle.rules.specs.Flat.{Sized}
+use Rattle.rules.specs.Book.{tallyOf, sameTally}
 use Rattle.laws.specs.FlatLaws.{counts, borders-le}
 use Rattle.board.specs.declared.Board.{Board}
 use Rattle.board.specs.Alien.{sizeRight, coloursRight, clueRight, cluesRight, stacked, entriesRight, onceEach}
 use Rattle.board.specs.Alien.{borderRight, bordersRight, zerosFrom, clueZero, zeroCluesFrom, puzzleRight}
 use Rattle.board.specs.Alien.{decisionsIn, unusedIn, cellCountOf, borderCountOf, cellsRight, decisionsRight}
-use Rattle.board.specs.Alien.{unusedZero, isAlien}
+use Rattle.board.specs.Alien.{codeSum, codeCount, tallyIn, decidedIn, unusedZero, isAlien}
 use Rattle.board.specs.Board.{numberOf, decideRefusal}
 use Rattle.board.specs.ConditionLaws.{sized, size-is, stacked-none, stacked-more}
 use Rattle.board.specs.Cases.{refusal-free}
+use Rattle.board.specs.TallyLaws.{same-is, is-same, codes-three, codes-some}
 
 pub record Native (b : Board) : Type 0 where
   pub size : Sized (b .height) (b .width)
@@ -37,6 +40,8 @@ pub record Native (b : Board) : Type 0 where
   pub code : (x : ℕ) → x < borderCountOf b → getD (b .borders) x 0 ≤ 2
   pub held : (x : ℕ) → x < borderCountOf b
       → eqb (getD (b .borders) x 0) 0 ≡ not (stacked (b .stack) (b .count) x)
+  -- the borders counted
+  pub tally : b .tally ≡ tallyIn (b .borders) (borderCountOf b)
   -- unused places, and what is read past the end
   pub noColour : (i : ℕ) → cellCountOf b ≤ i → getD (b .colours) i 0 ≡ 0
   pub noClue : (i : ℕ) → cellCountOf b ≤ i → getD (b .clues) i (pos 0) ≡ pos 0
@@ -73,6 +78,165 @@ pub zero-clues-of : (l : List ℤ) (from : ℕ) → ((i : ℕ) → from ≤ i �
 unfolding zeroCluesFrom
 zero-clues-of l from f = between-every from (length l) _ (λ i h k. rw (f i h))
 
+-- ---- the decisions: k entries of the stack s beside m borders
+pub record Decisions (m : ℕ) (bs s : List ℕ) (k : ℕ) : Type 0 where
+  pub few : k ≤ m
+  pub entry : (i : ℕ) → i < k → getD s i 0 < m
+  pub once : (i : ℕ) → i < k → stacked s i (getD s i 0) ≡ false
+  pub code : (x : ℕ) → x < m → getD bs x 0 ≤ 2
+  pub held : (x : ℕ) → x < m → eqb (getD bs x 0) 0 ≡ not (stacked s k x)
+
+pub has-decisions : (m : ℕ) (bs s : List ℕ) (k : ℕ) → decisionsIn m bs s k ≡ true → Decisions m bs s k
+unfolding decisionsIn entriesRight onceEach bordersRight
+has-decisions m bs s k d =
+    let few : Bool = leb k m in
+    let entries : Bool = entriesRight s m k in
+    let once : Bool = onceEach s k in
+    let borders : Bool = bordersRight bs s k m in
+    let d₃ = and-left (few && entries && once) borders d in
+    let d₂ = and-left (few && entries) once d₃ in
+    let border : (x : ℕ) → x < m → leb (getD bs x 0) 2 && Bool·beq (eqb (getD bs x 0) 0) (not (stacked s k x)) ≡ true =
+    λ x h. all-at m (λ y. borderRight (getD bs y 0) (stacked s k y)) x
+    (and-right (few && entries && once) borders d) h in
+    record {
+      few = leb-true k m (and-left few entries d₂);
+      entry =
+          λ i h. ltb-true (getD s i 0) m (all-at k (λ j. ltb (getD s j 0) m) i (and-right few entries d₂) h);
+      once =
+          λ i h. not-true (stacked s i (getD s i 0))
+          (all-at k (λ j. not (stacked s j (getD s j 0))) i (and-right (few && entries) once d₃) h);
+      code = λ x h. leb-true (getD bs x 0) 2 (and-left _ _ (border x h));
+      held =
+          λ x h. beq-eq (eqb (getD bs x 0) 0) (not (stacked s k x))
+          (rw (and-right (leb (getD bs x 0) 2) _ (border x h)) tt);
+    }
+
+module _ (m : ℕ) (bs s : List ℕ) (k : ℕ) (D : Decisions m bs s k) where
+  -- so many borders are among the first j entries
+  stack-counts : (j : ℕ) → j ≤ k → countBelow m (λ x. stacked s j x) ≡ j
+  stack-counts zero h = count-none _ _ (λ i q. stacked-none s i)
+  stack-counts (suc j) h =
+      let a : countBelow m (λ x. stacked s j x) ≡ j = stack-counts j (omega arith) in
+      let e : countBelow m (λ x. stacked s (suc j) x) ≡ countBelow m (λ x. stacked s j x || eqb (getD s j 0) x) =
+      count-cong m (λ x. stacked s (suc j) x) (λ x. stacked s j x || eqb (getD s j 0) x)
+      (λ i q. rw (← add-one) (stacked-more s j i)) in
+      let d =
+      count-more m (λ x. stacked s j x) (getD s j 0) (D .entry j (omega arith)) (D .once j (omega arith)) in
+      omega arith
+
+  -- the undecided borders are those that are not on the stack
+  pub free-count : codeCount bs m 0 ≡ m - k
+  unfolding codeCount
+  free-count =
+      let a = count-cong m (λ x. eqb (getD bs x 0) 0) (λ x. not (stacked s k x)) (D .held) in
+      let d = count-not m (λ x. stacked s k x) in
+      let e = stack-counts k (omega arith) in
+      omega arith
+
+  -- an entry's border is a wall
+  wall-at : ℕ → Bool
+  wall-at i = eqb (getD bs (getD s i 0) 0) 1
+
+  -- an entry's border has the code 1 or 2
+  entry-code : (i : ℕ) → i < k → getD bs (getD s i 0) 0 + bit (wall-at i) ≡ 2
+  unfolding wall-at stacked
+  entry-code i h =
+      let x = getD s i 0 in
+      go (getD bs x 0) (D .code x (D .entry i h))
+      (eqb-false (getD bs x 0) 0
+      (D .held x (D .entry i h) ∙ ap not (any-some k (λ j. eqb (getD s j 0) x) i h (eq-eqb x x refl))))
+    where
+      go : (v : ℕ) → v ≤ 2 → (v ≡ 0 → ⊥) → v + bit (eqb v 1) ≡ 2
+      go zero a d = absurd (d refl)
+      go (suc zero) a d = refl
+      go (suc (suc zero)) a d = refl
+      go (suc (suc (suc v))) a d = absurd (let z : suc (suc (suc v)) ≤ 2 = a in omega arith)
+
+  -- so the sum of the codes tells the walls among the entries
+  sum-tells : (j : ℕ) → j ≤ k → codeSum bs s j + countBelow j wall-at ≡ 2 * j
+  unfolding codeSum countBelow
+  sum-tells zero h = refl
+  sum-tells (suc j) h =
+      let a : codeSum bs s j + countBelow j wall-at ≡ 2 * j = sum-tells j (omega arith) in
+      let b = entry-code j (omega arith) in
+      omega arith
+
+  -- which are the walls among the borders
+  wall-counts : (j : ℕ) → j ≤ k
+      → countBelow m (λ x. stacked s j x && eqb (getD bs x 0) 1) ≡ countBelow j wall-at
+  unfolding countBelow wall-at
+  wall-counts zero h = count-none m _ (λ x q. rw (stacked-none s x))
+  wall-counts (suc j) h = go (wall-at j) refl (wall-counts j (omega arith))
+    where
+      e : ℕ
+      e = getD s j 0
+
+      before : ℕ → Bool
+      before x = stacked s j x && eqb (getD bs x 0) 1
+
+      more : (x : ℕ) → stacked s (suc j) x ≡ stacked s j x || eqb e x
+      more x = rw (← add-one) (stacked-more s j x)
+
+      go : (w : Bool) → wall-at j ≡ w → countBelow m before ≡ countBelow j wall-at
+          → countBelow m (λ x. stacked s (suc j) x && eqb (getD bs x 0) 1) ≡ countBelow j wall-at + bit (wall-at j)
+      go true p ih =
+          let a = count-cong m (λ x. stacked s (suc j) x && eqb (getD bs x 0) 1) (λ x. before x || eqb e x)
+          (λ x q. rw (more x) (here x (ℕ-discrete e x))) in
+          let b = count-more m before e (D .entry j (omega arith)) (rw (D .once j (omega arith))) in
+          let d : bit (wall-at j) ≡ 1 = ap bit p in
+          omega arith
+        where
+          here : (x : ℕ) → Dec (e ≡ x)
+              → (stacked s j x || eqb e x) && eqb (getD bs x 0) 1 ≡ before x || eqb e x
+          here x (yes q) =
+              rw (← q, eq-eqb e e refl, p, or-true (stacked s j e)) (sym (or-true (stacked s j e && true)))
+          here x (no q) = rw (ne-eqb e x q, or-false (stacked s j x), or-false (before x))
+      go false p ih =
+          let a = count-cong m (λ x. stacked s (suc j) x && eqb (getD bs x 0) 1) before
+          (λ x q. rw (more x) (here x (ℕ-discrete e x))) in
+          let d : bit (wall-at j) ≡ 0 = ap bit p in
+          omega arith
+        where
+          none : (a b : Bool) → a && false ≡ b && false
+          none true true = refl
+          none true false = refl
+          none false true = refl
+          none false false = refl
+
+          here : (x : ℕ) → Dec (e ≡ x) → (stacked s j x || eqb e x) && eqb (getD bs x 0) 1 ≡ before x
+          here x (yes q) = rw (← q, p) (none (stacked s j e || eqb e e) (stacked s j e))
+          here x (no q) = rw (ne-eqb e x q, or-false (stacked s j x))
+
+  all-walls : codeCount bs m 1 ≡ countBelow k wall-at
+  unfolding codeCount
+  all-walls =
+      count-cong m (λ x. eqb (getD bs x 0) 1) (λ x. stacked s k x && eqb (getD bs x 0) 1) (λ x h. each x h)
+      ∙ wall-counts k (omega arith)
+    where
+      each : (x : ℕ) → x < m → eqb (getD bs x 0) 1 ≡ stacked s k x && eqb (getD bs x 0) 1
+      each x h = go (stacked s k x) refl
+        where
+          go : (t : Bool) → stacked s k x ≡ t → eqb (getD bs x 0) 1 ≡ t && eqb (getD bs x 0) 1
+          go true p = refl
+          go false p = rw (eqb-true (getD bs x 0) 0 (D .held x h ∙ ap not p))
+
+  -- the sum of the codes of all entries tells the tally
+  pub sum-bounds : (k ≤ codeSum bs s k) × (codeSum bs s k ≤ 2 * k)
+  sum-bounds =
+      let a = sum-tells k (omega arith) in
+      let b = count-le k wall-at in
+      (omega arith, omega arith)
+
+  pub sum-tally : tallyIn bs m ≡ tallyOf (m - k) (2 * k - codeSum bs s k) (codeSum bs s k - k)
+  sum-tally =
+      let a = sum-tells k (omega arith) in
+      let c = codes-three bs m (D .code) in
+      let w = all-walls in
+      let u = free-count in
+      let p : codeCount bs m 1 ≡ 2 * k - codeSum bs s k = omega arith in
+      let o : codeCount bs m 2 ≡ codeSum bs s k - k = omega (arith, D .few) in
+      λ i. tallyOf (u i) (p i) (o i)
+
 -- ---- the test's two directions
 module _ (b : Board) where
   cells : ℕ
@@ -83,24 +247,17 @@ module _ (b : Board) where
 
   has-cells : sizeRight (b .height) (b .width) ≡ true → cellsRight b ≡ true → decisionsRight b ≡ true
       → unusedZero b ≡ true → Native b
-  unfolding puzzleRight decisionsIn unusedIn coloursRight cluesRight entriesRight onceEach bordersRight cells m
+  unfolding puzzleRight decidedIn unusedIn coloursRight cluesRight cells m
   has-cells s c d u =
-      let few : Bool = leb (b .count) m in
-      let entries : Bool = entriesRight (b .stack) m (b .count) in
-      let once : Bool = onceEach (b .stack) (b .count) in
-      let borders : Bool = bordersRight (b .borders) (b .stack) (b .count) m in
+      let right : Bool = decisionsIn m (b .borders) (b .stack) (b .count) in
+      let t : Bool = sameTally (b .tally) (tallyIn (b .borders) m) in
+      let D = has-decisions m (b .borders) (b .stack) (b .count) (and-left right t d) in
       let zc : Bool = zerosFrom (b .colours) cells in
       let zk : Bool = zeroCluesFrom (b .clues) cells in
       let zb : Bool = zerosFrom (b .borders) m in
       let zs : Bool = zerosFrom (b .stack) (b .count) in
-      let d₃ = and-left (few && entries && once) borders d in
-      let d₂ = and-left (few && entries) once d₃ in
       let u₃ = and-left (zc && zk && zb) zs u in
       let u₂ = and-left (zc && zk) zb u₃ in
-      let border : (x : ℕ) → x < m → leb (getD (b .borders) x 0) 2
-      && Bool·beq (eqb (getD (b .borders) x 0) 0) (not (stacked (b .stack) (b .count) x)) ≡ true =
-      λ x h. all-at m (λ y. borderRight (getD (b .borders) y 0) (stacked (b .stack) (b .count) y)) x
-      (and-right (few && entries && once) borders d) h in
       record {
         size = sized s;
         colour =
@@ -110,18 +267,12 @@ module _ (b : Board) where
         clue =
             λ i h. all-at cells (λ j. clueRight (getD (b .clues) j (pos 0))) i
             (and-right (coloursRight (b .colours) cells) (cluesRight (b .clues) cells) c) h;
-        few = leb-true (b .count) m (and-left few entries d₂);
-        entry =
-            λ i h. ltb-true (getD (b .stack) i 0) m
-            (all-at (b .count) (λ j. ltb (getD (b .stack) j 0) m) i (and-right few entries d₂) h);
-        once =
-            λ i h. not-true (stacked (b .stack) i (getD (b .stack) i 0))
-            (all-at (b .count) (λ j. not (stacked (b .stack) j (getD (b .stack) j 0))) i
-            (and-right (few && entries) once d₃) h);
-        code = λ x h. leb-true (getD (b .borders) x 0) 2 (and-left _ _ (border x h));
-        held =
-            λ x h. beq-eq (eqb (getD (b .borders) x 0) 0) (not (stacked (b .stack) (b .count) x))
-            (rw (and-right (leb (getD (b .borders) x 0) 2) _ (border x h)) tt);
+        few = D .few;
+        entry = D .entry;
+        once = D .once;
+        code = D .code;
+        held = D .held;
+        tally = same-is (b .tally) (tallyIn (b .borders) m) (and-right right t d);
         noColour = λ i h. zeros-at (b .colours) cells i (and-left zc zk u₂) h;
         noClue = λ i h. zero-clues-at (b .clues) cells i (and-right zc zk u₂) h;
         noBorder = λ x h. zeros-at (b .borders) m x (and-right (zc && zk) zb u₃) h;
@@ -151,9 +302,10 @@ module _ (b : Board) where
         )
 
     decisions-hold : decisionsRight b ≡ true
-    unfolding decisionsIn entriesRight onceEach bordersRight m
+    unfolding decidedIn decisionsIn entriesRight onceEach bordersRight m
     decisions-hold =
         rw (
+          is-same (b .tally) (tallyIn (b .borders) m) (N .tally),
           le-leb (b .count) m (N .few),
           all-every (b .count) (λ i. ltb (getD (b .stack) i 0) m)
               (λ i h. lt-ltb (getD (b .stack) i 0) m (N .entry i h)),
@@ -186,20 +338,26 @@ module _ (b : Board) (N : Native b) where
   pub borders-fit : borderCountOf b ≤ 1984
   borders-fit = borders-le (N .size)
 
-  -- so many borders are among the first k entries
-  stack-counts : (k : ℕ) → k ≤ b .count
-      → countBelow (borderCountOf b) (λ x. stacked (b .stack) k x) ≡ k
-  stack-counts zero h = count-none _ _ (λ i q. stacked-none (b .stack) i)
-  stack-counts (suc k) h =
+  decisions : Decisions (borderCountOf b) (b .borders) (b .stack) (b .count)
+  decisions = record { few = N .few; entry = N .entry; once = N .once; code = N .code; held = N .held }
+
+  -- the tally's counts are at most as many as there are borders
+  pub tally-fits : (b .tally .undecided ≤ 1984) × (b .tally .walls ≤ 1984) × (b .tally .opens ≤ 1984)
+  tally-fits =
+      let a = codes-three (b .borders) (borderCountOf b) (N .code) in
+      let f = borders-fit in
+      rw (N .tally) (omega arith, omega arith, omega arith)
+
+  -- with an empty stack every border is undecided
+  pub tally-bare : b .count ≡ 0 → b .tally ≡ tallyOf (borderCountOf b) 0 0
+  tally-bare e =
       let m = borderCountOf b in
-      let s = b .stack in
-      let a : countBelow m (λ x. stacked s k x) ≡ k = stack-counts k (omega arith) in
-      let e : countBelow m (λ x. stacked s (suc k) x) ≡ countBelow m (λ x. stacked s k x || eqb (getD s k 0) x) =
-      count-cong m (λ x. stacked s (suc k) x) (λ x. stacked s k x || eqb (getD s k 0) x)
-      (λ i q. rw (← add-one) (stacked-more s k i)) in
-      let d =
-      count-more m (λ x. stacked s k x) (getD s k 0) (N .entry k (omega arith)) (N .once k (omega arith)) in
-      omega arith
+      let c = codes-three (b .borders) m (N .code) in
+      let u = free-count _ _ _ _ decisions in
+      let p : codeCount (b .borders) m 0 ≡ m = omega arith in
+      let q : codeCount (b .borders) m 1 ≡ 0 = omega arith in
+      let r : codeCount (b .borders) m 2 ≡ 0 = omega arith in
+      N .tally ∙ (λ i. tallyOf (p i) (q i) (r i))
 
   -- an undecided border is not on the stack
   pub free-unstacked : (x : ℕ) → x < borderCountOf b → getD (b .borders) x 0 ≡ 0
@@ -213,25 +371,24 @@ module _ (b : Board) (N : Native b) where
   stack-room x h p =
       omega (
         arith,
-        stack-counts (b .count) (omega arith),
+        stack-counts _ _ _ _ decisions (b .count) (omega arith),
         count-lt (borderCountOf b) (λ y. stacked (b .stack) (b .count) y) x h (free-unstacked x h p),
       )
 
-  -- a decide that is not refused has its places in both arrays
+  -- and is counted
+  pub free-left : (n : ℕ) → n < borderCountOf b → getD (b .borders) n 0 ≡ 0 → 0 < b .tally .undecided
+  free-left n k p = rw (N .tally) (codes-some (b .borders) (borderCountOf b) n 0 k p)
+
+  -- a decide that is not refused has its places in both arrays, and a tally that can count it
   pub free-places : (n : ℕ) → numberOf (decideRefusal (borderCountOf b) (b .borders) n) ≡ 0
-      → (n < 1984) × (b .count < 1984)
+      → (n < 1984) × (b .count < 1984) × (0 < b .tally .undecided) × (b .tally .walls ≤ 1984)
+      × (b .tally .opens ≤ 1984)
   free-places n e =
       let f = refusal-free (borderCountOf b) (b .borders) n e in
-      let k = borders-fit in
-      (omega (arith, f .0), omega (arith, stack-room n (f .0) (f .1)))
-
-  -- the undecided borders are those that are not on the stack
-  pub free-count : countBelow (borderCountOf b) (λ x. eqb (getD (b .borders) x 0) 0)
-      ≡ borderCountOf b - b .count
-  free-count =
-      let m = borderCountOf b in
-      let a =
-      count-cong m (λ x. eqb (getD (b .borders) x 0) 0) (λ x. not (stacked (b .stack) (b .count) x)) (N .held) in
-      let d = count-not m (λ x. stacked (b .stack) (b .count) x) in
-      let e = stack-counts (b .count) (omega arith) in
-      omega arith
+      let k = borders-fit in (
+        omega (arith, f .0),
+        omega (arith, stack-room n (f .0) (f .1)),
+        free-left n (f .0) (f .1),
+        tally-fits .1,
+        tally-fits .2,
+      )

@@ -2,7 +2,6 @@
 --
 --   puzzleOf b           the puzzle of a board
 --   statesOf b           its borders
---   sideIn v             the side that a decided border's place v stands for
 --   literalIn bs n       the border n with the side that the array bs has for it
 --   literalsOf b         its stack with the sides, oldest first
 --   replyOf o            an outcome of a decide or an undo as the book's reply
@@ -12,14 +11,11 @@
 use mathlib.Core.Bool.{cond}
 use mathlib.Core.List.{List}
 use Prim.Native.Nat.{ℕ}
-use lib.Dec.{eqb}
 use lib.ListN.{getD}
 use Rattle.lists.specs.Table.{table}
-use Rattle.rules.specs.declared.Side.{Side}
-use Rattle.rules.specs.declared.Side.the-variants.{Wall, Open}
 use Rattle.rules.specs.declared.Literal.{Literal}
 use Rattle.rules.specs.Page.{Puzzle, State}
-use Rattle.rules.specs.Codes.{statesIn, puzzleIn}
+use Rattle.rules.specs.Codes.{sideIn, statesIn, puzzleIn}
 use Rattle.rules.specs.Book.{Reply, refused, done}
 use Rattle.board.specs.declared.Board.{Board}
 use Rattle.board.specs.declared.Outcome.{Outcome}
@@ -30,9 +26,6 @@ puzzleOf b = puzzleIn (b .height) (b .width) (b .colours) (b .clues)
 
 unfoldable pub statesOf : Board → ℕ → State
 statesOf b = statesIn (b .borders)
-
-abbrev pub sideIn : ℕ → Side
-sideIn v = cond (eqb v 1) Wall Open
 
 -- the border n of the board with its side
 abbrev pub literalIn : List ℕ → ℕ → Literal

@@ -2,7 +2,7 @@
 use mathlib.Core.Path.{_≡_, refl, ap, sym, _∙_}
 use mathlib.Core.Bool.{Bool, true, false, not, Bool·not-not}
 use mathlib.Core.List.{List, []}
-use Prim.Native.Nat.{ℕ, zero, suc, _-_, _<_, _≤_}
+use Prim.Native.Nat.{ℕ, zero, suc, _<_, _≤_}
 use native.Mathlib.Decide.{decLt}
 use native.Mathlib.Omega.{arith}
 use borrow.Author.Tests.{eq-eqb, ne-eqb, eqb-true, eqb-false, not-false}
@@ -15,28 +15,23 @@ use Rattle.lists.specs.TestLaws.{any-some, any-fails}
 use Rattle.lists.specs.CountLaws.{count-cong}
 use Rattle.lists.specs.TableLaws.{length-table, table-find}
 use Rattle.lists.specs.PaddedLaws.{getD-padded}
-use Rattle.rules.specs.declared.Side.{Side}
-use Rattle.rules.specs.declared.Side.the-variants.{Wall, Open}
 use Rattle.rules.specs.declared.Literal.{Literal}
+use Rattle.rules.specs.declared.Tally.{Tally}
 use Rattle.rules.specs.Page.{decided, isUndecided}
 use Rattle.rules.specs.Flat.{flat}
-use Rattle.rules.specs.Codes.{stateOf, codeOf, statesIn, coloursIn, clueOf, cluesIn, puzzleIn}
+use Rattle.rules.specs.Codes.{stateOf, sideIn, statesIn, coloursIn, clueOf, cluesIn, puzzleIn}
 use Rattle.rules.specs.Check.{undecidedCount}
 use Rattle.rules.specs.Book.{states, names}
 use Rattle.laws.specs.BookLaws.{states-none, names-table, states-all}
 use Rattle.board.specs.declared.Board.{Board}
 use Rattle.board.specs.declared.Outcome.the-variants.{Done}
-use Rattle.board.specs.Alien.{stacked, borderCountOf}
+use Rattle.board.specs.Alien.{stacked, codeCount, borderCountOf}
 use Rattle.board.specs.Board.{freshBoard, returned, decideOf, undoOf}
-use Rattle.board.specs.View.{puzzleOf, statesOf, sideIn, literalIn, literalsOf}
-use Rattle.board.specs.NativeLaws.{Native, free-count}
+use Rattle.board.specs.View.{puzzleOf, statesOf, literalIn, literalsOf}
+use Rattle.board.specs.NativeLaws.{Native}
 use Rattle.board.specs.DecideLaws.{decided-is, undone-is}
 
 -- ---- codes
-pub side-in : (d : Side) → sideIn (codeOf d) ≡ d
-side-in Wall = refl
-side-in Open = refl
-
 state-side : (v : ℕ) → v ≤ 2 → (v ≡ 0 → ⊥) → stateOf v ≡ decided (sideIn v)
 state-side zero h k = absurd (k refl)
 state-side (suc zero) h k = refl
@@ -144,9 +139,10 @@ module _ (b : Board) (N : Native b) where
           (not-false (eqb (getD (b .borders) x 0) 0) (sym (names-decided x) ∙ e))))
 
   -- ---- the count of undecided borders
-  pub undecided-is : undecidedCount (puzzleOf b) (statesOf b) ≡ borderCountOf b - b .count
-  unfolding undecidedCount puzzleOf statesOf statesIn flat
-  undecided-is =
+  -- "The number after pass is the stored one, and it still equals the borders counted"
+  pub pass-stored : undecidedCount (puzzleOf b) (statesOf b) ≡ b .tally .undecided
+  unfolding undecidedCount puzzleOf statesOf statesIn flat codeCount
+  pass-stored =
       count-cong (borderCountOf b) (λ x. isUndecided (statesIn (b .borders) x))
       (λ x. eqb (getD (b .borders) x 0) 0) (λ x h. free-zero (getD (b .borders) x 0) (code-small x))
-      ∙ free-count b N
+      ∙ sym (ap (λ (t : Tally). t .undecided) (N .tally))

@@ -2,17 +2,19 @@
 ghost use mathlib.Core.Path.{_≡_};
 ghost use Prim.Native.Nat.{_-_, _<_, _≤_};
 ghost use lib.ListN.{getD};
-ghost use Rattle.rules.specs.Codes.{codeOf};
+ghost use Rattle.rules.specs.Codes.{codeOf, sideIn};
 ghost use Rattle.board.specs.Board.{numberOf, zeroBoard, returned, freshOf};
-ghost use Rattle.board.specs.Board.{pushed, popped, decideOf, countAfter, undoOf};
-ghost use Rattle.board.specs.Alien.{sizeRight, cellsOf, bordersOf, puzzleRight, decisionsIn, unusedIn, boardOf};
+ghost use Rattle.board.specs.Board.{sideCount, pushed, popped, decideOf, countAfter, talliedBy, undoOf};
+ghost use Rattle.board.specs.Alien.{sizeRight, cellsOf, bordersOf, puzzleRight, decidedIn, unusedIn, boardOf};
 ghost use Rattle.board.specs.Alien.{isAlien};
 use rules::Literal;
 use rules::Side;
+use rules::Tally;
 use rules::index;
 
 mod conditions; // conditions.rt: the conditions on colours, clues, stack entries, borders and unused places
 mod padding; // padding.rt: a puzzle's lists as arrays
+pub mod tallies; // tallies.rt: the three counts, kept and tested
 pub mod refusals; // refusals.rt: how making a board, a decide and an undo end, by the tests that code shares
 
 pub struct Board {
@@ -23,6 +25,7 @@ pub struct Board {
     pub borders: [u8; Board::BORDER_LIMIT],
     pub stack: [u16; Board::BORDER_LIMIT],
     pub count: usize,
+    pub tally: Tally,
 }
 
 // How a call ended: done, or refused with one of 01's words.
@@ -132,23 +135,30 @@ fn cells_right<'a>(
     }
 }
 
-// Whether the stack has each decided one of so many borders once, and nothing else.
+// Whether the stack has each decided one of so many borders once, and nothing else, and the tally is that of these
+// borders.
 fn decisions_right<'a>(
     total: usize,
     borders: &'a [u8; Board::BORDER_LIMIT],
     stack: &'a [u16; Board::BORDER_LIMIT],
     count: usize,
+    tally: Tally,
 ) -> bool
     requires { ⌜ total ≤ 1984 ⌝ }
-    ensures { λ r. ⌜ r ≡ decisionsIn total (now (borders .entry)) (now (stack .entry)) count ⌝ }
+    ensures { λ r. ⌜ r ≡ decidedIn total (now (borders .entry)) (now (stack .entry)) count tally ⌝ }
 {
+    // as a slice, so that the proof knows its length
+    let states: &[u8] = borders;
     if total < count {
         return false;
     }
     if conditions::entries_right(stack, total, count) {
         let mut seen = [false; Board::BORDER_LIMIT];
-        if conditions::flag_stack(stack, count, &mut seen) {
-            return conditions::borders_right(borders, &seen, total);
+        let found = conditions::flag_stack(stack, states, count, &mut seen);
+        if found.once {
+            if conditions::borders_right(borders, &seen, total) {
+                return tallies::tally_right(total, count, found.sum, tally);
+            }
         }
     }
     false
@@ -191,15 +201,16 @@ pub fn is_alien<'a>(
     borders: &'a [u8; Board::BORDER_LIMIT],
     stack: &'a [u16; Board::BORDER_LIMIT],
     count: usize,
+    tally: Tally,
 ) -> bool
     ensures { λ r. ⌜ r ≡ isAlien (boardOf h w (now (colours .entry)) (now (clues .entry)) (now (borders .entry))
-        (now (stack .entry)) count) ⌝ }
+        (now (stack .entry)) count tally) ⌝ }
 {
     if size_right(h, w) {
         let cells = cell_count(h, w);
         let total = border_count(h, w);
         if cells_right(cells, colours, clues) {
-            if decisions_right(total, borders, stack, count) {
+            if decisions_right(total, borders, stack, count, tally) {
                 !unused_zero(cells, total, colours, clues, borders, stack, count)
             } else {
                 true
@@ -212,8 +223,8 @@ pub fn is_alien<'a>(
     }
 }
 
-// Decide on a board whose arrays are lent: borders and stack become those of the board after it, and a decide that is
-// done makes the count one more. No board is copied.
+// Decide on a board whose arrays are lent: borders and stack become those of the board after it; a decide that is done
+// makes the count one more, and the caller the tally. No board is copied.
 pub fn decide_lent<'a>(
     h: usize,
     w: usize,
@@ -222,14 +233,15 @@ pub fn decide_lent<'a>(
     borders: &mut [u8; Board::BORDER_LIMIT],
     stack: &mut [u16; Board::BORDER_LIMIT],
     count: usize,
+    tally: Tally,
     l: Literal,
 ) -> Outcome
     ensures { λ r. ⌜ returned r (boardOf h w (now (colours .entry)) (now (clues .entry)) (now (borders .exit))
-        (now (stack .exit)) (countAfter r count))
+        (now (stack .exit)) (countAfter r count) (talliedBy r tally (codeOf (l .side))))
         ≡ decideOf (boardOf h w (now (colours .entry)) (now (clues .entry)) (now (borders .entry))
-        (now (stack .entry)) count) l ⌝ }
+        (now (stack .entry)) count tally) l ⌝ }
 {
-    if is_alien(h, w, colours, clues, borders, stack, count) {
+    if is_alien(h, w, colours, clues, borders, stack, count, tally) {
         return Outcome::Alien;
     }
     let n = l.border;
@@ -262,6 +274,11 @@ impl Board {
             borders: [0u8; Board::BORDER_LIMIT],
             stack: [0u16; Board::BORDER_LIMIT],
             count: 0,
+            tally: Tally {
+                undecided: 0,
+                walls: 0,
+                opens: 0,
+            },
         }
     }
 
@@ -282,6 +299,11 @@ impl Board {
                 borders: [0u8; Board::BORDER_LIMIT],
                 stack: [0u16; Board::BORDER_LIMIT],
                 count: 0,
+                tally: Tally {
+                    undecided: border_count(height, width),
+                    walls: 0,
+                    opens: 0,
+                },
             };
             Returned { outcome, board }
         } else {
@@ -293,6 +315,7 @@ impl Board {
     pub fn alien(self) -> bool
         ensures { λ r. ⌜ r ≡ isAlien self ⌝ }
     {
+        let tally = self.tally;
         is_alien(
             self.height,
             self.width,
@@ -301,33 +324,44 @@ impl Board {
             &self.borders,
             &self.stack,
             self.count,
+            tally,
         )
     }
 
     // The border n set to the code v, and put on the stack.
     fn push(self, n: usize, v: u8) -> Self
-        requires { ⌜ (n < 1984) × (self .count < 1984) ⌝ }
+        requires { ⌜ (n < 1984) × (self .count < 1984) × (0 < self .tally .undecided) × (self .tally .walls ≤ 1984)
+            × (self .tally .opens ≤ 1984) ⌝ }
         ensures { λ r. ⌜ r ≡ pushed self n v ⌝ }
     {
         let at = self.count;
+        let tally = self.tally;
+        let counted = tallies::more(tally, v);
         let mut b = self;
         b.borders[n] = v;
         b.stack[at] = n as u16;
         b.count += 1;
+        b.tally = counted;
         b
     }
 
     // The last border of the stack taken off, and made undecided.
     fn pop(self) -> Self
-        requires { ⌜ (0 < self .count) × (self .count ≤ 1984) × (getD (self .stack) (self .count - 1) 0 < 1984) ⌝ }
+        requires { ⌜ (0 < self .count) × (self .count ≤ 1984) × (getD (self .stack) (self .count - 1) 0 < 1984)
+            × (self .tally .undecided ≤ 1984) × (0 < sideCount (self .tally)
+            (sideIn (getD (self .borders) (getD (self .stack) (self .count - 1) 0) 0))) ⌝ }
         ensures { λ r. ⌜ r ≡ popped self ⌝ }
     {
         let at = self.count - 1;
         let n = index(self.stack[at]);
+        let v = self.borders[n];
+        let tally = self.tally;
+        let counted = tallies::less(tally, v);
         let mut b = self;
         b.borders[n] = 0;
         b.stack[at] = 0;
         b.count = at;
+        b.tally = counted;
         b
     }
 

@@ -13,6 +13,8 @@
 --   undecided-left      so the undecided borders are those that the sequence leaves
 --   after-clean, book-clean           the book's sequence is so
 --   from-append, book-append, replies-append   the book and the answers of a list that is followed by another
+--   plain-done, plain-answered   a call that is done or answered, with a record or none, is so without one
+--   alien-after, agreed-after    a record that disagrees leaves the book; with another it goes on as with none
 --   undo-takes          an undo takes the last literal off
 --   check-leaves, preview-leaves       a check and a preview leave the book as it is
 --   preview-follows, preview-refused   a preview is answered as the check after the decide, or refused as the decide
@@ -45,7 +47,8 @@ use Rattle.rules.specs.Page.{Puzzle, State, undecided, decided, Has, isUndecide
 use Rattle.rules.specs.Check.{Verdict, undecidedCount, check}
 use Rattle.rules.specs.Book.{Asked, ask, Reply, refused, done, answered, Book, freshBook, stateIf, states, names}
 use Rattle.rules.specs.Book.{withLast, withoutLast, bareOr, looked, thenReply, doneBook, afterBy, decideReply}
-use Rattle.rules.specs.Book.{checkReply, replyTo, reply, after, bookFrom, repliesFrom, bookAfter, replies}
+use Rattle.rules.specs.Book.{checkReply, replyTo, orAlien, disagrees, reply, after, bookFrom, repliesFrom, bookAfter}
+use Rattle.rules.specs.Book.{replies}
 
 pub states-none : (ls : List Literal) (x : ℕ) → names ls x ≡ false → states ls x ≡ undecided
 unfolding names any states
@@ -229,6 +232,34 @@ not-answered n f e = let z : _≡_ {A = ℕ} 0 1 = cc in omega arith
 done-answered : (f : Verdict) → done ≡ answered f → ⊥
 done-answered f e = let z : _≡_ {A = ℕ} 0 1 = cc in omega arith
 
+-- ---- a lent record
+module _ (Z : Puzzle) (k : Book) (a : Asked) where
+  abbrev plain : Reply
+  plain = replyTo Z (k .sequence) (a .places) (a .call)
+
+  pub plain-done : reply Z k a ≡ done → plain ≡ done
+  plain-done e = go (disagrees Z (k .sequence) (a .tally)) e
+    where
+      go : (t : Bool) → orAlien t plain ≡ done → plain ≡ done
+      go true q = absurd (not-done 5 q)
+      go false q = q
+
+  pub plain-answered : (f : Verdict) → reply Z k a ≡ answered f → plain ≡ answered f
+  plain-answered f e = go (disagrees Z (k .sequence) (a .tally)) e
+    where
+      go : (t : Bool) → orAlien t plain ≡ answered f → plain ≡ answered f
+      go true q = absurd (not-answered 5 f q)
+      go false q = q
+
+  pub alien-after : disagrees Z (k .sequence) (a .tally) ≡ true → after Z k a ≡ k
+  unfolding after
+  alien-after e = rw e
+
+  pub agreed-after : disagrees Z (k .sequence) (a .tally) ≡ false
+      → after Z k a ≡ after Z k (ask (a .places) (a .call))
+  unfolding after
+  agreed-after e = rw e
+
 -- ---- the book's sequence is clean
 module _ (Z : Puzzle) where
   -- a decide that is done
@@ -256,7 +287,7 @@ module _ (Z : Puzzle) where
     where
       go : (r : Reply) → reply Z k a ≡ r → Clean Z (afterBy r k (doneBook k (a .call)) .sequence)
       go (refused n) e = c
-      go done e = done-clean k (a .places) (a .call) c e
+      go done e = done-clean k (a .places) (a .call) c (plain-done Z k a e)
       go (answered f) e = c
 
   from-clean : (k : Book) (calls : List Asked) → Clean Z (k .sequence) → Clean Z (bookFrom Z k calls .sequence)
@@ -382,7 +413,7 @@ module _ (Z : Puzzle) (ls : List Literal) where
 
 module _ (Z : Puzzle) (k : Book) (a : Asked) (f : Verdict) (e : reply Z k a ≡ answered f) where
   looks : LooksAt Z (k .sequence) (a .call) f
-  looks = call-looks Z (k .sequence) (a .places) (a .call) f e
+  looks = call-looks Z (k .sequence) (a .places) (a .call) f (plain-answered Z k a f e)
 
   pub answered-check : check Z (states (looked (k .sequence) (a .call))) ≡ f
   answered-check = looks .verdict

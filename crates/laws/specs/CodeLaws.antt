@@ -2,6 +2,7 @@
 --
 --   wall-state, open-state   what a number says
 --   state-wall, state-open   the same in an array
+--   side-in, side-of         a decided border's side is told by its number
 --   bit-same                 two colours' numbers
 --   clue-fits                a clue of 32 bits that is not negative is a number of 64 bits
 use mathlib.Core.Path.{_≡_, refl}
@@ -17,9 +18,10 @@ use lib.IntN.{ℤ, pos, negsuc, natAbs}
 use lib.Signed.{leZ, nonNeg}
 use mir.Syntax.{w32, w64}
 use mir.Val.{Fits, SFits}
+use Rattle.rules.specs.declared.Side.{Side}
 use Rattle.rules.specs.declared.Side.the-variants.{Wall, Open}
 use Rattle.rules.specs.Page.{undecided, decided, isWall, isOpen}
-use Rattle.rules.specs.Codes.{stateOf, statesIn}
+use Rattle.rules.specs.Codes.{stateOf, codeOf, sideIn, statesIn}
 
 pub wall-state : (v : ℕ) → isWall (stateOf v) ≡ eqb v 1
 wall-state v = go (eqb v 1) (eqb v 2)
@@ -45,6 +47,16 @@ module _ (bs : List ℕ) (b : ℕ) where
   pub state-open : isOpen (statesIn bs b) ≡ eqb (getD bs b 0) 2
   unfolding statesIn
   state-open = open-state (getD bs b 0)
+
+pub side-in : (d : Side) → sideIn (codeOf d) ≡ d
+side-in Wall = refl
+side-in Open = refl
+
+pub side-of : (v : ℕ) → v ≤ 2 → (v ≡ 0 → ⊥) → codeOf (sideIn v) ≡ v
+side-of zero h k = absurd (k refl)
+side-of (suc zero) h k = refl
+side-of (suc (suc zero)) h k = refl
+side-of (suc (suc (suc v))) h k = absurd (let z : suc (suc (suc v)) ≤ 2 = h in omega arith)
 
 -- two colours are equal as their numbers are
 pub bit-same : (a b : ℕ) → a ≤ 1 → b ≤ 1 → Bool·beq (eqb a 1) (eqb b 1) ≡ eqb a b

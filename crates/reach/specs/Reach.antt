@@ -15,18 +15,20 @@ use lib.Seq.{getD-set-same, set-set, set-getD, length-take-le, getD-take}
 use Rattle.lists.specs.TestLaws.{all-every}
 use Rattle.lists.specs.PaddedLaws.{padded-take, replicate-is}
 use Rattle.rules.specs.declared.Literal.{Literal}
-use Rattle.rules.specs.Codes.{codeOf}
+use Rattle.rules.specs.Codes.{codeOf, sideIn}
+use Rattle.rules.specs.Book.{tallyOf}
+use Rattle.laws.specs.CodeLaws.{side-of}
 use Rattle.board.specs.declared.Board.{Board}
 use Rattle.board.specs.declared.Outcome.the-variants.{Done}
-use Rattle.board.specs.Alien.{coloursRight, clueRight, cluesRight, stacked, cellCountOf, borderCountOf, boardOf}
-use Rattle.board.specs.Alien.{boardWith, isAlien}
-use Rattle.board.specs.Board.{freshBoard, returned, pushed, freshOf, decideOf, SmallClues, Typed}
-use Rattle.board.specs.View.{sideIn}
+use Rattle.board.specs.Alien.{coloursRight, clueRight, cluesRight, stacked, tallyIn, cellCountOf, borderCountOf}
+use Rattle.board.specs.Alien.{boardOf, boardWith, isAlien}
+use Rattle.board.specs.Board.{freshBoard, returned, tallyMore, tallyLess, pushed, freshOf, decideOf, SmallClues, Typed}
 use Rattle.board.specs.ConditionLaws.{size-is, stacked-none}
 use Rattle.board.specs.Cases.{fresh-done, decide-done}
 use Rattle.board.specs.NativeLaws.{Native, native-has, native-of, cells-fit, borders-fit}
-use Rattle.board.specs.DecideLaws.{poppedAt, popped-native, popped-typed, decide-keeps, undo-keeps, decided-typed}
-use Rattle.board.specs.DecideLaws.{undone-typed}
+use Rattle.board.specs.TallyLaws.{tally-fresh}
+use Rattle.board.specs.DecideLaws.{poppedAt, tally-again, popped-native, popped-typed, decide-keeps, undo-keeps}
+use Rattle.board.specs.DecideLaws.{decided-typed, undone-typed}
 use Rattle.board.specs.FreshLaws.{made-is, made-keeps, made-typed}
 use Rattle.board.specs.ViewLaws.{entry-held, code-small}
 use Rattle.reach.specs.Produced.{Produced, made, afterDecide, afterUndo, Move, decide, undo, moveOf, Leads, stop}
@@ -81,6 +83,14 @@ module _ (b : Board) (N : Native b) (T : Typed b) (e : b .count ≡ 0) where
           ∙ ap not (ap (λ j. stacked (b .stack) j x) e ∙ stacked-none (b .stack) x))
       go (no h) = N .noBorder x (omega arith)
 
+  tally-fresh-is : tallyOf (borderCountOf b) 0 0 ≡ b .tally
+  tally-fresh-is =
+      sym
+      (N .tally
+      ∙ ap (λ (bs : List ℕ). tallyIn bs (borderCountOf b))
+      (replicate-is 0 1984 (b .borders) (T .borders) (λ x h. border-zero x))
+      ∙ tally-fresh 1984 (borderCountOf b))
+
   fresh-is : freshBoard (b .height) (b .width) cs ks ≡ b
   unfolding cs ks cells
   fresh-is =
@@ -90,6 +100,7 @@ module _ (b : Board) (N : Native b) (T : Typed b) (e : b .count ≡ 0) where
       (padded-take (pos 0) 1024 cells (b .clues) (T .clues) f (N .noClue) i)
       (sym (replicate-is 0 1984 (b .borders) (T .borders) (λ x h. border-zero x)) i)
       (sym (replicate-is 0 1984 (b .stack) (T .stack) (λ j h. N .noEntry j (omega arith))) i) (sym e i)
+      (tally-fresh-is i)
 
   accepted : freshOf (b .height) (b .width) cs ks ≡ returned Done b
   unfolding cs ks cells coloursRight cluesRight
@@ -107,12 +118,6 @@ module _ (b : Board) (N : Native b) (T : Typed b) (e : b .count ≡ 0) where
   bare = made (b .height) (b .width) cs ks b ks-small accepted
 
 -- ---- a board with a stack is a decide of its last literal
-side-of : (v : ℕ) → v ≤ 2 → (v ≡ 0 → ⊥) → codeOf (sideIn v) ≡ v
-side-of zero h k = absurd (k refl)
-side-of (suc zero) h k = refl
-side-of (suc (suc zero)) h k = refl
-side-of (suc (suc (suc v))) h k = absurd (let z : suc (suc (suc v)) ≤ 2 = h in omega arith)
-
 module _ (b : Board) (N : Native b) (T : Typed b) (k : ℕ) (e : b .count ≡ k + 1) where
   last : ℕ
   last = getD (b .stack) k 0
@@ -131,6 +136,8 @@ module _ (b : Board) (N : Native b) (T : Typed b) (k : ℕ) (e : b .count ≡ k 
       ∙ ap (λ y. set (b .borders) last y) p
       ∙ set-getD (b .borders) last 0) i)
       ((set-set (b .stack) k 0 last ∙ set-getD (b .stack) k 0) i) (sym e i)
+      ((ap (λ y. tallyMore (tallyLess (b .tally) (sideIn v)) (sideIn y)) p
+      ∙ tally-again b N (T .borders) (T .stack) k e) i)
 
   redecided : decideOf (poppedAt b k) literal ≡ returned Done b
   unfolding last literal
@@ -139,7 +146,7 @@ module _ (b : Board) (N : Native b) (T : Typed b) (k : ℕ) (e : b .count ≡ k 
       let m = borders-fit b N in
       let l = N .entry k (omega arith) in
       sym
-      (decide-done (poppedAt b k) literal (native-of (poppedAt b k) (popped-native b N T k e)) l
+      (decide-done (poppedAt b k) literal (native-of (poppedAt b k) (popped-native b N (T .borders) (T .stack) k e)) l
       (getD-set-same (b .borders) last 0 0 (omega arith)))
       ∙ ap (returned Done) repushed
 
@@ -149,7 +156,8 @@ produced-at (suc k) b e t T =
     let f : b .count ≡ k + 1 = omega arith in
     let N = native-has b t in
     afterDecide (poppedAt b k) (literal b N T k f) b
-    (produced-at k (poppedAt b k) refl (native-of (poppedAt b k) (popped-native b N T k f)) (popped-typed b N T k f))
+    (produced-at k (poppedAt b k) refl (native-of (poppedAt b k) (popped-native b N (T .borders) (T .stack) k f))
+    (popped-typed b N (T .borders) (T .stack) k f T))
     (redecided b N T k f)
 
 -- ---- what is not alien is produced

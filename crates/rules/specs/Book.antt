@@ -1,7 +1,7 @@
 -- The book of a list of calls: what each call answers, from the puzzle and the calls alone.
 --
---   Asked                 a call with its arguments; of reason memory only the length
---   ask n c               the call c, with n places of reason memory lent
+--   Asked                 a call with its arguments; of reason memory only the length; a tally record where one is lent
+--   ask n c               the call c, with n places of reason memory lent, and no record
 --   Reply                 refused with a number, done, or the answer of a check
 --   Book                  what the book keeps: a sequence of literals
 --   freshBook             what it keeps at first
@@ -15,33 +15,46 @@
 --   thenReply d r         the reply d where it is not done, otherwise r
 --   doneBook k c          what the book keeps after the call c, where it is done
 --   afterBy r k m         the book m where the reply r is done, otherwise k
+--   tallyOf u w o         the tally with u borders undecided, w walls and o open
+--   sameTally t u         the tallies t and u have the same counts
+--   orAlien test r        refused with 5 where the test holds, otherwise r
+--   lentAfter r t u       the record t after the reply r: u where it is done; none where none is lent
+--   tallyAt Z ls          the tally of the borders with the sequence ls
+--   disagrees Z ls t      a record t is lent that is not the tally of the sequence ls
 --   decideReply Z ls l    what a decide of l answers: refused with 6 or 7, or done
 --   checkReply Z ls n     what a check answers, where reason memory has n places
 --   replyTo Z ls n c      what the call c answers, where reason memory has n places
 --   reply Z k a           what the book k answers to a
 --   after Z k a           the book after a
+--   tallyAfter Z k a      the record that is lent to a, as it stands after a
 --   bookFrom Z k as       the book after the list as, where it is k before
 --   repliesFrom Z k as    the answers to the list as, where the book is k before
+--   talliesFrom Z k as    the records lent to the list as, each after its call, where the book is k before
 --   bookAfter Z as        the book after the list as
 --   replies Z as          its answers to the list
-use mathlib.Core.Bool.{Bool, true, false, cond}
+--   tallies Z as          the records lent to the list, each after its call
+use mathlib.Core.Bool.{Bool, true, false, cond, not, _&&_}
 use mathlib.Core.List.{List, [], _∷_, _++_}
-use Prim.Native.Nat.{ℕ}
+use mathlib.Core.Option.{Option, some, none}
+use Prim.Native.Nat.{ℕ, _-_}
 use lib.Dec.{eqb, ltb}
-use Rattle.lists.specs.Lists.{any}
+use lib.ListN.{length}
+use Rattle.lists.specs.Lists.{any, filter}
 use Rattle.rules.specs.declared.Literal.{Literal}
+use Rattle.rules.specs.declared.Tally.{Tally}
 use Rattle.rules.specs.declared.Call.{Call}
 use Rattle.rules.specs.declared.Call.the-variants.{Decide, Undo, Check, Preview}
-use Rattle.rules.specs.Page.{Puzzle, State, undecided, decided}
+use Rattle.rules.specs.Page.{Puzzle, State, undecided, decided, isWall, isOpen}
 use Rattle.rules.specs.Check.{Verdict, check}
 
 pub record Asked : Type 0 where
   pub call : Call
   pub places : ℕ
+  pub tally : Option Tally
 
--- every call of a list is made so
+-- every call without a record is made so
 abbrev pub ask : ℕ → Call → Asked
-ask n c = record { call = c; places = n }
+ask n c = record { call = c; places = n; tally = none }
 
 pub data Reply : Type 0 where
   refused : ℕ → Reply
@@ -107,7 +120,38 @@ afterBy (refused n) k m = k
 afterBy done k m = m
 afterBy (answered f) k m = k
 
+abbrev pub tallyOf : ℕ → ℕ → ℕ → Tally
+tallyOf u w o = record { undecided = u; walls = w; opens = o }
+
+abbrev pub sameTally : Tally → Tally → Bool
+sameTally t u = eqb (t .undecided) (u .undecided) && eqb (t .walls) (u .walls) && eqb (t .opens) (u .opens)
+
+-- 5 comes before every other number
+abbrev pub orAlien : Bool → Reply → Reply
+orAlien true r = refused 5
+orAlien false r = r
+
+-- a decide or an undo that is done "updates that one"; "a check or preview changes nothing in it"; one that disagrees
+-- "keeps its contents", and so does that of any refused call
+abbrev pub lentAfter : Reply → Option Tally → Tally → Option Tally
+lentAfter r none u = none
+lentAfter (refused n) (some t) u = some t
+lentAfter done (some t) u = some u
+lentAfter (answered f) (some t) u = some t
+
 module _ (Z : Puzzle) where
+  -- undecided, walls and opens: each literal of the sequence decides one border
+  unfoldable pub tallyAt : List Literal → Tally
+  tallyAt ls =
+      tallyOf (Z .page .borders - length ls)
+      (length (filter (λ (l : Literal). isWall (decided (l .side))) ls))
+      (length (filter (λ (l : Literal). isOpen (decided (l .side))) ls))
+
+  -- "where it disagrees with the sequence"
+  abbrev pub disagrees : List Literal → Option Tally → Bool
+  disagrees ls none = false
+  disagrees ls (some t) = not (sameTally t (tallyAt ls))
+
   -- "A decide answers 6 if its number is not below the border count, 7 if its border is in the sequence; else it is
   -- done"
   unfoldable pub decideReply : List Literal → Literal → Reply
@@ -125,11 +169,16 @@ module _ (Z : Puzzle) where
   replyTo ls places Check = checkReply ls places
   replyTo ls places (Preview l) = thenReply (decideReply ls l) (checkReply (withLast ls l) places)
 
+  -- "the book takes the record as lent and answers 5 too where it disagrees with the sequence"
   abbrev pub reply : Book → Asked → Reply
-  reply k a = replyTo (k .sequence) (a .places) (a .call)
+  reply k a = orAlien (disagrees (k .sequence) (a .tally)) (replyTo (k .sequence) (a .places) (a .call))
 
   unfoldable pub after : Book → Asked → Book
   after k a = afterBy (reply k a) k (doneBook k (a .call))
+
+  -- "Decide and undo keep all three true"
+  abbrev pub tallyAfter : Book → Asked → Option Tally
+  tallyAfter k a = lentAfter (reply k a) (a .tally) (tallyAt (after k a .sequence))
 
   unfoldable pub bookFrom : Book → List Asked → Book
   bookFrom k [] = k
@@ -139,8 +188,15 @@ module _ (Z : Puzzle) where
   repliesFrom k [] = []
   repliesFrom k (a ∷ calls) = reply k a ∷ repliesFrom (after k a) calls
 
+  unfoldable pub talliesFrom : Book → List Asked → List (Option Tally)
+  talliesFrom k [] = []
+  talliesFrom k (a ∷ calls) = tallyAfter k a ∷ talliesFrom (after k a) calls
+
   abbrev pub bookAfter : List Asked → Book
   bookAfter calls = bookFrom freshBook calls
 
   abbrev pub replies : List Asked → List Reply
   replies calls = repliesFrom freshBook calls
+
+  abbrev pub tallies : List Asked → List (Option Tally)
+  tallies calls = talliesFrom freshBook calls

@@ -2,6 +2,7 @@
 --
 --   stateOf v           the state that a border place with the number v has
 --   codeOf side         the number of a decided border
+--   sideIn v            the side that a decided border's place v stands for
 --   statesIn bs         the borders that an array of such numbers spells
 --   coloursIn cs        the colours that an array of numbers spells
 --   clueOf k            no clue below 0, otherwise the clue k
@@ -33,6 +34,9 @@ stateOf v = cond (eqb v 1) (decided Wall) (cond (eqb v 2) (decided Open) undecid
 abbrev pub codeOf : Side → ℕ
 codeOf Wall = 1
 codeOf Open = 2
+
+abbrev pub sideIn : ℕ → Side
+sideIn v = cond (eqb v 1) Wall Open
 
 unfoldable pub statesIn : List ℕ → ℕ → State
 statesIn bs b = stateOf (getD bs b 0)

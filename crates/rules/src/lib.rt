@@ -22,6 +22,13 @@ pub enum Call {
     Preview(Literal),
 }
 
+// How many borders of a board are undecided, walls and open.
+pub struct Tally {
+    pub undecided: usize,
+    pub walls: usize,
+    pub opens: usize,
+}
+
 // What laying a transform at a cell gives.
 pub enum Placement {
     Fits,

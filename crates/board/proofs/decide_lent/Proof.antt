@@ -6,7 +6,7 @@ use native.Mathlib.Omega.{arith}
 use borrow.Author.Needs.{needs}
 use borrow.Author.Tests.{eq-eqb, ne-eqb}
 use Rattle.board.specs.Alien.{boardOf, borderCountOf, isAlien}
-use Rattle.board.specs.Board.{decideRefusal, numberOf, pushed, returned}
+use Rattle.board.specs.Board.{decideRefusal, numberOf}
 use Rattle.board.specs.Cases.{decide-alien, decide-free, decide-refused}
 use Rattle.board.specs.ConditionLaws.{borders-of, borders-of-le}
 use Rattle.board.specs.NativeLaws.{free-places, native-has}
@@ -19,6 +19,7 @@ abbrev lent : tie.Start → Board
 lent s =
     let a = s .args in
     boardOf (a .h) (a .w) (a .colours .now) (a .clues .now) (a .borders .now) (a .stack .now) (a .count)
+    (a .tally)
 
 known : (c : tie.Else1) → isAlien (lent (c .before .before .before .before)) ≡ false
 known c = sym (c .before .is-alien .ensures) ∙ c .if1 .left
@@ -43,7 +44,9 @@ free : (c : tie.Else2)
     (a .l .border < 1984) × (a .count < 1984)
 free c =
     let k = c .before .before in
-    free-places _ (native-has _ (known (k .before .before .before .before))) _ (ap numberOf (sym (ends k)) ∙ zero c)
+    let f = free-places _ (native-has _ (known (k .before .before .before .before))) _
+    (ap numberOf (sym (ends k)) ∙ zero c) in
+    (f .0, f .1)
 
 is-alien-requires : tie.Need-is-alien-requires
 is-alien-requires c κs = search needs
@@ -89,10 +92,8 @@ element-write-stack c = free (c .before) .1
 returns-3 : tie.Need-returns-3
 returns-3 c =
     let k = c .before .before .before in
-    let s = k .before .before .before .before .before .before .before .before in
-    rw (eq-eqb (numberOf (k .decide-refusal .result)) 0 (zero (c .before)))
-    (ap (λ v. returned (k .decide-refusal .result) (pushed (lent s) (s .args .l .border) v)) (c .code .ensures)
-    ∙ decide-free _ _ (known (k .before .before .before .before)) _ (ends k) (zero (c .before)))
+    rw (eq-eqb (numberOf (k .decide-refusal .result)) 0 (zero (c .before)), c .code .ensures)
+    (decide-free _ _ (known (k .before .before .before .before)) _ (ends k) (zero (c .before)))
 
 pub decide-lent-spec : {M : Type 1} → statement M
 decide-lent-spec =

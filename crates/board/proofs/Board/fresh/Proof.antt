@@ -8,7 +8,7 @@ use Rattle.laws.specs.FlatLaws.{counts}
 use Rattle.board.specs.Alien.{sizeRight}
 use Rattle.board.specs.Board.{numberOf, puzzleRefusal}
 use Rattle.board.specs.Cases.{PuzzleFit, fresh-free, fresh-refused, fresh-size, puzzle-free}
-use Rattle.board.specs.ConditionLaws.{cells-of, sized}
+use Rattle.board.specs.ConditionLaws.{borders-of, cells-of, sized}
 use Rattle.board.proofs.Board.fresh.Statement.{statement}
 use Rattle.board.proofs.Board.fresh.Tie as tie
 
@@ -67,14 +67,22 @@ padded-colours-requires c κs = let f = fit c in omega (arith, f .0 .colours, f 
 padded-clues-requires : tie.Need-padded-clues-requires
 padded-clues-requires c κs = let f = fit (c .before) in omega (arith, f .0 .clues, f .1)
 
+border-count-requires : tie.Need-border-count-requires
+border-count-requires c κs = search needs
+
 refused-requires-2 : tie.Need-refused-requires-2
 refused-requires-2 c κs = search needs
 
 returns-2 : tie.Need-returns-2
 returns-2 c =
-    let e = c .before .before in
+    let p = c .before in
+    let e = p .before .before in
     let k = e .before .before in
-    rw (c .before .padded-colours .ensures, c .padded-clues .ensures)
+    rw (
+      p .before .padded-colours .ensures,
+      p .padded-clues .ensures,
+      c .border-count .ensures ∙ borders-of (sized (size (k .before .before))),
+    )
     (fresh-free _ _ _ _ (size (k .before .before)) _ (ends k) (zero e))
 
 returns-3 : tie.Need-returns-3
@@ -93,6 +101,7 @@ fresh-spec =
     returns
     padded-colours-requires
     padded-clues-requires
+    border-count-requires
     refused-requires-2
     returns-2
     returns-3)

@@ -1,4 +1,4 @@
--- `pop` meets its contract: the index read off the stack is rewritten.
+-- `pop` meets its contract: the index read off the stack is rewritten, and the tally is the counted one.
 use native.Mathlib.Omega.{arith}
 use borrow.Author.Needs.{needs}
 use Rattle.board.proofs.Board.pop.Statement.{statement}
@@ -16,6 +16,15 @@ element-copy-out-index c = search needs
 index-requires : tie.Need-index-requires
 index-requires c κs = search needs
 
+element-copy-out-v : tie.Need-element-copy-out-v
+element-copy-out-v c = search needs
+
+less-requires : tie.Need-less-requires
+less-requires c κs =
+    let k = c .before .before in
+    let p = k .before .before .pre in
+    (p .3, rw (k .index .ensures) (p .4))
+
 element-write-b : tie.Need-element-write-b
 element-write-b c = search needs
 
@@ -26,7 +35,7 @@ element-write-b-2 : tie.Need-element-write-b-2
 element-write-b-2 c = search needs
 
 returns : tie.Need-returns
-returns c = rw (c .index .ensures)
+returns c = let k = c .before .before .before in rw (c .less .ensures, k .index .ensures)
 
 pub pop-spec : {M : Type 1} → statement M
 pop-spec =
@@ -36,6 +45,8 @@ pop-spec =
     mul-index
     element-copy-out-index
     index-requires
+    element-copy-out-v
+    less-requires
     element-write-b
     mul-b
     element-write-b-2

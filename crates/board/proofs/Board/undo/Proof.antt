@@ -1,13 +1,14 @@
 -- `undo` meets its contract: each return cites the law of its case.
 use mathlib.Core.Bool.{false}
 use mathlib.Core.Path.{_∙_, _≡_, ap, sym}
-use Prim.Native.Nat.{_-_, _<_}
+use Prim.Native.Nat.{_+_, _-_, _<_}
 use native.Mathlib.Omega.{arith}
 use borrow.Author.Needs.{needs}
 use Rattle.board.specs.Alien.{isAlien}
 use Rattle.board.specs.Board.{numberOf, returned}
 use Rattle.board.specs.Cases.{refusal-some, undo-alien, undo-free, undo-refused}
-use Rattle.board.specs.NativeLaws.{borders-fit, native-has}
+use Rattle.board.specs.NativeLaws.{borders-fit, native-has, tally-fits}
+use Rattle.board.specs.DecideLaws.{side-counted}
 use Rattle.board.proofs.Board.undo.Statement.{statement}
 use Rattle.board.proofs.Board.undo.Tie as tie
 
@@ -44,7 +45,13 @@ pop-requires c κs =
     let f = N .few in
     let z = refusal-some n (ap numberOf (sym (k .undo-refusal .ensures)) ∙ zero c) in
     let j : 0 < n = omega arith in
-    (j, omega arith, omega (arith, N .entry (n - 1) (omega arith)))
+    let e : n ≡ n - 1 + 1 = omega arith in (
+      j,
+      omega arith,
+      omega (arith, N .entry (n - 1) (omega arith)),
+      tally-fits _ N .0,
+      side-counted _ N (search needs) (search needs) (n - 1) e,
+    )
 
 returns-3 : tie.Need-returns-3
 returns-3 c =
