@@ -1,24 +1,23 @@
 -- What the search for a hit finds over a board's arrays is the answer of a check.
 --
---   drawn-of, stack-few, left-free   what the search and the count of a pass need of a board that is not alien
---   same-found                       what Check gives of a board is what it gives of the board's arrays
---   nothing-found, reason-found      what the search found, as the answer of a check
+--   drawn-of            what the search needs of a board that is not alien
+--   same-found          what Check gives of a board is what it gives of the board's arrays
+--   nothing-found, reason-found   what the search found, as the answer of a check; a pass has the stored number
 use mathlib.Core.Path.{_≡_, refl, sym, ap, _∙_}
 use mathlib.Core.Bool.{false}
 use mathlib.Core.List.{List}
 use mathlib.Core.Option.{Option, some, none}
-use Prim.Native.Nat.{ℕ, _-_, _*_, _≤_}
+use Prim.Native.Nat.{ℕ, _*_}
 use native.Mathlib.Decide.{decLt}
 use native.Mathlib.Omega.{arith}
 use lib.ListN.{length}
 use Rattle.rules.specs.Codes.{statesIn, puzzleIn}
 use Rattle.rules.specs.Check.{Reason, Verdict, hit, check, verdictOf, undecidedCount}
 use Rattle.board.specs.declared.Board.{Board}
-use Rattle.board.specs.Alien.{isAlien, bordersOf}
+use Rattle.board.specs.Alien.{isAlien}
 use Rattle.board.specs.View.{puzzleOf, statesOf}
-use Rattle.board.specs.ConditionLaws.{borders-of}
 use Rattle.board.specs.NativeLaws.{native-has}
-use Rattle.board.specs.ViewLaws.{undecided-is}
+use Rattle.board.specs.ViewLaws.{pass-stored}
 use Rattle.groups.specs.Pages.{Drawn}
 use Rattle.steps.specs.declared.Found.the-variants.{Nothing, Reason as Given}
 use Rattle.steps.specs.Found.{foundOf, writtenBy, Answers}
@@ -52,15 +51,6 @@ module _ (b : Board) (t : isAlien b ≡ false) where
             ];
       }
 
-  -- the borders that are not on the stack are undecided
-  pub stack-few : {n : ℕ} → n ≡ bordersOf (b .height) (b .width) → b .count ≤ n
-  stack-few e = let N = native-has b t in omega (arith, e ∙ borders-of (N .size), N .few)
-
-  pub left-free : {n : ℕ} → n ≡ bordersOf (b .height) (b .width) → n - b .count ≡ freeOn b
-  left-free e =
-      let N = native-has b t in
-      ap (λ (k : ℕ). k - b .count) (e ∙ borders-of (N .size)) ∙ sym (undecided-is b N)
-
   abbrev hitOf : Option Reason
   hitOf = hit (puzzleIn (b .height) (b .width) (b .colours) (b .clues)) (statesIn (b .borders))
 
@@ -70,14 +60,14 @@ module _ (b : Board) (t : isAlien b ≡ false) where
 
   module _ (m after : List ℕ) where
     pub nothing-found : Answers hitOf m after Nothing
-        → (Pass (freeOn b) ≡ asAnswer (foundOn b)) × (after ≡ written m (foundOn b))
+        → (Pass (b .tally .undecided) ≡ asAnswer (foundOn b)) × (after ≡ written m (foundOn b))
     unfolding foundOf writtenBy
     nothing-found a = go hitOf refl (a .found) (a .memory)
       where
         go : (o : Option Reason) → hitOf ≡ o → Nothing ≡ foundOf o → after ≡ writtenBy o m
-            → (Pass (freeOn b) ≡ asAnswer (foundOn b)) × (after ≡ written m (foundOn b))
+            → (Pass (b .tally .undecided) ≡ asAnswer (foundOn b)) × (after ≡ written m (foundOn b))
         go none e f g = (
-          sym (ap asAnswer (checked none e)),
+          ap Pass (sym (pass-stored b (native-has b t))) ∙ sym (ap asAnswer (checked none e)),
           g ∙ sym (ap (written m) (checked none e)),
         )
         go (some r) e f g = let z : _≡_ {A = ℕ} 0 1 = cc in absurd (omega arith)

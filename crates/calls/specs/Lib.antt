@@ -1,7 +1,9 @@
 pub mod Answers
 pub mod Known
+pub mod Counted
 pub mod AnswerLaws
 pub mod PreviewLaws
 pub mod CallLaws
 pub mod NumberLaws
 pub mod CheckLaws
+pub mod CountedLaws

@@ -2,14 +2,14 @@
 --
 --   preview-stopped     the decide is refused, and so is the preview
 --   preview-goes        the decide is done, and the preview is the check of d
---   preview-known       d is not alien then
+--   preview-known, preview-left   d is not alien then, and b has an undecided border
 --   preview-checks, preview-stops   a preview, by the answers of a decide and of a check after it
 --   preview-keeps       the board given is returned
 --   preview-order       the refusals of a preview in their order, and the check of the copy after them
 use mathlib.Core.Path.{_≡_, refl, ap, sym, _∙_}
 use mathlib.Core.Bool.{Bool, true, false, cond}
 use mathlib.Core.List.{List}
-use Prim.Native.Nat.{ℕ}
+use Prim.Native.Nat.{ℕ, _<_}
 use native.Mathlib.Omega.{arith}
 use borrow.Author.Tests.{eq-eqb, ne-eqb, eqb-true, ltb-true}
 use lib.Dec.{eqb, ltb}
@@ -25,7 +25,8 @@ use Rattle.board.specs.Alien.{borderCountOf, isAlien}
 use Rattle.board.specs.Board.{numberOf, isDone, returned, endedBy, pushed, decideRefusal, decideOf}
 use Rattle.board.specs.View.{puzzleOf, statesOf}
 use Rattle.board.specs.Cases.{decide-done}
-use Rattle.board.specs.DecideLaws.{done-returned, decide-keeps}
+use Rattle.board.specs.NativeLaws.{native-has, free-left}
+use Rattle.board.specs.DecideLaws.{done-returned, decided-is, decide-keeps}
 use Rattle.calls.specs.declared.Answer.the-variants.{Done, Refused}
 use Rattle.calls.specs.Answers.{asAnswer, foundAnswer, checkAnswer, checkMemory, previewAnswer}
 use Rattle.calls.specs.Answers.{previewMemory, ended, callOf, callMemory}
@@ -44,6 +45,11 @@ module _ (b : Board) (l : Literal) {o : Outcome} {d : Board} (e : returned o d �
 
   pub preview-known : length (b .borders) ≡ 1984 → length (b .stack) ≡ 1984 → numberOf o ≡ 0 → isAlien d ≡ false
   preview-known B S z = decide-keeps b l B S (sym e ∙ done-returned (returned o d) z)
+
+  pub preview-left : numberOf o ≡ 0 → 0 < b .tally .undecided
+  preview-left z =
+      let f = decided-is (sym e ∙ done-returned (returned o d) z) in
+      free-left b (native-has b (f .known)) (l .border) (f .below) (f .free)
 
 -- ---- what a preview is, by the calls that it stands for
 ended-done : (o : Outcome) → ended o ≡ Done → isDone o ≡ true

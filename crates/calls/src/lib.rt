@@ -1,4 +1,4 @@
-// `check`, `preview`, `call`, and check and preview on a board's lent arrays.
+// `check`, `preview`, `call`, check and preview on a board's lent arrays, and a call with a tally record.
 ghost use mathlib.Core.Path.{_≡_};
 ghost use Prim.Native.Nat.{_*_, _≤_};
 ghost use lib.ListN.{length};
@@ -6,12 +6,16 @@ ghost use Rattle.board.specs.Alien.{boardOf};
 ghost use Rattle.calls.specs.Answers.{asAnswer, written, foundAnswer, foundMemory, ended, steppedBy};
 ghost use Rattle.calls.specs.Answers.{checkAnswer, checkMemory, previewAnswer, previewMemory, callOf, callMemory};
 ghost use Rattle.calls.specs.Known.{KnownBoard, foundIn};
+ghost use Rattle.calls.specs.Counted.{countedOf, countedMemory};
 use board::Board;
 use board::Outcome;
 use board::Returned;
 use rules::Call;
 use rules::Literal;
+use rules::Tally;
 use steps::Found;
+
+pub mod lent; // lent.rt: a call on a tally record that is lent
 
 // What a call answers: done, a pass with the count of undecided borders, a conflict with the count of literals of its
 // reason, or refused.
@@ -26,6 +30,12 @@ pub enum Answer {
 pub struct Stepped {
     pub board: Board,
     pub answer: Answer,
+}
+
+// What a call with a tally record returns: what the call returns, and the record afterwards.
+pub struct Counted {
+    pub stepped: Stepped,
+    pub tally: Tally,
 }
 
 // How a decide or an undo ended, as an answer.
@@ -51,18 +61,19 @@ fn step(r: Returned) -> Stepped
     }
 }
 
-// What a check answers of a board that is not alien, with room in the memory for 14 literals for each cell. On such a
-// board the stack has every decided border once, so the others are undecided.
+// What a check answers of a board that is not alien, with room in the memory for 14 literals for each cell. The number
+// after a pass is the stored one.
 pub fn answer_known<'a>(
     h: usize,
     w: usize,
     colours: &'a [u8; Board::CELL_LIMIT],
     clues: &'a [i32; Board::CELL_LIMIT],
     borders: &'a [u8; Board::BORDER_LIMIT],
-    count: usize,
+    undecided: usize,
     memory: &mut [u16],
 ) -> Answer
-    requires { ⌜ KnownBoard h w (now colours) (now clues) (now borders) count × (14 * (h * w) ≤ length (now memory)) ⌝ }
+    requires { ⌜ KnownBoard h w (now colours) (now clues) (now borders) undecided
+        × (14 * (h * w) ≤ length (now memory)) ⌝ }
     ensures { λ r.
         ⌜ (r ≡ asAnswer (foundIn h w (now (colours .entry)) (now (clues .entry)) (now (borders .entry))))
         × (now (memory .exit) ≡ written (now (memory .entry))
@@ -73,7 +84,7 @@ pub fn answer_known<'a>(
     let states: &[u8] = borders;
     let found = steps::find(h, w, colours, clues, borders, memory);
     match found {
-        Found::Nothing => Answer::Pass(board::border_count(h, w) - count),
+        Found::Nothing => Answer::Pass(undecided),
         Found::Reason(n) => Answer::Conflict(n),
     }
 }
@@ -85,10 +96,10 @@ fn answer_tested<'a>(
     colours: &'a [u8; Board::CELL_LIMIT],
     clues: &'a [i32; Board::CELL_LIMIT],
     borders: &'a [u8; Board::BORDER_LIMIT],
-    count: usize,
+    undecided: usize,
     memory: &mut [u16],
 ) -> Answer
-    requires { ⌜ KnownBoard h w (now colours) (now clues) (now borders) count ⌝ }
+    requires { ⌜ KnownBoard h w (now colours) (now clues) (now borders) undecided ⌝ }
     ensures { λ r.
         ⌜ (r ≡ foundAnswer (foundIn h w (now (colours .entry)) (now (clues .entry)) (now (borders .entry)))
         (length (now (memory .entry))))
@@ -98,7 +109,7 @@ fn answer_tested<'a>(
     if memory.len() < 16384 {
         return Answer::Refused(Outcome::Short);
     }
-    answer_known(h, w, colours, clues, borders, count, memory)
+    answer_known(h, w, colours, clues, borders, undecided, memory)
 }
 
 // What a check of a board answers whose arrays are lent; a reason's literals stand from the start of the memory. No
@@ -111,18 +122,19 @@ pub fn check_lent<'a>(
     borders: &'a [u8; Board::BORDER_LIMIT],
     stack: &'a [u16; Board::BORDER_LIMIT],
     count: usize,
+    tally: Tally,
     memory: &mut [u16],
 ) -> Answer
     ensures { λ r.
         ⌜ (r ≡ checkAnswer (boardOf h w (now (colours .entry)) (now (clues .entry)) (now (borders .entry))
-        (now (stack .entry)) count) (length (now (memory .entry))))
+        (now (stack .entry)) count tally) (length (now (memory .entry))))
         × (now (memory .exit) ≡ checkMemory (boardOf h w (now (colours .entry)) (now (clues .entry))
-        (now (borders .entry)) (now (stack .entry)) count) (now (memory .entry))) ⌝ }
+        (now (borders .entry)) (now (stack .entry)) count tally) (now (memory .entry))) ⌝ }
 {
-    if board::is_alien(h, w, colours, clues, borders, stack, count) {
+    if board::is_alien(h, w, colours, clues, borders, stack, count, tally) {
         return Answer::Refused(Outcome::Alien);
     }
-    answer_tested(h, w, colours, clues, borders, count, memory)
+    answer_tested(h, w, colours, clues, borders, tally.undecided, memory)
 }
 
 // What a check of a board answers.
@@ -131,6 +143,7 @@ pub fn check(board: Board, memory: &mut [u16]) -> Answer
         ⌜ (r ≡ checkAnswer board (length (now (memory .entry))))
         × (now (memory .exit) ≡ checkMemory board (now (memory .entry))) ⌝ }
 {
+    let tally = board.tally;
     check_lent(
         board.height,
         board.width,
@@ -139,6 +152,7 @@ pub fn check(board: Board, memory: &mut [u16]) -> Answer
         &board.borders,
         &board.stack,
         board.count,
+        tally,
         memory,
     )
 }
@@ -153,25 +167,36 @@ pub fn preview_lent<'a>(
     borders: &'a [u8; Board::BORDER_LIMIT],
     stack: &'a [u16; Board::BORDER_LIMIT],
     count: usize,
+    tally: Tally,
     l: Literal,
     memory: &mut [u16],
 ) -> Answer
     ensures { λ r.
         ⌜ (r ≡ previewAnswer (boardOf h w (now (colours .entry)) (now (clues .entry)) (now (borders .entry))
-        (now (stack .entry)) count) l (length (now (memory .entry))))
+        (now (stack .entry)) count tally) l (length (now (memory .entry))))
         × (now (memory .exit) ≡ previewMemory (boardOf h w (now (colours .entry)) (now (clues .entry))
-        (now (borders .entry)) (now (stack .entry)) count) l (now (memory .entry))) ⌝ }
+        (now (borders .entry)) (now (stack .entry)) count tally) l (now (memory .entry))) ⌝ }
 {
     // as slices, so that the proof knows their lengths
     let given: &[u8] = borders;
     let order: &[u16] = stack;
     let mut states = *borders;
     let mut entries = *stack;
-    let outcome = board::decide_lent(h, w, colours, clues, &mut states, &mut entries, count, l);
+    let outcome = board::decide_lent(
+        h,
+        w,
+        colours,
+        clues,
+        &mut states,
+        &mut entries,
+        count,
+        tally,
+        l,
+    );
     if board::number(outcome) != 0 {
         return Answer::Refused(outcome);
     }
-    answer_tested(h, w, colours, clues, &states, count + 1, memory)
+    answer_tested(h, w, colours, clues, &states, tally.undecided - 1, memory)
 }
 
 // What a check would answer after a decide of the literal; the board given stays as it is.
@@ -180,6 +205,7 @@ pub fn preview(board: Board, l: Literal, memory: &mut [u16]) -> Answer
         ⌜ (r ≡ previewAnswer board l (length (now (memory .entry))))
         × (now (memory .exit) ≡ previewMemory board l (now (memory .entry))) ⌝ }
 {
+    let tally = board.tally;
     preview_lent(
         board.height,
         board.width,
@@ -188,6 +214,7 @@ pub fn preview(board: Board, l: Literal, memory: &mut [u16]) -> Answer
         &board.borders,
         &board.stack,
         board.count,
+        tally,
         l,
         memory,
     )
@@ -210,5 +237,28 @@ pub fn call(board: Board, call: Call, memory: &mut [u16]) -> Stepped
             let a = preview(board, l, memory);
             Stepped { board, answer: a }
         }
+    }
+}
+
+// One call on a board with a tally record by value: refused where the record disagrees with the board.
+pub fn call_by_value(board: Board, asked: Call, given: Tally, memory: &mut [u16]) -> Counted
+    ensures { λ r.
+        ⌜ (r ≡ countedOf board asked given (now (memory .entry)))
+        × (now (memory .exit) ≡ countedMemory board asked given (now (memory .entry))) ⌝ }
+{
+    let own = board.tally;
+    if board::tallies::same(given, own) {
+        let stepped = call(board, asked, memory);
+        let after = stepped.board;
+        let tally = after.tally;
+        return Counted { stepped, tally };
+    }
+    let stepped = Stepped {
+        board,
+        answer: Answer::Refused(Outcome::Alien),
+    };
+    Counted {
+        stepped,
+        tally: given,
     }
 }

@@ -18,7 +18,7 @@ use Prim.Native.Nat.{ℕ}
 use Rattle.rules.specs.Page.{Puzzle, State, Contains}
 use Rattle.rules.specs.Rules.{Solution}
 use Rattle.rules.specs.Check.{Reason, Verdict, pass, conflict}
-use Rattle.rules.specs.Book.{Book, answered, states, bookAfter, replies}
+use Rattle.rules.specs.Book.{Book, answered, states, tallyAt, bookAfter, replies, tallies}
 use Rattle.argument.specs.Demand.{Full, SameSides, Passes}
 use Rattle.board.specs.declared.Board.{Board}
 use Rattle.board.specs.Alien.{isAlien}
@@ -35,6 +35,8 @@ pub record Standing (start : Board) (Z : Puzzle) (k : Book) (b : Board) : Type 0
   -- its size, colours and clues
   pub puzzle : puzzleOf b ≡ Z
   pub known : isAlien b ≡ false
+  -- its stored counts
+  pub tally : b .tally ≡ tallyAt Z (k .sequence)
   -- no board but one
   pub only : b ≡ decidesOf start (k .sequence)
 
@@ -77,6 +79,8 @@ pub record Demand3 (start : Board) (Z : Puzzle) (calls : List Lent) : Type 0 whe
   pub answers : map toldBy (runFrom start calls) ≡ replies Z (map askedBy calls)
   -- .. and each memory afterwards is what the book's answer says
   pub memory : map (λ (g : Given). g .memory) (runFrom start calls) ≡ memories calls (replies Z (map askedBy calls))
+  -- .. and so is each record that was lent
+  pub records : map (λ (g : Given). g .tally) (runFrom start calls) ≡ tallies Z (map askedBy calls)
   -- 2. after every part of the list from its start, the board is the fresh one with exactly the literals of the book's
   -- sequence decided
   pub stack : (earlier later : List Lent) → calls ≡ earlier ++ later

@@ -21,6 +21,7 @@ use Rattle.rules.specs.Rules.{Solution}
 use Rattle.rules.specs.Codes.{coloursIn, cluesIn, puzzleIn}
 use Rattle.rules.specs.Check.{Reason, Verdict, pass, conflict}
 use Rattle.rules.specs.Book.{Asked, answered, freshBook, states, looked, reply, bookAfter}
+use Rattle.laws.specs.BookLaws.{plain-answered}
 use Rattle.argument.specs.Demand.{Full, SameSides, BookAnswered, BookRuledOut, BookStoodAt, Passes, BookDemand}
 use Rattle.argument.specs.FlatDemand.{flat-demand}
 use Rattle.board.specs.declared.Board.{Board}
@@ -34,7 +35,7 @@ use Rattle.board.specs.ViewLaws.{fresh-puzzle, literals-fresh, states-literals}
 use Rattle.demand3.specs.Runs.{Lent, lend, askedBy, givenBy, toldBy, lookedOn, boardAfter}
 use Rattle.demand3.specs.Demand3.{Standing, Answered, HandedOut, RuledOut, StoodAt, Demand3}
 use Rattle.demand3.specs.RunLaws.{Built, none, Facts, Bare, built-facts, built-looked, built-after, step-told}
-use Rattle.demand3.specs.RunLaws.{run-told, run-written}
+use Rattle.demand3.specs.RunLaws.{run-told, run-written, run-tallies}
 
 -- a list of calls, split where the book's list is
 record Split (calls : List Lent) (earlier : List Asked) (a : Asked) : Type 0 where
@@ -94,7 +95,9 @@ module _ (start : Board) (S : Bare start) where
       → Facts start (looked (bookAfter (puzzleOf start) (map askedBy calls) .sequence) (c .call))
       (lookedOn (boardAfter start calls) (c .call))
   looked-facts calls c f e =
-      built-facts start S (built-looked start S (after-built calls) (c .call) (length (c .memory)) f e)
+      built-facts start S
+      (built-looked start S (after-built calls) (c .call) (length (c .memory)) f
+      (plain-answered (puzzleOf start) (bookAfter (puzzleOf start) (map askedBy calls)) (askedBy c) f e))
 
   -- ---- what the run answers is what the book answers
   module _ (calls : List Lent) where
@@ -252,6 +255,7 @@ module _ (start : Board) (S : Bare start) (D : (asked : List Asked) → BookDema
         borders = facts-states start S _ _ f;
         puzzle = f .puzzle;
         known = f .known;
+        tally = f .tally;
         only = f .only;
       }
 
@@ -272,6 +276,7 @@ module _ (start : Board) (S : Bare start) (D : (asked : List Asked) → BookDema
       record {
         answers = run-told start S freshBook none calls;
         memory = run-written start S freshBook none calls;
+        records = run-tallies start S freshBook none calls;
         stack = λ earlier later e. stands earlier;
         held = holds calls;
         monotone = ruled-longer start calls;

@@ -1,9 +1,12 @@
 -- Runs: a list of calls on the board of an accepted puzzle, each call given the board that the last one returned.
 --
---   Lent                 a call with the memory that is lent to it, as it stands then
---   lend m c             the call c with the memory m lent
+--   Lent                 a call with the memory and, if any, the tally record that are lent to it, as they stand then
+--   lend m c             the call c with the memory m lent, and no record
 --   askedBy c            the call as the book takes it: of memory only the length
---   Given                what a call gives: its answer, and the memory as it stands when the call returns
+--   Given                what a call gives: its answer, and the memory and the record as they stand when it returns
+--   steppedOn b c m t    what the call c returns on the board b, with the memory m lent, and a record or none
+--   memoryOn b c m t     the memory after it
+--   tallyOn b c m t      the record after it
 --   givenBy b c          what the call c gives on the board b
 --   toldBy g             that as the book's reply
 --   lookedOn b c         the board that the call c is answered from, where b is the board given
@@ -12,35 +15,59 @@
 --   runFrom b calls      what the calls give, from the board b
 --   memories calls rs    the memories lent to the calls, each after its reply
 use mathlib.Core.List.{List, [], _∷_}
+use mathlib.Core.Option.{Option, some, none}
 use Prim.Native.Nat.{ℕ}
 use lib.ListN.{length}
 use Rattle.rules.specs.declared.Call.{Call}
 use Rattle.rules.specs.declared.Call.the-variants.{Decide, Undo, Check, Preview}
-use Rattle.rules.specs.Book.{Asked, ask, Reply}
+use Rattle.rules.specs.declared.Tally.{Tally}
+use Rattle.rules.specs.Book.{Asked, Reply}
 use Rattle.board.specs.declared.Board.{Board}
 use Rattle.board.specs.Board.{decideOf}
 use Rattle.calls.specs.declared.Answer.{Answer}
+use Rattle.calls.specs.declared.Stepped.{Stepped}
 use Rattle.calls.specs.Answers.{told, memoryAs, callOf, callMemory}
+use Rattle.calls.specs.Counted.{countedOf, countedMemory}
 
 pub record Lent : Type 0 where
   pub call : Call
   pub memory : List ℕ
+  pub tally : Option Tally
 
--- every call of a run is made so
+-- every call without a record is made so
 abbrev pub lend : List ℕ → Call → Lent
-lend m c = record { call = c; memory = m }
+lend m c = record { call = c; memory = m; tally = none }
 
--- "the calls with their arguments, never a board, and of reason memory only the length"
+-- "the calls with their arguments, never a board, and of reason memory only the length"; "the book takes the record as
+-- lent"
 abbrev pub askedBy : Lent → Asked
-askedBy c = ask (length (c .memory)) (c .call)
+askedBy c = record { call = c .call; places = length (c .memory); tally = c .tally }
 
 pub record Given : Type 0 where
   pub answer : Answer
   pub memory : List ℕ
+  pub tally : Option Tally
+
+-- "Only decide, undo, check and preview on a board take it": the plain call where none is lent
+abbrev pub steppedOn : Board → Call → List ℕ → Option Tally → Stepped
+steppedOn b c m none = callOf b c m
+steppedOn b c m (some t) = countedOf b c t m .stepped
+
+abbrev pub memoryOn : Board → Call → List ℕ → Option Tally → List ℕ
+memoryOn b c m none = callMemory b c m
+memoryOn b c m (some t) = countedMemory b c t m
+
+abbrev pub tallyOn : Board → Call → List ℕ → Option Tally → Option Tally
+tallyOn b c m none = none
+tallyOn b c m (some t) = some (countedOf b c t m .tally)
 
 abbrev pub givenBy : Board → Lent → Given
 givenBy b c =
-    record { answer = callOf b (c .call) (c .memory) .answer; memory = callMemory b (c .call) (c .memory) }
+    record {
+      answer = steppedOn b (c .call) (c .memory) (c .tally) .answer;
+      memory = memoryOn b (c .call) (c .memory) (c .tally);
+      tally = tallyOn b (c .call) (c .memory) (c .tally);
+    }
 
 abbrev pub toldBy : Given → Reply
 toldBy g = told (g .answer) (g .memory)
@@ -53,7 +80,7 @@ lookedOn b Check = b
 lookedOn b (Preview l) = decideOf b l .board
 
 abbrev pub nextBoard : Board → Lent → Board
-nextBoard b c = callOf b (c .call) (c .memory) .board
+nextBoard b c = steppedOn b (c .call) (c .memory) (c .tally) .board
 
 unfoldable pub boardAfter : Board → List Lent → Board
 boardAfter b [] = b

@@ -4,10 +4,12 @@
 --   small-clues, asked-lent, run-answers   how that follows from the book
 --   Pair ks calls rs                so they do on 1×2 with the colours 01 and the clues ks
 --   Four calls rs                   so they do on 1×4 with the colours 0011, without clues
---   SmallRuns                       the boards, the page of 01's example, and previews
+--   SmallRuns                       the boards, the page of 01's example, previews, and calls with tally records:
+--                                   right, wrong and stale ones, and none
 use mathlib.Core.Path.{_≡_, refl, ap, _∙_}
 use mathlib.Core.Bool.{true}
 use mathlib.Core.List.{List, [], _∷_, map}
+use mathlib.Core.Option.{Option, some, none}
 use Prim.Native.Nat.{ℕ, zero, suc}
 use lib.IntN.{ℤ, pos, negsuc}
 use lib.ListN.{length}
@@ -18,7 +20,8 @@ use Rattle.lists.specs.Count.{countBelow}
 use Rattle.lists.specs.Booleans.{and-left, and-right}
 use Rattle.rules.specs.declared.Call.{Call}
 use Rattle.rules.specs.declared.Call.the-variants.{Decide, Undo, Check, Preview}
-use Rattle.rules.specs.Page.{wallAt, openAt, _⊕_, opposite}
+use Rattle.rules.specs.declared.Tally.{Tally}
+use Rattle.rules.specs.Page.{Puzzle, wallAt, openAt, _⊕_, opposite}
 use Rattle.rules.specs.Codes.{statesIn, coloursIn, cluesIn, puzzleIn}
 use Rattle.rules.specs.Rules.{oneColour, joinsBlock, joinsUnit}
 use Rattle.rules.specs.Groups.{labels, entry, isFirst, numbers, groupCount, members, joinsPotential}
@@ -33,12 +36,14 @@ use Rattle.rules.specs.Check.{farWallsAt, farWalls, unitReason, unitHitIn, unit
 use Rattle.rules.specs.Flat.{flat, cellAt, rightOf, belowOf, borderCount, hopIf, hopAbove, hopBelow, hopLeft}
 use Rattle.rules.specs.Flat.{hopRight, aroundAt, aheadAt, flatFirst, flatSecond, flatPlace, flatReadsAt, flatReads}
 use Rattle.rules.specs.Book.{Asked, ask, Reply, refused, done, answered, states, names, withoutLast, doneBook}
-use Rattle.rules.specs.Book.{decideReply, checkReply, replyTo, after, repliesFrom, replies}
+use Rattle.rules.specs.Book.{tallyOf, tallyAt, decideReply, checkReply, replyTo, after, repliesFrom, talliesFrom}
+use Rattle.rules.specs.Book.{replies, tallies}
 use Rattle.board.specs.declared.Outcome.the-variants.{Done}
 use Rattle.board.specs.Alien.{sizeRight, coloursRight, cluesRight}
 use Rattle.board.specs.Board.{puzzleRefusal, freshOf, SmallClues}
 use Rattle.board.specs.Accepted.{madeBoard}
-use Rattle.demand3.specs.Runs.{lend, askedBy, toldBy, runFrom}
+use Rattle.demand3.specs.Runs.{Lent, lend, askedBy, Given, toldBy, runFrom}
+use Rattle.demand3.specs.Demand3.{Demand3}
 use Rattle.demand3.specs.Demand3Laws.{demand3}
 
 pub record RunAnswers (h w : ℕ) (cs : List ℕ) (ks : List ℤ) (calls : List Call) (rs : List Reply) : Type 0 where
@@ -79,6 +84,41 @@ Pair ks calls rs = RunAnswers 1 2 (0 ∷ 1 ∷ []) ks calls rs
 abbrev pub Four : List Call → List Reply → Type 0
 Four calls rs = RunAnswers 1 4 (0 ∷ 0 ∷ 1 ∷ 1 ∷ []) (noClue ∷ noClue ∷ noClue ∷ noClue ∷ []) calls rs
 
+-- calls with tally records, on 1×2 with the colours 01
+abbrev recorded : List (Call × Option Tally)
+recorded =
+    (Decide (wallAt 0), some (tallyOf 1 0 0))
+    ∷ (Check, some (tallyOf 1 0 0))
+    ∷ (Check, some (tallyOf 0 1 0))
+    ∷ (Undo, some (tallyOf 0 0 1))
+    ∷ (Undo, some (tallyOf 0 1 0))
+    ∷ (Preview (openAt 0), some (tallyOf 1 0 0))
+    ∷ (Check, none)
+    ∷ (Decide (openAt 1), some (tallyOf 1 0 0))
+    ∷ []
+
+abbrev lentWith : List ℕ → Call × Option Tally → Lent
+lentWith m p = record { call = p .0; memory = m; tally = p .1 }
+
+abbrev asksWith : ℕ → Call × Option Tally → Asked
+asksWith n p = record { call = p .0; places = n; tally = p .1 }
+
+abbrev pairClues : List ℤ
+pairClues = noClue ∷ noClue ∷ []
+
+abbrev givenOn : List ℕ → List Given
+givenOn m = runFrom (madeBoard 1 2 (0 ∷ 1 ∷ []) pairClues) (map (lentWith m) recorded)
+
+abbrev pairPuzzle : Puzzle
+pairPuzzle = puzzleIn 1 2 (0 ∷ 1 ∷ []) pairClues
+
+recorded-holds : freshOf 1 2 (0 ∷ 1 ∷ []) pairClues .outcome ≡ Done → (m : List ℕ)
+    → Demand3 (madeBoard 1 2 (0 ∷ 1 ∷ []) pairClues) pairPuzzle (map (lentWith m) recorded)
+unfolding all
+recorded-holds a m =
+    demand3 1 2 (0 ∷ 1 ∷ []) pairClues (record { small = small-clues pairClues refl; made = a })
+    (map (lentWith m) recorded)
+
 pub record SmallRuns : Type 0 where
   -- "1×1 without clue: empty reason"
   pub one-cell-empty : RunAnswers 1 1 (0 ∷ []) (noClue ∷ []) (Check ∷ []) (answered (conflict []) ∷ [])
@@ -117,6 +157,16 @@ pub record SmallRuns : Type 0 where
       Check ∷ [])
       (answered (conflict (wallAt 0 ∷ [])) ∷ answered (pass 0) ∷ answered (pass 1) ∷ refused 6 ∷ done ∷ refused 7 ∷
       answered (pass 0) ∷ [])
+  -- a record that disagrees is 5 before all else; a stale one is such
+  pub lent-answers : (m : List ℕ) → length m ≡ 16384
+      → map toldBy (givenOn m)
+      ≡ done ∷ refused 5 ∷ answered (conflict (wallAt 0 ∷ [])) ∷ refused 5 ∷ done ∷ answered (pass 0)
+      ∷ answered (pass 1) ∷ refused 6 ∷ []
+  -- a decide or an undo that is done updates the record; nothing else does
+  pub lent-records : (m : List ℕ) → length m ≡ 16384
+      → map (λ (g : Given). g .tally) (givenOn m)
+      ≡ some (tallyOf 0 1 0) ∷ some (tallyOf 1 0 0) ∷ some (tallyOf 0 1 0) ∷ some (tallyOf 0 0 1)
+      ∷ some (tallyOf 1 0 0) ∷ some (tallyOf 1 0 0) ∷ none ∷ some (tallyOf 1 0 0) ∷ []
 
 pub small-runs : SmallRuns
 unfolding filter any all orElse flatMap firstHit countBelow _⊕_ opposite statesIn coloursIn cluesIn oneColour joinsBlock
@@ -126,8 +176,8 @@ unfolding filter any all orElse flatMap firstHit countBelow _⊕_ opposite state
     cellHit cellHits smallHit bigHit clueHit blockHitOn blockHit wallHit wallHits touches adjacent mates judge laid
     transformsOf placements farWallsAt farWalls unitReason unitHitIn unitHitOn unitHit hit undecidedCount flat cellAt
     rightOf belowOf borderCount hopIf hopAbove hopBelow hopLeft hopRight aroundAt aheadAt flatFirst flatSecond
-    flatPlace flatReadsAt flatReads states names withoutLast doneBook decideReply checkReply replyTo after
-    repliesFrom freshOf puzzleRefusal sizeRight coloursRight cluesRight allBelow
+    flatPlace flatReadsAt flatReads states names withoutLast doneBook tallyAt decideReply checkReply replyTo after
+    repliesFrom talliesFrom freshOf puzzleRefusal sizeRight coloursRight cluesRight allBelow
 small-runs =
     record {
       one-cell-empty = run-answers refl refl refl;
@@ -142,4 +192,10 @@ small-runs =
       wall-in-block = run-answers refl refl refl;
       refusals = run-answers refl refl refl;
       previews = run-answers refl refl refl;
+      lent-answers =
+          λ m p.
+          recorded-holds refl m .answers ∙ ap (λ n. replies pairPuzzle (map (asksWith n) recorded)) p ∙ refl;
+      lent-records =
+          λ m p.
+          recorded-holds refl m .records ∙ ap (λ n. tallies pairPuzzle (map (asksWith n) recorded)) p ∙ refl;
     }

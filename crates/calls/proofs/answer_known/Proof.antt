@@ -1,7 +1,7 @@
 -- `answer_known` meets its contract: what the search for a hit finds is the answer of a check.
-use mathlib.Core.Path.{ap, _∙_}
+use mathlib.Core.Path.{ap, sym, _∙_}
 use Rattle.calls.specs.declared.Answer.the-variants.{Pass}
-use Rattle.calls.specs.CheckLaws.{drawn-of, stack-few, left-free, nothing-found, reason-found}
+use Rattle.calls.specs.CheckLaws.{drawn-of, nothing-found, reason-found}
 use borrow.Author.Needs.{needs}
 use Rattle.calls.proofs.answer_known.Statement.{statement}
 use Rattle.calls.proofs.answer_known.Tie as tie
@@ -16,14 +16,6 @@ find-requires c κs =
 enum-told : tie.Need-enum-told
 enum-told c = search needs
 
-border-count-requires : tie.Need-border-count-requires
-border-count-requires c κs = search needs
-
-sub-t18 : tie.Need-sub-t18
-sub-t18 c =
-    let p = c .before .before .before .before .before .before .before .before .before .before .pre in
-    stack-few _ (p .0 .native) (c .border-count .ensures)
-
 enum-known-found : tie.Need-enum-known-found
 enum-known-found c = search needs
 
@@ -32,10 +24,10 @@ same-length c = search needs
 
 returns : tie.Need-returns
 returns c =
-    let f = c .before .before .before .before .before in
-    let t = f .before .before .before .before .before .pre .0 .native in
-    let r = nothing-found _ t _ _ (rw (c .before .enum-told .given .1) at (f .find .ensures)) in
-    (ap Pass (left-free _ t (c .border-count .ensures)) ∙ r .0, r .1)
+    let f = c .before .before .before .before in
+    let k = f .before .before .before .before .before .pre .0 in
+    let r = nothing-found _ (k .native) _ _ (rw (c .enum-told .given .1) at (f .find .ensures)) in
+    (ap Pass (sym (k .stored)) ∙ r .0, r .1)
 
 same-length-2 : tie.Need-same-length-2
 same-length-2 c = search needs
@@ -52,8 +44,6 @@ answer-known-spec =
     (tie.spec
     find-requires
     enum-told
-    border-count-requires
-    sub-t18
     enum-known-found
     same-length
     returns

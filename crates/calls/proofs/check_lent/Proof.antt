@@ -1,5 +1,5 @@
 -- `check_lent` meets its contract: an alien board, and what a check answers of one that is not.
-use mathlib.Core.Path.{_≡_, sym, ap, _∙_}
+use mathlib.Core.Path.{_≡_, refl, sym, ap, _∙_}
 use mathlib.Core.Bool.{false}
 use lib.ListN.{length}
 use Rattle.rules.specs.Check.{Verdict}
@@ -12,8 +12,8 @@ use Rattle.calls.proofs.check_lent.Statement.{statement}
 use Rattle.calls.proofs.check_lent.Tie as tie
 
 known : (c : tie.Else1) → let a = c .before .before .before .args in
-    isAlien (boardOf (a .h) (a .w) (a .colours .now) (a .clues .now) (a .borders .now) (a .stack .now) (a .count))
-    ≡ false
+    isAlien (boardOf (a .h) (a .w) (a .colours .now) (a .clues .now) (a .borders .now) (a .stack .now) (a .count)
+    (a .tally)) ≡ false
 known c = sym (c .before .is-alien .ensures) ∙ c .if1 .left
 
 is-alien-requires : tie.Need-is-alien-requires
@@ -25,7 +25,14 @@ returns c =
 
 answer-tested-requires : tie.Need-answer-tested-requires
 answer-tested-requires c κs =
-    record { stack = c .before .before .before .before .args .stack .now; native = known (c .before) }
+    let a = c .before .before .before .before .args in
+    record {
+      stack = a .stack .now;
+      count = a .count;
+      tally = a .tally;
+      native = known (c .before);
+      stored = refl;
+    }
 
 same-length : tie.Need-same-length
 same-length c = search needs
