@@ -7,16 +7,18 @@ use native.Mathlib.Omega.{arith}
 use borrow.Author.Tests.{ne-eqb}
 use lib.Dec.{eqb, ltb}
 use lib.ListN.{length, getD}
-use Rattle.rules.specs.Codes.{codeOf}
+use Rattle.rules.specs.Codes.{codeOf, sideIn}
 use Rattle.board.specs.declared.Board.{Board}
 use Rattle.rules.specs.declared.Literal.{Literal}
+use Rattle.rules.specs.declared.Tally.{Tally}
 use Rattle.board.specs.declared.Outcome.the-variants.{Done, Alien, Border, Taken, Bare}
 use Rattle.board.specs.declared.Returned.{Returned}
 use Rattle.board.specs.Alien.{borderCountOf, isAlien}
 use Rattle.board.specs.Board.{numberOf, returned, pushed, popped, decideRefusal, endedBy, decideOf, undoRefusal, undoOf}
-use Rattle.board.specs.Board.{Typed}
-use Rattle.board.specs.NativeLaws.{native-has, borders-fit, stack-room}
-use Rattle.board.specs.DecideLaws.{Decided, decided-is, done-returned, Undone, undone-is}
+use Rattle.board.specs.Board.{sideCount, tallyMore, tallyLess, Typed}
+use Rattle.board.specs.Cases.{decide-ends}
+use Rattle.board.specs.NativeLaws.{native-has, borders-fit, tally-fits, free-places}
+use Rattle.board.specs.DecideLaws.{Decided, decided-is, done-returned, Undone, undone-is, side-counted}
 use Rattle.image.specs.Image.{spelledBoard, imageOf, rightLength, Bytes, sideOf, decideLiteral, ImageCall, decide}
 use Rattle.image.specs.Image.{undo, imageAlien, numberBy, boardBy, imageNumber, imageAfter, imageWritten}
 use Rattle.image.specs.LayoutLaws.{written-image}
@@ -52,10 +54,10 @@ refused-board b undo h = go (isAlien b) (eqb (b .count) 0) h
     go false false f = absurd (f refl)
 
 -- ---- an image of another length
-module _ (s : List ℕ) (a : ImageCall) (h : length s ≡ 11076 → ⊥) where
+module _ (s : List ℕ) (a : ImageCall) (h : length s ≡ 11082 → ⊥) where
   other : rightLength s ≡ false
   unfolding rightLength
-  other = ne-eqb (length s) 11076 h
+  other = ne-eqb (length s) 11082 h
 
   pub length-number : 5 ≡ imageNumber s a
   unfolding imageNumber
@@ -65,16 +67,16 @@ module _ (s : List ℕ) (a : ImageCall) (h : length s ≡ 11076 → ⊥) where
   unfolding imageAfter
   length-after = rw other
 
-pub alien-length : (s : List ℕ) → (length s ≡ 11076 → ⊥) → true ≡ imageAlien s
+pub alien-length : (s : List ℕ) → (length s ≡ 11082 → ⊥) → true ≡ imageAlien s
 unfolding imageAlien rightLength
-alien-length s h = rw (ne-eqb (length s) 11076 h)
+alien-length s h = rw (ne-eqb (length s) 11082 h)
 
-pub alien-board : (s : List ℕ) → length s ≡ 11076 → isAlien (spelledBoard s) ≡ imageAlien s
+pub alien-board : (s : List ℕ) → length s ≡ 11082 → isAlien (spelledBoard s) ≡ imageAlien s
 unfolding imageAlien
 alien-board s e = rw (long-is s e)
 
 -- ---- an image of the right length, whose board is b
-module _ (s : List ℕ) (h : Bytes s) (e : length s ≡ 11076) (b : Board) (q : b ≡ spelledBoard s) where
+module _ (s : List ℕ) (h : Bytes s) (e : length s ≡ 11082) (b : Board) (q : b ≡ spelledBoard s) where
   pub call-number-is : (a : ImageCall) → numberBy b a ≡ imageNumber s a
   unfolding imageNumber
   call-number-is a = rw (long-is s e, q)
@@ -98,27 +100,34 @@ module _ (s : List ℕ) (h : Bytes s) (e : length s ≡ 11076) (b : Board) (q : 
     decided : Decided b (decideLiteral n d) (decideOf b (decideLiteral n d) .board)
     decided = decided-is (done-returned (decideOf b (decideLiteral n d)) (call-number-is (decide n d) ∙ z))
 
-    pub decide-fits : (n < 1984) × (b .count < 1984)
+    pub decide-fits : (n < 1984) × (b .count < 1984) × (0 < b .tally .undecided) × (b .tally .walls ≤ 1984)
+        × (b .tally .opens ≤ 1984)
     decide-fits =
-        let N = native-has b (decided .known) in
-        let m = borders-fit b N in
-        let k = decided .below in
-        (omega arith, omega (arith, stack-room b N n k (decided .free)))
+        free-places b (native-has b (decided .known)) n
+        (ap numberOf (decide-ends b (decideLiteral n d) (decided .known)) ∙ call-number-is (decide n d) ∙ z)
 
-    pub decide-written : imageWritten s n (codeOf (sideOf d)) (b .count + 1) (b .count) n ≡ imageAfter s (decide n d)
+    -- the image s with the border x decided to the code v
+    abbrev withDecided : ℕ → ℕ → List ℕ
+    withDecided x v = imageWritten s x v (b .count + 1) (b .count) x (tallyMore (b .tally) (sideIn v))
+
+    pub decide-written : withDecided n (codeOf (sideOf d)) ≡ imageAfter s (decide n d)
     decide-written =
-        ap (λ (x : List ℕ). imageWritten x n (codeOf (sideOf d)) (b .count + 1) (b .count) n) (sym image-of)
-        ∙ written-image b typed n (codeOf (sideOf d)) (b .count + 1) (b .count) n (decide-fits .0) (decide-fits .1)
+        let v = codeOf (sideOf d) in
+        let u = tallyMore (b .tally) (sideIn v) in
+        ap (λ (x : List ℕ). imageWritten x n v (b .count + 1) (b .count) n u) (sym image-of)
+        ∙ written-image b typed n v (b .count + 1) (b .count) n u (decide-fits .0) (decide-fits .1)
         ∙ ap imageOf (sym (decided .is))
         ∙ sym (after-is (decide n d))
 
     -- the same, from what the code has
-    pub image-decide-after : (l : Literal) (v : ℕ) (t : List ℕ) → l ≡ decideLiteral n d → v ≡ codeOf (l .side)
-        → t ≡ imageWritten s (l .border) v (b .count + 1) (b .count) (l .border) → t ≡ imageAfter s (decide n d)
-    image-decide-after l v t x y w =
+    pub image-decide-after : (l : Literal) (v : ℕ) (u : Tally) (t : List ℕ) → l ≡ decideLiteral n d
+        → v ≡ codeOf (l .side) → u ≡ tallyMore (b .tally) (sideIn v)
+        → t ≡ imageWritten s (l .border) v (b .count + 1) (b .count) (l .border) u → t ≡ imageAfter s (decide n d)
+    image-decide-after l v u t x y a w =
         w
-        ∙ ap (λ k. imageWritten s (l .border) k (b .count + 1) (b .count) (l .border)) y
-        ∙ ap (λ (j : Literal). imageWritten s (j .border) (codeOf (j .side)) (b .count + 1) (b .count) (j .border)) x
+        ∙ ap (λ (k : Tally). imageWritten s (l .border) v (b .count + 1) (b .count) (l .border) k) a
+        ∙ ap (withDecided (l .border)) y
+        ∙ ap (λ (j : Literal). withDecided (j .border) (codeOf (j .side))) x
         ∙ decide-written
 
   -- an undo that is done
@@ -127,23 +136,42 @@ module _ (s : List ℕ) (h : Bytes s) (e : length s ≡ 11076) (b : Board) (q : 
     undone = undone-is (done-returned (undoOf b) (call-number-is undo ∙ z))
 
     pub undo-fits : (0 < b .count) × (b .count ≤ 1984) × (getD (b .stack) (b .count - 1) 0 < 1984)
+        × (b .tally .undecided ≤ 1984)
+        × (0 < sideCount (b .tally) (sideIn (getD (b .borders) (getD (b .stack) (b .count - 1) 0) 0)))
     undo-fits =
         let N = native-has b (undone .known) in
         let m = borders-fit b N in
         let f = N .few in
         let p = undone .some in
-        (p, omega arith, omega (arith, N .entry (b .count - 1) (omega arith)))
+        let c : b .count ≡ b .count - 1 + 1 = omega arith in (
+          p,
+          omega arith,
+          omega (arith, N .entry (b .count - 1) (omega arith)),
+          tally-fits b N .0,
+          side-counted b N (typed .borders) (typed .stack) (b .count - 1) c,
+        )
 
-    pub undo-written : imageWritten s (getD (b .stack) (b .count - 1) 0) 0 (b .count - 1) (b .count - 1) 0
-        ≡ imageAfter s undo
+    -- the image s with the border x, the last of the stack, made undecided
+    abbrev withUndone : ℕ → List ℕ
+    withUndone x =
+        imageWritten s x 0 (b .count - 1) (b .count - 1) 0 (tallyLess (b .tally) (sideIn (getD (b .borders) x 0)))
+
+    pub undo-written : withUndone (getD (b .stack) (b .count - 1) 0) ≡ imageAfter s undo
     undo-written =
         let f = undo-fits in
         let k = b .count - 1 in
-        ap (λ (x : List ℕ). imageWritten x (getD (b .stack) k 0) 0 k k 0) (sym image-of)
-        ∙ written-image b typed (getD (b .stack) k 0) 0 k k 0 (f .2) (omega arith)
+        let n = getD (b .stack) k 0 in
+        let u = tallyLess (b .tally) (sideIn (getD (b .borders) n 0)) in
+        ap (λ (x : List ℕ). imageWritten x n 0 k k 0 u) (sym image-of)
+        ∙ written-image b typed n 0 k k 0 u (f .2) (omega arith)
         ∙ ap imageOf (sym (undone .is))
         ∙ sym (after-is undo)
 
-    pub image-undo-after : (n : ℕ) (t : List ℕ) → n ≡ getD (b .stack) (b .count - 1) 0
-        → t ≡ imageWritten s n 0 (b .count - 1) (b .count - 1) 0 → t ≡ imageAfter s undo
-    image-undo-after n t x w = w ∙ ap (λ j. imageWritten s j 0 (b .count - 1) (b .count - 1) 0) x ∙ undo-written
+    pub image-undo-after : (n : ℕ) (u : Tally) (t : List ℕ) → n ≡ getD (b .stack) (b .count - 1) 0
+        → u ≡ tallyLess (b .tally) (sideIn (getD (b .borders) n 0))
+        → t ≡ imageWritten s n 0 (b .count - 1) (b .count - 1) 0 u → t ≡ imageAfter s undo
+    image-undo-after n u t x a w =
+        w
+        ∙ ap (λ (k : Tally). imageWritten s n 0 (b .count - 1) (b .count - 1) 0 k) a
+        ∙ ap withUndone x
+        ∙ undo-written

@@ -35,10 +35,10 @@ use Rattle.image.specs.RoundLaws.{long-is}
 use Rattle.image.specs.MemoryLaws.{codes-put}
 
 -- ---- an image of another length
-module _ (s m : List ℕ) (h : length s ≡ 11076 → ⊥) where
+module _ (s m : List ℕ) (h : length s ≡ 11082 → ⊥) where
   other : rightLength s ≡ false
   unfolding rightLength
-  other = ne-eqb (length s) 11076 h
+  other = ne-eqb (length s) 11082 h
 
   pub other-number : 5 ≡ checkNumber s m
   unfolding checkNumber
@@ -49,7 +49,7 @@ module _ (s m : List ℕ) (h : length s ≡ 11076 → ⊥) where
   other-bytes = rw other
 
 -- ---- an image of the right length, whose board is b
-module _ (s m : List ℕ) (e : length s ≡ 11076) (b : Board) (q : b ≡ spelledBoard s) where
+module _ (s m : List ℕ) (e : length s ≡ 11082) (b : Board) (q : b ≡ spelledBoard s) where
   number-is : answerNumber (checkAnswer b (placeCount m)) ≡ checkNumber s m
   unfolding checkNumber
   number-is = rw (long-is s e, q)
@@ -124,7 +124,7 @@ pub record Checks (m codes : List ℕ) (f : Verdict) (a : Answer) : Type 0 where
 module _ {h w : ℕ} {cs : List ℕ} {ks : List ℤ} {bs : List ℕ} {n : ℕ} (K : KnownBoard h w cs ks bs n) (m before : List ℕ)
     (room : 14 * (h * w) < length before) where
   abbrev b : Board
-  b = boardOf h w cs ks bs (K .stack) n
+  b = boardOf h w cs ks bs (K .stack) (K .count) (K .tally)
 
   abbrev f : Verdict
   f = foundIn h w cs ks bs

@@ -3,11 +3,14 @@
 --   pair s k           the number of two bytes of s, from place k on
 --   quad s k           the number of four bytes
 --   fromBits n         the signed number of the 32 bits n
+--   spelledTally s     the tally that the image s spells
 --   spelledBoard s     the board that the image s spells
 --   twoBytes v         two bytes of a number
 --   fourBytes v        four bytes of a number
 --   bitsOf k           the 32 bits of a signed number
 --   clueBytes k        the four bytes of a clue
+--   tallyCounts t      the three counts of a tally
+--   tallyBytes t       their six bytes
 --   imageOf b          the image of a board
 --   rightLength s      the image s has the right length
 --   imageAlien s       decides and undos cannot produce the image s
@@ -20,7 +23,7 @@
 --   boardBy b a        the board that it returns
 --   imageNumber s a    the number that the call a returns on the image s
 --   imageAfter s a     the image afterwards
---   imageWritten s ..  the image s with one border, the count and one entry of the stack rewritten
+--   imageWritten s ..  the image s with one border, the count, one entry of the stack and the tally rewritten
 --   putCodes m xs n    reason memory with the first n codes of xs written from its start, in two bytes each
 --   putBytes m ls      reason memory beside an image with the literals ls written from its start
 --   isShort m          reason memory below 16,384 literals
@@ -42,8 +45,10 @@ use Rattle.lists.specs.Table.{table}
 use Rattle.rules.specs.declared.Side.{Side}
 use Rattle.rules.specs.declared.Side.the-variants.{Wall, Open}
 use Rattle.rules.specs.declared.Literal.{Literal}
+use Rattle.rules.specs.declared.Tally.{Tally}
 use Rattle.rules.specs.Codes.{literalCode}
 use Rattle.rules.specs.Check.{Verdict, pass, conflict, check}
+use Rattle.rules.specs.Book.{tallyOf}
 use Rattle.board.specs.declared.Board.{Board}
 use Rattle.board.specs.Alien.{boardOf, isAlien}
 use Rattle.board.specs.Board.{numberOf, decideOf, undoOf, Typed}
@@ -62,6 +67,10 @@ quad s k = pair s k + 65536 * pair s (k + 2)
 abbrev pub fromBits : ℕ → ℤ
 fromBits n = cond (ltb n 2147483648) (pos n) (negsuc (4294967295 - n))
 
+-- "The image gains three counts of 2 bytes at its end"
+abbrev pub spelledTally : List ℕ → Tally
+spelledTally s = tallyOf (pair s 11076) (pair s 11078) (pair s 11080)
+
 -- "height, width; 1,024 colours; 1,024 clues of 4 bytes, two's complement; 1,984 borders .. stack count, 2 bytes; 1,984
 -- stack entries of 2 bytes"
 unfoldable pub spelledBoard : List ℕ → Board
@@ -72,6 +81,7 @@ spelledBoard s =
     (table 1984 (λ i. getD s (5122 + i) 0))
     (table 1984 (λ i. pair s (7108 + 2 * i)))
     (pair s 7106)
+    (spelledTally s)
 
 -- ---- a board as an image
 unfoldable pub twoBytes : ℕ → List ℕ
@@ -89,6 +99,14 @@ bitsOf (negsuc n) = 4294967295 - n
 abbrev pub clueBytes : ℤ → List ℕ
 clueBytes k = fourBytes (bitsOf k)
 
+-- "undecided, walls and opens"
+abbrev pub tallyCounts : Tally → List ℕ
+tallyCounts t = t .undecided ∷ t .walls ∷ t .opens ∷ []
+
+-- "three counts of 2 bytes at its end, in that order"
+abbrev pub tallyBytes : Tally → List ℕ
+tallyBytes t = flatMap twoBytes (tallyCounts t)
+
 unfoldable pub imageOf : Board → List ℕ
 imageOf b =
     (b .height ∷ b .width ∷ [])
@@ -96,12 +114,14 @@ imageOf b =
     ++ (flatMap clueBytes (b .clues)
     ++ (b .borders
     ++ (twoBytes (b .count)
-    ++ flatMap twoBytes (b .stack)))))
+    ++ (flatMap twoBytes (b .stack)
+    ++ tallyBytes (b .tally))))))
+
+-- "The image .. is 11,082 bytes"
+unfoldable pub rightLength : List ℕ → Bool
+rightLength s = eqb (length s) 11082
 
 -- "a board or image that decides and undos cannot produce from a fresh board; image of another length"
-unfoldable pub rightLength : List ℕ → Bool
-rightLength s = eqb (length s) 11076
-
 unfoldable pub imageAlien : List ℕ → Bool
 imageAlien s = cond (rightLength s) (isAlien (spelledBoard s)) true
 
@@ -140,9 +160,11 @@ imageNumber s a = cond (rightLength s) (numberBy (spelledBoard s) a) 5
 unfoldable pub imageAfter : List ℕ → ImageCall → List ℕ
 imageAfter s a = cond (rightLength s) (imageOf (boardBy (spelledBoard s) a)) s
 
--- the image s with the border n set to v, the count to c, and the entry i of the stack to e: five bytes
-unfoldable pub imageWritten : List ℕ → ℕ → ℕ → ℕ → ℕ → ℕ → List ℕ
-imageWritten s n v c i e = sets (sets (set s (5122 + n) v) 7106 (twoBytes c)) (7108 + 2 * i) (twoBytes e)
+-- the image s with the border n set to v, the count to c, the entry i of the stack to e, and the tally to t: eleven
+-- bytes
+unfoldable pub imageWritten : List ℕ → ℕ → ℕ → ℕ → ℕ → ℕ → Tally → List ℕ
+imageWritten s n v c i e t =
+    sets (sets (sets (set s (5122 + n) v) 7106 (twoBytes c)) (7108 + 2 * i) (twoBytes e)) 11076 (tallyBytes t)
 
 -- ---- reason memory beside an image
 unfoldable pub putCodes : List ℕ → List ℕ → ℕ → List ℕ

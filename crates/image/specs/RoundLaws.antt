@@ -3,7 +3,7 @@ use mathlib.Core.Path.{_≡_, refl, ap, ap₂, sym, _∙_}
 use mathlib.Core.Bool.{Bool, true, false, cond, false≢true}
 use mathlib.Core.List.{List, [], _∷_, _++_}
 use mathlib.Core.Logic.{_↔_}
-use Prim.Native.Nat.{ℕ, _+_, _*_, _<_}
+use Prim.Native.Nat.{ℕ, _+_, _*_, _<_, _≤_}
 use native.Mathlib.Decide.{decLt}
 use native.Mathlib.Omega.{arith}
 use borrow.Author.Tests.{eq-eqb, eqb-true}
@@ -16,18 +16,19 @@ use Rattle.lists.specs.Lists.{flatMap}
 use Rattle.lists.specs.Table.{table}
 use Rattle.lists.specs.TableLaws.{table-is, getD-table, length-table, flat-part, table-part}
 use Rattle.lists.specs.Stores.{drop-split}
+use Rattle.rules.specs.Book.{tallyOf}
 use Rattle.board.specs.declared.Board.{Board}
 use Rattle.board.specs.Alien.{cellCountOf, boardOf, isAlien}
 use Rattle.board.specs.Board.{Typed}
-use Rattle.board.specs.NativeLaws.{Native, native-has, borders-fit}
+use Rattle.board.specs.NativeLaws.{Native, native-has, borders-fit, tally-fits}
 use Rattle.image.specs.Image.{pair, quad, fromBits, spelledBoard, twoBytes, fourBytes, bitsOf, clueBytes, imageOf}
-use Rattle.image.specs.Image.{rightLength, imageAlien, Bytes, Proper}
+use Rattle.image.specs.Image.{spelledTally, tallyCounts, tallyBytes, rightLength, imageAlien, Bytes, Proper}
 use Rattle.image.specs.ByteLaws.{pair-of, quad-of, two-of, four-of, quad-small, bits-from, from-small}
 use Rattle.image.specs.ByteLaws.{bits-small, from-bits}
-use Rattle.image.specs.LayoutLaws.{image-long, colour-at, clue-at, border-at, count-at, entry-at}
+use Rattle.image.specs.LayoutLaws.{image-long, colour-at, clue-at, border-at, count-at, entry-at, tally-at}
 
 -- ---- an image that is read and written again
-module _ (s : List ℕ) (h : Bytes s) (e : length s ≡ 11076) where
+module _ (s : List ℕ) (h : Bytes s) (e : length s ≡ 11082) where
   front : s ≡ (getD s 0 0 ∷ getD s 1 0 ∷ []) ++ drop 2 s
   front = drop-cons s 0 0 (omega arith) ∙ ap (λ (l : List ℕ). getD s 0 0 ∷ l) (drop-cons s 1 0 (omega arith))
 
@@ -39,10 +40,15 @@ module _ (s : List ℕ) (h : Bytes s) (e : length s ≡ 11076) where
       ap fourBytes (bits-from (quad s (1026 + 4 * i)) (quad-small s h (1026 + 4 * i)))
       ∙ four-of s h (1026 + 4 * i) (omega arith))
 
-  stack-part : flatMap twoBytes (table 1984 (λ i. pair s (7108 + 2 * i))) ≡ drop 7108 s
-  stack-part =
-      flat-part twoBytes 2 7108 1984 (λ i. pair s (7108 + 2 * i)) s (λ i l. two-of s h (7108 + 2 * i) (omega arith))
-      ∙ take-all 3968 (drop 7108 s) (omega (arith, length-drop 7108 s))
+  -- n numbers of two bytes from a place on
+  pairs-part : (a n : ℕ) → a + 2 * n ≤ 11082
+      → flatMap twoBytes (table n (λ i. pair s (a + 2 * i))) ≡ take (2 * n) (drop a s)
+  pairs-part a n l =
+      flat-part twoBytes 2 a n (λ i. pair s (a + 2 * i)) s (λ i m. two-of s h (a + 2 * i) (omega arith))
+
+  tally-part : tallyBytes (spelledTally s) ≡ drop 11076 s
+  unfolding table
+  tally-part = pairs-part 11076 3 (omega arith) ∙ take-all 6 (drop 11076 s) (omega (arith, length-drop 11076 s))
 
   pub image-board : imageOf (spelledBoard s) ≡ s
   unfolding imageOf spelledBoard
@@ -54,7 +60,9 @@ module _ (s : List ℕ) (h : Bytes s) (e : length s ≡ 11076) where
       ap₂ (λ (x y : List ℕ). a ++ (x ++ y)) p
       (ap₂ (λ (x y : List ℕ). x ++ y) clue-part
       (ap₂ (λ (x y : List ℕ). x ++ y) q
-      (ap₂ (λ (x y : List ℕ). x ++ y) r stack-part ∙ sym (drop-split 2 7106 s)) ∙ sym (drop-split 1984 5122 s))
+      (ap₂ (λ (x y : List ℕ). x ++ y) r
+      (ap₂ (λ (x y : List ℕ). x ++ y) (pairs-part 7108 1984 (omega arith)) tally-part ∙ sym (drop-split 3968 7108 s))
+      ∙ sym (drop-split 2 7106 s)) ∙ sym (drop-split 1984 5122 s))
       ∙ sym (drop-split 4096 1026 s))
       ∙ ap (λ (l : List ℕ). a ++ l) (sym (drop-split 1024 2 s))
       ∙ sym front
@@ -111,6 +119,11 @@ module _ (b : Board) (T : Typed b) (N : Native b) where
       sym
       (pair-of (imageOf b) (7108 + 2 * i) (getD (b .stack) i 0) (λ j m. entry-at b T i j l m) (entry-small i))
 
+  -- the count i of the tally
+  tally-is : (i : ℕ) → i < 3 → getD (tallyCounts (b .tally)) i 0 < 65536
+      → pair (imageOf b) (11076 + 2 * i) ≡ getD (tallyCounts (b .tally)) i 0
+  tally-is i l m = pair-of (imageOf b) (11076 + 2 * i) _ (λ j k. tally-at b T i j l k) m
+
   written-read : spelledBoard (imageOf b) ≡ b
   unfolding spelledBoard imageOf
   written-read =
@@ -121,30 +134,39 @@ module _ (b : Board) (T : Typed b) (N : Native b) where
       (table-is 1024 _ (pos 0) (b .clues) (T .clues) clue-is i)
       (table-is 1984 _ 0 (b .borders) (T .borders) (λ j l. sym (border-at b T j l)) i)
       (table-is 1984 _ 0 (b .stack) (T .stack) entry-is i)
-      (sym (pair-of (imageOf b) 7106 (b .count) (count-at b T) few) i))
+      (sym (pair-of (imageOf b) 7106 (b .count) (count-at b T) few) i)
+      (tally i))
     where
       few : b .count < 65536
       few = omega (arith, N .few, borders-fit b N)
+
+      tally : b .tally ≡ spelledTally (imageOf b)
+      tally =
+          let f = tally-fits b N in
+          let u = tally-is 0 (omega arith) (omega (arith, f .0)) in
+          let w = tally-is 1 (omega arith) (omega (arith, f .1)) in
+          let o = tally-is 2 (omega arith) (omega (arith, f .2)) in
+          sym (λ i. tallyOf (u i) (w i) (o i))
 
 pub board-image : (b : Board) → Proper b → spelledBoard (imageOf b) ≡ b
 board-image b P = written-read b (P .typed) (native-has b (P .known))
 
 -- ---- which images are alien
-pub long-is : (s : List ℕ) → length s ≡ 11076 → rightLength s ≡ true
+pub long-is : (s : List ℕ) → length s ≡ 11082 → rightLength s ≡ true
 unfolding rightLength
-long-is s e = eq-eqb (length s) 11076 e
+long-is s e = eq-eqb (length s) 11082 e
 
 pub image-known : (b : Board) → Proper b → imageAlien (imageOf b) ≡ false
 unfolding imageAlien
 image-known b P = rw (long-is (imageOf b) (image-long b (P .typed)), board-image b P) (P .known)
 
-pub known-board : (s : List ℕ) → imageAlien s ≡ false → (length s ≡ 11076) × Proper (spelledBoard s)
+pub known-board : (s : List ℕ) → imageAlien s ≡ false → (length s ≡ 11082) × Proper (spelledBoard s)
 unfolding imageAlien rightLength
-known-board s a = go (eqb (length s) 11076) refl a
+known-board s a = go (eqb (length s) 11082) refl a
   where
-    go : (t : Bool) → eqb (length s) 11076 ≡ t → cond t (isAlien (spelledBoard s)) true ≡ false
-        → (length s ≡ 11076) × Proper (spelledBoard s)
-    go true p q = (eqb-true (length s) 11076 p, record { known = q; typed = board-typed s })
+    go : (t : Bool) → eqb (length s) 11082 ≡ t → cond t (isAlien (spelledBoard s)) true ≡ false
+        → (length s ≡ 11082) × Proper (spelledBoard s)
+    go true p q = (eqb-true (length s) 11082 p, record { known = q; typed = board-typed s })
     go false p q = absurd (false≢true (sym q))
 
 -- an image is not alien exactly if it is the image of a board that is not

@@ -10,16 +10,18 @@ use lib.Seq.{drop-cons, ext-getD, length-take-le, getD-take, getD-drop}
 use Rattle.lists.specs.Table.{table}
 use Rattle.lists.specs.TableLaws.{length-table, getD-table}
 use Rattle.rules.specs.declared.Literal.{Literal}
-use Rattle.rules.specs.Codes.{codeOf}
+use Rattle.rules.specs.declared.Tally.{Tally}
+use Rattle.rules.specs.Codes.{codeOf, sideIn}
 use Rattle.board.specs.declared.Outcome.{Outcome}
 use Rattle.board.specs.declared.Returned.{Returned}
 use Rattle.board.specs.Alien.{bordersOf, borderCountOf, isAlien}
-use Rattle.board.specs.Board.{numberOf, decideRefusal, undoRefusal}
+use Rattle.board.specs.Board.{numberOf, sideCount, tallyMore, tallyLess, decideRefusal, undoRefusal}
 use Rattle.board.specs.Cases.{decide-alien, decide-ends, undo-alien, undo-ends}
 use Rattle.board.specs.ConditionLaws.{borders-of, borders-of-le}
 use Rattle.board.specs.NativeLaws.{native-has}
-use Rattle.image.specs.Image.{pair, spelledBoard, Bytes, Proper, decideLiteral, ImageCall, decide, undo, numberBy}
-use Rattle.image.specs.Image.{boardBy, rightLength, imageAlien, imageNumber, imageAfter, imageWritten}
+use Rattle.image.specs.Image.{pair, spelledTally, spelledBoard, Bytes, Proper, decideLiteral, ImageCall, decide}
+use Rattle.image.specs.Image.{undo, numberBy, boardBy, rightLength, imageAlien, imageNumber, imageAfter}
+use Rattle.image.specs.Image.{imageWritten}
 use Rattle.image.specs.RoundLaws.{long-is, known-board, image-known}
 use Rattle.image.specs.CallLaws.{call-number-is, after-refused, decide-fits, image-decide-after, undo-fits}
 use Rattle.image.specs.CallLaws.{image-undo-after}
@@ -28,7 +30,7 @@ use Rattle.image.specs.Series.{codeCall, doneOf, imageDone, SeriesSteppe
 
 -- ---- an image that is not alien
 module _ (s : List ℕ) (h : Bytes s) (k : imageAlien s ≡ false) where
-  pub long : length s ≡ 11076
+  pub long : length s ≡ 11082
   long = known-board s k .0
 
   proper : Proper (spelledBoard s)
@@ -65,6 +67,14 @@ module _ (s : List ℕ) (h : Bytes s) (k : imageAlien s ≡ false) where
   count-is : spelledBoard s .count ≡ pair s 7106
   unfolding spelledBoard
   count-is = refl
+
+  tally-is : spelledBoard s .tally ≡ spelledTally s
+  unfolding spelledBoard
+  tally-is = refl
+
+  border-is : (n : ℕ) → n < 1984 → getD (spelledBoard s .borders) n 0 ≡ getD s (5122 + n) 0
+  unfolding spelledBoard
+  border-is n l = getD-table 1984 (λ i. getD s (5122 + i) 0) n 0 l
 
   entry-is : (i : ℕ) → i < 1984 → getD (spelledBoard s .stack) i 0 ≡ pair s (7108 + 2 * i)
   unfolding spelledBoard
@@ -104,22 +114,22 @@ module _ (s : List ℕ) (h : Bytes s) (k : imageAlien s ≡ false) where
       decide-not f = refused (decide n d) (λ z. f (decide-number ∙ z))
 
       -- one that is done
-      module _ (z : numberOf o ≡ 0) (c : ℕ) (e : c ≡ pair s 7106) where
+      module _ (z : numberOf o ≡ 0) (c : ℕ) (e : c ≡ pair s 7106) (t : Tally) (g : t ≡ spelledTally s) where
         decided : imageNumber s (decide n d) ≡ 0
         decided = sym decide-number ∙ z
 
-        pub decide-room : (l .border < 1984) × (c < 1984)
+        pub decide-room : (l .border < 1984) × (c < 1984) × (0 < t .undecided) × (t .walls ≤ 1984) × (t .opens ≤ 1984)
         decide-room =
             let r = decide-fits s h long (spelledBoard s) refl n d decided in
-            let x = named in
-            (omega (arith, r .0), omega (arith, r .1, count-is))
+            rw (named, e ∙ sym count-is, g ∙ sym tally-is) r
 
-        pub decide-step : {v : ℕ} {t : List ℕ} → v ≡ codeOf (l .side)
-            → t ≡ imageWritten s (l .border) v (c + 1) c (l .border) → SeriesStepped s (decide n d) t true
-        decide-step {v} {t} x w =
+        pub decide-step : {v : ℕ} {u : Tally} {a : List ℕ} → v ≡ codeOf (l .side) → u ≡ tallyMore t (sideIn v)
+            → a ≡ imageWritten s (l .border) v (c + 1) c (l .border) u → SeriesStepped s (decide n d) a true
+        decide-step {v} {u} {a} x k w =
             stepped decided
-            (image-decide-after s h long (spelledBoard s) refl n d decided l v t y x
-            (w ∙ ap (λ j. imageWritten s (l .border) v (j + 1) j (l .border)) (e ∙ sym count-is)))
+            (image-decide-after s h long (spelledBoard s) refl n d decided l v u a y x
+            (k ∙ ap (λ (j : Tally). tallyMore j (sideIn v)) (g ∙ sym tally-is))
+            (w ∙ ap (λ j. imageWritten s (l .border) v (j + 1) j (l .border) u) (e ∙ sym count-is)))
 
   -- an undo, where the image has the count m, and how its test ends
   module _ (m : ℕ) (e : m ≡ pair s 7106) (o : Outcome) (r : o ≡ undoRefusal m) where
@@ -156,11 +166,21 @@ module _ (s : List ℕ) (h : Bytes s) (k : imageAlien s ≡ false) where
         pub undo-room : n < 1984
         undo-room = rw entry (undo-fits s h long (spelledBoard s) refl undone .2)
 
-        pub undo-step : {t : List ℕ} → t ≡ imageWritten s n 0 (m - 1) (m - 1) 0 → SeriesStepped s undo t true
-        undo-step {t} w =
-            stepped undone
-            (image-undo-after s h long (spelledBoard s) refl undone n t entry
-            (w ∙ ap (λ j. imageWritten s n 0 (j - 1) (j - 1) 0) (sym counted)))
+        -- its tally t
+        module _ (t : Tally) (g : t ≡ spelledTally s) where
+          pub undo-tally : (t .undecided ≤ 1984) × (0 < sideCount t (sideIn (getD s (5122 + n) 0)))
+          undo-tally =
+              let f = undo-fits s h long (spelledBoard s) refl undone in
+              rw (g ∙ sym tally-is, ← border-is n undo-room) (f .3, rw entry (f .4))
+
+          pub undo-step : {u : Tally} {a : List ℕ} → u ≡ tallyLess t (sideIn (getD s (5122 + n) 0))
+              → a ≡ imageWritten s n 0 (m - 1) (m - 1) 0 u → SeriesStepped s undo a true
+          undo-step {u} {a} k w =
+              stepped undone
+              (image-undo-after s h long (spelledBoard s) refl undone n u a entry
+              (k
+              ∙ ap₂ (λ (j : Tally) (v : ℕ). tallyLess j (sideIn v)) (g ∙ sym tally-is) (sym (border-is n undo-room)))
+              (w ∙ ap (λ j. imageWritten s n 0 (j - 1) (j - 1) 0 u) (sym counted)))
 
 -- ---- a list of calls
 -- no call is done on an alien image

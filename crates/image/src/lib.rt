@@ -9,6 +9,7 @@ ghost use Rattle.calls.specs.Known.{KnownBoard, foundIn};
 ghost use Rattle.image.specs.Image.{imageAlien, decideLiteral, decide, undo, imageNumber, imageAfter};
 ghost use Rattle.image.specs.Image.{isShort, bytesAfter, checkNumber, checkBytes};
 use board::Board;
+use board::tallies;
 use calls::Answer;
 use rules::Literal;
 use rules::Side;
@@ -30,7 +31,9 @@ pub const COUNT: usize = 7106;
 
 pub const STACK: usize = 7108;
 
-pub const LENGTH: usize = 11076;
+pub const TALLY: usize = 11076;
+
+pub const LENGTH: usize = 11082;
 
 // The numbers of an alien image and of short memory.
 const ALIEN: u32 = 5;
@@ -88,7 +91,8 @@ pub extern "C" fn dbchoco_decide(image: &mut [u8], border: u32, side: u32) -> u3
         let s = l.side;
         let v = board::code(s);
         let at = b.count;
-        writing::rewrite(image, n, v, at + 1, at, n);
+        let t = b.tally;
+        writing::rewrite(image, n, v, at + 1, at, n, tallies::more(t, v));
     }
     number
 }
@@ -109,7 +113,9 @@ pub extern "C" fn dbchoco_undo(image: &mut [u8]) -> u32
     if number == 0 {
         let at = b.count - 1;
         let n = index(b.stack[at]);
-        writing::rewrite(image, n, 0, at, at, 0);
+        let t = b.tally;
+        let counted = tallies::less(t, b.borders[n]);
+        writing::rewrite(image, n, 0, at, at, 0, counted);
     }
     number
 }
@@ -122,18 +128,18 @@ fn answered<'a>(
     colours: &'a [u8; Board::CELL_LIMIT],
     clues: &'a [i32; Board::CELL_LIMIT],
     borders: &'a [u8; Board::BORDER_LIMIT],
-    count: usize,
+    undecided: usize,
     codes: &mut [u16],
     memory: &mut [u8],
 ) -> u32
-    requires { ⌜ KnownBoard h w (now colours) (now clues) (now borders) count × (14 * (h * w) < length (now codes))
+    requires { ⌜ KnownBoard h w (now colours) (now clues) (now borders) undecided × (14 * (h * w) < length (now codes))
         × (isShort (now memory) ≡ false) ⌝ }
     ensures number { λ r. ⌜ r ≡ answerNumber (asAnswer (foundIn h w (now (colours .entry)) (now (clues .entry))
         (now (borders .entry)))) ⌝ }
     ensures bytes { λ _. ⌜ now (memory .exit) ≡ bytesAfter (now (memory .entry)) (foundIn h w (now (colours .entry))
         (now (clues .entry)) (now (borders .entry))) ⌝ }
 {
-    let answer = calls::answer_known(h, w, colours, clues, borders, count, codes);
+    let answer = calls::answer_known(h, w, colours, clues, borders, undecided, codes);
     match answer {
         Answer::Done => 0,
         Answer::Pass(n) => 32 + (n as u32),
@@ -158,7 +164,8 @@ pub extern "C" fn dbchoco_check(image: &[u8], memory: &mut [u8]) -> u32
     let b = reading::board(image);
     let h = b.height;
     let w = b.width;
-    if board::is_alien(h, w, &b.colours, &b.clues, &b.borders, &b.stack, b.count) {
+    let t = b.tally;
+    if board::is_alien(h, w, &b.colours, &b.clues, &b.borders, &b.stack, b.count, t) {
         return ALIEN;
     }
     if writing::short(memory) {
@@ -172,7 +179,7 @@ pub extern "C" fn dbchoco_check(image: &[u8], memory: &mut [u8]) -> u32
             &b.colours,
             &b.clues,
             &b.borders,
-            b.count,
+            t.undecided,
             &mut codes,
             memory,
         );
@@ -184,7 +191,7 @@ pub extern "C" fn dbchoco_check(image: &[u8], memory: &mut [u8]) -> u32
         &b.colours,
         &b.clues,
         &b.borders,
-        b.count,
+        t.undecided,
         &mut codes,
         memory,
     )

@@ -4,6 +4,7 @@ ghost use Prim.Native.Nat.{_+_, _*_, _<_, _≤_};
 ghost use lib.ListN.{length, replicate};
 ghost use lib.Seq.{sets};
 ghost use Rattle.lists.specs.Lists.{flatMap};
+ghost use Rattle.rules.specs.Flat.{Sized};
 ghost use Rattle.board.specs.Board.{freshBoard};
 ghost use Rattle.image.specs.Image.{fourBytes, bitsOf, clueBytes, imageOf};
 ghost use Rattle.image.specs.Making.{freshNumber, freshImage};
@@ -11,8 +12,10 @@ use crate::ALIEN;
 use crate::CLUES;
 use crate::COLOURS;
 use crate::LENGTH;
+use crate::TALLY;
 use crate::writing::put_two;
 use board::Board;
+use rules::index_byte;
 
 // Makes every byte 0.
 fn clear(s: &mut [u8])
@@ -71,10 +74,13 @@ fn put_clues(s: &mut [u8], clues: &[i32])
 
 // Writes the image of the fresh board.
 fn put_fresh(s: &mut [u8], height: u8, width: u8, colours: &[u8], clues: &[i32])
-    requires { ⌜ (length (now s) ≡ 11076) × (length (now colours) ≤ 1024) × (length (now clues) ≤ 1024) ⌝ }
+    requires { ⌜ (length (now s) ≡ 11082) × Sized height width × (length (now colours) ≤ 1024)
+        × (length (now clues) ≤ 1024) ⌝ }
     ensures { λ _. ⌜ now (s .exit) ≡ imageOf (freshBoard height width (now (colours .entry)) (now (clues .entry))) ⌝ }
 {
     clear(s);
+    let total = board::border_count(index_byte(height), index_byte(width));
+    put_two(s, TALLY, total);
     s[0] = height;
     s[1] = width;
     put_colours(s, colours);

@@ -3,13 +3,15 @@ ghost use mathlib.Core.Path.{_≡_};
 ghost use Prim.Native.Nat.{_+_, _*_, _<_, _≤_};
 ghost use lib.ListN.{length, getD};
 ghost use Rattle.lists.specs.Table.{table};
-ghost use Rattle.image.specs.Image.{pair, quad, fromBits, spelledBoard};
+ghost use Rattle.image.specs.Image.{pair, quad, fromBits, spelledTally, spelledBoard};
 use crate::BORDERS;
 use crate::CLUES;
 use crate::COLOURS;
 use crate::COUNT;
 use crate::STACK;
+use crate::TALLY;
 use board::Board;
+use rules::Tally;
 use rules::index;
 use rules::index_byte;
 
@@ -54,7 +56,7 @@ fn copy(out: &mut [u8], s: &[u8], from: usize)
 
 // The clues of an image.
 fn clues(s: &[u8]) -> [i32; Board::CELL_LIMIT]
-    requires { ⌜ length (now s) ≡ 11076 ⌝ }
+    requires { ⌜ length (now s) ≡ 11082 ⌝ }
     ensures { λ r. ⌜ r ≡ table 1024 (λ i. fromBits (quad (now (s .entry)) (1026 + 4 * i))) ⌝ }
 {
     let mut out = [0i32; Board::CELL_LIMIT];
@@ -68,7 +70,7 @@ fn clues(s: &[u8]) -> [i32; Board::CELL_LIMIT]
 
 // The stack entries of an image.
 fn stack(s: &[u8]) -> [u16; Board::BORDER_LIMIT]
-    requires { ⌜ length (now s) ≡ 11076 ⌝ }
+    requires { ⌜ length (now s) ≡ 11082 ⌝ }
     ensures { λ r. ⌜ r ≡ table 1984 (λ i. pair (now (s .entry)) (7108 + 2 * i)) ⌝ }
 {
     let mut out = [0u16; Board::BORDER_LIMIT];
@@ -80,9 +82,21 @@ fn stack(s: &[u8]) -> [u16; Board::BORDER_LIMIT]
     out
 }
 
+// The tally of an image.
+pub fn tally(s: &[u8]) -> Tally
+    requires { ⌜ length (now s) ≡ 11082 ⌝ }
+    ensures { λ r. ⌜ r ≡ spelledTally (now (s .entry)) ⌝ }
+{
+    Tally {
+        undecided: index(two(s, TALLY)),
+        walls: index(two(s, TALLY + 2)),
+        opens: index(two(s, TALLY + 4)),
+    }
+}
+
 // The board of an image of the right length.
 pub fn board(s: &[u8]) -> Board
-    requires { ⌜ length (now s) ≡ 11076 ⌝ }
+    requires { ⌜ length (now s) ≡ 11082 ⌝ }
     ensures { λ r. ⌜ r ≡ spelledBoard (now (s .entry)) ⌝ }
 {
     let mut colours = [0u8; Board::CELL_LIMIT];
@@ -100,5 +114,6 @@ pub fn board(s: &[u8]) -> Board
         borders,
         stack,
         count: index(count),
+        tally: tally(s),
     }
 }

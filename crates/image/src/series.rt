@@ -11,8 +11,10 @@ use crate::COUNT;
 use crate::STACK;
 use crate::alien;
 use crate::literal;
+use crate::reading::tally;
 use crate::reading::two;
 use crate::writing::rewrite;
+use board::tallies;
 use rules::index;
 use rules::index_byte;
 
@@ -21,7 +23,7 @@ const UNDO: u16 = 65535;
 
 // How many borders the page of an image has.
 fn border_count(image: &[u8]) -> usize
-    requires { ⌜ length (now image) ≡ 11076 ⌝ }
+    requires { ⌜ length (now image) ≡ 11082 ⌝ }
     ensures { λ r. ⌜ r ≡ bordersOf (getD (now (image .entry)) 0 0) (getD (now (image .entry)) 1 0) ⌝ }
 {
     board::border_count(index_byte(image[0]), index_byte(image[1]))
@@ -29,7 +31,7 @@ fn border_count(image: &[u8]) -> usize
 
 // Decides a border of an image that is not alien. Whether that is done.
 fn decided(image: &mut [u8], border: u32, side: u32) -> bool
-    requires { ⌜ (length (now image) ≡ 11076) × (imageAlien (now image) ≡ false) ⌝ }
+    requires { ⌜ (length (now image) ≡ 11082) × (imageAlien (now image) ≡ false) ⌝ }
     ensures { λ r. ⌜ SeriesStepped (now (image .entry)) (decide border side) (now (image .exit)) r ⌝ }
 {
     let l = literal(border, side);
@@ -40,13 +42,15 @@ fn decided(image: &mut [u8], border: u32, side: u32) -> bool
         return false;
     }
     let at = index(two(image, COUNT));
-    rewrite(image, n, board::code(s), at + 1, at, n);
+    let v = board::code(s);
+    let t = tally(image);
+    rewrite(image, n, v, at + 1, at, n, tallies::more(t, v));
     true
 }
 
 // Takes the last decision of an image that is not alien back. Whether that is done.
 fn undone(image: &mut [u8]) -> bool
-    requires { ⌜ (length (now image) ≡ 11076) × (imageAlien (now image) ≡ false) ⌝ }
+    requires { ⌜ (length (now image) ≡ 11082) × (imageAlien (now image) ≡ false) ⌝ }
     ensures { λ r. ⌜ SeriesStepped (now (image .entry)) undo (now (image .exit)) r ⌝ }
 {
     let count = index(two(image, COUNT));
@@ -56,13 +60,15 @@ fn undone(image: &mut [u8]) -> bool
     }
     let at = count - 1;
     let n = index(two(image, STACK + 2 * at));
-    rewrite(image, n, 0, at, at, 0);
+    let t = tally(image);
+    let counted = tallies::less(t, image[BORDERS + n]);
+    rewrite(image, n, 0, at, at, 0, counted);
     true
 }
 
 // Makes the call of a code on an image that is not alien. Whether that is done.
 fn step(image: &mut [u8], code: u16) -> bool
-    requires { ⌜ (length (now image) ≡ 11076) × (imageAlien (now image) ≡ false) ⌝ }
+    requires { ⌜ (length (now image) ≡ 11082) × (imageAlien (now image) ≡ false) ⌝ }
     ensures { λ r. ⌜ SeriesStepped (now (image .entry)) (codeCall code) (now (image .exit)) r ⌝ }
 {
     if code == UNDO {

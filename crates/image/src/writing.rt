@@ -3,11 +3,12 @@ ghost use mathlib.Core.Path.{_≡_};
 ghost use Prim.Native.Nat.{_+_, _*_, _<_, _≤_};
 ghost use lib.ListN.{length};
 ghost use lib.Seq.{sets};
-ghost use Rattle.image.specs.Image.{twoBytes, imageWritten, putCodes, isShort};
+ghost use Rattle.image.specs.Image.{twoBytes, tallyBytes, imageWritten, putCodes, isShort};
 use crate::BORDERS;
 use crate::COUNT;
 use crate::STACK;
-use crate::reading;
+use crate::TALLY;
+use rules::Tally;
 use rules::index;
 
 // The least length of reason memory beside an image.
@@ -22,14 +23,25 @@ pub fn put_two(s: &mut [u8], k: usize, v: usize)
     s[k + 1] = (v / 256 % 256) as u8;
 }
 
-// Sets the border n to v, the count to c and the entry i of the stack to e.
-pub fn rewrite(s: &mut [u8], n: usize, v: u8, c: usize, i: usize, e: usize)
-    requires { ⌜ (length (now s) ≡ 11076) × (n < 1984) × (i < 1984) ⌝ }
-    ensures { λ _. ⌜ now (s .exit) ≡ imageWritten (now (s .entry)) n v c i e ⌝ }
+// Stores the three counts of a tally at their places.
+fn put_tally(s: &mut [u8], t: Tally)
+    requires { ⌜ length (now s) ≡ 11082 ⌝ }
+    ensures { λ _. ⌜ now (s .exit) ≡ sets (now (s .entry)) 11076 (tallyBytes t) ⌝ }
+{
+    put_two(s, TALLY, t.undecided);
+    put_two(s, TALLY + 2, t.walls);
+    put_two(s, TALLY + 4, t.opens);
+}
+
+// Sets the border n to v, the count to c, the entry i of the stack to e, and the tally to t.
+pub fn rewrite(s: &mut [u8], n: usize, v: u8, c: usize, i: usize, e: usize, t: Tally)
+    requires { ⌜ (length (now s) ≡ 11082) × (n < 1984) × (i < 1984) ⌝ }
+    ensures { λ _. ⌜ now (s .exit) ≡ imageWritten (now (s .entry)) n v c i e t ⌝ }
 {
     s[BORDERS + n] = v;
     put_two(s, COUNT, c);
     put_two(s, STACK + 2 * i, e);
+    put_tally(s, t);
 }
 
 // Whether reason memory beside an image is below 16,384 literals.

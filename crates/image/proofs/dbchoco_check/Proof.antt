@@ -1,5 +1,5 @@
 -- `dbchoco_check` meets its contract: the refusals, and what Check gives of the image's board, by its size.
-use mathlib.Core.Path.{_≡_, sym, _∙_}
+use mathlib.Core.Path.{_≡_, refl, sym, _∙_}
 use mathlib.Core.Bool.{false}
 use mathlib.Core.List.{List}
 use Prim.Native.Nat.{ℕ, _*_, _≤_}
@@ -11,7 +11,7 @@ use Rattle.board.specs.declared.Board.{Board}
 use Rattle.board.specs.Alien.{isAlien}
 use Rattle.board.specs.NativeLaws.{native-has}
 use Rattle.calls.specs.Answers.{answerNumber, asAnswer}
-use Rattle.calls.specs.Known.{foundIn}
+use Rattle.calls.specs.Known.{KnownBoard, foundIn}
 use Rattle.image.specs.Image.{isShort, bytesAfter, checkNumber, checkBytes}
 use Rattle.image.specs.CheckLaws.{other-number, other-bytes, alien-checked, short-checked, found-checked}
 use Rattle.image.proofs.dbchoco_check.Statement.{statement}
@@ -22,20 +22,26 @@ abbrev Left : Type 0
 Left = tie.Else3
 
 abbrev board : Left → Board
-board e = e .before .before .before .before .before .before .before .before .before .before .board .result
+board e = e .before .before .before .before .before .before .before .before .before .before .before .board .result
 
 abbrev memory : Left → List ℕ
 memory e =
     e .before .before .before .before .before .before .before .before .before .before .before .before .before .before
-    .args .memory .now
+    .before .args .memory .now
 
 abbrev image : Left → List ℕ
 image e =
     e .before .before .before .before .before .before .before .before .before .before .before .before .before .before
-    .args .image .now
+    .before .args .image .now
 
 known : (e : Left) → isAlien (board e) ≡ false
 known e = sym (e .before .before .before .before .is-alien .ensures) ∙ e .before .before .before .if2 .left
+
+board-known : (e : Left) → let b = board e in
+    KnownBoard (b .height) (b .width) (b .colours) (b .clues) (b .borders) (b .tally .undecided)
+board-known e =
+    let b = board e in
+    record { stack = b .stack; count = b .count; tally = b .tally; native = known e; stored = refl }
 
 room : (e : Left) → isShort (memory e) ≡ false
 room e = sym (e .before .short .ensures) ∙ e .if3 .left
@@ -49,7 +55,7 @@ told : (e : Left) → let b = board e in
     (answerNumber (asAnswer f) ≡ checkNumber (image e) (memory e))
     × (bytesAfter (memory e) f ≡ checkBytes (image e) (memory e))
 told e =
-    let i = e .before .before .before .before .before .before .before .before .before .before in
+    let i = e .before .before .before .before .before .before .before .before .before .before .before in
     found-checked _ _ (i .before .if1 .left) _ (i .board .ensures) (known e) (room e)
 
 returns : tie.Need-returns
@@ -63,7 +69,7 @@ is-alien-requires c κs = search needs
 
 returns-2 : tie.Need-returns-2
 returns-2 c =
-    let i = c .before .before .before .before .before .before .before in
+    let i = c .before .before .before .before .before .before .before .before in
     alien-checked _ _ (i .before .if1 .left) _ (i .board .ensures)
     (sym (c .before .is-alien .ensures) ∙ c .if2 .taken)
 
@@ -75,7 +81,7 @@ same-length c = search needs
 
 returns-3 : tie.Need-returns-3
 returns-3 c =
-    let i = c .before .before .before .before .before .before .before .before .before .before in
+    let i = c .before .before .before .before .before .before .before .before .before .before .before in
     let t = sym (c .before .before .before .before .is-alien .ensures) ∙ c .before .before .before .if2 .left in
     short-checked _ _ (i .before .if1 .left) _ (i .board .ensures) t
     (sym (c .before .short .ensures) ∙ c .if3 .taken)
@@ -90,7 +96,7 @@ answered-requires : tie.Need-answered-requires
 answered-requires c κs =
     let i = c .before .before .before .before .before .before in
     let e = i .before in (
-      record { stack = board e .stack; native = known e },
+      board-known e,
       omega (arith, i .if4 .taken, length-replicate {A = ℕ} 4096 0),
       room e,
     )
@@ -110,7 +116,7 @@ slice-aggregate-answered-2 c = search needs
 answered-requires-2 : tie.Need-answered-requires-2
 answered-requires-2 c κs =
     let e = c .before .before .before .before .before .before .before in (
-      record { stack = board e .stack; native = known e },
+      board-known e,
       omega (arith, few e, length-replicate {A = ℕ} 16384 0),
       room e,
     )

@@ -1,7 +1,7 @@
 -- `dbchoco_decide` meets its contract: the board's decide has the number, and a done one rewrites what changes.
 use mathlib.Core.Path.{_≡_, _∙_, ap, sym}
 use mathlib.Core.List.{List}
-use Prim.Native.Nat.{ℕ, _<_}
+use Prim.Native.Nat.{ℕ, _<_, _≤_}
 use native.Mathlib.Omega.{arith}
 use borrow.Author.Needs.{needs}
 use Rattle.rules.specs.declared.Literal.{Literal}
@@ -24,7 +24,7 @@ call c = let a = c .before .before .before .before .before .before .before .args
 bytes : (c : tie.After-number) → Bytes (image c)
 bytes c = λ i. omega (arith, c .before .before .before .before .before .before .slice-known .given i)
 
-long : (c : tie.After-number) → length (image c) ≡ 11076
+long : (c : tie.After-number) → length (image c) ≡ 11082
 long c = c .before .before .before .before .before .if1 .left
 
 here : (c : tie.After-number) → c .number .result ≡ imageNumber (image c) (call c)
@@ -40,8 +40,10 @@ zero : (c : tie.Then2) → imageNumber (image (c .before)) (call (c .before)) �
 zero c = sym (here (c .before)) ∙ c .if2 .taken
 
 fits : (c : tie.Then2)
-    → let k = c .before in (k .before .before .before .before .before .before .before .args .border < 1984) ×
-    (k .before .before .before .board .result .count < 1984)
+    → let k = c .before in
+    let b = k .before .before .before .board .result in
+    (k .before .before .before .before .before .before .before .args .border < 1984) × (b .count < 1984)
+    × (0 < b .tally .undecided) × (b .tally .walls ≤ 1984) × (b .tally .opens ≤ 1984)
 fits c =
     let k = c .before in
     let r = k .before .before .before .board in
@@ -66,12 +68,15 @@ code-requires : tie.Need-code-requires
 code-requires c κs = search needs
 
 add-rewrite : tie.Need-add-rewrite
-add-rewrite c = let f = fits (c .before .before) in search needs
+add-rewrite c = let f = fits (c .before .before .before) in search needs
+
+more-requires : tie.Need-more-requires
+more-requires c κs = let f = fits (c .before .before .before) in (f .2, f .3, f .4)
 
 rewrite-requires : tie.Need-rewrite-requires
 rewrite-requires c κs =
-    let k = c .before .before .before in
-    let f = fits (c .before .before) in
+    let k = c .before .before .before .before .before in
+    let f = fits (c .before .before .before .before) in
     (long k, rw (ap (λ (l : Literal). l .border) (k .before .before .literal .ensures)) (f .0), f .1)
 
 same-length : tie.Need-same-length
@@ -79,14 +84,15 @@ same-length c = search needs
 
 returns-2 : tie.Need-returns-2
 returns-2 c =
-    let t = c .before .before .before .before .before in
+    let t = c .before .before .before .before .before .before .before in
     let k = t .before in
     let r = k .before .before .before .board in
     let l = k .before .before .literal in
-    let v = c .before .before .before .before .code in (
+    let v = c .before .before .before .before .before .before .code in
+    let u = c .before .before .before .more in (
       here k,
-      image-decide-after (image k) (bytes k) (long k) (r .result) (r .ensures) _ _ (zero t) (l .result) (v .result) _
-          (l .ensures) (v .ensures) (c .before .before .rewrite .ensures),
+      image-decide-after (image k) (bytes k) (long k) (r .result) (r .ensures) _ _ (zero t) (l .result) (v .result)
+          (u .result) _ (l .ensures) (v .ensures) (u .ensures) (c .before .before .rewrite .ensures),
     )
 
 same-length-2 : tie.Need-same-length-2
@@ -111,6 +117,7 @@ dbchoco-decide-spec =
     number-requires
     code-requires
     add-rewrite
+    more-requires
     rewrite-requires
     same-length
     returns-2

@@ -5,7 +5,8 @@ use Prim.Native.Nat.{ℕ, _-_, _<_, _≤_}
 use native.Mathlib.Omega.{arith}
 use borrow.Author.Needs.{needs}
 use lib.ListN.{length, getD}
-use Rattle.board.specs.Board.{numberOf}
+use Rattle.rules.specs.Codes.{sideIn}
+use Rattle.board.specs.Board.{numberOf, sideCount}
 use Rattle.board.specs.declared.Returned.{Returned}
 use Rattle.image.specs.Image.{undo, imageNumber, Bytes}
 use Rattle.image.specs.CallLaws.{length-number, length-after, call-number-is, after-refused}
@@ -20,7 +21,7 @@ image c = c .before .before .before .before .before .before .args .image .now
 bytes : (c : tie.After-number) → Bytes (image c)
 bytes c = λ i. omega (arith, c .before .before .before .before .before .slice-known .given i)
 
-long : (c : tie.After-number) → length (image c) ≡ 11076
+long : (c : tie.After-number) → length (image c) ≡ 11082
 long c = c .before .before .before .before .if1 .left
 
 here : (c : tie.After-number) → c .number .result ≡ imageNumber (image c) undo
@@ -36,7 +37,9 @@ zero c = sym (here (c .before)) ∙ c .if2 .taken
 
 fits : (c : tie.Then2)
     → let b = c .before .before .before .board .result in
-    (0 < b .count) × (b .count ≤ 1984) × (getD (b .stack) (b .count - 1) 0 < 1984)
+    let n = getD (b .stack) (b .count - 1) 0 in
+    (0 < b .count) × (b .count ≤ 1984) × (n < 1984) × (b .tally .undecided ≤ 1984)
+    × (0 < sideCount (b .tally) (sideIn (getD (b .borders) n 0)))
 fits c =
     let k = c .before in
     let r = k .before .before .board in
@@ -66,23 +69,35 @@ element-copy-out-index c = let f = fits c in omega arith
 index-requires : tie.Need-index-requires
 index-requires c κs = search needs
 
+element-copy-out-less : tie.Need-element-copy-out-less
+element-copy-out-less c = let f = fits (c .before .before .before) in omega (arith, c .before .index .ensures)
+
+less-requires : tie.Need-less-requires
+less-requires c κs =
+    let n = c .before .before in
+    let f = fits (n .before .before) in
+    rw (n .index .ensures) (f .3, f .4)
+
 rewrite-requires : tie.Need-rewrite-requires
 rewrite-requires c κs =
-    let f = fits (c .before .before .before) in
-    (long (c .before .before .before .before), rw (c .before .index .ensures) (f .2), omega arith)
+    let n = c .before .before .before .before in
+    let t = n .before .before in
+    let f = fits t in
+    (long (t .before), rw (n .index .ensures) (f .2), omega arith)
 
 same-length : tie.Need-same-length
 same-length c = search needs
 
 returns-2 : tie.Need-returns-2
 returns-2 c =
-    let t = c .before .before .before .before .before .before in
+    let t = c .before .before .before .before .before .before .before .before .before in
     let k = t .before in
     let r = k .before .before .board in
-    let n = c .before .before .before .before .index in (
+    let n = c .before .before .before .before .before .before .before .index in
+    let u = c .before .before .before .before .less in (
       here k,
-      image-undo-after (image k) (bytes k) (long k) (r .result) (r .ensures) (zero t) (n .result) _ (n .ensures)
-          (c .before .before .rewrite .ensures),
+      image-undo-after (image k) (bytes k) (long k) (r .result) (r .ensures) (zero t) (n .result) (u .result) _
+          (n .ensures) (u .ensures) (c .before .before .rewrite .ensures),
     )
 
 same-length-2 : tie.Need-same-length-2
@@ -108,6 +123,8 @@ dbchoco-undo-spec =
     mul-index
     element-copy-out-index
     index-requires
+    element-copy-out-less
+    less-requires
     rewrite-requires
     same-length
     returns-2

@@ -59,7 +59,7 @@ put-fresh-requires c κs =
     let p = m .fit .colours in
     let q = m .fit .clues in
     let n = counts (m .size) .cells in
-    (c .before .if2 .left, omega arith, omega arith)
+    (c .before .if2 .left, m .size, omega arith, omega arith)
 
 same-length : tie.Need-same-length
 same-length c = search needs

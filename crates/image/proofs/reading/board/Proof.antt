@@ -42,16 +42,21 @@ index-byte-requires-2 c κs = search needs
 index-requires : tie.Need-index-requires
 index-requires c κs = search needs
 
+tally-requires : tie.Need-tally-requires
+tally-requires c κs = search needs
+
 returns : tie.Need-returns
 unfolding spelledBoard
 returns c =
     λ i.
-    boardOf (c .before .before .before .index-byte .ensures i) (c .before .index-byte2 .ensures i)
-    (c .before .before .before .before .before .before .before .before .before .before .before .before .copy .ensures i)
-    (c .before .before .before .before .before .before .before .clues .ensures i)
-    (c .before .before .before .before .before .before .before .before .before .copy2 .ensures i)
-    (c .before .before .before .before .before .before .stack .ensures i)
-    ((c .index .ensures ∙ c .before .before .before .before .before .two .ensures) i)
+    boardOf (c .before .before .before .before .index-byte .ensures i) (c .before .before .index-byte2 .ensures i)
+    (c .before .before .before .before .before .before .before .before .before .before .before .before .before .copy
+    .ensures i)
+    (c .before .before .before .before .before .before .before .before .clues .ensures i)
+    (c .before .before .before .before .before .before .before .before .before .before .copy2 .ensures i)
+    (c .before .before .before .before .before .before .before .stack .ensures i)
+    ((c .before .index .ensures ∙ c .before .before .before .before .before .before .two .ensures) i)
+    (c .tally .ensures i)
 
 pub board-spec : {M : Type 1} → statement M
 board-spec =
@@ -69,4 +74,5 @@ board-spec =
     shared-slice-read-index-byte-2
     index-byte-requires-2
     index-requires
+    tally-requires
     returns)

@@ -2,9 +2,10 @@
 use mathlib.Core.Path.{_≡_, _∙_, sym}
 use mathlib.Core.Bool.{false}
 use mathlib.Core.List.{List}
-use Prim.Native.Nat.{ℕ}
+use Prim.Native.Nat.{ℕ, _<_, _≤_}
 use native.Mathlib.Omega.{arith}
 use borrow.Author.Needs.{needs}
+use lib.ListN.{length}
 use Rattle.board.specs.Board.{numberOf}
 use Rattle.image.specs.Image.{Bytes, imageAlien}
 use Rattle.image.specs.SeriesLaws.{series-part-length, few, decide-not, decide-room, decide-step}
@@ -20,6 +21,9 @@ border c = c .before .before .before .before .args .border
 
 abbrev side : tie.After-border-count → ℕ
 side c = c .before .before .before .before .args .side
+
+long : (c : tie.After-border-count) → length (image c) ≡ 11082
+long c = c .before .before .before .before .pre .0
 
 known : (c : tie.After-border-count) → imageAlien (image c) ≡ false
 known c = c .before .before .before .before .pre .1
@@ -80,34 +84,51 @@ index-requires c κs = search needs
 code-requires : tie.Need-code-requires
 code-requires c κs = search needs
 
-add-rewrite : tie.Need-add-rewrite
-add-rewrite c = search needs
+tally-requires : tie.Need-tally-requires
+tally-requires c κs = search needs
 
-rewrite-requires : tie.Need-rewrite-requires
-rewrite-requires c κs =
-    let f = c .before .before .before .before .before in
+-- the places of a decide that is not refused, and the tally that can count it
+room : (c : tie.After-tally)
+    → let k = c .before .before .before .before .before .before .before .before .before .before .before in
+    let t = c .tally .result in
+    (k .before .before .literal .result .border < 1984) × (c .before .before .before .index .result < 1984)
+    × (0 < t .undecided) × (t .walls ≤ 1984) × (t .opens ≤ 1984)
+room c =
+    let f = c .before .before .before .before .before .before in
     let e = f .before .before in
     let k = e .before .before .before in
     let l = k .before .before .literal in
-    let r = decide-room (image k) (bytes k) (known k) (border k) (side k) (l .result) (l .ensures)
+    decide-room (image k) (bytes k) (known k) (border k) (side k) (l .result) (l .ensures)
     (k .border-count .result) (k .border-count .ensures) _ (e .decide-refusal .ensures) (zero f) _
-    (c .before .before .index .ensures ∙ c .before .before .before .two .ensures) in
-    (k .before .before .before .before .pre .0, r .0, r .1)
+    (c .before .before .before .index .ensures ∙ c .before .before .before .before .two .ensures) _ (c .tally .ensures)
+
+add-rewrite : tie.Need-add-rewrite
+add-rewrite c = search needs
+
+more-requires : tie.Need-more-requires
+more-requires c κs = let r = room (c .before) in (r .2, r .3, r .4)
+
+rewrite-requires : tie.Need-rewrite-requires
+rewrite-requires c κs =
+    let t = c .before .before in
+    let r = room t in
+    (long (t .before .before .before .before .before .before .before .before .before .before .before), r .0, r .1)
 
 same-length-2 : tie.Need-same-length-2
 same-length-2 c = search needs
 
 returns-2 : tie.Need-returns-2
 returns-2 c =
-    let v = c .before .before .before in
-    let f = v .before .before .before .before .before in
+    let t = c .before .before .before .before .before in
+    let v = t .before .before in
+    let f = v .before .before .before .before in
     let e = f .before .before in
     let k = e .before .before .before in
     let l = k .before .before .literal in
     decide-step (image k) (bytes k) (known k) (border k) (side k) (l .result) (l .ensures)
     (k .border-count .result) (k .border-count .ensures) _ (e .decide-refusal .ensures) (zero f) _
-    (v .before .before .index .ensures ∙ v .before .before .before .two .ensures) (v .code .ensures)
-    (c .before .before .rewrite .ensures)
+    (v .before .index .ensures ∙ v .before .before .two .ensures) _ (t .tally .ensures) (v .code .ensures)
+    (c .before .before .before .more .ensures) (c .before .before .rewrite .ensures)
 
 pub decided-spec : {M : Type 1} → statement M
 decided-spec =
@@ -125,7 +146,9 @@ decided-spec =
     two-requires
     index-requires
     code-requires
+    tally-requires
     add-rewrite
+    more-requires
     rewrite-requires
     same-length-2
     returns-2)

@@ -2,18 +2,22 @@
 use mathlib.Core.Path.{_≡_, _∙_, sym}
 use mathlib.Core.Bool.{false}
 use mathlib.Core.List.{List}
-use Prim.Native.Nat.{ℕ, _+_, _-_, _*_}
+use Prim.Native.Nat.{ℕ, _+_, _-_, _*_, _<_}
 use native.Mathlib.Omega.{arith}
 use borrow.Author.Needs.{needs}
+use lib.ListN.{length}
 use Rattle.board.specs.Board.{numberOf}
 use Rattle.image.specs.Image.{Bytes, pair, imageAlien}
-use Rattle.image.specs.SeriesLaws.{undo-not, undo-some, undo-low, undo-room, undo-step}
+use Rattle.image.specs.SeriesLaws.{undo-not, undo-some, undo-low, undo-room, undo-tally, undo-step}
 use Rattle.image.proofs.series.undone.Statement.{statement}
 use Rattle.image.proofs.series.undone.Tie as tie
 
 -- the image, and the count that it has
 abbrev image : tie.After-index → List ℕ
 image c = c .before .before .before .before .args .image .now
+
+long : (c : tie.After-index) → length (image c) ≡ 11082
+long c = c .before .before .before .before .pre .0
 
 known : (c : tie.After-index) → imageAlien (image c) ≡ false
 known c = c .before .before .before .before .pre .1
@@ -32,6 +36,14 @@ entry : (c : tie.After-index2)
     → let k = c .before .before .before .before .before .before in
     c .index2 .result ≡ pair (image k) (7108 + 2 * (k .index .result - 1))
 entry c = c .index2 .ensures ∙ c .before .two2 .ensures
+
+low : (c : tie.After-index2) → c .index2 .result < 1984
+low c =
+    let f = c .before .before .before in
+    let u = f .before .before in
+    let k = u .before in
+    undo-room (image k) (bytes k) (known k) (k .index .result) (count k) _ (u .undo-refusal .ensures) (zero f) _
+    (entry c)
 
 two-requires : tie.Need-two-requires
 two-requires c κs = search needs
@@ -73,36 +85,54 @@ two-requires-2 c κs =
     let k = u .before in
     let l = undo-low (image k) (bytes k) (known k) (k .index .result) (count k) _ (u .undo-refusal .ensures)
     (zero (c .before)) in
-    omega (arith, k .before .before .before .before .pre .0, sub-at (c .before))
+    omega (arith, long k, sub-at (c .before))
 
 index-requires-2 : tie.Need-index-requires-2
 index-requires-2 c κs = search needs
 
+tally-requires : tie.Need-tally-requires
+tally-requires c κs = search needs
+
+add-less : tie.Need-add-less
+add-less c = search needs
+
+slice-read-less : tie.Need-slice-read-less
+slice-read-less c =
+    let e = c .before .before .before in
+    omega (arith, low e, long (e .before .before .before .before .before .before))
+
+less-requires : tie.Need-less-requires
+less-requires c κs =
+    let e = c .before .before .before in
+    let f = e .before .before .before in
+    let u = f .before .before in
+    let k = u .before in
+    undo-tally (image k) (bytes k) (known k) (k .index .result) (count k) _ (u .undo-refusal .ensures) (zero f) _
+    (entry e) _ (c .before .tally .ensures)
+
 rewrite-requires : tie.Need-rewrite-requires
 rewrite-requires c κs =
-    let f = c .before .before .before .before in
+    let f = c .before .before .before .before .before .before .before .before in
     let u = f .before .before in
     let k = u .before in
     let i = sub-at f in
     let l = undo-low (image k) (bytes k) (known k) (k .index .result) (count k) _ (u .undo-refusal .ensures)
-    (zero f) in (
-      k .before .before .before .before .pre .0,
-      undo-room (image k) (bytes k) (known k) (k .index .result) (count k) _ (u .undo-refusal .ensures) (zero f) _
-          (entry (c .before)),
-      omega arith,
-    )
+    (zero f) in
+    (long k, low (c .before .before .before .before .before), omega arith)
 
 same-length-2 : tie.Need-same-length-2
 same-length-2 c = search needs
 
 returns-2 : tie.Need-returns-2
 returns-2 c =
-    let e = c .before .before .before .before in
+    let l = c .before .before .before .before in
+    let t = l .before .before in
+    let e = t .before .before in
     let f = e .before .before .before in
     let u = f .before .before in
     let k = u .before in
     undo-step (image k) (bytes k) (known k) (k .index .result) (count k) _ (u .undo-refusal .ensures) (zero f) _
-    (entry e) (c .before .before .rewrite .ensures)
+    (entry e) _ (t .tally .ensures) (l .less .ensures) (c .before .before .rewrite .ensures)
 
 pub undone-spec : {M : Type 1} → statement M
 undone-spec =
@@ -119,6 +149,10 @@ undone-spec =
     add-two
     two-requires-2
     index-requires-2
+    tally-requires
+    add-less
+    slice-read-less
+    less-requires
     rewrite-requires
     same-length-2
     returns-2)

@@ -1,4 +1,4 @@
--- `rewrite` meets its contract: its three stores are those of `written`.
+-- `rewrite` meets its contract: its four stores are those of `imageWritten`.
 use mathlib.Core.Path.{_∙_}
 use native.Mathlib.Omega.{arith}
 use borrow.Author.Needs.{needs}
@@ -30,14 +30,25 @@ put-two-requires-2 c κs =
       c .before .before .before .before .before .before .pre .0,
     )
 
+put-tally-requires : tie.Need-put-tally-requires
+put-tally-requires c κs =
+    c .before .before .before .put-two2 .kept .0
+    ∙ simp length-set at (c .before .before .before .before .before .before .before .put-two .kept .0)
+    ∙ c .before .before .before .before .before .before .before .before .before .before .pre .0
+
 same-length : tie.Need-same-length
-same-length c = c .before .before .put-two2 .kept .0
-    ∙ simp length-set at (c .before .before .before .before .before .before .put-two .kept .0)
+same-length c =
+    let k = c .before .before .before .before .before .before in
+    c .before .before .put-tally .kept .0
+    ∙ k .put-two2 .kept .0
+    ∙ simp length-set at (k .before .before .before .before .put-two .kept .0)
 
 returns : tie.Need-returns
 unfolding imageWritten
-returns c = c .before .before .put-two2 .ensures
-    ∙ rw (c .before .before .before .before .before .before .put-two .ensures)
+returns c =
+    let k = c .before .before .before .before .before .before in
+    c .before .before .put-tally .ensures
+    ∙ rw (k .put-two2 .ensures, k .before .before .before .before .put-two .ensures)
 
 pub rewrite-spec : {M : Type 1} → statement M
 rewrite-spec =
@@ -49,5 +60,6 @@ rewrite-spec =
     mul-put-two
     add-put-two
     put-two-requires-2
+    put-tally-requires
     same-length
     returns)
