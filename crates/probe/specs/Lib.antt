@@ -7,3 +7,5 @@ pub mod ProbeChecks
 pub mod ProbeChecksLaws
 pub mod ProbePreviews
 pub mod ProbePreviewsLaws
+pub mod ProbeRecords
+pub mod ProbeRecordsLaws

@@ -24,11 +24,11 @@ use Rattle.probe.specs.ProbeAsked.{askedIn, partIn, AskedTold}
 
 -- ---- the two cases of an image's length
 module _ (s : List ℕ) (k : Kind) where
-  pub asked-other : (length s ≡ 11076 → ⊥) → askedOf zeroBoard k ≡ askedIn s k
+  pub asked-other : (length s ≡ 11082 → ⊥) → askedOf zeroBoard k ≡ askedIn s k
   unfolding askedIn rightLength
-  asked-other e = sym (asked-alien zeroBoard k zero-alien) ∙ rw (ne-eqb (length s) 11076 e)
+  asked-other e = sym (asked-alien zeroBoard k zero-alien) ∙ rw (ne-eqb (length s) 11082 e)
 
-  pub asked-right : length s ≡ 11076 → askedOf (spelledBoard s) k ≡ askedIn s k
+  pub asked-right : length s ≡ 11082 → askedOf (spelledBoard s) k ≡ askedIn s k
   unfolding askedIn
   asked-right e = rw (long-is s e)
 

@@ -40,11 +40,11 @@ use Rattle.image.specs.RoundLaws.{long-is}
 use Rattle.probe.specs.Probe.{boardFrom, placesOf, probeFits, kindOf, kindGroups, reasonWords}
 use Rattle.probe.specs.Probe.{ProbeWritten, ProbeAnswered}
 
-pub from-other : (s : List ℕ) → (length s ≡ 11076 → ⊥) → zeroBoard ≡ boardFrom s
+pub from-other : (s : List ℕ) → (length s ≡ 11082 → ⊥) → zeroBoard ≡ boardFrom s
 unfolding boardFrom rightLength
-from-other s e = rw (ne-eqb (length s) 11076 e)
+from-other s e = rw (ne-eqb (length s) 11082 e)
 
-pub from-right : (s : List ℕ) → length s ≡ 11076 → spelledBoard s ≡ boardFrom s
+pub from-right : (s : List ℕ) → length s ≡ 11082 → spelledBoard s ≡ boardFrom s
 unfolding boardFrom
 from-right s e = rw (long-is s e)
 

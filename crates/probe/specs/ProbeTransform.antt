@@ -36,18 +36,18 @@ four-stores l a z d e f g = g ∙ rw (f, e, d, z)
 
 -- the two cases
 module _ (s : List ℕ) (u k : ℕ) (m : List ℤ) where
-  pub other-answer : (length s ≡ 11076 → ⊥) → transformed Alien 0 nothing ≡ answerIn s u k (length m)
+  pub other-answer : (length s ≡ 11082 → ⊥) → transformed Alien 0 nothing ≡ answerIn s u k (length m)
   unfolding answerIn rightLength
-  other-answer e = rw (ne-eqb (length s) 11076 e)
+  other-answer e = rw (ne-eqb (length s) 11082 e)
 
-  pub other-memory : (length s ≡ 11076 → ⊥) → m ≡ memoryIn s u k m
+  pub other-memory : (length s ≡ 11082 → ⊥) → m ≡ memoryIn s u k m
   unfolding memoryIn rightLength
-  other-memory e = rw (ne-eqb (length s) 11076 e)
+  other-memory e = rw (ne-eqb (length s) 11082 e)
 
-  pub right-answer : length s ≡ 11076 → transformOf (spelledBoard s) u k (length m) ≡ answerIn s u k (length m)
+  pub right-answer : length s ≡ 11082 → transformOf (spelledBoard s) u k (length m) ≡ answerIn s u k (length m)
   unfolding answerIn
   right-answer e = rw (long-is s e)
 
-  pub right-memory : length s ≡ 11076 → memoryAfter (spelledBoard s) u k m ≡ memoryIn s u k m
+  pub right-memory : length s ≡ 11082 → memoryAfter (spelledBoard s) u k m ≡ memoryIn s u k m
   unfolding memoryIn
   right-memory e = rw (long-is s e)

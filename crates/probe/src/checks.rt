@@ -17,6 +17,7 @@ use board::Outcome;
 use calls::Answer;
 use rules::Literal;
 use rules::Side;
+use rules::Tally;
 use rules::index;
 
 // The literal with the code n.
@@ -35,7 +36,24 @@ pub fn literal(n: usize) -> Literal
     }
 }
 
-// The count after a decide of the literal with this code; borders and stack become those of the board after it.
+// What a board keeps beside its arrays.
+struct Kept {
+    pub count: usize,
+    pub tally: Tally,
+}
+
+fn kept_by(b: Board) -> Kept
+    ensures { λ r. ⌜ r ≡ record { count = b .count; tally = b .tally } ⌝ }
+{
+    let tally = b.tally;
+    Kept {
+        count: b.count,
+        tally,
+    }
+}
+
+// What the board keeps after a decide of the literal with this code; borders and stack become those of the board after
+// it.
 fn decide_next<'a>(
     h: usize,
     w: usize,
@@ -43,16 +61,26 @@ fn decide_next<'a>(
     clues: &'a [i32; Board::CELL_LIMIT],
     borders: &mut [u8; Board::BORDER_LIMIT],
     stack: &mut [u16; Board::BORDER_LIMIT],
-    count: usize,
+    kept: Kept,
     code: u16,
-) -> usize
-    ensures { λ r. ⌜ boardOf h w (now (colours .entry)) (now (clues .entry)) (now (borders .exit)) (now (stack .exit)) r
+) -> Kept
+    ensures { λ r. ⌜ boardOf h w (now (colours .entry)) (now (clues .entry)) (now (borders .exit)) (now (stack .exit))
+        (r .count) (r .tally)
         ≡ decideOf (boardOf h w (now (colours .entry)) (now (clues .entry)) (now (borders .entry))
-        (now (stack .entry)) count) (literalOf code) .board ⌝ }
+        (now (stack .entry)) (kept .count) (kept .tally)) (literalOf code) .board ⌝ }
 {
     let l = literal(index(code));
-    let o = board::decide_lent(h, w, colours, clues, borders, stack, count, l);
-    if refusal(o) == 0 { count + 1 } else { count }
+    let count = kept.count;
+    let tally = kept.tally;
+    let o = board::decide_lent(h, w, colours, clues, borders, stack, count, tally, l);
+    if refusal(o) != 0 {
+        return kept;
+    }
+    let side = l.side;
+    Kept {
+        count: count + 1,
+        tally: board::tallies::more(tally, board::code(side)),
+    }
 }
 
 // The number of a refusal; 0 for none.
@@ -83,16 +111,18 @@ fn check_once<'a>(
     clues: &'a [i32; Board::CELL_LIMIT],
     borders: &'a [u8; Board::BORDER_LIMIT],
     stack: &'a [u16; Board::BORDER_LIMIT],
-    count: usize,
+    kept: Kept,
     memory: &mut [u16],
 ) -> usize
     ensures { λ r.
         ⌜ (r ≡ answerNumber (checkAnswer (boardOf h w (now (colours .entry)) (now (clues .entry)) (now (borders .entry))
-        (now (stack .entry)) count) (length (now (memory .entry)))))
+        (now (stack .entry)) (kept .count) (kept .tally)) (length (now (memory .entry)))))
         × (now (memory .exit) ≡ checkMemory (boardOf h w (now (colours .entry)) (now (clues .entry))
-        (now (borders .entry)) (now (stack .entry)) count) (now (memory .entry))) ⌝ }
+        (now (borders .entry)) (now (stack .entry)) (kept .count) (kept .tally)) (now (memory .entry))) ⌝ }
 {
-    let a = calls::check_lent(h, w, colours, clues, borders, stack, count, memory);
+    let count = kept.count;
+    let tally = kept.tally;
+    let a = calls::check_lent(h, w, colours, clues, borders, stack, count, tally, memory);
     number(a)
 }
 
@@ -104,27 +134,27 @@ fn checks<'a>(
     clues: &'a [i32; Board::CELL_LIMIT],
     borders: &'a [u8; Board::BORDER_LIMIT],
     stack: &'a [u16; Board::BORDER_LIMIT],
-    count: usize,
+    kept: Kept,
     memory: &mut [u16],
     times: usize,
 ) -> usize
     ensures { λ r.
         ⌜ (r ≡ checksNumber (boardOf h w (now (colours .entry)) (now (clues .entry)) (now (borders .entry))
-        (now (stack .entry)) count) (length (now (memory .entry))) times)
+        (now (stack .entry)) (kept .count) (kept .tally)) (length (now (memory .entry))) times)
         × (now (memory .exit) ≡ checksMemory (boardOf h w (now (colours .entry)) (now (clues .entry))
-        (now (borders .entry)) (now (stack .entry)) count) times (now (memory .entry))) ⌝ }
+        (now (borders .entry)) (now (stack .entry)) (kept .count) (kept .tally)) times (now (memory .entry))) ⌝ }
 {
     let mut last: usize = 0;
     let mut i: usize = 0;
     while i < times {
-        last = check_once(h, w, colours, clues, borders, stack, count, memory);
+        last = check_once(h, w, colours, clues, borders, stack, kept, memory);
         i += 1;
     }
     last
 }
 
-// The count after the literals of the codes are decided one after another, with so many checks after each; borders and
-// stack become those of the board after them. A decide that is refused leaves the board.
+// What the board keeps after the literals of the codes are decided one after another, with so many checks after each;
+// borders and stack become those of the board after them. A decide that is refused leaves the board.
 fn decided<'a>(
     h: usize,
     w: usize,
@@ -132,27 +162,27 @@ fn decided<'a>(
     clues: &'a [i32; Board::CELL_LIMIT],
     borders: &mut [u8; Board::BORDER_LIMIT],
     stack: &mut [u16; Board::BORDER_LIMIT],
-    count: usize,
+    kept: Kept,
     codes: &[u16],
     each: usize,
     memory: &mut [u16],
-) -> usize
+) -> Kept
     ensures { λ r.
-        ⌜ (boardOf h w (now (colours .entry)) (now (clues .entry)) (now (borders .exit)) (now (stack .exit)) r
-        ≡ decidesOf (boardOf h w (now (colours .entry)) (now (clues .entry)) (now (borders .entry))
-        (now (stack .entry)) count) (map literalOf (now (codes .entry))))
+        ⌜ (boardOf h w (now (colours .entry)) (now (clues .entry)) (now (borders .exit)) (now (stack .exit)) (r .count)
+        (r .tally) ≡ decidesOf (boardOf h w (now (colours .entry)) (now (clues .entry)) (now (borders .entry))
+        (now (stack .entry)) (kept .count) (kept .tally)) (map literalOf (now (codes .entry))))
         × (now (memory .exit) ≡ decidesMemory each (boardOf h w (now (colours .entry)) (now (clues .entry))
-        (now (borders .entry)) (now (stack .entry)) count) (map literalOf (now (codes .entry)))
+        (now (borders .entry)) (now (stack .entry)) (kept .count) (kept .tally)) (map literalOf (now (codes .entry)))
         (now (memory .entry))) ⌝ }
 {
-    let mut n = count;
+    let mut now = kept;
     let mut i: usize = 0;
     while i < codes.len() {
-        n = decide_next(h, w, colours, clues, borders, stack, n, codes[i]);
-        checks(h, w, colours, clues, borders, stack, n, memory, each);
+        now = decide_next(h, w, colours, clues, borders, stack, now, codes[i]);
+        checks(h, w, colours, clues, borders, stack, now, memory, each);
         i += 1;
     }
-    n
+    now
 }
 
 // Makes the board of a puzzle, decides the literals, with so many checks after each, and then checks so many times. The
@@ -185,14 +215,14 @@ pub extern "C" fn probe_checks(
     let ks = b.clues;
     let mut borders = b.borders;
     let mut stack = b.stack;
-    let count = decided(
+    let now = decided(
         b.height,
         b.width,
         &cs,
         &ks,
         &mut borders,
         &mut stack,
-        b.count,
+        kept_by(b),
         codes,
         each,
         memory,
@@ -204,7 +234,7 @@ pub extern "C" fn probe_checks(
         &ks,
         &borders,
         &stack,
-        count,
+        now,
         memory,
         times,
     )
@@ -218,6 +248,7 @@ pub extern "C" fn probe_board_checks(s: &[u8], times: usize, memory: &mut [u16])
         × (now (memory .exit) ≡ checksMemory (boardFrom (now (s .entry))) times (now (memory .entry))) ⌝ }
 {
     let b = board_from(s);
+    let kept = kept_by(b);
     checks(
         b.height,
         b.width,
@@ -225,7 +256,7 @@ pub extern "C" fn probe_board_checks(s: &[u8], times: usize, memory: &mut [u16])
         &b.clues,
         &b.borders,
         &b.stack,
-        b.count,
+        kept,
         memory,
         times,
     )

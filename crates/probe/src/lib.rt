@@ -19,6 +19,7 @@ use groups::count_of;
 mod asked; // asked.rt: the groups asked of a board, and their parts
 mod checks; // checks.rt: many checks in one call
 mod previews; // previews.rt: many previews in one call
+mod records; // records.rt: a call with a tally record
 mod transform; // transform.rt: the transforms of a board's units
 
 // The least memory that is lent to a call.

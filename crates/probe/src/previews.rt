@@ -18,6 +18,7 @@ fn previews(board: Board, l: Literal, times: usize, memory: &mut [u16]) -> usize
         ⌜ (r ≡ previewsNumber board l (length (now (memory .entry))) times)
         × (now (memory .exit) ≡ previewsMemory board l times (now (memory .entry))) ⌝ }
 {
+    let tally = board.tally;
     let mut last: usize = 0;
     let mut i: usize = 0;
     while i < times {
@@ -29,6 +30,7 @@ fn previews(board: Board, l: Literal, times: usize, memory: &mut [u16]) -> usize
             &board.borders,
             &board.stack,
             board.count,
+            tally,
             l,
             memory,
         );

@@ -12,7 +12,7 @@ check-lent-requires c κs = search needs
 number-requires : tie.Need-number-requires
 number-requires c κs =
     rw (c .before .before .check-lent .ensures .0)
-    (check-in-range _ (c .before .before .before .before .before .args .memory .now))
+    (check-in-range _ (c .before .before .before .before .before .before .args .memory .now))
 
 same-length : tie.Need-same-length
 same-length c = search needs

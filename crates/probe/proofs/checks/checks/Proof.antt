@@ -13,19 +13,20 @@ use Rattle.probe.proofs.checks.checks.Statement.{statement}
 use Rattle.probe.proofs.checks.checks.Tie as tie
 
 abbrev Inv-loop : tie.InvT-loop
-Inv-loop h w colours clues borders stack count memory₀ times last₀ i₀ memory last i =
+Inv-loop h w colours clues borders stack kept memory₀ times last₀ i₀ memory last i =
     (i ≤ times)
-    × (last ≡ checksNumber (boardOf h w colours clues borders stack count) (length memory₀) i)
-    × (memory ≡ checksMemory (boardOf h w colours clues borders stack count) i memory₀)
+    × (last ≡ checksNumber (boardOf h w colours clues borders stack (kept .count) (kept .tally)) (length memory₀) i)
+    × (memory ≡ checksMemory (boardOf h w colours clues borders stack (kept .count) (kept .tally)) i memory₀)
 
 abbrev μ-loop : tie.MeasureT-loop
-μ-loop h w colours clues borders stack count memory₀ times last₀ i₀ memory last i = times - i
+μ-loop h w colours clues borders stack kept memory₀ times last₀ i₀ memory last i = times - i
 
 -- the board whose arrays are lent
 abbrev lent : tie.Start Inv-loop μ-loop → Board
 lent s =
     let a = s .args in
-    boardOf (a .h) (a .w) (a .colours .now) (a .clues .now) (a .borders .now) (a .stack .now) (a .count)
+    boardOf (a .h) (a .w) (a .colours .now) (a .clues .now) (a .borders .now) (a .stack .now)
+    (a .kept .count) (a .kept .tally)
 
 loop-holds : tie.Need-loop-holds Inv-loop μ-loop
 unfolding checksNumber checksMemory

@@ -15,22 +15,25 @@ use Rattle.probe.proofs.checks.decided.Statement.{statement}
 use Rattle.probe.proofs.checks.decided.Tie as tie
 
 abbrev Inv-loop : tie.InvT-loop
-Inv-loop h w colours clues borders₀ stack₀ count codes each memory₀ n₀ i₀ borders stack memory n i =
+Inv-loop h w colours clues borders₀ stack₀ codes each memory₀ now₀ i₀ borders stack memory now i =
     (i ≤ length codes)
-    × (decidesOf (boardOf h w colours clues borders stack n) (map literalOf (drop i codes))
-    ≡ decidesOf (boardOf h w colours clues borders₀ stack₀ count) (map literalOf codes))
-    × (decidesMemory each (boardOf h w colours clues borders stack n) (map literalOf (drop i codes)) memory
-    ≡ decidesMemory each (boardOf h w colours clues borders₀ stack₀ count) (map literalOf codes) memory₀)
+    × (decidesOf (boardOf h w colours clues borders stack (now .count) (now .tally)) (map literalOf (drop i codes))
+    ≡ decidesOf (boardOf h w colours clues borders₀ stack₀ (now₀ .count) (now₀ .tally)) (map literalOf codes))
+    × (decidesMemory each (boardOf h w colours clues borders stack (now .count) (now .tally))
+    (map literalOf (drop i codes)) memory
+    ≡ decidesMemory each (boardOf h w colours clues borders₀ stack₀ (now₀ .count) (now₀ .tally)) (map literalOf codes)
+    memory₀)
     × (length memory ≡ length memory₀)
 
 abbrev μ-loop : tie.MeasureT-loop
-μ-loop h w colours clues borders₀ stack₀ count codes each memory₀ n₀ i₀ borders stack memory n i = length codes - i
+μ-loop h w colours clues borders₀ stack₀ codes each memory₀ now₀ i₀ borders stack memory now i = length codes - i
 
 -- the board at the loop's test
 abbrev passed : tie.At-loop Inv-loop μ-loop → Board
 passed p =
     let a = p .before .before .before .args in
-    boardOf (a .h) (a .w) (a .colours .now) (a .clues .now) (p .loop .borders) (p .loop .stack) (p .loop .n)
+    boardOf (a .h) (a .w) (a .colours .now) (a .clues .now) (p .loop .borders) (p .loop .stack)
+    (p .loop .now .count) (p .loop .now .tally)
 
 loop-holds : tie.Need-loop-holds Inv-loop μ-loop
 loop-holds c = (search needs, refl, refl, refl)
@@ -48,7 +51,10 @@ checks-requires : tie.Need-checks-requires Inv-loop μ-loop
 checks-requires c κs = search needs
 
 add-i : tie.Need-add-i Inv-loop μ-loop
-add-i c = omega arith
+add-i c =
+    let t = c .before .before .before .before .before .before .before .before .before .before in
+    let n = t .loop-test .taken in
+    search (needs, n)
 
 loop-less : tie.Need-loop-less Inv-loop μ-loop
 loop-less c = omega arith

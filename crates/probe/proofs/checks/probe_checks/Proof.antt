@@ -36,6 +36,9 @@ returns c =
       memory-refused _ _ _ _ (a .codes .now) (a .each) (a .times) (a .memory .now) f,
     )
 
+kept-by-requires : tie.Need-kept-by-requires
+kept-by-requires c κs = search needs
+
 decided-requires : tie.Need-decided-requires
 decided-requires c κs = search needs
 
@@ -48,16 +51,18 @@ same-length c = search needs
 returns-2 : tie.Need-returns-2
 returns-2 c =
     let s = c .before .before .before .before .before .before .before .before .before .before in
-    let r = s .before .before .before .before .before .before .before .before .before .before .before .before in
+    let k = s .before .before in
+    let r = k .before .before .before .before .before .before .before .before .before .before .before in
     let a = r .before .before .before .before .before .args in
     let f = eq-eqb _ _ (sym (made-is r)
-    ∙ s .before .before .before .before .before .before .before .before .before .before .before .if1 .left) in
+    ∙ k .before .before .before .before .before .before .before .before .before .before .if1 .left) in
     let m = a .memory .now in
     let ls = map literalOf (a .codes .now) in
+    let u = rw (k .kept-by .ensures) at (s .decided .ensures) in
     let d : _ ≡ boardIn (a .h) (a .w) (a .colours .now) (a .clues .now) (a .codes .now) =
-    s .decided .ensures .0 ∙ ap (λ (r : Returned). decidesOf (r .board) ls) (r .before .fresh .ensures) in
+    u .0 ∙ ap (λ (r : Returned). decidesOf (r .board) ls) (r .before .fresh .ensures) in
     let t : _ ≡ decidesMemory (a .each) (madeBoard (a .h) (a .w) (a .colours .now) (a .clues .now)) ls m =
-    s .decided .ensures .1
+    u .1
     ∙ ap (λ (r : Returned). decidesMemory (a .each) (r .board) ls m) (r .before .fresh .ensures) in
     let e = c .before .before .checks .ensures in (
       e .0
@@ -71,4 +76,12 @@ returns-2 c =
 pub probe-checks-spec : {M : Type 1} → statement M
 probe-checks-spec =
     tie.close
-    (tie.spec fresh-requires refusal-requires returns decided-requires checks-requires same-length returns-2)
+    (tie.spec
+    fresh-requires
+    refusal-requires
+    returns
+    kept-by-requires
+    decided-requires
+    checks-requires
+    same-length
+    returns-2)

@@ -12,13 +12,13 @@ use Rattle.probe.proofs.previews.previews.Statement.{statement}
 use Rattle.probe.proofs.previews.previews.Tie as tie
 
 abbrev Inv-loop : tie.InvT-loop
-Inv-loop l times memory₀ board last₀ i₀ memory last i =
+Inv-loop l times memory₀ board tally last₀ i₀ memory last i =
     (i ≤ times)
     × (last ≡ previewsNumber board l (length memory₀) i)
     × (memory ≡ previewsMemory board l i memory₀)
 
 abbrev μ-loop : tie.MeasureT-loop
-μ-loop l times memory₀ board last₀ i₀ memory last i = times - i
+μ-loop l times memory₀ board tally last₀ i₀ memory last i = times - i
 
 loop-holds : tie.Need-loop-holds Inv-loop μ-loop
 unfolding previewsNumber previewsMemory
@@ -31,7 +31,7 @@ number-requires : tie.Need-number-requires Inv-loop μ-loop
 number-requires c κs =
     let v = c .before .before in
     let p = v .before .before .before .before .before .before .before .before in
-    let a = p .before .before .args in
+    let a = p .before .before .before .args in
     rw (v .preview-lent .ensures .0) (preview-in-range (a .t1) (a .l) (p .loop .memory))
 
 add-i : tie.Need-add-i Inv-loop μ-loop
@@ -44,7 +44,7 @@ loop-again : tie.Need-loop-again Inv-loop μ-loop
 loop-again c =
     let v = c .before .before .before in
     let p = v .before .before .before .before .before .before .before .before in
-    let a = p .before .before .args in
+    let a = p .before .before .before .args in
     let b = a .t1 in
     let m = a .memory .now in
     let e = v .preview-lent .ensures in
@@ -58,12 +58,12 @@ loop-again c =
 same-length : tie.Need-same-length Inv-loop μ-loop
 same-length c =
     let l = c .before .loop in
-    ap length (l .inv .2) ∙ previews-length _ _ (l .i) (c .before .before .before .args .memory .now)
+    ap length (l .inv .2) ∙ previews-length _ _ (l .i) (c .before .before .before .before .args .memory .now)
 
 returns : tie.Need-returns Inv-loop μ-loop
 returns c =
     let l = c .before .loop in
-    let a = c .before .before .before .args in
+    let a = c .before .before .before .before .args in
     let e : l .i ≡ a .times = omega (arith, l .inv .0) in (
       l .inv .1 ∙ ap (previewsNumber (a .t1) (a .l) (length (a .memory .now))) e,
       l .inv .2 ∙ ap (λ k. previewsMemory (a .t1) (a .l) k (a .memory .now)) e,
