@@ -8,7 +8,7 @@ use oracle::published::Published;
 use oracle::{plain, rules};
 
 #[derive(Default)]
-struct Tally {
+struct Seen {
     passes: usize,
     conflicts: usize,
     full_passes: usize,
@@ -19,7 +19,7 @@ struct Walk {
     board: Board,
     published: Published,
     solutions: Vec<Vec<bool>>,
-    tally: Tally,
+    seen: Seen,
 }
 
 impl Walk {
@@ -53,11 +53,11 @@ impl Walk {
         if board.undecided() == 0 {
             let walls: Vec<bool> = board.decided.iter().map(|literal| literal.1).collect();
             assert_eq!(passed, self.solutions.contains(&walls), "{board:?}");
-            self.tally.full_passes += usize::from(passed);
-            self.tally.full_conflicts += usize::from(!passed);
+            self.seen.full_passes += usize::from(passed);
+            self.seen.full_conflicts += usize::from(!passed);
         }
-        self.tally.passes += usize::from(passed);
-        self.tally.conflicts += usize::from(!passed);
+        self.seen.passes += usize::from(passed);
+        self.seen.conflicts += usize::from(!passed);
     }
 }
 
@@ -76,7 +76,7 @@ fn lists(from: &[i32], length: usize) -> Vec<Vec<i32>> {
 
 /// Walks over all colourings of a page with each of these lists of clues.
 fn walk(h: usize, w: usize, clues: &[Vec<i32>]) {
-    let mut tally = Tally::default();
+    let mut seen = Seen::default();
     for colours in lists(&[0, 1], h * w) {
         for clues in clues {
             let mut puzzle = Puzzle::without_clues(h, w, colours.clone());
@@ -88,16 +88,16 @@ fn walk(h: usize, w: usize, clues: &[Vec<i32>]) {
                     puzzle,
                     decided: vec![],
                 },
-                tally,
+                seen,
             };
             walk.from(0);
             assert!(walk.published.stack().is_empty());
-            tally = walk.tally;
+            seen = walk.seen;
         }
     }
-    assert!(tally.conflicts > 0 && tally.full_conflicts > 0);
-    assert_eq!(tally.passes > 0, h * w > 1);
-    assert_eq!(tally.full_passes > 0, (h * w).is_multiple_of(2));
+    assert!(seen.conflicts > 0 && seen.full_conflicts > 0);
+    assert_eq!(seen.passes > 0, h * w > 1);
+    assert_eq!(seen.full_passes > 0, (h * w).is_multiple_of(2));
 }
 
 /// No clue, and each of these clues alone in each of these cells.

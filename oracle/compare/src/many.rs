@@ -11,7 +11,7 @@ use oracle::random::Random;
 
 /// What the compared checks answered.
 #[derive(Debug, Default)]
-pub struct Tally {
+pub struct Seen {
     pub boards: usize,
     pub passes: usize,
     pub conflicts: usize,
@@ -20,7 +20,7 @@ pub struct Tally {
     pub longest: usize,
 }
 
-impl Tally {
+impl Seen {
     fn add(&mut self, answer: &Answer) {
         self.boards += 1;
         match answer {
@@ -39,21 +39,21 @@ impl Tally {
 /// literal, and the memory beyond it.
 pub struct Judge {
     memory: Memory,
-    pub tally: Tally,
+    pub seen: Seen,
 }
 
 impl Judge {
     pub fn new(seed: u64) -> Judge {
         Judge {
             memory: Memory::new(&mut Random::new(seed), ROOM + 5),
-            tally: Tally::default(),
+            seen: Seen::default(),
         }
     }
 
     pub fn judge(&mut self, board: &Board) {
         let answer = Trial::new(board).answer(&mut self.memory);
         assert!(answer == expected::check(board), "{answer:?} {board:?}");
-        self.tally.add(&answer);
+        self.seen.add(&answer);
     }
 
     /// Every colouring of a page, with each list of clues from these numbers, and each border

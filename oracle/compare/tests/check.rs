@@ -20,8 +20,8 @@ fn small_pages_whole() {
     }
     judge.page(1, 4, &[-1, 1, 2]);
     judge.page(2, 2, &[-1, 1, 2]);
-    println!("{:?}", judge.tally);
-    assert!(judge.tally.passes > 10_000 && judge.tally.conflicts > 100_000);
+    println!("{:?}", judge.seen);
+    assert!(judge.seen.passes > 10_000 && judge.seen.conflicts > 100_000);
 }
 
 #[test]
@@ -30,8 +30,8 @@ fn pages_of_six_cells_whole() {
     judge.page(1, 5, &[-1]);
     judge.page(1, 6, &[-1]);
     judge.page(2, 3, &[-1]);
-    println!("{:?}", judge.tally);
-    assert!(judge.tally.passes > 10_000 && judge.tally.conflicts > 100_000);
+    println!("{:?}", judge.seen);
+    assert!(judge.seen.passes > 10_000 && judge.seen.conflicts > 100_000);
 }
 
 #[test]
@@ -41,9 +41,9 @@ fn generated_boards() {
     for named in bench::boards().into_iter().chain(boards::named()) {
         judge.judge(&named.board);
     }
-    println!("{:?}", judge.tally);
-    assert!(judge.tally.passes > 500 && judge.tally.conflicts > 500);
-    assert!(judge.tally.longest > 1000);
+    println!("{:?}", judge.seen);
+    assert!(judge.seen.passes > 500 && judge.seen.conflicts > 500);
+    assert!(judge.seen.longest > 1000);
 }
 
 /// Pages with clues at, above and far above half the cells.
@@ -51,8 +51,8 @@ fn generated_boards() {
 fn drafts() {
     let mut judge = Judge::new(71);
     judge.page(2, 2, &[-1, 3, i32::MAX]);
-    println!("{:?}", judge.tally);
-    assert!(judge.tally.passes > 500 && judge.tally.literals > 10_000);
+    println!("{:?}", judge.seen);
+    assert!(judge.seen.passes > 500 && judge.seen.literals > 10_000);
     let mut judge = Judge::new(72);
     let mut random = Random::new(73);
     for turn in 0..2_640 {
@@ -61,9 +61,9 @@ fn drafts() {
             judge.judge(&board);
         }
     }
-    println!("{:?}", judge.tally);
-    assert!(judge.tally.passes > 20 && judge.tally.literals > 1_000);
-    assert!(judge.tally.empty_reasons > 200);
+    println!("{:?}", judge.seen);
+    assert!(judge.seen.passes > 20 && judge.seen.literals > 1_000);
+    assert!(judge.seen.empty_reasons > 200);
 }
 
 fn chosen() -> Vec<Board> {

@@ -55,7 +55,7 @@ fn group_reasons_are_the_published_ones() {
 }
 
 #[derive(Default)]
-struct Tally {
+struct Seen {
     reached: usize,
     not_reached: usize,
     same: usize,
@@ -74,7 +74,7 @@ fn pair(random: &mut Random, paths: &Paths, cells: usize) -> (usize, usize) {
     }
 }
 
-fn compare_paths(random: &mut Random, board: &Board, memory: &mut Memory, tally: &mut Tally) {
+fn compare_paths(random: &mut Random, board: &Board, memory: &mut Memory, seen: &mut Seen) {
     let ours = Ours::new(board);
     let paths = Paths::new(board);
     let cells = board.puzzle.cells();
@@ -84,17 +84,17 @@ fn compare_paths(random: &mut Random, board: &Board, memory: &mut Memory, tally:
         let written = memory.lend(|places| ours.path(a, b, places));
         assert!(written == Some(codes(&wanted)), "{a} {b} {board:?}");
         match (a == b, wanted.is_empty()) {
-            (true, _) => tally.same += 1,
-            (_, true) => tally.not_reached += 1,
-            _ => tally.reached += 1,
+            (true, _) => seen.same += 1,
+            (_, true) => seen.not_reached += 1,
+            _ => seen.reached += 1,
         }
-        tally.longest = tally.longest.max(wanted.len());
+        seen.longest = seen.longest.max(wanted.len());
     }
     let off = *random.pick(&[cells, cells + 1, 1024, usize::MAX]);
     for (a, b) in [(0, off), (off, 0), (off, off)] {
         let written = memory.lend(|places| ours.path(a, b, places));
         assert!(written == Some(vec![]), "{a} {b} {board:?}");
-        tally.off += 1;
+        seen.off += 1;
     }
 }
 
@@ -102,14 +102,14 @@ fn compare_paths(random: &mut Random, board: &Board, memory: &mut Memory, tally:
 fn paths_are_the_published_ones() {
     expected::note_source();
     let mut memory = Memory::new(&mut Random::new(53), ROOM);
-    let mut tally = Tally::default();
+    let mut seen = Seen::default();
     let count = boards::each(54, |random, board| {
-        compare_paths(random, board, &mut memory, &mut tally);
+        compare_paths(random, board, &mut memory, &mut seen);
     });
     println!(
         "{count} boards, paths: {} reached, {} not, {} to the same cell, {} off the page; longest {}",
-        tally.reached, tally.not_reached, tally.same, tally.off, tally.longest
+        seen.reached, seen.not_reached, seen.same, seen.off, seen.longest
     );
-    assert!(tally.reached > 3000 && tally.not_reached > 1000, "too few");
-    assert!(tally.same > 300 && tally.longest > 200, "{}", tally.longest);
+    assert!(seen.reached > 3000 && seen.not_reached > 1000, "too few");
+    assert!(seen.same > 300 && seen.longest > 200, "{}", seen.longest);
 }

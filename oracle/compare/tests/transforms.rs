@@ -14,7 +14,7 @@ const SHORT: usize = 9;
 /// What was compared: units, transforms, connections over borders that are not open, and units by
 /// the list of rows of `shapes::LISTS`.
 #[derive(Debug, Default)]
-struct Tally {
+struct Seen {
     units: usize,
     transforms: usize,
     largest: usize,
@@ -54,7 +54,7 @@ fn asked(memory: &mut Memory<i32>, image: &[u8], unit: usize, k: usize) -> (Coun
 }
 
 /// Every transform of every unit, and none past the last.
-fn judge(memory: &mut Memory<i32>, board: &Board, tally: &mut Tally) {
+fn judge(memory: &mut Memory<i32>, board: &Board, seen: &mut Seen) {
     let image = image::write(board);
     let theirs = expected::transforms(board);
     for (unit, transforms) in theirs.iter().enumerate() {
@@ -71,16 +71,16 @@ fn judge(memory: &mut Memory<i32>, board: &Board, tally: &mut Tally) {
                 asked(memory, &image, unit, k) == right,
                 "{unit} {k} {board:?}"
             );
-            tally.largest = tally.largest.max(transform.0.len());
+            seen.largest = seen.largest.max(transform.0.len());
         }
         let none = (Counts::none(0, listed), vec![]);
         assert_eq!(asked(memory, &image, unit, listed), none);
-        tally.units += 1;
-        tally.transforms += listed;
-        tally.lists[list_of(transforms)] += 1;
+        seen.units += 1;
+        seen.transforms += listed;
+        seen.lists[list_of(transforms)] += 1;
     }
     let connections: usize = theirs.iter().map(|listed| listed[0].1.len()).sum();
-    tally.not_open += connections - open_in_units(board);
+    seen.not_open += connections - open_in_units(board);
     let none = (Counts::none(0, 0), vec![]);
     for unit in [theirs.len(), usize::MAX] {
         assert_eq!(asked(memory, &image, unit, 0), none);
@@ -92,12 +92,12 @@ fn judge(memory: &mut Memory<i32>, board: &Board, tally: &mut Tally) {
 fn transforms_are_the_published_ones() {
     expected::note_source();
     let mut memory = Memory::signed(&mut Random::new(61), TRANSFORM_ROOM + 5);
-    let mut tally = Tally::default();
+    let mut seen = Seen::default();
     // Each unit is asked for by itself, so that one board in three is enough.
     let rounds = boards::rounds().div_ceil(3);
-    let count = boards::each_of(62, rounds, |_, board| judge(&mut memory, board, &mut tally));
-    println!("{count} boards, {tally:?}");
-    assert!(tally.transforms > 100_000 && tally.largest == 1024 && tally.not_open > 1000);
+    let count = boards::each_of(62, rounds, |_, board| judge(&mut memory, board, &mut seen));
+    println!("{count} boards, {seen:?}");
+    assert!(seen.transforms > 100_000 && seen.largest == 1024 && seen.not_open > 1000);
 }
 
 /// Boards with a unit of each piece of `pieces::CLASSES`, turned and reflected; the fifth is the
@@ -107,17 +107,17 @@ fn every_list_is_compared() {
     let mut random = Random::new(63);
     let mut memory = Memory::signed(&mut random, TRANSFORM_ROOM);
     for (list, piece) in pieces::CLASSES.iter().enumerate() {
-        let mut tally = Tally::default();
+        let mut seen = Seen::default();
         for turn in 0..8 {
             let piece = pieces::turned(piece, turn % 4, turn >= 4);
             for _ in 0..12 {
                 if let Some(board) = generate::unit_board(&mut random, 9, 9, &piece) {
-                    judge(&mut memory, &board, &mut tally);
+                    judge(&mut memory, &board, &mut seen);
                 }
             }
         }
-        println!("list {list}: {tally:?}");
-        assert!(tally.lists[list] > 50, "{list}");
+        println!("list {list}: {seen:?}");
+        assert!(seen.lists[list] > 50, "{list}");
     }
 }
 

@@ -18,11 +18,11 @@ fn main() {
     let seed = number(words.next(), 1) as u64;
     let mut judge = Judge::new(seed);
     let mut part = 0;
-    while judge.tally.boards < count {
-        let boards = PART.min(count - judge.tally.boards);
+    while judge.seen.boards < count {
+        let boards = PART.min(count - judge.seen.boards);
         // Each part has a seed of its own.
         judge.generated(seed.wrapping_mul(1_000_003).wrapping_add(part), boards);
         part += 1;
-        println!("seed {seed}, all equal so far: {:?}", judge.tally);
+        println!("seed {seed}, all equal so far: {:?}", judge.seen);
     }
 }
