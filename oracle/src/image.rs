@@ -1,10 +1,11 @@
-//! Document 01's board image, plainly: reading, the alien test, and the calls on one.
+//! Document 01's board image with document 02's tally, plainly: reading, the alien test, and the
+//! calls on one.
 
 use crate::book::{self, Check, ALIEN, BARE, BORDER, PLACES, SHORT, TAKEN};
-use crate::page::{code, Board, Literal, Puzzle};
+use crate::page::{code, Board, Literal, Puzzle, Tally};
 use std::mem;
 
-pub const LENGTH: usize = 11_076;
+pub const LENGTH: usize = 11_082;
 const CELLS: usize = 1_024;
 const BORDERS: usize = 1_984;
 const COLOURS_AT: usize = 2;
@@ -12,6 +13,13 @@ const CLUES_AT: usize = COLOURS_AT + CELLS;
 const BORDERS_AT: usize = CLUES_AT + 4 * CELLS;
 const COUNT_AT: usize = BORDERS_AT + BORDERS;
 const STACK_AT: usize = COUNT_AT + 2;
+const TALLY_AT: usize = STACK_AT + 2 * BORDERS;
+
+/// Where the parts of an image start, and its end: height and width, colours, clues, borders, stack
+/// count, stack entries, tally.
+pub const PARTS: [usize; 8] = [
+    0, COLOURS_AT, CLUES_AT, BORDERS_AT, COUNT_AT, STACK_AT, TALLY_AT, LENGTH,
+];
 
 /// The image of a board.
 pub fn write(board: &Board) -> Vec<u8> {
@@ -27,6 +35,9 @@ pub fn write(board: &Board) -> Vec<u8> {
     for (i, &(border, wall)) in board.decided.iter().enumerate() {
         image[BORDERS_AT + border] = if wall { 1 } else { 2 };
         put(&mut image, STACK_AT + 2 * i, border);
+    }
+    for (i, count) in board.tally().counts().into_iter().enumerate() {
+        put(&mut image, TALLY_AT + 2 * i, count);
     }
     image
 }
@@ -46,6 +57,7 @@ pub fn set(image: &mut [u8], field: &str, index: usize, number: i64) {
         "bor" => (BORDERS_AT + index, 1),
         "cnt" => (COUNT_AT, 2),
         "stk" => (STACK_AT + 2 * index, 2),
+        "tal" => (TALLY_AT + 2 * index, 2),
         _ => panic!("an image has no {field}"),
     };
     let bytes = number.to_le_bytes();
@@ -59,6 +71,11 @@ pub fn set(image: &mut [u8], field: &str, index: usize, number: i64) {
 
 fn get(image: &[u8], at: usize) -> usize {
     usize::from(u16::from_le_bytes([image[at], image[at + 1]]))
+}
+
+/// The tally that an image holds, whether or not it is that of its borders.
+pub fn tally(image: &[u8]) -> Tally {
+    [0, 2, 4].map(|at| get(image, TALLY_AT + at)).into()
 }
 
 /// The board of an image, or none if the image is alien: it is a board's exactly if its numbers are

@@ -18,6 +18,32 @@ pub enum State {
     Open,
 }
 
+/// How many borders are undecided, wall and open. A record of these that a host lends may hold any
+/// numbers.
+#[derive(Clone, Copy, Debug, PartialEq, Eq)]
+pub struct Tally {
+    pub undecided: usize,
+    pub walls: usize,
+    pub opens: usize,
+}
+
+impl Tally {
+    /// The counts in the order of an image and of a lent record.
+    pub fn counts(self) -> [usize; 3] {
+        [self.undecided, self.walls, self.opens]
+    }
+}
+
+impl From<[usize; 3]> for Tally {
+    fn from([undecided, walls, opens]: [usize; 3]) -> Tally {
+        Tally {
+            undecided,
+            walls,
+            opens,
+        }
+    }
+}
+
 /// Height, width, colours and clues (-1 is none). Nothing is promised of the numbers.
 #[derive(Clone, Debug, PartialEq, Eq)]
 pub struct Puzzle {
@@ -115,6 +141,20 @@ impl Board {
 
     pub fn undecided(&self) -> usize {
         self.puzzle.borders() - self.decided.len()
+    }
+
+    pub fn tally(&self) -> Tally {
+        tally(&self.puzzle, &self.decided)
+    }
+}
+
+/// The tally when just these literals are decided.
+pub fn tally(puzzle: &Puzzle, decided: &[Literal]) -> Tally {
+    let walls = decided.iter().filter(|literal| literal.1).count();
+    Tally {
+        undecided: puzzle.borders() - decided.len(),
+        walls,
+        opens: decided.len() - walls,
     }
 }
 

@@ -43,11 +43,21 @@ fn calls_on_an_image_answer_as_the_book() {
             let answer = book.answer(call, &mut plain::reason);
             assert_eq!(got, number(&answer));
             assert_eq!(memory, memory_after(&answer));
+            assert_eq!(
+                image::tally(&image).counts(),
+                counted(&image, puzzle.borders())
+            );
             let decided = book.sequence().to_vec();
             let puzzle = puzzle.clone();
             assert_eq!(image, image::write(&Board { puzzle, decided }));
         }
     }
+}
+
+/// How many of the first so many borders of an image are undecided, wall and open.
+fn counted(image: &[u8], borders: usize) -> [usize; 3] {
+    let borders = &image[5_122..][..borders];
+    [0, 1, 2].map(|state| borders.iter().filter(|&&border| border == state).count())
 }
 
 fn memory_after(answer: &Answer) -> Vec<u8> {
@@ -69,32 +79,39 @@ fn sample() -> Vec<u8> {
     image::write(&Board { puzzle, decided })
 }
 
+/// A byte of the sample that is another.
+const DAMAGES: [(usize, u8); 22] = [
+    (0, 0),
+    (0, 255),
+    (0, 33),
+    (1, 2),
+    (1, 33),
+    (2, 2),
+    (5, 1),
+    (1_026 + 3, 0x80),
+    (1_026 + 12, 1),
+    (5_122, 0),
+    (5_122, 3),
+    (5_122 + 2, 1),
+    (7_106, 1),
+    (7_106, 3),
+    (7_108, 0),
+    (7_108 + 4, 1),
+    (11_076, 1),
+    (11_077, 1),
+    (11_078, 0),
+    (11_079, 1),
+    (11_080, 2),
+    (11_081, 1),
+];
+
 #[test]
 fn damaged_images_are_alien() {
     let good = sample();
-    let borders_at = 2 + 1024 + 4096;
-    let count_at = borders_at + 1984;
-    assert_eq!(good[borders_at..borders_at + 2], [2, 1]);
-    assert_eq!(good[count_at..count_at + 6], [2, 0, 1, 0, 0, 0]);
-    let damages: [(usize, u8); 16] = [
-        (0, 0),
-        (0, 255),
-        (0, 33),
-        (1, 2),
-        (1, 33),
-        (2, 2),
-        (5, 1),
-        (1026 + 3, 0x80),
-        (1026 + 12, 1),
-        (borders_at, 0),
-        (borders_at, 3),
-        (borders_at + 2, 1),
-        (count_at, 1),
-        (count_at, 3),
-        (count_at + 2, 0),
-        (count_at + 6, 1),
-    ];
-    for (at, byte) in damages {
+    assert_eq!(good[5_122..5_124], [2, 1]);
+    assert_eq!(good[7_106..7_112], [2, 0, 1, 0, 0, 0]);
+    assert_eq!(good[11_076..], [0, 0, 1, 0, 1, 0]);
+    for (at, byte) in DAMAGES {
         let mut bad = good.clone();
         bad[at] = byte;
         let before = bad.clone();
@@ -105,15 +122,41 @@ fn damaged_images_are_alien() {
         assert_eq!((bad, memory), (before, [7; 10]));
     }
     assert!(image::read(&good[1..]).is_none());
+    assert!(image::read(&good[..11_076]).is_none(), "without a tally");
+    assert!(image::read(&[&good[..], &[0]].concat()).is_none());
     assert!(image::read(&vec![0; image::LENGTH]).is_none());
+}
+
+#[test]
+fn the_tally_of_a_fresh_image() {
+    for (h, w, low, high) in [(1, 1, 0, 0), (2, 3, 7, 0), (32, 32, 192, 7)] {
+        let puzzle = Puzzle::without_clues(h, w, vec![1; h * w]);
+        let mut image = vec![7; image::LENGTH];
+        assert_eq!(image::fresh(&mut image, &puzzle), 0);
+        assert_eq!(image[11_076..], [low, high, 0, 0, 0, 0], "{h}x{w}");
+    }
+}
+
+/// A side turned is alien, and with the tally turned too it is the image of another board.
+#[test]
+fn the_tally_goes_with_the_borders() {
+    let mut image = sample();
+    image[5_122] = 1;
+    assert!(image::read(&image).is_none());
+    image[11_076..].copy_from_slice(&[0, 0, 2, 0, 0, 0]);
+    let board = image::read(&image).expect("a board");
+    assert_eq!(board.decided, [(1, true), (0, true)]);
+    for exchanged in [[2, 0, 0, 0, 0, 0], [0, 0, 0, 0, 2, 0], [0, 0, 0, 2, 0, 0]] {
+        image[11_076..].copy_from_slice(&exchanged);
+        assert!(image::read(&image).is_none(), "{exchanged:?}");
+    }
 }
 
 #[test]
 fn harmless_changes_are_not_alien() {
     let good = sample();
     let mut swapped = good.clone();
-    let stack_at = 2 + 1024 + 4096 + 1984 + 2;
-    swapped.swap(stack_at, stack_at + 2);
+    swapped.swap(7_108, 7_110);
     assert_eq!(
         image::read(&swapped).unwrap().decided,
         [(0, false), (1, true)]
