@@ -1,7 +1,8 @@
-//! Document 01's book of a list of calls. It knows the puzzle and the calls, never a board; the
-//! check is handed in, so that the published one and the port's can both stand behind it.
+//! Document 01's book of a list of calls, with document 02's previews and lent tally records. It knows
+//! the puzzle and the calls, never a board; the check is handed in, so that the published one and the
+//! port's can both stand behind it.
 
-use crate::page::{Literal, Puzzle};
+use crate::page::{self, Literal, Puzzle, Tally};
 
 /// The reason of the first hit on a puzzle with just these literals decided, or none for a pass.
 pub type Check<'a> = dyn FnMut(&Puzzle, &[Literal]) -> Option<Vec<Literal>> + 'a;
@@ -31,6 +32,20 @@ pub enum Call {
     Check(usize),
     /// A preview of the literal with this many places of reason memory.
     Preview(Literal, usize),
+}
+
+/// A call, and the tally record that it is lent, where it is lent one.
+#[derive(Clone, Copy, Debug, PartialEq, Eq)]
+pub struct Asked {
+    pub call: Call,
+    pub record: Option<Tally>,
+}
+
+/// A call that is lent no record.
+impl From<Call> for Asked {
+    fn from(call: Call) -> Asked {
+        Asked { call, record: None }
+    }
 }
 
 #[derive(Clone, Debug, PartialEq, Eq)]
@@ -86,6 +101,24 @@ impl Book {
         &self.sequence
     }
 
+    pub fn tally(&self) -> Tally {
+        page::tally(&self.puzzle, &self.sequence)
+    }
+
+    /// The answer, and what the lent record holds afterwards. A record that disagrees with the
+    /// sequence is alien, before all else; a decide or undo that is done updates the record.
+    pub fn reply(&mut self, asked: Asked, check: &mut Check) -> (Answer, Option<Tally>) {
+        let Asked { call, record } = asked;
+        if record.is_some_and(|record| record != self.tally()) {
+            return (Answer::Refused(ALIEN), record);
+        }
+        match self.answer(call, check) {
+            Answer::Done => (Answer::Done, record.map(|_| self.tally())),
+            other => (other, record),
+        }
+    }
+
+    /// The answer to a call that is lent no record.
     pub fn answer(&mut self, call: Call, check: &mut Check) -> Answer {
         match call {
             Call::Decide(literal) => self.decide(literal),

@@ -58,6 +58,7 @@ pub mod page;
 pub mod pieces;
 pub mod plain;
 pub mod random;
+pub mod records;
 pub mod rules;
 pub mod scenarios;
 pub mod shapes;

@@ -1,25 +1,26 @@
 //! What the fixed vectors are: puzzles and calls on their boards.
 
-use crate::book::{Call, PLACES};
-use crate::page::{Board, Literal, Puzzle};
+use crate::book::{Asked, Book, Call, PLACES};
+use crate::page::{Board, Literal, Puzzle, Tally};
 use crate::plain::{self, Branch, Hit, View, BRANCHES};
 use crate::random::Random;
+use crate::records::Kept;
 use crate::{bench, generate, pieces, shapes};
 
 /// A puzzle and calls on its board.
 pub struct Scenario {
     pub title: String,
     pub puzzle: Puzzle,
-    pub calls: Vec<Call>,
+    pub calls: Vec<Asked>,
 }
 
 const CHECK: Call = Call::Check(PLACES);
 
-fn scenario(title: &str, puzzle: Puzzle, calls: Vec<Call>) -> Scenario {
+fn scenario<C: Into<Asked>>(title: &str, puzzle: Puzzle, calls: Vec<C>) -> Scenario {
     Scenario {
         title: title.to_string(),
         puzzle,
-        calls,
+        calls: calls.into_iter().map(C::into).collect(),
     }
 }
 
@@ -37,6 +38,7 @@ pub fn scenarios() -> Vec<Scenario> {
     all.extend(of_orders());
     all.extend(of_drafts());
     all.extend(of_previews());
+    all.extend(of_records());
     all
 }
 
@@ -48,7 +50,7 @@ fn refused_puzzles() -> Vec<Scenario> {
             colours,
             clues,
         };
-        scenario(title, puzzle, vec![])
+        scenario::<Call>(title, puzzle, vec![])
     };
     let none = |n: usize| vec![-1; n];
     vec![
@@ -301,16 +303,20 @@ fn long_lists() -> Vec<Scenario> {
         let cut = generate::solved_cut(&mut random, h, w - w * h % 2, 3);
         let puzzle = generate::part_of(&mut random, &cut, 0, 15).puzzle;
         let borders = puzzle.borders();
-        let call = |_| match random.below(9) {
-            0..=4 => Call::Decide((random.below(borders + 1), random.chance(50))),
-            5 | 6 => Call::Undo,
-            7 => Call::Check(random.between(PLACES - 1, PLACES)),
-            _ => CHECK,
-        };
-        let calls = (0..70).map(call).collect();
+        let call = |_| a_call(&mut random, borders);
+        let calls: Vec<Call> = (0..70).map(call).collect();
         all.push(scenario("calls by chance", puzzle, calls));
     }
     all
+}
+
+fn a_call(random: &mut Random, borders: usize) -> Call {
+    match random.below(9) {
+        0..=4 => Call::Decide((random.below(borders + 1), random.chance(50))),
+        5 | 6 => Call::Undo,
+        7 => Call::Check(random.between(PLACES - 1, PLACES)),
+        _ => CHECK,
+    }
 }
 
 /// Boards with two hits in one place, of which document 01 names the first.
@@ -377,4 +383,59 @@ fn of_previews() -> Vec<Scenario> {
         scenario("previews on 1x2", page(1, 2, "01", &[]), small),
         scenario("previews on 2x3", page(2, 3, "001011", &[(0, 3)]), calls),
     ]
+}
+
+/// Calls that are lent a tally record: one that disagrees is refused with 5, before 6 to 9.
+fn of_records() -> Vec<Scenario> {
+    let wall = Call::Decide((0, true));
+    let preview = |border: usize, places: usize| Call::Preview((border, false), places);
+    let lent = |call: Call, counts: [usize; 3]| Asked {
+        call,
+        record: Some(Tally::from(counts)),
+    };
+    let small = vec![
+        lent(wall, [0, 1, 0]),
+        lent(Call::Decide((9, true)), [1, 1, 0]),
+        lent(Call::Undo, [1, 0, 1]),
+        lent(Call::Undo, [1, 0, 0]),
+        lent(Call::Check(0), [0, 0, 0]),
+        lent(preview(0, 0), [2, 0, 0]),
+        lent(preview(0, PLACES), [1, 0, 0]),
+        lent(CHECK, [1, 0, 0]),
+        lent(wall, [1, 0, 0]),
+        lent(wall, [1, 0, 0]),
+        lent(wall, [0, 1, 0]),
+        lent(preview(9, 0), [0, 1, 0]),
+        lent(CHECK, [0, 0, 1]),
+        lent(CHECK, [0, 1, 0]),
+        lent(Call::Undo, [65_536, 1, 0]),
+        lent(Call::Undo, [0, 1, 0]),
+        lent(Call::Decide((0, false)), [1, 0, 0]),
+        CHECK.into(),
+        lent(CHECK, [0, 0, 1]),
+    ];
+    let six = page(2, 3, "001011", &[]);
+    let by_chance = recorded_calls(&six);
+    vec![
+        scenario("records on 1x2", page(1, 2, "01", &[]), small),
+        scenario("records by chance on 2x3", six, by_chance),
+    ]
+}
+
+/// Calls by chance beside a kept record. No check is needed to tell what it holds.
+fn recorded_calls(puzzle: &Puzzle) -> Vec<Asked> {
+    let mut random = Random::new(54);
+    let mut book = Book::open(puzzle).expect("a page");
+    let mut kept = Kept::new(book.tally());
+    let mut asked = |_| {
+        let call = match a_call(&mut random, puzzle.borders()) {
+            Call::Decide(literal) if random.chance(30) => Call::Preview(literal, PLACES),
+            call => call,
+        };
+        let record = kept.lend(&mut random, book.tally());
+        let (_, now) = book.reply(Asked { call, record }, &mut |_, _| None);
+        kept.take_back(record, now);
+        Asked { call, record }
+    };
+    (0..70).map(&mut asked).collect()
 }

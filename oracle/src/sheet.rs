@@ -2,7 +2,7 @@
 //! page, a page read back, and answers printed. The reader takes accepted pages only; which pages
 //! are accepted is judged elsewhere (`../tools/page_judge.py`).
 
-use crate::book::{book, refusal, Answer, Call, Check, PLACES};
+use crate::book::{book, refusal, Answer, Asked, Call, Check, PLACES};
 use crate::page::Puzzle;
 use crate::vectors::{scenarios, Scenario};
 use std::fmt::Write;
@@ -112,19 +112,20 @@ pub fn has(call: &Call) -> bool {
     }
 }
 
-/// The vectors as pages: every list of calls without previews that a page can spell, without the
-/// checks that name another length of reason memory.
+/// The vectors as pages: every list of calls without previews and records that a page can spell,
+/// without the checks that name another length of reason memory.
 pub fn samples(check: &mut Check) -> Vec<Sample> {
     let mut all = vec![];
     for (number, scenario) in scenarios().into_iter().enumerate() {
         let Scenario {
             title,
             puzzle,
-            mut calls,
+            calls,
         } = scenario;
-        let preview = |call: &Call| matches!(call, Call::Preview(..));
-        if spelled(&puzzle) && !calls.iter().any(preview) {
-            calls.retain(has);
+        let unspelled =
+            |asked: &Asked| asked.record.is_some() || matches!(asked.call, Call::Preview(..));
+        if spelled(&puzzle) && !calls.iter().any(unspelled) {
+            let calls: Vec<Call> = calls.iter().map(|a| a.call).filter(has).collect();
             let word = |c: char| if c.is_ascii_alphanumeric() { c } else { '-' };
             let words: String = title.chars().map(word).collect();
             let words: Vec<&str> = words.split('-').filter(|word| !word.is_empty()).collect();

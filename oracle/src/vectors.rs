@@ -1,7 +1,7 @@
 //! The fixed vectors: lists of calls with the published answers, as text.
 
 use crate::book::{Answer, Book, Call, Check};
-use crate::page::code;
+use crate::page::{code, Tally};
 pub use crate::scenarios::{scenarios, Scenario};
 use std::fmt::Write;
 
@@ -25,8 +25,11 @@ const HEAD: &str = "\
 #   9 number                  0 made or done, otherwise the refusal
 #   10 count                  pass, with the count of undecided borders
 #   11 n codes                conflict of n literals; a code is twice the border, plus 1 for wall
-# Calls go to the board made last; after a refused 1 there are none. Refusal 5 (alien) is missing:
-# no list of calls on a board that was made can bring it about.
+# A call that is lent a tally record has it in the line before, and what it holds then behind the answer:
+#   6 undecided walls opens   the record as it is lent
+#   12 undecided walls opens  the record afterwards
+# Calls go to the board made last; after a refused 1 there are none. Refusal 5 (alien) is always for
+# the record: no list of calls makes a board alien.
 ";
 
 /// The whole file; `check` gives the answers.
@@ -54,9 +57,19 @@ fn write_scenario(text: &mut String, scenario: &Scenario, check: &mut Check) {
         Err(number) => return writeln!(text, "9 {number}").unwrap(),
     };
     text.push_str("9 0\n");
-    for &call in &scenario.calls {
-        write_call(text, call);
-        write_answer(text, &book.answer(call, check));
+    for &asked in &scenario.calls {
+        write_record(text, 6, asked.record);
+        write_call(text, asked.call);
+        let (answer, record) = book.reply(asked, check);
+        write_answer(text, &answer);
+        write_record(text, 12, record);
+    }
+}
+
+fn write_record(text: &mut String, what: usize, record: Option<Tally>) {
+    if let Some(record) = record {
+        let [undecided, walls, opens] = record.counts();
+        writeln!(text, "{what} {undecided} {walls} {opens}").unwrap();
     }
 }
 

@@ -1,12 +1,13 @@
-//! The book over random lists of calls, previews and refused ones included.
+//! The book over random lists of calls, previews, lent records and refused calls included.
 
 mod common;
 
 use common::{fresh, skipped};
-use oracle::book::{self, Answer, Book, Call, PLACES};
-use oracle::page::{Literal, Puzzle};
+use oracle::book::{self, Answer, Asked, Book, Call, PLACES};
+use oracle::page::{self, Literal, Puzzle, State};
 use oracle::published::{self, Published};
 use oracle::random::Random;
+use oracle::records::Kept;
 use oracle::{generate, rules};
 
 fn places(random: &mut Random) -> usize {
@@ -145,6 +146,47 @@ fn the_book_asks_the_check_on_its_sequence() {
         }
         assert_eq!(asked.next(), None);
     }
+}
+
+/// How many borders of each state there are, in the order of a record.
+fn counted(puzzle: &Puzzle, sequence: &[Literal]) -> [usize; 3] {
+    let states = page::states(puzzle, sequence);
+    [State::Undecided, State::Wall, State::Open]
+        .map(|wanted| states.iter().filter(|&&state| state == wanted).count())
+}
+
+/// Beside a book that is asked only the calls whose record agrees, or that are lent none.
+#[test]
+fn a_record_that_disagrees_comes_first() {
+    let mut random = Random::new(44);
+    let (mut alien, mut updated, mut kept_as_lent) = (0, 0, 0);
+    for _ in 0..300 {
+        let puzzle = generate::board(&mut random, 5, 5).puzzle;
+        let mut book = Book::open(&puzzle).unwrap();
+        let mut plain = book.clone();
+        let mut kept = Kept::new(book.tally());
+        let mut check = |_: &Puzzle, decided: &[Literal]| (decided.len() % 2 == 1).then(Vec::new);
+        for _ in 0..60 {
+            let call = call(&mut random, puzzle.borders());
+            let record = kept.lend(&mut random, book.tally());
+            let before = counted(&puzzle, plain.sequence());
+            let (answer, now) = book.reply(Asked { call, record }, &mut check);
+            if record.is_some_and(|record| record.counts() != before) {
+                assert_eq!((answer, now), (Answer::Refused(5), record));
+                alien += 1;
+            } else {
+                assert_eq!(answer, plain.answer(call, &mut check));
+                let after = counted(&puzzle, plain.sequence());
+                assert_eq!(now.map(|now| now.counts()), record.map(|_| after));
+                updated += usize::from(record.is_some() && after != before);
+                kept_as_lent += usize::from(record.is_some() && after == before);
+            }
+            assert_eq!(book.sequence(), plain.sequence());
+            kept.take_back(record, now);
+        }
+    }
+    assert!(alien > 2_000 && updated > 2_000, "{alien} {updated}");
+    assert!(kept_as_lent > 2_000, "{kept_as_lent}");
 }
 
 #[test]

@@ -34,9 +34,11 @@ fn the_file_covers_every_answer() {
     let path = Path::new(vectors::FOLDER).join(vectors::FILE);
     let file = fs::read_to_string(path).expect("vectors are written");
     let answers: BTreeSet<&str> = file.lines().filter(|line| line.starts_with("9 ")).collect();
-    for number in [0, 1, 2, 3, 4, 6, 7, 8, 9] {
+    for number in 0..=9 {
         assert!(answers.contains(format!("9 {number}").as_str()), "{number}");
     }
+    let lent = file.matches("\n6 ").count();
+    assert!(lent > 50 && lent == file.matches("\n12 ").count());
     assert!(file.contains("\n10 0\n") && file.contains("\n11 0\n"));
     let boards = file.matches("\n1 ").count();
     assert!((40..=90).contains(&boards), "{boards}");
