@@ -6,7 +6,7 @@
  * to target/staticlib. The library keeps no state, allocates nothing and calls nothing but memcpy and memset: calls on
  * different images may run at the same time. A check takes up to 192 KiB of stack, any other call up to 64 KiB.
  *
- * THE IMAGE is 11,076 bytes that the host owns. Numbers of more than one byte have their low byte first.
+ * THE IMAGE is 11,082 bytes that the host owns. Numbers of more than one byte have their low byte first.
  *
  *     at      places    bytes each    what
  *     0       1         1             height h, 1 to 32
@@ -16,14 +16,19 @@
  *     5,122   1,984     1             borders: 0 undecided, 1 wall, 2 open
  *     7,106   1         2             stack count: how many borders are decided
  *     7,108   1,984     2             stack entries: the decided borders, the last decided last
+ *     11,076  1         2             tally: how many borders are undecided
+ *     11,078  1         2             tally: how many borders are wall
+ *     11,080  1         2             tally: how many borders are open
  *
  * Cell (y, x), row and column from 0, has number y*w + x. The border right of it has number y*(w-1) + x, the border
  * below it h*(w-1) + y*w + x; there are h*(w-1) + (h-1)*w borders. Places beyond the last cell, border or stack entry
  * are unused, and unused places are 0.
  *
- * A fresh image has height, width, colours and clues, and 0 everywhere else. dbchoco_fresh makes one; a host may also
- * write the bytes itself. From then on the calls below keep it. An image that no fresh image becomes by decides and
- * undos is alien, and every call on it is refused.
+ * A fresh image has height, width, colours and clues, the count of borders at 11,076, and 0 everywhere else.
+ * dbchoco_fresh makes one; a host may also write the bytes itself. From then on the calls below keep it, the tally too,
+ * which a host only reads. An image that no fresh image becomes by decides and undos is alien, and every call on it is
+ * refused. Alien is also an image whose tally is not that of its borders, and one of 11,076 bytes, from before the
+ * tally; with its three counts appended the latter is taken.
  *
  * REASON MEMORY is at least 32,768 bytes, which is enough for every reason. A literal takes 2 bytes, low byte first:
  * twice the border's number, plus 1 for wall.
@@ -48,7 +53,7 @@ extern "C" {
 #endif
 
 /* Lengths in bytes: of an image; the least of reason memory. */
-#define DBCHOCO_IMAGE_LENGTH 11076
+#define DBCHOCO_IMAGE_LENGTH 11082
 #define DBCHOCO_MEMORY_LENGTH 32768
 
 /* Where the parts of an image start. */
@@ -59,6 +64,9 @@ extern "C" {
 #define DBCHOCO_BORDERS_AT 5122
 #define DBCHOCO_COUNT_AT 7106
 #define DBCHOCO_STACK_AT 7108
+#define DBCHOCO_UNDECIDED_AT 11076
+#define DBCHOCO_WALLS_AT 11078
+#define DBCHOCO_OPENS_AT 11080
 
 /* What a call returns: an image made, a decide or undo done. */
 #define DBCHOCO_DONE 0u
@@ -87,20 +95,20 @@ extern "C" {
 /*
  * Makes the fresh image of a page in the lent bytes, whatever they held. Colours and clues stand by cell number, row by
  * row. Numbers are not cut: height 257 is refused with 1.
- * Returns 0, or 1, 2, 3, 4 for the page, or 5 if image_len is not 11,076.
+ * Returns 0, or 1, 2, 3, 4 for the page, or 5 if image_len is not 11,082.
  */
 uint32_t dbchoco_fresh(uint8_t *image, size_t image_len, uint32_t height, uint32_t width, const uint8_t *colours,
                        size_t colours_len, const int32_t *clues, size_t clues_len);
 
 /*
  * Decides a border: side 0 makes it open, any other number wall. Numbers are not cut: border 65,536 is refused with 6,
- * and side 256 is wall. The border gets its side, and its number goes on the stack.
+ * and side 256 is wall. The border gets its side, its number goes on the stack, and the tally counts it by its side.
  * Returns 0, or 5, 6, 7.
  */
 uint32_t dbchoco_decide(uint8_t *image, size_t image_len, uint32_t border, uint32_t side);
 
 /*
- * Takes the last decision back: its border is undecided again, and its place on the stack is 0.
+ * Takes the last decision back: its border is undecided again, also in the tally, and its place on the stack is 0.
  * Returns 0, or 5, 8.
  */
 uint32_t dbchoco_undo(uint8_t *image, size_t image_len);

@@ -6,6 +6,7 @@ use crate::ffi;
 use crate::image::{self, Image, Memory, IMAGE_LENGTH};
 use crate::literal::{Literal, Side};
 use crate::refusal::Refusal;
+use crate::tally::Tally;
 use std::fmt;
 
 /// The answer of a check that passes is this plus the count of undecided borders.
@@ -70,7 +71,7 @@ impl Board {
     }
 
     /// The board of a saved image. Refused with [`Refusal::Alien`] if decides and undos cannot make the bytes of a
-    /// fresh board, or if there are more or fewer than 11,076.
+    /// fresh board, or if there are more or fewer than 11,082.
     ///
     /// ```
     /// use dbchoco::{Board, Refusal, Side};
@@ -176,6 +177,12 @@ impl Board {
     pub fn borders(&self) -> usize {
         let (h, w) = (self.height(), self.width());
         h * (w - 1) + (h - 1) * w
+    }
+
+    /// How many borders are undecided, wall and open. The image holds the counts and each call keeps them true, so that
+    /// nothing is counted here.
+    pub fn tally(&self) -> Tally {
+        image::tally(&self.image)
     }
 
     fn cell(&self, y: usize, x: usize) -> Option<usize> {

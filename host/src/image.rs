@@ -1,6 +1,7 @@
 //! The layout of a board image.
 
 use crate::literal::{Literal, Side};
+use crate::tally::Tally;
 
 /// The largest height and width of a page.
 pub const SIDE_LIMIT: usize = 32;
@@ -9,15 +10,18 @@ const CELL_LIMIT: usize = SIDE_LIMIT * SIDE_LIMIT;
 const BORDER_LIMIT: usize = 2 * SIDE_LIMIT * (SIDE_LIMIT - 1);
 
 // Where the parts of an image start: height and width, colours, clues of 4 bytes, borders, the count of the stack in 2
-// bytes, its entries of 2 bytes. Low byte first; unused places are 0.
+// bytes, its entries of 2 bytes, the three counts of the tally of 2 bytes each. Low byte first; unused places are 0.
 const COLOURS_AT: usize = 2;
 const CLUES_AT: usize = COLOURS_AT + CELL_LIMIT;
 const BORDERS_AT: usize = CLUES_AT + 4 * CELL_LIMIT;
 const COUNT_AT: usize = BORDERS_AT + BORDER_LIMIT;
 const STACK_AT: usize = COUNT_AT + 2;
+const UNDECIDED_AT: usize = STACK_AT + 2 * BORDER_LIMIT;
+const WALLS_AT: usize = UNDECIDED_AT + 2;
+const OPENS_AT: usize = WALLS_AT + 2;
 
-/// The length of a board image in bytes: 11,076.
-pub const IMAGE_LENGTH: usize = STACK_AT + 2 * BORDER_LIMIT;
+/// The length of a board image in bytes: 11,082.
+pub const IMAGE_LENGTH: usize = OPENS_AT + 2;
 
 /// The least length of reason memory in bytes.
 const MEMORY_LENGTH: usize = 32_768;
@@ -74,4 +78,13 @@ pub fn entry(image: &Image, turn: usize) -> Literal {
     let border = two(image, STACK_AT + 2 * turn);
     let side = Side::from(image[BORDERS_AT + border] == 1);
     Literal { border, side }
+}
+
+/// How many borders are undecided, wall and open.
+pub fn tally(image: &Image) -> Tally {
+    Tally {
+        undecided: two(image, UNDECIDED_AT),
+        walls: two(image, WALLS_AT),
+        opens: two(image, OPENS_AT),
+    }
 }

@@ -40,6 +40,7 @@ mod ffi;
 mod image;
 mod literal;
 mod refusal;
+mod tally;
 
 pub use answer::{Answer, Literals, Reason};
 pub use board::Board;
@@ -48,3 +49,4 @@ pub use constraint::Constraint;
 pub use image::{IMAGE_LENGTH, SIDE_LIMIT};
 pub use literal::{Literal, Side};
 pub use refusal::Refusal;
+pub use tally::Tally;

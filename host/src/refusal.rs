@@ -88,7 +88,7 @@ impl fmt::Display for Refusal {
             Refusal::Colour => "a colour must be 0 or 1",
             Refusal::Clue => "a clue must be -1 (no clue) or more",
             Refusal::Alien => {
-                "the image is not 11,076 bytes that decides and undos make of a fresh board"
+                "the image is not 11,082 bytes that decides and undos make of a fresh board"
             }
             Refusal::Border => "the page has no border of this number",
             Refusal::Taken => "the border is decided already; undo it first",

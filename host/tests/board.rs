@@ -1,6 +1,6 @@
-//! Boards: document 01's small boards, the image of a fresh board, refusals, and saved images.
+//! Boards: document 01's small boards, the image of a fresh board, refusals, saved images, and the tally.
 
-use dbchoco::{Answer, Board, Call, Literal, Refusal, Side, IMAGE_LENGTH};
+use dbchoco::{Answer, Board, Call, Literal, Refusal, Side, Tally, IMAGE_LENGTH};
 
 /// A board of rows such as "01", without clues, with literals such as "0w 1o" decided.
 fn board(rows: &[&str], decided: &str) -> Board {
@@ -62,15 +62,18 @@ fn the_bytes_of_an_image() {
         255, 255, 255, 255, 2, 1, 0, 0, 0, 0, 0, 0, 255, 255, 255, 127,
     ];
     wanted[1026..1042].copy_from_slice(&clues);
+    wanted[11076] = 4;
     assert_eq!(*board.image(), wanted);
     board.decide(3, Side::Open).unwrap();
     board.decide(1, Side::Wall).unwrap();
     (wanted[5122 + 3], wanted[5122 + 1]) = (2, 1);
     wanted[7106..7112].copy_from_slice(&[2, 0, 3, 0, 1, 0]);
+    wanted[11076..].copy_from_slice(&[2, 0, 1, 0, 1, 0]);
     assert_eq!(*board.image(), wanted);
     board.undo().unwrap();
     wanted[5122 + 1] = 0;
     wanted[7106..7112].copy_from_slice(&[1, 0, 3, 0, 0, 0]);
+    wanted[11076..].copy_from_slice(&[3, 0, 0, 0, 1, 0]);
     assert_eq!(*board.image(), wanted);
 }
 
@@ -116,9 +119,12 @@ fn saved_images() {
         );
     }
     let longer = [&saved.image()[..], &[0]].concat();
-    for bytes in [&longer, &longer[..IMAGE_LENGTH - 1], &[]] {
+    let old = &longer[..11076];
+    for bytes in [&longer, &longer[..IMAGE_LENGTH - 1], old, &[]] {
         assert_eq!(Board::from_image(bytes), Err(Refusal::Alien));
     }
+    let appended = [old, &[4, 0, 1, 0, 2, 0]].concat();
+    assert_eq!(Board::from_image(&appended), Ok(saved));
     assert_eq!(
         Board::from_image(&[0; IMAGE_LENGTH]),
         Err(Refusal::Alien),
@@ -227,6 +233,41 @@ fn a_list_of_calls_goes_as_the_calls_one_by_one() {
         }
     }
     assert!(whole > 1_000 && stopped > 1_000, "{whole} {stopped}");
+}
+
+/// The tally counted border by border.
+fn counted(board: &Board) -> Tally {
+    let sides: Vec<Option<Side>> = (0..board.borders()).map(|b| board.side(b)).collect();
+    let count = |wanted| sides.iter().filter(|&&side| side == wanted).count();
+    Tally {
+        undecided: count(None),
+        walls: count(Some(Side::Wall)),
+        opens: count(Some(Side::Open)),
+    }
+}
+
+#[test]
+fn the_tally_is_that_of_the_borders() {
+    let mut number = numbers();
+    let (mut most, mut refused) = (0, 0);
+    for round in 0..100 {
+        let (h, w) = match round % 50 {
+            0 => (32, 32),
+            _ => (1 + number(6), 1 + number(6)),
+        };
+        let mut board = Board::fresh(h, w, &vec![0; h * w], &vec![-1; h * w]).unwrap();
+        for _ in 0..=2 * board.borders() {
+            let tally = board.tally();
+            assert_eq!(tally, counted(&board), "{board:?}");
+            most = most.max(tally.walls.min(tally.opens));
+            let called = match number(4) {
+                0 => board.undo(),
+                _ => board.decide(number(board.borders() + 1), Side::from(number(2) == 1)),
+            };
+            refused += usize::from(called.is_err());
+        }
+    }
+    assert!(most > 256 && refused > 1_000, "{most} {refused}");
 }
 
 fn literal(border: usize, side: usize) -> Literal {

@@ -15,7 +15,7 @@ static uint8_t memory[DBCHOCO_MEMORY_LENGTH];
 static const uint8_t colours[] = {0, 1, 2};
 static const int32_t clues[] = {-1, 2147483647, -2};
 
-/* A page of one row, written as document 01 lays it out. */
+/* A page of one row, written as document 01 lays it out, with document 02's tally. */
 static void lay_out(uint8_t width)
 {
     int cell, byte;
@@ -28,6 +28,7 @@ static void lay_out(uint8_t width)
             own[DBCHOCO_CLUES_AT + 4 * cell + byte] = (uint8_t)((uint32_t)clues[cell] >> (8 * byte));
         }
     }
+    own[DBCHOCO_UNDECIDED_AT] = (uint8_t)(width - 1);
 }
 
 /* Makes an image in dirty bytes. Whether the number is the one wanted, and nothing beside the image is written. */
@@ -46,6 +47,13 @@ static int made(size_t image_len, uint32_t height, uint32_t width, size_t cells,
 static unsigned check(void)
 {
     return (unsigned)dbchoco_check(own, sizeof own, memory, sizeof memory);
+}
+
+/* Whether the image's tally is this one. */
+static int tally(uint8_t undecided, uint8_t walls, uint8_t opens)
+{
+    const uint8_t wanted[] = {undecided, 0, walls, 0, opens, 0};
+    return memcmp(own + DBCHOCO_UNDECIDED_AT, wanted, sizeof wanted) == 0;
 }
 
 #define EXPECT(fact)                         \
@@ -74,11 +82,19 @@ int main(void)
 
     memset(own + DBCHOCO_CLUES_AT + 4, 0xff, 4);
     EXPECT(check() == DBCHOCO_PASS + 1);
-    EXPECT(dbchoco_decide(own, sizeof own, 0, DBCHOCO_WALL) == DBCHOCO_DONE);
+    EXPECT(dbchoco_decide(own, sizeof own, 0, DBCHOCO_WALL) == DBCHOCO_DONE && tally(0, 1, 0));
     EXPECT(check() == DBCHOCO_CONFLICT + 1);
     EXPECT(memory[0] == 1 && memory[1] == 0);
-    EXPECT(dbchoco_undo(own, sizeof own) == DBCHOCO_DONE);
-    EXPECT(dbchoco_decide(own, sizeof own, 0, DBCHOCO_OPEN) == DBCHOCO_DONE);
+    EXPECT(dbchoco_undo(own, sizeof own) == DBCHOCO_DONE && tally(1, 0, 0));
+    EXPECT(dbchoco_decide(own, sizeof own, 0, DBCHOCO_OPEN) == DBCHOCO_DONE && tally(0, 0, 1));
+    EXPECT(check() == DBCHOCO_PASS);
+    memset(own + DBCHOCO_UNDECIDED_AT, 0, 6);
+    EXPECT(check() == DBCHOCO_ALIEN);
+    own[DBCHOCO_WALLS_AT] = 1;
+    EXPECT(check() == DBCHOCO_ALIEN);
+    EXPECT(dbchoco_check(own, DBCHOCO_UNDECIDED_AT, memory, sizeof memory) == DBCHOCO_ALIEN);
+    own[DBCHOCO_WALLS_AT] = 0;
+    own[DBCHOCO_OPENS_AT] = 1;
     EXPECT(check() == DBCHOCO_PASS);
     printf("right\n");
     return 0;

@@ -35,7 +35,7 @@ fn fresh(bytes: &mut [u8], size: (u32, u32), colours: &[u8], clues: &[i32]) -> O
     Refusal::from_number(number)
 }
 
-/// A page of 2 by 2, its image written as document 01 lays it out.
+/// A page of 2 by 2, its image written as document 01 lays it out, with document 02's tally.
 const COLOURS: [u8; 4] = [0, 1, 1, 0];
 const CLUES: [i32; 4] = [-1, 258, 0, 2147483647];
 
@@ -46,6 +46,7 @@ fn written() -> [u8; IMAGE_LENGTH] {
         255, 255, 255, 255, 2, 1, 0, 0, 0, 0, 0, 0, 255, 255, 255, 127,
     ];
     image[1026..1042].copy_from_slice(&clues);
+    image[11076] = 4;
     image
 }
 
@@ -89,6 +90,8 @@ fn an_image_that_the_host_writes_itself() {
     let mut pair = [0; IMAGE_LENGTH];
     pair[..4].copy_from_slice(&[1, 2, 0, 1]);
     pair[1026..1034].fill(255);
+    assert_eq!(Board::from_image(&pair), Err(Refusal::Alien), "no tally");
+    pair[11076] = 1;
     let mut board = Board::from_image(&pair).unwrap();
     board.decide(0, Side::Open).unwrap();
     assert_eq!(board.check(), Answer::Pass { undecided: 0 });
