@@ -2,7 +2,7 @@
 
 use oracle::bench::{self, Named};
 use oracle::generate;
-use oracle::page::{Board, Puzzle};
+use oracle::page::{Board, Literal, Puzzle};
 use oracle::random::Random;
 
 /// How many boards of each size: the environment variable BOARDS, or 3.
@@ -59,6 +59,34 @@ pub fn opened(random: &mut Random, h: usize, w: usize) -> Board {
     let walls = *random.pick(&[0, 100 - opens]);
     let decided = generate::scatter(random, puzzle.borders(), walls, opens);
     Board { puzzle, decided }
+}
+
+// ---- for lists of calls ----
+
+/// A page and literals of a cut of it, which a list of calls mostly decides.
+pub fn page(random: &mut Random, round: usize) -> (Puzzle, Vec<Literal>) {
+    let side = if round % 10 == 0 { 32 } else { 7 };
+    let (h, w) = (random.between(1, side), random.between(1, side));
+    let cut = generate::cut(random, h, w);
+    let board = generate::part_of(random, &cut, 100, 20);
+    (board.puzzle, board.decided)
+}
+
+/// A literal of the page's cut, of any border, or of a border that the page has not.
+pub fn a_literal(random: &mut Random, borders: usize, literals: &[Literal]) -> Literal {
+    match random.below(10) {
+        0 => {
+            let beyond = [borders, borders + 1, 1_984, 65_536, usize::MAX / 2];
+            (*random.pick(&beyond), random.chance(50))
+        }
+        1..=3 => (random.below(borders + 1), random.chance(50)),
+        _ if literals.is_empty() => (0, random.chance(50)),
+        4..=6 => {
+            let &(border, wall) = random.pick(literals);
+            (border, !wall)
+        }
+        _ => *random.pick(literals),
+    }
 }
 
 // ---- named boards of 32x32 ----

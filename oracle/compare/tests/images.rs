@@ -1,7 +1,7 @@
 //! The exported calls on good images: lists of calls against the book and the published check, and full
 //! settings against the rules by brute force.
 
-use compare::boards;
+use compare::boards::{self, page};
 use compare::checks::number;
 use compare::expected::note_source;
 use compare::images::{compare_calls, ours, ImageCall, Judge, Lent, MEMORY, UNDO};
@@ -61,15 +61,6 @@ fn is_solution(board: &Board) -> bool {
 }
 
 // ---- lists of calls by chance ----
-
-/// A page and literals of a cut of it, which a list of calls mostly decides.
-fn page(random: &mut Random, round: usize) -> (Puzzle, Vec<Literal>) {
-    let side = if round % 10 == 0 { 32 } else { 7 };
-    let (h, w) = (random.between(1, side), random.between(1, side));
-    let cut = generate::cut(random, h, w);
-    let board = generate::part_of(random, &cut, 100, 20);
-    (board.puzzle, board.decided)
-}
 
 const SIDES: [u32; 7] = [0, 1, 2, 256, 65_536, 1 << 31, u32::MAX];
 

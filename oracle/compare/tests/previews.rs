@@ -2,7 +2,7 @@
 //! every preview of small pages against decide and check on a copy and against the rules, alien
 //! images, and memory that is short.
 
-use compare::boards;
+use compare::boards::{self, a_literal, page};
 use compare::checks::{board_checks, number, Trial};
 use compare::expected::{self, note_source};
 use compare::images::{damage, ours, ImageCall, Judge, DAMAGES, MEMORY};
@@ -35,23 +35,6 @@ impl Seen {
 
 // ---- lists of calls by chance ----
 
-/// A literal of the page's cut, of any border, or of a border that the page has not.
-fn a_literal(random: &mut Random, borders: usize, literals: &[Literal]) -> Literal {
-    match random.below(10) {
-        0 => {
-            let beyond = [borders, borders + 1, 1_984, 65_536, usize::MAX / 2];
-            (*random.pick(&beyond), random.chance(50))
-        }
-        1..=3 => (random.below(borders + 1), random.chance(50)),
-        _ if literals.is_empty() => (0, random.chance(50)),
-        4..=6 => {
-            let &(border, wall) = random.pick(literals);
-            (border, !wall)
-        }
-        _ => *random.pick(literals),
-    }
-}
-
 /// A decide, an undo or a check on the image, as the book answers it.
 fn other_call(random: &mut Random, book: &mut Book, image: &mut [u8], literals: &[Literal]) {
     let mut judge = Judge::default();
@@ -76,10 +59,7 @@ fn lists_of_calls_with_previews_answer_as_the_book() {
     let mut random = Random::new(90);
     let mut seen = Seen::default();
     for round in 0..60 * boards::rounds() {
-        let side = if round % 10 == 0 { 32 } else { 7 };
-        let (h, w) = (random.between(1, side), random.between(1, side));
-        let cut = generate::cut(&mut random, h, w);
-        let Board { puzzle, decided } = generate::part_of(&mut random, &cut, 100, 20);
+        let (puzzle, decided) = page(&mut random, round);
         let mut judge = Judge::default();
         let mut book = Book::open(&puzzle).unwrap();
         let mut image = image::write(&Board {
