@@ -94,10 +94,12 @@ impl Lent {
 }
 
 /// The kinds of damage that `damage` does.
-pub const DAMAGES: usize = 10;
+pub const DAMAGES: usize = 13;
+/// Those of them that keep every image good: two entries of the stack exchanged, and a decided border
+/// turned together with the tally.
+pub const HARMLESS: [usize; 2] = [5, 11];
 
-/// Damage of one kind. Many keep the image good, or nearly so; an exchange of two entries of the stack
-/// (5) always does.
+/// Damage of one kind. Many keep the image good, or nearly so.
 pub fn damage(random: &mut Random, bytes: &mut [u8], kind: usize) {
     let count = usize::from(u16::from_le_bytes([bytes[7_106], bytes[7_107]]));
     let entry = |random: &mut Random| 7_108 + 2 * random.below(count.clamp(1, 1_984));
@@ -119,8 +121,37 @@ pub fn damage(random: &mut Random, bytes: &mut [u8], kind: usize) {
             bytes.swap(5_122 + a, 5_122 + b);
         }
         8 => bytes[entry(random) + 1] = low(random),
-        _ => bytes[random.below(11_076)] = random.word() as u8,
+        9 => bytes[11_076 + random.below(6)] = random.below(256) as u8,
+        10 => add(
+            bytes,
+            11_076 + 2 * random.below(3),
+            *random.pick(&[1, u16::MAX]),
+        ),
+        11 => {
+            let at = entry(random);
+            turn(bytes, at);
+        }
+        _ => bytes[random.below(image::LENGTH)] = random.word() as u8,
     }
+}
+
+/// Adds to a number of two bytes; 65,535 takes one off.
+fn add(bytes: &mut [u8], at: usize, more: u16) {
+    let number = u16::from_le_bytes([bytes[at], bytes[at + 1]]).wrapping_add(more);
+    bytes[at..at + 2].copy_from_slice(&number.to_le_bytes());
+}
+
+/// Turns the border of a stack entry, if it is decided, and the tally with it.
+fn turn(bytes: &mut [u8], entry: usize) {
+    let border = 5_122 + usize::from(u16::from_le_bytes([bytes[entry], bytes[entry + 1]]));
+    let (turned, less, more) = match bytes.get(border) {
+        Some(1) => (2, 11_078, 11_080),
+        Some(2) => (1, 11_080, 11_078),
+        _ => return,
+    };
+    bytes[border] = turned;
+    add(bytes, less, u16::MAX);
+    add(bytes, more, 1);
 }
 
 /// A call on an image.

@@ -4,6 +4,7 @@
 use compare::boards;
 use compare::expected::note_source;
 use compare::images::{compare_calls, damage, ImageCall, Judge, Lent, DAMAGES, MEMORY, UNDO};
+use oracle::image::PARTS;
 use oracle::page::{Board, Puzzle};
 use oracle::random::Random;
 use oracle::{bench, generate, image};
@@ -106,9 +107,6 @@ fn every_length_of_an_image() {
 
 // ---- damage by chance ----
 
-/// Where the parts of an image start, and its end.
-const PARTS: [usize; 7] = [0, 2, 1_026, 5_122, 7_106, 7_108, 11_076];
-
 #[test]
 fn damaged_by_chance() {
     note_source();
@@ -139,7 +137,7 @@ fn random_bytes() {
         let mut bytes = image::write(&generate::board(&mut random, 8, 8));
         let part = round % PARTS.len();
         let (from, to) = if part == 0 {
-            (0, 11_076)
+            (0, image::LENGTH)
         } else {
             (PARTS[part - 1], PARTS[part])
         };

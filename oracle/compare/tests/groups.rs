@@ -3,7 +3,7 @@
 
 use compare::boards;
 use compare::expected::{self, words};
-use compare::images::{damage, DAMAGES};
+use compare::images::{damage, DAMAGES, HARMLESS};
 use compare::ours::{self, Memory, Ours, PARTED, ROOM, UNFIT};
 use oracle::image;
 use oracle::page::{Board, Groups, Kind, Puzzle, KINDS};
@@ -180,8 +180,9 @@ fn alien_images_give_none() {
         }
     });
     println!("by damage: {alien:?} alien images, {good:?} good ones");
-    let enough = |kind: usize| kind == 5 || alien[kind] > 50;
-    assert!((0..=DAMAGES).all(enough) && good[5] > 50);
+    let enough = |kind: usize| HARMLESS.contains(&kind) || alien[kind] > 50;
+    assert!((0..=DAMAGES).all(enough));
+    assert!(HARMLESS.map(|kind| (alien[kind], good[kind] > 50)) == [(0, true); 2]);
     assert!(good.iter().sum::<usize>() > 500);
 }
 

@@ -5,7 +5,7 @@
 //! The judge is instrumented, the published check in it too, and so leads the fuzzer; the library is not.
 
 use compare::images::{compare_fresh, ImageCall, Judge, Lent, Page, MEMORY};
-use oracle::image;
+use oracle::image::{self, PARTS};
 use oracle::random::Random;
 
 /// The rest of the input.
@@ -81,9 +81,6 @@ fn damaged(input: &mut Input, page: &Page) -> Page {
     page
 }
 
-/// The offsets that a damage aims at: the start of each part of an image.
-const PARTS: [usize; 6] = [0, 2, 1_026, 5_122, 7_106, 7_108];
-
 /// One step: a call, or a damage of the image.
 fn step(input: &mut Input, judge: &mut Judge, image: &mut Lent, memory: &mut Lent) {
     let kind = input.byte();
@@ -110,11 +107,10 @@ fn step(input: &mut Input, judge: &mut Judge, image: &mut Lent, memory: &mut Len
             judge.call(image, memory, ImageCall::Check);
         }
         _ => {
-            let at = PARTS[usize::from(kind / 8) % 6] + input.word() % 4_096;
-            let byte = input.byte();
-            if let Some(place) = image.content_mut().get_mut(at) {
-                *place = byte;
-            }
+            // A byte of one part of the image.
+            let part = usize::from(kind / 8) % (PARTS.len() - 1);
+            let at = PARTS[part] + input.word() % (PARTS[part + 1] - PARTS[part]);
+            image.content_mut()[at] = input.byte();
         }
     }
 }
