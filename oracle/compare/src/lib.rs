@@ -8,4 +8,5 @@ pub mod images;
 pub mod many;
 pub mod ours;
 pub mod previews;
+pub mod tally;
 pub mod timing;

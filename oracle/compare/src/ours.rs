@@ -252,20 +252,25 @@ pub fn part(image: &[u8], which: usize, group: usize, memory: &mut [u16]) -> usi
     }
 }
 
-/// Memory to lend, at first filled by chance.
+/// Memory to lend.
 pub struct Memory<T = u16> {
     places: Vec<T>,
 }
 
 impl Memory<u16> {
-    pub fn new(random: &mut Random, length: usize) -> Memory<u16> {
-        let places = (0..length).map(|_| random.word() as u16).collect();
+    /// Memory that holds these words.
+    pub fn holding(places: Vec<u16>) -> Memory<u16> {
         Memory { places }
+    }
+
+    /// Memory of this length, filled by chance.
+    pub fn new(random: &mut Random, length: usize) -> Memory<u16> {
+        Memory::holding((0..length).map(|_| random.word() as u16).collect())
     }
 }
 
 impl Memory<i32> {
-    /// Memory for transforms.
+    /// Memory for transforms, filled by chance.
     pub fn signed(random: &mut Random, length: usize) -> Memory<i32> {
         let places = (0..length).map(|_| random.word() as i32).collect();
         Memory { places }

@@ -3,7 +3,7 @@
 use crate::checks::{answer, reason_length};
 use crate::ours::Memory;
 use oracle::book::Answer;
-use oracle::page::Literal;
+use oracle::page::{code, Literal};
 
 // A slice goes over as its address and its length.
 extern "C" {
@@ -19,14 +19,12 @@ extern "C" {
 
 /// The number of the last of so many previews of the literal; 0 for none.
 pub fn previews(image: &[u8], literal: Literal, times: usize, memory: &mut [u16]) -> usize {
-    let (border, wall) = literal;
-    let code = 2 * border + usize::from(wall);
     // SAFETY: addresses and lengths are those of slices that live through the call.
     unsafe {
         probe_previews(
             image.as_ptr(),
             image.len(),
-            code,
+            code(&literal),
             times,
             memory.as_mut_ptr(),
             memory.len(),
