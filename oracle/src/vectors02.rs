@@ -1,16 +1,16 @@
 //! The vectors for document 02, made by an independent model with all its requests in force: of the
-//! flat pages what is in force here, which is making a board, decides, undos, checks and previews.
+//! flat pages what is in force here, which is making a board, decides, undos, checks and previews, with
+//! a lent tally record or none.
 //!
 //! A script has other calls too. Those leave the board, but for a player whose board the script goes
-//! on with: its trail is decided. Calls refused with 14 or 15, and with 5 for a lent record, a mark or
-//! a tally, are left out; those on a board that is damaged otherwise stand by themselves. Until request
-//! No. 4 the vectors' reasons are ours with
+//! on with: its trail is decided. Calls refused with 14 or 15, and with 5 for a mark, are left out;
+//! those on a damaged board stand by themselves. Until request No. 4 the vectors' reasons are ours with
 //! later repeats struck, and a check or preview here has memory for 16,384 literals where theirs has
 //! enough.
 
-use crate::book::{Answer, Call, PLACES};
+use crate::book::{Answer, Asked, Call, ALIEN, PLACES};
 use crate::json::Json;
-use crate::page::{Literal, Puzzle};
+use crate::page::{Literal, Puzzle, Tally};
 use std::path::PathBuf;
 use std::{env, fs};
 
@@ -21,22 +21,30 @@ pub struct Make {
     pub refusal: Option<u32>,
 }
 
-/// A puzzle, calls on its board with their answers, and the literals that stand at the end.
+/// A puzzle, calls on its board, and the literals and the tally that stand at the end.
 pub struct Script {
     pub id: String,
     pub puzzle: Puzzle,
-    pub calls: Vec<(Call, Answer)>,
+    pub calls: Vec<Replied>,
     pub damaged: Vec<Damaged>,
     pub end: Vec<Literal>,
+    pub tally: Tally,
+}
+
+/// A call with its answer, and what the record that it is lent holds afterwards.
+pub struct Replied {
+    pub asked: Asked,
+    pub answer: Answer,
+    pub record: Option<Tally>,
 }
 
 /// A call on a damaged copy of the board that stands after so many calls of the script. It is refused
-/// with 5.
+/// with 5, and a lent record keeps its contents.
 pub struct Damaged {
     pub after: usize,
     /// Field, index and number of each place that is damaged.
     pub places: Vec<(String, usize, i64)>,
-    pub call: Call,
+    pub asked: Asked,
 }
 
 /// The file: the environment variable DBCHOCO_VECTORS02, or where it lies beside the repository.
@@ -107,16 +115,34 @@ fn script(line: &Json, size: &Json) -> Script {
     }
     let (mut calls, mut damaged) = (vec![], vec![]);
     for call in line.at("calls").list() {
-        damaged.extend(on_damage(call, calls.len()));
-        calls.extend(in_force(call));
+        match call.get("hurt") {
+            Some(places) => damaged.extend(on_damage(call, places, calls.len())),
+            None => calls.extend(in_force(call, standing(&calls))),
+        }
     }
+    let end = line.at("end");
     Script {
         id: id(line),
         puzzle: puzzle(size, colours, clues),
         calls,
         damaged,
-        end: literals(line.at("end").at("st")),
+        end: literals(end.at("st")),
+        tally: tally(end.at("tally")),
     }
+}
+
+/// How many decisions stand after the calls.
+fn standing(calls: &[Replied]) -> usize {
+    let done = calls.iter().filter(|one| one.answer == Answer::Done);
+    done.fold(0, |count, one| match one.asked.call {
+        Call::Undo => count - 1,
+        _ => count + 1,
+    })
+}
+
+fn tally(counts: &Json) -> Tally {
+    let counts = counts.numbers();
+    Tally::from([0, 1, 2].map(|at| counts[at] as usize))
 }
 
 /// The literals of a list of codes.
@@ -137,8 +163,8 @@ fn answer(answer: &Json) -> Answer {
     }
 }
 
-/// The call, where it is a decide, an undo, a check or a preview.
-fn asked(call: &Json) -> Option<Call> {
+/// The call with what it is lent, where it is a decide, an undo, a check or a preview.
+fn asked(call: &Json) -> Option<Asked> {
     let number = |key: &str| call.at(key).number() as usize;
     let literal = || (number("b"), number("s") == 1);
     // A refused call keeps its memory, so that 5, 6 and 7 are seen to come before 9.
@@ -146,31 +172,44 @@ fn asked(call: &Json) -> Option<Call> {
         Answer::Refused(_) => number("mem"),
         _ => PLACES,
     };
-    match call.at("op").text() {
-        "decide" => Some(Call::Decide(literal())),
-        "undo" => Some(Call::Undo),
-        "check" => Some(Call::Check(places())),
-        "preview" => Some(Call::Preview(literal(), places())),
-        _ => None,
-    }
+    let record = call.get("rec").map(tally);
+    let call = match call.at("op").text() {
+        "decide" => Call::Decide(literal()),
+        "undo" => Call::Undo,
+        "check" => Call::Check(places()),
+        "preview" => Call::Preview(literal(), places()),
+        _ => return None,
+    };
+    Some(Asked { call, record })
 }
 
-/// What of a call is in force here.
-fn in_force(call: &Json) -> Vec<(Call, Answer)> {
+/// What of a call is in force here, on a board on which so many decisions stand.
+fn in_force(call: &Json, standing: usize) -> Vec<Replied> {
     let answer = answer(call.at("a"));
-    if matches!(answer, Answer::Refused(5 | 14 | 15)) {
+    let mark = call.get("mark").map_or(0, |mark| mark.number() as usize);
+    let by_the_mark = answer == Answer::Refused(ALIEN) && mark > standing;
+    if by_the_mark || matches!(answer, Answer::Refused(14 | 15)) {
         return vec![];
     }
     if call.at("op").text() == "player" && call.get("keep") == Some(&Json::Number(1)) {
         let trail = literals(&call.at("a").list()[1]);
-        let decided = |literal| (Call::Decide(literal), Answer::Done);
+        let decided = |literal| Replied {
+            asked: Call::Decide(literal).into(),
+            answer: Answer::Done,
+            record: None,
+        };
         return trail.into_iter().map(decided).collect();
     }
-    asked(call).map(|call| (call, answer)).into_iter().collect()
+    let replied = |asked| Replied {
+        asked,
+        answer,
+        record: call.get("rec2").map(tally),
+    };
+    asked(call).map(replied).into_iter().collect()
 }
 
-/// The call on a damaged board, after so many calls; none where nothing but the tally is damaged.
-fn on_damage(call: &Json, after: usize) -> Option<Damaged> {
+/// The call on a board that is damaged in these places, after so many calls.
+fn on_damage(call: &Json, places: &Json, after: usize) -> Option<Damaged> {
     let place = |damage: &Json| {
         let [field, numbers @ .., number] = damage.list() else {
             panic!("no damage: {damage:?}");
@@ -178,13 +217,14 @@ fn on_damage(call: &Json, after: usize) -> Option<Damaged> {
         let index = numbers.first().map_or(0, |index| index.number() as usize);
         (field.text().to_string(), index, number.number())
     };
-    let places: Vec<_> = call.get("hurt")?.list().iter().map(place).collect();
-    let image_has = |place: &(String, usize, i64)| place.0 != "tal";
-    let call = asked(call)?;
-    places.iter().all(image_has).then_some(Damaged {
+    let asked = asked(call)?;
+    assert_eq!(answer(call.at("a")), Answer::Refused(ALIEN), "{call:?}");
+    assert_eq!(call.get("rec2").map(tally), asked.record, "{call:?}");
+    let places = places.list().iter().map(place).collect();
+    Some(Damaged {
         after,
         places,
-        call,
+        asked,
     })
 }
 

@@ -8,10 +8,11 @@
 //! The answers are those of the published Rust, or of the plain check where its source is not there;
 //! those of the vectors of document 02 are the vectors' own, in which a reason has no repeats.
 
-use oracle::book::{Answer, Call, PLACES};
+use oracle::book::{Answer, Call, ALIEN, PLACES};
 use oracle::page::Board;
 use oracle::random::Random;
-use oracle::{drafts, generate, sheet, vectors02};
+use oracle::vectors02::{self, Replied};
+use oracle::{drafts, generate, sheet};
 use std::path::{Path, PathBuf};
 use std::{env, fs, process::ExitCode};
 
@@ -81,9 +82,12 @@ fn vectors(folder: &Path) -> std::io::Result<()> {
         put(folder, &make.id, page, sheet::printed(&answers))?;
     }
     for script in scripts {
-        let spelled = |call: &(Call, Answer)| sheet::has(&call.0);
-        let (calls, answers) = script.calls.into_iter().filter(spelled).unzip();
-        let calls: Vec<Call> = calls;
+        // A call whose lent record is taken is answered as one that is lent none.
+        let spelled =
+            |one: &Replied| sheet::has(&one.asked.call) && one.answer != Answer::Refused(ALIEN);
+        let calls = script.calls.into_iter().filter(spelled);
+        let (calls, answers): (Vec<Call>, _) =
+            calls.map(|one| (one.asked.call, one.answer)).unzip();
         let page = sheet::page(&script.puzzle, &calls);
         put(folder, &script.id, page, sheet::printed(&Ok(answers)))?;
     }
