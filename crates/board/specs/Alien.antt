@@ -12,9 +12,7 @@
 --   borderRight v on        the border place v is right, where `on` says that its border is on the stack
 --   bordersRight bs s n m   the first m borders are right beside the first n entries of s
 --   bordersBy bs seen m     the same, where a list says which borders are on the stack
---   codeSum bs s n          the sum of the codes of the borders that the first n entries of s name
---   Flags bs s n once sum seen   what a run over n entries finds: whether none is an earlier one, that sum, and which
---                           borders they are
+--   Flags s n once seen     what a run over n entries finds: whether none is an earlier one, and which borders they are
 --   zerosFrom l from        the places of l from `from` on are 0
 --   clueZero k              k is 0
 --   zeroCluesFrom ks from   the clues from `from` on are 0
@@ -32,7 +30,7 @@
 use mathlib.Core.Path.{_≡_}
 use mathlib.Core.Bool.{Bool, false, not, cond, _&&_, Bool·beq}
 use mathlib.Core.List.{List}
-use Prim.Native.Nat.{ℕ, zero, suc, _+_, _*_, _<_}
+use Prim.Native.Nat.{ℕ, _*_, _<_}
 use lib.Dec.{leb, ltb, eqb}
 use lib.IntN.{ℤ, pos, negsuc}
 use lib.ListN.{length, getD}
@@ -87,13 +85,8 @@ bordersRight bs s n m = allBelow m (λ x. borderRight (getD bs x 0) (stacked s n
 unfoldable pub bordersBy : List ℕ → List Bool → ℕ → Bool
 bordersBy bs seen m = allBelow m (λ x. borderRight (getD bs x 0) (getD seen x false))
 
-unfoldable pub codeSum : List ℕ → List ℕ → ℕ → ℕ
-codeSum bs s zero = 0
-codeSum bs s (suc n) = codeSum bs s n + getD bs (getD s n 0) 0
-
-pub record Flags (bs s : List ℕ) (n : ℕ) (once : Bool) (sum : ℕ) (seen : List Bool) : Type 0 where
+pub record Flags (s : List ℕ) (n : ℕ) (once : Bool) (seen : List Bool) : Type 0 where
   pub tells : once ≡ onceEach s n
-  pub summed : sum ≡ codeSum bs s n
   pub flagged : (x : ℕ) → x < 1984 → getD seen x false ≡ stacked s n x
 
 unfoldable pub zerosFrom : List ℕ → ℕ → Bool

@@ -85,10 +85,10 @@ module _ (m : ℕ) (bs st : List ℕ) (count : ℕ) where
     unfolding decidedIn
     decisions-tally a e f = rw e f
 
-  pub decisions-borders : (sum : ℕ) (vs : List Bool) (a : Bool) → count ≤ m → m ≤ 1984 → entriesRight st m count ≡ true
-      → Flags bs st count true sum vs → a ≡ bordersBy bs vs m → a ≡ decisionsIn m bs st count
+  pub decisions-borders : (vs : List Bool) (a : Bool) → count ≤ m → m ≤ 1984 → entriesRight st m count ≡ true
+      → Flags st count true vs → a ≡ bordersBy bs vs m → a ≡ decisionsIn m bs st count
   unfolding decisionsIn bordersBy bordersRight
-  decisions-borders sum vs a t l r u e =
+  decisions-borders vs a t l r u e =
       e
       ∙ all-cong m _ _ (λ x k. ap (λ (v : Bool). borderRight (getD bs x 0) v) (u .flagged x (omega arith)))
       ∙ rw (le-leb count m t, r, ← (u .tells))

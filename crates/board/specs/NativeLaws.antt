@@ -1,20 +1,31 @@
--- Boards that are not alien: what they have, in plain facts, and how many borders are on their stack.
+-- Boards that are not alien: what they have, in plain facts, how many borders are on their stack, and their tally.
+--
+--   Native b            what a board that is not alien has
+--   Decisions m bs s k  what right decisions have: k entries of the stack s beside m borders
+--   zeros-at, zeros-of, zero-clues-at, zero-clues-of   places that are 0
+--   has-decisions       right decisions have that
+--   free-count          the undecided borders are those that are not on the stack
+--   walls-few, walls-tell   so the walls tell the tally
+--   native-has, native-of   a board is not alien exactly if it has what Native says
+--   cells-fit, borders-fit, tally-fits   its counts are at most those of the largest page
+--   tally-bare          with an empty stack every border is undecided
+--   free-unstacked, stack-room, free-left   an undecided border is not on the stack, leaves room there, and is counted
+--   free-places         what a decide that is not refused may rely on
 use mathlib.Core.Path.{_≡_, refl, ap, sym, _∙_}
-use mathlib.Core.Bool.{Bool, true, false, not, _&&_, _||_, or-true, or-false, Bool·beq, false≢true}
+use mathlib.Core.Bool.{Bool, true, false, not, _&&_, _||_, Bool·beq, false≢true}
 use mathlib.Core.List.{List}
-use Prim.Native.Nat.{ℕ, zero, suc, _+_, _-_, _*_, _<_, _≤_}
+use Prim.Native.Nat.{ℕ, zero, suc, _-_, _<_, _≤_}
 use native.Mathlib.Numerals.{add-one}
-use native.Mathlib.Decide.{ℕ-discrete, decLt}
+use native.Mathlib.Decide.{decLt}
 use native.Mathlib.Omega.{arith}
-use borrow.Author.Tests.{leb-true, le-leb, ltb-true, lt-ltb, eq-eqb, ne-eqb, eqb-true, eqb-false, not-true}
-use borrow.Author.Tests.{not-false}
+use borrow.Author.Tests.{leb-true, le-leb, ltb-true, lt-ltb, eq-eqb, eqb-true, not-true, not-false}
 use lib.Dec.{leb, ltb, eqb}
 use lib.IntN.{ℤ, pos, negsuc}
 use lib.ListN.{length, getD, List·getD-eq-default}
-use Rattle.lists.specs.Count.{bit, countBelow}
+use Rattle.lists.specs.Count.{countBelow}
 use Rattle.lists.specs.Booleans.{and-left, and-right, beq-eq, eq-beq, T-true}
-use Rattle.lists.specs.TestLaws.{any-some, all-at, all-every, between-at, between-every}
-use Rattle.lists.specs.CountLaws.{count-cong, count-none, count-le, count-lt, count-more, count-not}
+use Rattle.lists.specs.TestLaws.{all-at, all-every, between-at, between-every}
+use Rattle.lists.specs.CountLaws.{count-cong, count-none, count-lt, count-more, count-not}
 use Rattle.rules.specs.Flat.{Sized}
 use Rattle.rules.specs.Book.{tallyOf, sameTally}
 use Rattle.laws.specs.FlatLaws.{counts, borders-le}
@@ -22,7 +33,7 @@ use Rattle.board.specs.declared.Board.{Board}
 use Rattle.board.specs.Alien.{sizeRight, coloursRight, clueRight, cluesRight, stacked, entriesRight, onceEach}
 use Rattle.board.specs.Alien.{borderRight, bordersRight, zerosFrom, clueZero, zeroCluesFrom, puzzleRight}
 use Rattle.board.specs.Alien.{decisionsIn, unusedIn, cellCountOf, borderCountOf, cellsRight, decisionsRight}
-use Rattle.board.specs.Alien.{codeSum, codeCount, tallyIn, decidedIn, unusedZero, isAlien}
+use Rattle.board.specs.Alien.{codeCount, tallyIn, decidedIn, unusedZero, isAlien}
 use Rattle.board.specs.Board.{numberOf, decideRefusal}
 use Rattle.board.specs.ConditionLaws.{sized, size-is, stacked-none, stacked-more}
 use Rattle.board.specs.Cases.{refusal-free}
@@ -133,109 +144,19 @@ module _ (m : ℕ) (bs s : List ℕ) (k : ℕ) (D : Decisions m bs s k) where
       let e = stack-counts k (omega arith) in
       omega arith
 
-  -- an entry's border is a wall
-  wall-at : ℕ → Bool
-  wall-at i = eqb (getD bs (getD s i 0) 0) 1
+  -- so the walls tell the tally
+  pub walls-few : codeCount bs m 1 ≤ k
+  walls-few =
+      let a = codes-three bs m (D .code) in
+      let d = free-count in
+      omega (arith, D .few)
 
-  -- an entry's border has the code 1 or 2
-  entry-code : (i : ℕ) → i < k → getD bs (getD s i 0) 0 + bit (wall-at i) ≡ 2
-  unfolding wall-at stacked
-  entry-code i h =
-      let x = getD s i 0 in
-      go (getD bs x 0) (D .code x (D .entry i h))
-      (eqb-false (getD bs x 0) 0
-      (D .held x (D .entry i h) ∙ ap not (any-some k (λ j. eqb (getD s j 0) x) i h (eq-eqb x x refl))))
-    where
-      go : (v : ℕ) → v ≤ 2 → (v ≡ 0 → ⊥) → v + bit (eqb v 1) ≡ 2
-      go zero a d = absurd (d refl)
-      go (suc zero) a d = refl
-      go (suc (suc zero)) a d = refl
-      go (suc (suc (suc v))) a d = absurd (let z : suc (suc (suc v)) ≤ 2 = a in omega arith)
-
-  -- so the sum of the codes tells the walls among the entries
-  sum-tells : (j : ℕ) → j ≤ k → codeSum bs s j + countBelow j wall-at ≡ 2 * j
-  unfolding codeSum countBelow
-  sum-tells zero h = refl
-  sum-tells (suc j) h =
-      let a : codeSum bs s j + countBelow j wall-at ≡ 2 * j = sum-tells j (omega arith) in
-      let b = entry-code j (omega arith) in
-      omega arith
-
-  -- which are the walls among the borders
-  wall-counts : (j : ℕ) → j ≤ k
-      → countBelow m (λ x. stacked s j x && eqb (getD bs x 0) 1) ≡ countBelow j wall-at
-  unfolding countBelow wall-at
-  wall-counts zero h = count-none m _ (λ x q. rw (stacked-none s x))
-  wall-counts (suc j) h = go (wall-at j) refl (wall-counts j (omega arith))
-    where
-      e : ℕ
-      e = getD s j 0
-
-      before : ℕ → Bool
-      before x = stacked s j x && eqb (getD bs x 0) 1
-
-      more : (x : ℕ) → stacked s (suc j) x ≡ stacked s j x || eqb e x
-      more x = rw (← add-one) (stacked-more s j x)
-
-      go : (w : Bool) → wall-at j ≡ w → countBelow m before ≡ countBelow j wall-at
-          → countBelow m (λ x. stacked s (suc j) x && eqb (getD bs x 0) 1) ≡ countBelow j wall-at + bit (wall-at j)
-      go true p ih =
-          let a = count-cong m (λ x. stacked s (suc j) x && eqb (getD bs x 0) 1) (λ x. before x || eqb e x)
-          (λ x q. rw (more x) (here x (ℕ-discrete e x))) in
-          let b = count-more m before e (D .entry j (omega arith)) (rw (D .once j (omega arith))) in
-          let d : bit (wall-at j) ≡ 1 = ap bit p in
-          omega arith
-        where
-          here : (x : ℕ) → Dec (e ≡ x)
-              → (stacked s j x || eqb e x) && eqb (getD bs x 0) 1 ≡ before x || eqb e x
-          here x (yes q) =
-              rw (← q, eq-eqb e e refl, p, or-true (stacked s j e)) (sym (or-true (stacked s j e && true)))
-          here x (no q) = rw (ne-eqb e x q, or-false (stacked s j x), or-false (before x))
-      go false p ih =
-          let a = count-cong m (λ x. stacked s (suc j) x && eqb (getD bs x 0) 1) before
-          (λ x q. rw (more x) (here x (ℕ-discrete e x))) in
-          let d : bit (wall-at j) ≡ 0 = ap bit p in
-          omega arith
-        where
-          none : (a b : Bool) → a && false ≡ b && false
-          none true true = refl
-          none true false = refl
-          none false true = refl
-          none false false = refl
-
-          here : (x : ℕ) → Dec (e ≡ x) → (stacked s j x || eqb e x) && eqb (getD bs x 0) 1 ≡ before x
-          here x (yes q) = rw (← q, p) (none (stacked s j e || eqb e e) (stacked s j e))
-          here x (no q) = rw (ne-eqb e x q, or-false (stacked s j x))
-
-  all-walls : codeCount bs m 1 ≡ countBelow k wall-at
-  unfolding codeCount
-  all-walls =
-      count-cong m (λ x. eqb (getD bs x 0) 1) (λ x. stacked s k x && eqb (getD bs x 0) 1) (λ x h. each x h)
-      ∙ wall-counts k (omega arith)
-    where
-      each : (x : ℕ) → x < m → eqb (getD bs x 0) 1 ≡ stacked s k x && eqb (getD bs x 0) 1
-      each x h = go (stacked s k x) refl
-        where
-          go : (t : Bool) → stacked s k x ≡ t → eqb (getD bs x 0) 1 ≡ t && eqb (getD bs x 0) 1
-          go true p = refl
-          go false p = rw (eqb-true (getD bs x 0) 0 (D .held x h ∙ ap not p))
-
-  -- the sum of the codes of all entries tells the tally
-  pub sum-bounds : (k ≤ codeSum bs s k) × (codeSum bs s k ≤ 2 * k)
-  sum-bounds =
-      let a = sum-tells k (omega arith) in
-      let b = count-le k wall-at in
-      (omega arith, omega arith)
-
-  pub sum-tally : tallyIn bs m ≡ tallyOf (m - k) (2 * k - codeSum bs s k) (codeSum bs s k - k)
-  sum-tally =
-      let a = sum-tells k (omega arith) in
-      let c = codes-three bs m (D .code) in
-      let w = all-walls in
-      let u = free-count in
-      let p : codeCount bs m 1 ≡ 2 * k - codeSum bs s k = omega arith in
-      let o : codeCount bs m 2 ≡ codeSum bs s k - k = omega (arith, D .few) in
-      λ i. tallyOf (u i) (p i) (o i)
+  pub walls-tell : tallyIn bs m ≡ tallyOf (m - k) (codeCount bs m 1) (k - codeCount bs m 1)
+  walls-tell =
+      let a = codes-three bs m (D .code) in
+      let d = free-count in
+      let o : codeCount bs m 2 ≡ k - codeCount bs m 1 = omega (arith, D .few) in
+      λ i. tallyOf (d i) (codeCount bs m 1) (o i)
 
 -- ---- the test's two directions
 module _ (b : Board) where

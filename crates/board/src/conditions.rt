@@ -8,7 +8,6 @@ ghost use Rattle.board.specs.Alien.{coloursRight, clueRight, cluesRight,
 ghost use Rattle.board.specs.Alien.{borderRight, bordersBy, zerosFrom, clueZero, zeroCluesFrom};
 use crate::Board;
 use rules::index;
-use rules::index_byte;
 
 // Whether the first n colours are 0 or 1. Here and below there is no exit at the first wrong place: the loop then takes
 // many at a time.
@@ -62,35 +61,25 @@ pub fn entries_right(stack: &[u16; Board::BORDER_LIMIT], borders: usize, count: 
     right
 }
 
-// What a run over the stack finds: whether no entry is an earlier one, and the sum of the codes of their borders.
-pub struct Flagged {
-    pub once: bool,
-    pub sum: usize,
-}
-
-// Whether none of the first count entries is an earlier one, and the sum of their borders' codes; flags which borders
-// they are. The sum costs no time beside the flags, which a count of walls would.
-pub fn flag_stack<'a>(
-    stack: &'a [u16; Board::BORDER_LIMIT],
-    borders: &'a [u8],
+// Whether none of the first count entries is an earlier one; flags which borders they are.
+pub fn flag_stack(
+    stack: &[u16; Board::BORDER_LIMIT],
     count: usize,
     seen: &mut [bool; Board::BORDER_LIMIT],
-) -> Flagged
-    requires { ⌜ (count ≤ 1984) × (length (now borders) ≡ 1984)
-        × ((i : ℕ) → i < count → getD (now stack) i 0 < 1984) × (now seen ≡ replicate 1984 false) ⌝ }
-    ensures { λ r. ⌜ Flags (now (borders .entry)) (now (stack .entry)) count (r .once) (r .sum) (now (seen .exit)) ⌝ }
+) -> bool
+    requires { ⌜ (count ≤ 1984) × ((i : ℕ) → i < count → getD (now stack) i 0 < 1984)
+        × (now seen ≡ replicate 1984 false) ⌝ }
+    ensures { λ r. ⌜ Flags (now (stack .entry)) count r (now (seen .exit)) ⌝ }
 {
     let mut once = true;
-    let mut sum: usize = 0;
     let mut i: usize = 0;
     while i < count {
         let e = index(stack[i]);
         once = once & !seen[e];
         seen[e] = true;
-        sum += index_byte(borders[e]);
         i += 1;
     }
-    Flagged { once, sum }
+    once
 }
 
 // Whether v is undecided, wall or open, and decided exactly if on the stack.

@@ -147,17 +147,14 @@ fn decisions_right<'a>(
     requires { ⌜ total ≤ 1984 ⌝ }
     ensures { λ r. ⌜ r ≡ decidedIn total (now (borders .entry)) (now (stack .entry)) count tally ⌝ }
 {
-    // as a slice, so that the proof knows its length
-    let states: &[u8] = borders;
     if total < count {
         return false;
     }
     if conditions::entries_right(stack, total, count) {
         let mut seen = [false; Board::BORDER_LIMIT];
-        let found = conditions::flag_stack(stack, states, count, &mut seen);
-        if found.once {
+        if conditions::flag_stack(stack, count, &mut seen) {
             if conditions::borders_right(borders, &seen, total) {
-                return tallies::tally_right(total, count, found.sum, tally);
+                return tallies::tally_right(total, borders, count, tally);
             }
         }
     }

@@ -1,15 +1,14 @@
 -- `decisions_right` meets its contract: each return cites the law of its case.
 use mathlib.Core.Bool.{true}
 use mathlib.Core.Path.{_∙_, _≡_, refl, sym, ap}
-use Prim.Native.Nat.{_-_, _*_}
 use native.Mathlib.Omega.{arith}
 use borrow.Author.Needs.{needs}
-use Rattle.rules.specs.Book.{tallyOf, sameTally}
+use Rattle.rules.specs.Book.{sameTally}
 use Rattle.board.specs.Alien.{decisionsIn}
 use Rattle.board.specs.Cases.{decisions-borders, decisions-many, decisions-entries, decisions-twice}
 use Rattle.board.specs.Cases.{decisions-wrong, decisions-tally}
 use Rattle.board.specs.ConditionLaws.{entries-low}
-use Rattle.board.specs.NativeLaws.{has-decisions, sum-bounds, sum-tally}
+use Rattle.board.specs.NativeLaws.{has-decisions, walls-few, walls-tell}
 use Rattle.board.proofs.decisions_right.Statement.{statement}
 use Rattle.board.proofs.decisions_right.Tie as tie
 
@@ -22,11 +21,9 @@ entries-right-requires c κs = search needs
 flag-stack-requires : tie.Need-flag-stack-requires
 flag-stack-requires c κs =
     let d = c .before .before in
-    let s = d .before .before in
-    let m = s .before .pre in
+    let m = d .before .before .pre in
     let e = sym (d .entries-right .ensures) ∙ c .before .if2 .taken in (
       omega (arith, m, d .before .if1 .left),
-      s .states .given .0,
       entries-low _ _ _ e m,
       refl,
     )
@@ -36,41 +33,33 @@ borders-right-requires c κs = search needs
 
 -- what the borders beside the flags say
 judged : (c : tie.After-borders-right)
-    → let a = c .before .before .before .before .before .before .before .before .before .args in
+    → let a = c .before .before .before .before .before .before .before .before .args in
     c .borders-right .result ≡ decisionsIn (a .total) (a .borders .now) (a .stack .now) (a .count)
 judged c =
     let t = c .before .before in
     let f = t .before in
     let d = f .before .before .before in
-    decisions-borders _ _ _ _ _ _ _ (d .before .if1 .left) (d .before .before .before .pre)
+    decisions-borders _ _ _ _ _ _ (d .before .if1 .left) (d .before .before .pre)
     (sym (d .entries-right .ensures) ∙ f .before .before .if2 .taken)
     (rw (t .if3 .taken) at (f .flag-stack .ensures)) (c .borders-right .ensures)
 
 right : (c : tie.Then4)
-    → let a = c .before .before .before .before .before .before .before .before .before .before .args in
+    → let a = c .before .before .before .before .before .before .before .before .before .args in
     decisionsIn (a .total) (a .borders .now) (a .stack .now) (a .count) ≡ true
 right c = sym (judged (c .before)) ∙ c .if4 .taken
 
 tally-right-requires : tie.Need-tally-right-requires
 tally-right-requires c κs =
-    let f = c .before .before .before .before in
-    let d = f .before .before .before in
+    let d = c .before .before .before .before .before .before .before in
     let D = has-decisions _ _ _ _ (right c) in
-    let b = sum-bounds _ _ _ _ D in
-    let e = f .flag-stack .ensures .summed in
-    (D .few, d .before .before .before .pre, rw e (b .0), rw e (b .1))
+    (d .before .before .pre, D .few, walls-few _ _ _ _ D)
 
 returns-2 : tie.Need-returns-2
 returns-2 c =
     let t = c .before in
-    let f = t .before .before .before .before in
-    let a = f .before .before .before .before .before .before .args in
     let D = has-decisions _ _ _ _ (right t) in
     decisions-tally _ _ _ _ _ _ (right t)
-    (c .tally-right .ensures
-    ∙ ap (λ n. sameTally (a .tally) (tallyOf (a .total - a .count) (2 * a .count - n) (n - a .count)))
-    (f .flag-stack .ensures .summed)
-    ∙ ap (sameTally (a .tally)) (sym (sum-tally _ _ _ _ D)))
+    (c .tally-right .ensures ∙ ap (sameTally _) (sym (walls-tell _ _ _ _ D)))
 
 returns-3 : tie.Need-returns-3
 returns-3 c = decisions-wrong _ _ _ _ _ (sym (judged (c .before)) ∙ c .if4 .left)
