@@ -59,10 +59,6 @@ module _ (s : List ℕ) (a : ImageCall) (h : length s ≡ 11082 → ⊥) where
   unfolding rightLength
   other = ne-eqb (length s) 11082 h
 
-  pub length-number : 5 ≡ imageNumber s a
-  unfolding imageNumber
-  length-number = rw other
-
   pub length-after : s ≡ imageAfter s a
   unfolding imageAfter
   length-after = rw other

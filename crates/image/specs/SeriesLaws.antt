@@ -3,8 +3,9 @@ use mathlib.Core.Path.{_≡_, refl, ap, ap₂, sym, _∙_}
 use mathlib.Core.Bool.{Bool, true, false, cond}
 use mathlib.Core.List.{List, [], _∷_}
 use Prim.Native.Nat.{ℕ, suc, _+_, _-_, _*_, _<_, _≤_}
+use native.Mathlib.Decide.{ℕ-discrete}
 use native.Mathlib.Omega.{arith}
-use borrow.Author.Tests.{eq-eqb, ne-eqb, eqb-false}
+use borrow.Author.Tests.{eq-eqb, ne-eqb}
 use lib.ListN.{length, getD, take, drop, length-drop, drop-of-length-le}
 use lib.Seq.{drop-cons, ext-getD, length-take-le, getD-take, getD-drop}
 use Rattle.lists.specs.Table.{table}
@@ -23,8 +24,8 @@ use Rattle.image.specs.Image.{pair, spelledTally, spelledBoard, Bytes, P
 use Rattle.image.specs.Image.{undo, numberBy, boardBy, rightLength, imageAlien, imageNumber, imageAfter}
 use Rattle.image.specs.Image.{imageWritten}
 use Rattle.image.specs.RoundLaws.{long-is, known-board, image-known}
-use Rattle.image.specs.CallLaws.{call-number-is, after-refused, decide-fits, image-decide-after, undo-fits}
-use Rattle.image.specs.CallLaws.{image-undo-after}
+use Rattle.image.specs.CallLaws.{length-after, call-number-is, after-refused, decide-fits, image-decide-after}
+use Rattle.image.specs.CallLaws.{undo-fits, image-undo-after}
 use Rattle.image.specs.RunLaws.{proper-after}
 use Rattle.image.specs.Series.{codeCall, doneOf, imageDone, SeriesStepped}
 
@@ -80,15 +81,12 @@ module _ (s : List ℕ) (h : Bytes s) (k : imageAlien s ≡ false) where
   unfolding spelledBoard
   entry-is i l = getD-table 1984 (λ j. pair s (7108 + 2 * j)) i 0 l
 
-  refused : (a : ImageCall) → (imageNumber s a ≡ 0 → ⊥) → SeriesStepped s a s false
-  refused a f =
-      record {
-        done = sym (ne-eqb (imageNumber s a) 0 f);
-        after = after-refused s h long (spelledBoard s) refl a f;
-      }
+  refused : (a : ImageCall) (n : ℕ) → n ≡ imageNumber s a → (n ≡ 0 → ⊥) → SeriesStepped s a s n
+  refused a n e f =
+      record { number = e; after = after-refused s h long (spelledBoard s) refl a (λ z. f (e ∙ z)) }
 
-  stepped : {a : ImageCall} {t : List ℕ} → imageNumber s a ≡ 0 → t ≡ imageAfter s a → SeriesStepped s a t true
-  stepped z e = record { done = sym (eq-eqb _ 0 z); after = e }
+  stepped : {a : ImageCall} {t : List ℕ} → imageNumber s a ≡ 0 → t ≡ imageAfter s a → SeriesStepped s a t 0
+  stepped z e = record { number = sym z; after = e }
 
   -- a decide, from what the code has: its literal l, the count m of the page's borders, and how its tests end
   module _ (n d : ℕ) (l : Literal) (y : l ≡ decideLiteral n d) (m : ℕ)
@@ -110,8 +108,8 @@ module _ (s : List ℕ) (h : Bytes s) (k : imageAlien s ≡ false) where
           ∙ decide-ends b (decideLiteral n d) (proper .known))
           ∙ by-board (decide n d)
 
-      pub decide-not : (numberOf o ≡ 0 → ⊥) → SeriesStepped s (decide n d) s false
-      decide-not f = refused (decide n d) (λ z. f (decide-number ∙ z))
+      pub decide-not : (numberOf o ≡ 0 → ⊥) → SeriesStepped s (decide n d) s (numberOf o)
+      decide-not f = refused (decide n d) (numberOf o) decide-number f
 
       -- one that is done
       module _ (z : numberOf o ≡ 0) (c : ℕ) (e : c ≡ pair s 7106) (t : Tally) (g : t ≡ spelledTally s) where
@@ -124,7 +122,7 @@ module _ (s : List ℕ) (h : Bytes s) (k : imageAlien s ≡ false) where
             rw (named, e ∙ sym count-is, g ∙ sym tally-is) r
 
         pub decide-step : {v : ℕ} {u : Tally} {a : List ℕ} → v ≡ codeOf (l .side) → u ≡ tallyMore t (sideIn v)
-            → a ≡ imageWritten s (l .border) v (c + 1) c (l .border) u → SeriesStepped s (decide n d) a true
+            → a ≡ imageWritten s (l .border) v (c + 1) c (l .border) u → SeriesStepped s (decide n d) a 0
         decide-step {v} {u} {a} x k w =
             stepped decided
             (image-decide-after s h long (spelledBoard s) refl n d decided l v u a y x
@@ -140,8 +138,8 @@ module _ (s : List ℕ) (h : Bytes s) (k : imageAlien s ≡ false) where
     undo-number =
         ap numberOf (r ∙ ap undoRefusal (sym counted) ∙ undo-ends (spelledBoard s) (proper .known)) ∙ by-board undo
 
-    pub undo-not : (numberOf o ≡ 0 → ⊥) → SeriesStepped s undo s false
-    undo-not f = refused undo (λ z. f (undo-number ∙ z))
+    pub undo-not : (numberOf o ≡ 0 → ⊥) → SeriesStepped s undo s (numberOf o)
+    undo-not f = refused undo (numberOf o) undo-number f
 
     module _ (z : numberOf o ≡ 0) where
       undone : imageNumber s undo ≡ 0
@@ -174,7 +172,7 @@ module _ (s : List ℕ) (h : Bytes s) (k : imageAlien s ≡ false) where
               rw (g ∙ sym tally-is, ← border-is n undo-room) (f .3, rw entry (f .4))
 
           pub undo-step : {u : Tally} {a : List ℕ} → u ≡ tallyLess t (sideIn (getD s (5122 + n) 0))
-              → a ≡ imageWritten s n 0 (m - 1) (m - 1) 0 u → SeriesStepped s undo a true
+              → a ≡ imageWritten s n 0 (m - 1) (m - 1) 0 u → SeriesStepped s undo a 0
           undo-step {u} {a} k w =
               stepped undone
               (image-undo-after s h long (spelledBoard s) refl undone n u a entry
@@ -194,6 +192,15 @@ alien-number s k a = go (rightLength s) k a
         sym (ap (λ (r : Returned). numberOf (r .outcome)) (decide-alien (spelledBoard s) (decideLiteral n d) e))
     go true e undo = sym (ap (λ (r : Returned). numberOf (r .outcome)) (undo-alien (spelledBoard s) e))
     go false e c = refl
+
+pub alien-stays : (s : List ℕ) → Bytes s → imageAlien s ≡ true → (a : ImageCall) → s ≡ imageAfter s a
+alien-stays s h k a = go (ℕ-discrete (length s) 11082)
+  where
+    go : Dec (length s ≡ 11082) → s ≡ imageAfter s a
+    go (yes l) =
+        after-refused s h l (spelledBoard s) refl a
+        (λ z. let g : 5 ≡ 0 = sym (alien-number s k a) ∙ z in omega arith)
+    go (no l) = length-after s a l
 
 pub alien-none : (s codes : List ℕ) → imageAlien s ≡ true → (0 ≡ doneOf s codes) × (s ≡ imageDone s codes)
 unfolding doneOf imageDone
@@ -234,10 +241,10 @@ module _ {start codes : List ℕ} {i : ℕ} {s : List ℕ} (R : Running start co
   here : drop i codes ≡ getD codes i 0 ∷ drop (suc i) codes
   here = drop-cons codes i 0 l
 
-  pub running-next : {t : List ℕ} → Bytes t → SeriesStepped s call t true → Running start codes (i + 1) t
+  pub running-next : {t : List ℕ} → Bytes t → SeriesStepped s call t 0 → Running start codes (i + 1) t
   unfolding doneOf imageDone
   running-next {t} h S =
-      let e = sym (S .done) in
+      let e = eq-eqb (imageNumber s call) 0 (sym (S .number)) in
       let o : i + 1 ≡ suc i = omega arith in
       let n : i + suc (doneOf t (drop (suc i) codes)) ≡ suc i + doneOf t (drop (suc i) codes) = omega arith in
       rw o
@@ -249,11 +256,11 @@ module _ {start codes : List ℕ} {i : ℕ} {s : List ℕ} (R : Running start co
         image = R .image ∙ rw (here, e, ← S .after);
       })
 
-  pub running-stop : {t : List ℕ} → SeriesStepped s call t false → (i ≡ doneOf start codes)
+  pub running-stop : {t : List ℕ} {r : ℕ} → SeriesStepped s call t r → (r ≡ 0 → ⊥) → (i ≡ doneOf start codes)
       × (t ≡ imageDone start codes)
   unfolding doneOf imageDone
-  running-stop S =
-      let e = sym (S .done) in
-      let n = eqb-false (imageNumber s call) 0 e in
+  running-stop S g =
+      let n : imageNumber s call ≡ 0 → ⊥ = λ z. g (S .number ∙ z) in
+      let e = ne-eqb (imageNumber s call) 0 n in
       let f = after-refused s (R .bytes) (long s (R .bytes) (R .known)) (spelledBoard s) refl call n in
       (sym (R .number ∙ rw (here, e) (omega arith)), S .after ∙ sym f ∙ sym (R .image ∙ rw (here, e)))

@@ -9,15 +9,13 @@ ghost use Rattle.calls.specs.Known.{KnownBoard, foundIn};
 ghost use Rattle.image.specs.Image.{imageAlien, decideLiteral, decide, undo, imageNumber, imageAfter};
 ghost use Rattle.image.specs.Image.{isShort, bytesAfter, checkNumber, checkBytes};
 use board::Board;
-use board::tallies;
 use calls::Answer;
 use rules::Literal;
 use rules::Side;
-use rules::index;
 
 pub mod reading; // reading.rt: the board that an image spells
 mod writing; // writing.rt: the bytes that a call changes, and a reason's literals in lent bytes
-pub mod series; // series.rt: a list of calls on an image that is tested once
+pub mod series; // series.rt: calls on an image that is not alien, and a list of them
 pub mod making; // making.rt: a fresh image made in lent bytes
 
 // Where the parts of an image start, and its length.
@@ -78,23 +76,10 @@ pub extern "C" fn dbchoco_decide(image: &mut [u8], border: u32, side: u32) -> u3
     ensures number { λ r. ⌜ r ≡ imageNumber (now (image .entry)) (decide border side) ⌝ }
     ensures bytes { λ _. ⌜ now (image .exit) ≡ imageAfter (now (image .entry)) (decide border side) ⌝ }
 {
-    if image.len() != LENGTH {
+    if alien(image) {
         return ALIEN;
     }
-    let b = reading::board(image);
-    let l = literal(border, side);
-    let m = b.decide(l);
-    let outcome = m.outcome;
-    let number = board::number(outcome);
-    if number == 0 {
-        let n = l.border;
-        let s = l.side;
-        let v = board::code(s);
-        let at = b.count;
-        let t = b.tally;
-        writing::rewrite(image, n, v, at + 1, at, n, tallies::more(t, v));
-    }
-    number
+    series::decided(image, border, side)
 }
 
 // Takes the last decision of the image back. The refusal's number, or 0.
@@ -103,21 +88,10 @@ pub extern "C" fn dbchoco_undo(image: &mut [u8]) -> u32
     ensures number { λ r. ⌜ r ≡ imageNumber (now (image .entry)) undo ⌝ }
     ensures bytes { λ _. ⌜ now (image .exit) ≡ imageAfter (now (image .entry)) undo ⌝ }
 {
-    if image.len() != LENGTH {
+    if alien(image) {
         return ALIEN;
     }
-    let b = reading::board(image);
-    let m = b.undo();
-    let outcome = m.outcome;
-    let number = board::number(outcome);
-    if number == 0 {
-        let at = b.count - 1;
-        let n = index(b.stack[at]);
-        let t = b.tally;
-        let counted = tallies::less(t, b.borders[n]);
-        writing::rewrite(image, n, 0, at, at, 0, counted);
-    }
-    number
+    series::undone(image)
 }
 
 // The number of a check's answer of a board that is not alien; a reason's literals are written to the codes, and from

@@ -1,5 +1,5 @@
-// A list of decides and undos on an image that is tested once: a call on an image that is not alien leaves one that is
-// not alien, so that the next call needs no test.
+// A decide and an undo on an image that is not alien, and a list of them on an image that is tested once: such a call
+// leaves an image that is not alien, so that the next one needs no test.
 ghost use mathlib.Core.Path.{_≡_};
 ghost use mathlib.Core.Bool.{false};
 ghost use lib.ListN.{length, getD};
@@ -29,8 +29,8 @@ fn border_count(image: &[u8]) -> usize
     board::border_count(index_byte(image[0]), index_byte(image[1]))
 }
 
-// Decides a border of an image that is not alien. Whether that is done.
-fn decided(image: &mut [u8], border: u32, side: u32) -> bool
+// Decides a border of an image that is not alien. The refusal's number, or 0.
+pub fn decided(image: &mut [u8], border: u32, side: u32) -> u32
     requires { ⌜ (length (now image) ≡ 11082) × (imageAlien (now image) ≡ false) ⌝ }
     ensures { λ r. ⌜ SeriesStepped (now (image .entry)) (decide border side) (now (image .exit)) r ⌝ }
 {
@@ -38,36 +38,38 @@ fn decided(image: &mut [u8], border: u32, side: u32) -> bool
     let n = l.border;
     let s = l.side;
     let outcome = board::refusals::decide_refusal(border_count(image), &image[BORDERS..COUNT], n);
-    if board::number(outcome) != 0 {
-        return false;
+    let number = board::number(outcome);
+    if number != 0 {
+        return number;
     }
     let at = index(two(image, COUNT));
     let v = board::code(s);
     let t = tally(image);
     rewrite(image, n, v, at + 1, at, n, tallies::more(t, v));
-    true
+    0
 }
 
-// Takes the last decision of an image that is not alien back. Whether that is done.
-fn undone(image: &mut [u8]) -> bool
+// Takes the last decision of an image that is not alien back. The refusal's number, or 0.
+pub fn undone(image: &mut [u8]) -> u32
     requires { ⌜ (length (now image) ≡ 11082) × (imageAlien (now image) ≡ false) ⌝ }
     ensures { λ r. ⌜ SeriesStepped (now (image .entry)) undo (now (image .exit)) r ⌝ }
 {
     let count = index(two(image, COUNT));
     let outcome = board::refusals::undo_refusal(count);
-    if board::number(outcome) != 0 {
-        return false;
+    let number = board::number(outcome);
+    if number != 0 {
+        return number;
     }
     let at = count - 1;
     let n = index(two(image, STACK + 2 * at));
     let t = tally(image);
     let counted = tallies::less(t, image[BORDERS + n]);
     rewrite(image, n, 0, at, at, 0, counted);
-    true
+    0
 }
 
-// Makes the call of a code on an image that is not alien. Whether that is done.
-fn step(image: &mut [u8], code: u16) -> bool
+// Makes the call of a code on an image that is not alien. The refusal's number, or 0.
+fn step(image: &mut [u8], code: u16) -> u32
     requires { ⌜ (length (now image) ≡ 11082) × (imageAlien (now image) ≡ false) ⌝ }
     ensures { λ r. ⌜ SeriesStepped (now (image .entry)) (codeCall code) (now (image .exit)) r ⌝ }
 {
@@ -89,7 +91,7 @@ pub extern "C" fn dbchoco_calls(image: &mut [u8], codes: &[u16]) -> usize
     }
     let mut i: usize = 0;
     while i < codes.len() {
-        if step(image, codes[i]) {
+        if step(image, codes[i]) == 0 {
             i += 1;
         } else {
             return i;

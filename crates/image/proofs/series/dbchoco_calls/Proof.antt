@@ -64,7 +64,7 @@ loop-again c =
     let k = c .before .before .before .before in
     running-next (k .before .before .before .loop .inv) (k .before .before .loop-test .taken)
     (λ i. omega (arith, c .before .slice-known2 .given i))
-    (rw (← c .if2 .taken) (c .before .before .before .step .ensures))
+    (rw (c .if2 .taken) at (c .before .before .before .step .ensures))
 
 same-length-2 : tie.Need-same-length-2 Inv-loop μ-loop
 same-length-2 c =
@@ -75,7 +75,7 @@ returns-2 : tie.Need-returns-2 Inv-loop μ-loop
 returns-2 c =
     let k = c .before .before .before .before in
     running-stop (k .before .before .before .loop .inv) (k .before .before .loop-test .taken)
-    (rw (← c .if2 .left) (c .before .before .before .step .ensures))
+    (c .before .before .before .step .ensures) (c .if2 .left)
 
 same-length-3 : tie.Need-same-length-3 Inv-loop μ-loop
 same-length-3 c = running-long (bytes (c .before .before)) (known (c .before .before)) (c .before .loop .inv)

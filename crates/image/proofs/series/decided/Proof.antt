@@ -71,9 +71,10 @@ returns c =
     let e = c .before .before in
     let k = e .before .before .before in
     let l = k .before .before .literal in
-    decide-not (image k) (bytes k) (known k) (border k) (side k) (l .result) (l .ensures)
+    rw (c .before .number .ensures)
+    (decide-not (image k) (bytes k) (known k) (border k) (side k) (l .result) (l .ensures)
     (k .border-count .result) (k .border-count .ensures) _ (e .decide-refusal .ensures)
-    (λ z. c .if1 .taken (c .before .number .ensures ∙ z))
+    (λ z. c .if1 .taken (c .before .number .ensures ∙ z)))
 
 two-requires : tie.Need-two-requires
 two-requires c κs = search needs

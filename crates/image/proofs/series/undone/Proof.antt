@@ -64,8 +64,9 @@ returns : tie.Need-returns
 returns c =
     let u = c .before .before in
     let k = u .before in
-    undo-not (image k) (bytes k) (known k) (k .index .result) (count k) _ (u .undo-refusal .ensures)
-    (λ z. c .if1 .taken (c .before .number .ensures ∙ z))
+    rw (c .before .number .ensures)
+    (undo-not (image k) (bytes k) (known k) (k .index .result) (count k) _ (u .undo-refusal .ensures)
+    (λ z. c .if1 .taken (c .before .number .ensures ∙ z)))
 
 sub-at : tie.Need-sub-at
 sub-at c =
