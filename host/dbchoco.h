@@ -27,7 +27,7 @@
  * A fresh image has height, width, colours and clues, the count of borders at 11,076, and 0 everywhere else.
  * dbchoco_fresh makes one; a host may also write the bytes itself. From then on the calls below keep it, the tally too,
  * which a host only reads. An image that no fresh image becomes by decides and undos is alien, and every call on it is
- * refused. Alien is also an image whose tally is not that of its borders, and one of 11,076 bytes, from before the
+ * refused. So an image whose tally is not that of its borders is alien, and one of 11,076 bytes, from before the
  * tally; with its three counts appended the latter is taken.
  *
  * REASON MEMORY is at least 32,768 bytes, which is enough for every reason. A literal takes 2 bytes, low byte first:

@@ -114,7 +114,8 @@ codeCount bs m v = countBelow m (λ i. eqb (getD bs i 0) v)
 abbrev pub tallyIn : List ℕ → ℕ → Tally
 tallyIn bs m = tallyOf (codeCount bs m 0) (codeCount bs m 1) (codeCount bs m 2)
 
--- "The board shall store undecided, walls and opens"
+-- "The board shall store undecided, walls and opens"; "An image whose tally disagrees with its borders is alien", and
+-- so is a board
 unfoldable pub decidedIn : ℕ → List ℕ → List ℕ → ℕ → Tally → Bool
 decidedIn m bs s k t = decisionsIn m bs s k && sameTally t (tallyIn bs m)
 

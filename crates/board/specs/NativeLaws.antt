@@ -4,8 +4,7 @@
 --   Decisions m bs s k  what right decisions have: k entries of the stack s beside m borders
 --   zeros-at, zeros-of, zero-clues-at, zero-clues-of   places that are 0
 --   has-decisions       right decisions have that
---   free-count          the undecided borders are those that are not on the stack
---   walls-few, walls-tell   so the walls tell the tally
+--   walls-few, walls-tell   the walls tell the tally
 --   native-has, native-of   a board is not alien exactly if it has what Native says
 --   cells-fit, borders-fit, tally-fits   its counts are at most those of the largest page
 --   tally-bare          with an empty stack every border is undecided
@@ -136,7 +135,7 @@ module _ (m : ℕ) (bs s : List ℕ) (k : ℕ) (D : Decisions m bs s k) where
       omega arith
 
   -- the undecided borders are those that are not on the stack
-  pub free-count : codeCount bs m 0 ≡ m - k
+  free-count : codeCount bs m 0 ≡ m - k
   unfolding codeCount
   free-count =
       let a = count-cong m (λ x. eqb (getD bs x 0) 0) (λ x. not (stacked s k x)) (D .held) in

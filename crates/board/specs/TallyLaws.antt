@@ -2,10 +2,9 @@
 -- undo make of them; the tally of the book's sequence.
 --
 --   same-is, is-same       two tallies are the same exactly if they are equal
---   codes-set              how many borders have a code, where one of them is stored anew
 --   tally-set              the tally of borders of which an undecided one is decided
 --   less-more              taking a border back undoes deciding it
---   tally-left              deciding a border leaves one undecided border less, on either side
+--   tally-left             deciding a border leaves one undecided border less, on either side
 --   codes-three            each border is undecided, wall or open
 --   codes-some             a code that a border has is counted
 --   tally-fresh            the tally of borders that are all undecided
@@ -57,7 +56,7 @@ is-same t u e =
     )
 
 -- ---- the counts of borders
-pub codes-set : (bs : List ℕ) (n v c : ℕ) → n < length bs → (m : ℕ) → n < m
+codes-set : (bs : List ℕ) (n v c : ℕ) → n < length bs → (m : ℕ) → n < m
     → codeCount (set bs n v) m c + bit (eqb (getD bs n 0) c) ≡ codeCount bs m c + bit (eqb v c)
 unfolding codeCount countBelow
 codes-set bs n v c h zero k = absurd (omega arith)

@@ -220,8 +220,8 @@ pub fn is_alien<'a>(
     }
 }
 
-// Decide on a board whose arrays are lent: borders and stack become those of the board after it; a decide that is done
-// makes the count one more, and the caller the tally. No board is copied.
+// Decide on a board whose arrays are lent: borders and stack become those of the board after it. Where the decide is
+// done, count and tally of that board are one count more and `tallies::more`. No board is copied.
 pub fn decide_lent<'a>(
     h: usize,
     w: usize,

@@ -73,7 +73,8 @@ fn wall(v: u8) -> u16
     if v == 1 { 1 } else { 0 }
 }
 
-// How many of the first n borders are walls. They are counted in 16 bits, so that the loop takes many at a time.
+// How many of the first n borders are walls. They are counted in 16 bits, so that the compiler takes eight borders at a
+// time.
 fn walls(borders: &[u8; Board::BORDER_LIMIT], n: usize) -> usize
     requires { ⌜ n ≤ 1984 ⌝ }
     ensures { λ r. ⌜ r ≡ codeCount (now (borders .entry)) n 1 ⌝ }

@@ -80,7 +80,7 @@ module _ (b : Board) (c : Call) (t : Tally) (m : List ℕ) where
           ∙ sym (same-is t (b .tally) e)
       go false e = ap (λ (k : Counted). k .tally) (counted-other b c t m e .0)
 
-  -- "the host lends the tally record and each call updates that one", to what "equals the borders counted"
+  -- "the host lends the tally record and each call updates that one": it is then the borders counted
   pub record-true : isAlien b ≡ false → Typed b → sameTally t (b .tally) ≡ true
       → let r = countedOf b c t m in
       r .tally ≡ tallyIn (r .stepped .board .borders) (borderCountOf (r .stepped .board))

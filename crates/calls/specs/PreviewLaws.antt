@@ -3,12 +3,14 @@
 --   preview-stopped     the decide is refused, and so is the preview
 --   preview-goes        the decide is done, and the preview is the check of d
 --   preview-known, preview-left   d is not alien then, and b has an undecided border
+--   check-stored, preview-stored   the number after a pass is the stored one
 --   preview-checks, preview-stops   a preview, by the answers of a decide and of a check after it
 --   preview-keeps       the board given is returned
 --   preview-order       the refusals of a preview in their order, and the check of the copy after them
 use mathlib.Core.Path.{_≡_, refl, ap, sym, _∙_}
 use mathlib.Core.Bool.{Bool, true, false, cond}
 use mathlib.Core.List.{List}
+use mathlib.Core.Option.{Option, some, none}
 use Prim.Native.Nat.{ℕ, _<_}
 use native.Mathlib.Omega.{arith}
 use borrow.Author.Tests.{eq-eqb, ne-eqb, eqb-true, ltb-true}
@@ -17,7 +19,7 @@ use lib.ListN.{length, getD}
 use Rattle.rules.specs.declared.Literal.{Literal}
 use Rattle.rules.specs.declared.Call.the-variants.{Decide, Check, Preview}
 use Rattle.rules.specs.Codes.{codeOf}
-use Rattle.rules.specs.Check.{check}
+use Rattle.rules.specs.Check.{Reason, check, hit, verdictOf, undecidedCount}
 use Rattle.board.specs.declared.Board.{Board}
 use Rattle.board.specs.declared.Outcome.{Outcome}
 use Rattle.board.specs.declared.Outcome.the-variants.{Done as Fine, Alien, Border, Taken, Short}
@@ -27,7 +29,8 @@ use Rattle.board.specs.View.{puzzleOf, statesOf}
 use Rattle.board.specs.Cases.{decide-done}
 use Rattle.board.specs.NativeLaws.{native-has, free-left}
 use Rattle.board.specs.DecideLaws.{done-returned, decided-is, decide-keeps}
-use Rattle.calls.specs.declared.Answer.the-variants.{Done, Refused}
+use Rattle.board.specs.ViewLaws.{pass-stored}
+use Rattle.calls.specs.declared.Answer.the-variants.{Done, Pass, Refused}
 use Rattle.calls.specs.Answers.{asAnswer, foundAnswer, checkAnswer, checkMemory, previewAnswer}
 use Rattle.calls.specs.Answers.{previewMemory, ended, callOf, callMemory}
 
@@ -50,6 +53,33 @@ module _ (b : Board) (l : Literal) {o : Outcome} {d : Board} (e : returned o d �
   preview-left z =
       let f = decided-is (sym e ∙ done-returned (returned o d) z) in
       free-left b (native-has b (f .known)) (l .border) (f .below) (f .free)
+
+-- ---- the number after a pass
+-- "The number after pass is the stored one"
+pub check-stored : (b : Board) (n k : ℕ) → checkAnswer b n ≡ Pass k → k ≡ b .tally .undecided
+unfolding checkAnswer check
+check-stored b n k e = go (isAlien b) (ltb n 16384) (hit (puzzleOf b) (statesOf b)) refl e
+  where
+    free : ℕ
+    free = undecidedCount (puzzleOf b) (statesOf b)
+
+    go : (a s : Bool) (o : Option Reason) → isAlien b ≡ a
+        → cond a (Refused Alien) (cond s (Refused Short) (asAnswer (verdictOf free o))) ≡ Pass k
+        → k ≡ b .tally .undecided
+    go true s o t f = let z : _≡_ {A = ℕ} 0 1 = cc in absurd (omega arith)
+    go false true o t f = let z : _≡_ {A = ℕ} 0 1 = cc in absurd (omega arith)
+    go false false none t f = let q : k ≡ free = cc in q ∙ pass-stored b (native-has b t)
+    go false false (some r) t f = let z : _≡_ {A = ℕ} 0 1 = cc in absurd (omega arith)
+
+pub preview-stored : (b : Board) (l : Literal) (n k : ℕ) → previewAnswer b l n ≡ Pass k
+    → k ≡ decideOf b l .board .tally .undecided
+unfolding previewAnswer
+preview-stored b l n k e = go (isDone (decideOf b l .outcome)) e
+  where
+    go : (x : Bool) → cond x (checkAnswer (decideOf b l .board) n) (Refused (decideOf b l .outcome)) ≡ Pass k
+        → k ≡ decideOf b l .board .tally .undecided
+    go true f = check-stored (decideOf b l .board) n k f
+    go false f = let z : _≡_ {A = ℕ} 0 1 = cc in absurd (omega arith)
 
 -- ---- what a preview is, by the calls that it stands for
 ended-done : (o : Outcome) → ended o ≡ Done → isDone o ≡ true

@@ -8,7 +8,8 @@ use board::Board;
 use rules::Call;
 use rules::Tally;
 
-// One call on a board, with the record afterwards in the lent one.
+// One call on a board, with the record afterwards in the lent one. "Only decide, undo, check and preview on a board
+// take it" (02): these are the cases of `Call`.
 pub fn counted_call(tally: &mut Tally, board: Board, call: Call, memory: &mut [u16]) -> Stepped
     ensures { λ r.
         ⌜ (countedBy r (now (tally .exit)) ≡ countedOf board call (now (tally .entry)) (now (memory .entry)))

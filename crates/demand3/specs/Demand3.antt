@@ -8,8 +8,9 @@
 --   PassedAt start calls σ      σ stood at a check or a preview of the list that was answered with a pass
 --   Demand3 start Z calls       the claim
 --
--- All of it speaks of what freshOf, callOf and callMemory give, which the contracts of the code cite, on the boards
--- that the calls return. The book (crate rules, Book) takes the puzzle and the calls, and no board.
+-- All of it speaks of what freshOf, callOf and callMemory give, and countedOf and countedMemory where a tally record is
+-- lent, which the contracts of the code cite, on the boards that the calls return. The book (crate rules, Book) takes
+-- the puzzle and the calls, and no board.
 use mathlib.Core.Path.{_≡_}
 use mathlib.Core.Bool.{false}
 use mathlib.Core.Logic.{_↔_}

@@ -48,7 +48,7 @@ pub record Given : Type 0 where
   pub memory : List ℕ
   pub tally : Option Tally
 
--- "Only decide, undo, check and preview on a board take it": the plain call where none is lent
+-- without a record the call is the plain one
 abbrev pub steppedOn : Board → Call → List ℕ → Option Tally → Stepped
 steppedOn b c m none = callOf b c m
 steppedOn b c m (some t) = countedOf b c t m .stepped

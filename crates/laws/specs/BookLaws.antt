@@ -13,8 +13,8 @@
 --   undecided-left      so the undecided borders are those that the sequence leaves
 --   after-clean, book-clean           the book's sequence is so
 --   from-append, book-append, replies-append   the book and the answers of a list that is followed by another
---   plain-done, plain-answered   a call that is done or answered, with a record or none, is so without one
---   alien-after, agreed-after    a record that disagrees leaves the book; with another it goes on as with none
+--   plain-answered      a call that is answered, with a record or none, is so without one
+--   alien-after, agreed-after   a record that disagrees leaves the book; with another it goes on as with none
 --   undo-takes          an undo takes the last literal off
 --   check-leaves, preview-leaves       a check and a preview leave the book as it is
 --   preview-follows, preview-refused   a preview is answered as the check after the decide, or refused as the decide
@@ -237,7 +237,7 @@ module _ (Z : Puzzle) (k : Book) (a : Asked) where
   abbrev plain : Reply
   plain = replyTo Z (k .sequence) (a .places) (a .call)
 
-  pub plain-done : reply Z k a ≡ done → plain ≡ done
+  plain-done : reply Z k a ≡ done → plain ≡ done
   plain-done e = go (disagrees Z (k .sequence) (a .tally)) e
     where
       go : (t : Bool) → orAlien t plain ≡ done → plain ≡ done

@@ -15,7 +15,8 @@ use Rattle.calls.specs.Answers.{answerNumber}
 use Rattle.calls.specs.NumberLaws.{InRange, call-range}
 use Rattle.calls.specs.Counted.{countedOf, countedMemory}
 use Rattle.calls.specs.CountedLaws.{counted-same, counted-other}
-use Rattle.probe.specs.ProbeRecords.{wordsOf, tallyFrom, recordNumber, recordWords, recordMemory}
+use Rattle.image.specs.Image.{tallyCounts}
+use Rattle.probe.specs.ProbeRecords.{tallyFrom, recordNumber, recordWords, recordMemory}
 
 pub counted-range : (b : Board) (c : Call) (t : Tally) (m : List ℕ) → InRange (countedOf b c t m .stepped .answer)
 counted-range b c t m = go (sameTally t (b .tally)) refl
@@ -32,7 +33,7 @@ module _ (b : Board) (c : Call) (ws m : List ℕ) where
 
   pub record-three : length ws ≡ 3
       → (answerNumber (countedOf b c (tallyFrom ws) m .stepped .answer) ≡ recordNumber b c ws m)
-      × (sets ws 0 (wordsOf (countedOf b c (tallyFrom ws) m .tally)) ≡ recordWords b c ws m)
+      × (sets ws 0 (tallyCounts (countedOf b c (tallyFrom ws) m .tally)) ≡ recordWords b c ws m)
       × (countedMemory b c (tallyFrom ws) m ≡ recordMemory b c ws m)
   unfolding recordNumber recordWords recordMemory
   record-three h = let e = eq-eqb (length ws) 3 h in (rw e, rw e, rw e)

@@ -4,8 +4,9 @@ ghost use mathlib.Core.Path.{_≡_};
 ghost use lib.ListN.{length};
 ghost use lib.Seq.{sets};
 ghost use Rattle.calls.specs.Answers.{literalOf};
+ghost use Rattle.image.specs.Image.{tallyCounts};
 ghost use Rattle.probe.specs.Probe.{boardFrom};
-ghost use Rattle.probe.specs.ProbeRecords.{callWith, wordsOf, recordNumber, recordWords, recordMemory};
+ghost use Rattle.probe.specs.ProbeRecords.{callWith, recordNumber, recordWords, recordMemory};
 use crate::board_from;
 use crate::checks::literal;
 use crate::checks::number;
@@ -35,7 +36,7 @@ fn call_with(which: usize, code: usize) -> Call
 // Stores the three counts.
 fn put_tally(words: &mut [usize], t: Tally)
     requires { ⌜ length (now words) ≡ 3 ⌝ }
-    ensures { λ _. ⌜ now (words .exit) ≡ sets (now (words .entry)) 0 (wordsOf t) ⌝ }
+    ensures { λ _. ⌜ now (words .exit) ≡ sets (now (words .entry)) 0 (tallyCounts t) ⌝ }
 {
     words[0] = t.undecided;
     words[1] = t.walls;

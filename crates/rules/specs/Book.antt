@@ -126,7 +126,7 @@ tallyOf u w o = record { undecided = u; walls = w; opens = o }
 abbrev pub sameTally : Tally → Tally → Bool
 sameTally t u = eqb (t .undecided) (u .undecided) && eqb (t .walls) (u .walls) && eqb (t .opens) (u .opens)
 
--- 5 comes before every other number
+-- "The lowest applicable number is given": 5 comes before 6 to 9
 abbrev pub orAlien : Bool → Reply → Reply
 orAlien true r = refused 5
 orAlien false r = r
@@ -176,7 +176,7 @@ module _ (Z : Puzzle) where
   unfoldable pub after : Book → Asked → Book
   after k a = afterBy (reply k a) k (doneBook k (a .call))
 
-  -- "Decide and undo keep all three true"
+  -- "the host lends the tally record and each call updates that one"
   abbrev pub tallyAfter : Book → Asked → Option Tally
   tallyAfter k a = lentAfter (reply k a) (a .tally) (tallyAt (after k a .sequence))
 

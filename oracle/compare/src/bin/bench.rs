@@ -182,7 +182,7 @@ fn image_fresh(board: &Board) -> [Side; 2] {
     [plain(our_work), plain(their_work)]
 }
 
-/// Our call on a board's image, which is put back after it: at most five places of two bytes, two of
+/// Our call on a board's image, which is put back after it: a border and at most four numbers of two bytes, two of
 /// them of the tally.
 fn on_image(board: &Board, call: ImageCall) -> Side {
     let mut memory = vec![0; MEMORY];

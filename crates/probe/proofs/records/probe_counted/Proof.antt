@@ -7,7 +7,8 @@ use Rattle.calls.specs.declared.Counted.{Counted}
 use Rattle.calls.specs.Answers.{answerNumber}
 use Rattle.calls.specs.Counted.{countedOf, countedMemory}
 use borrow.Author.Needs.{needs}
-use Rattle.probe.specs.ProbeRecords.{wordsOf, tallyFrom}
+use Rattle.image.specs.Image.{tallyCounts}
+use Rattle.probe.specs.ProbeRecords.{tallyFrom}
 use Rattle.probe.specs.ProbeRecordsLaws.{counted-range, record-other, record-three}
 use Rattle.probe.proofs.records.probe_counted.Statement.{statement}
 use Rattle.probe.proofs.records.probe_counted.Tie as tie
@@ -64,7 +65,7 @@ returns-2 c =
     let d = e .0 ∙ ap₂ (λ (x : Board) (y : Call). countedOf x y (tallyFrom ws) m) (b .board-from .ensures)
     (k .call-with .ensures) in (
       c .number .ensures ∙ ap (λ (x : Counted). answerNumber (x .stepped .answer)) d ∙ g .0,
-      p .put-tally .ensures ∙ ap (λ (x : Counted). sets ws 0 (wordsOf (x .tally))) d ∙ g .1,
+      p .put-tally .ensures ∙ ap (λ (x : Counted). sets ws 0 (tallyCounts (x .tally))) d ∙ g .1,
       e .1
           ∙ ap₂ (λ (x : Board) (y : Call). countedMemory x y (tallyFrom ws) m) (b .board-from .ensures)
           (k .call-with .ensures)
