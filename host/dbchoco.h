@@ -30,8 +30,8 @@
  * refused. So an image whose tally is not that of its borders is alien, and one of 11,076 bytes, from before the
  * tally; with its three counts appended the latter is taken.
  *
- * REASON MEMORY is at least 32,768 bytes, which is enough for every reason. A literal takes 2 bytes, low byte first:
- * twice the border's number, plus 1 for wall.
+ * REASON MEMORY is at least 3,968 bytes, which is enough for every reason: no border is named twice. A literal takes 2
+ * bytes, low byte first: twice the border's number, plus 1 for wall.
  *
  * EVERY CALL but dbchoco_calls returns one number. If it is from 1 to 9 the call was refused, and image and memory are
  * as they were: making an image is refused with 1 to 5, a call on an image with 5 to 9. Where several refusals apply
@@ -54,7 +54,7 @@ extern "C" {
 
 /* Lengths in bytes: of an image; the least of reason memory. */
 #define DBCHOCO_IMAGE_LENGTH 11082
-#define DBCHOCO_MEMORY_LENGTH 32768
+#define DBCHOCO_MEMORY_LENGTH 3968
 
 /* Where the parts of an image start. */
 #define DBCHOCO_HEIGHT_AT 0
@@ -80,7 +80,7 @@ extern "C" {
 #define DBCHOCO_BORDER 6u /* the border's number is not below the count of borders */
 #define DBCHOCO_TAKEN 7u  /* the border is decided already */
 #define DBCHOCO_BARE 8u   /* undo with nothing decided */
-#define DBCHOCO_SHORT 9u  /* reason memory below 32,768 bytes */
+#define DBCHOCO_SHORT 9u  /* reason memory below 3,968 bytes */
 
 /* A check that passes: this plus the count of undecided borders. */
 #define DBCHOCO_PASS 32u
@@ -117,8 +117,8 @@ uint32_t dbchoco_undo(uint8_t *image, size_t image_len);
  * Checks the image, which is only read.
  * Returns 5 or 9; or 32 plus the count of undecided borders for a pass, which writes nothing; or 65,536 plus the count
  * of literals for a conflict, which writes the literals from the start of the memory and nothing beyond them.
- * The literals of a conflict all hold on the board, and no solution has them all; an image without undecided borders
- * passes exactly if it is a solution. A literal may be written more than once.
+ * The literals of a conflict all hold on the board, no two name one border, and no solution has them all; an image
+ * without undecided borders passes exactly if it is a solution.
  */
 uint32_t dbchoco_check(const uint8_t *image, size_t image_len, uint8_t *memory, size_t memory_len);
 

@@ -27,8 +27,8 @@ impl<'a> Answer<'a> {
     }
 }
 
-/// The literals of a conflict, in the order of document 01, which is that of the published Rust; a literal may stand in
-/// it more than once. The empty reason means that the page has no solution at all.
+/// The literals of a conflict, in the order of document 01, which is that of the published Rust; no border is named
+/// twice. The empty reason means that the page has no solution at all.
 ///
 /// ```
 /// use dbchoco::{Board, Literal, Side};

@@ -102,7 +102,7 @@ impl Constraint {
         panic!("border {index}: {refusal}");
     }
 
-    /// The reason of a conflict, in the published order and with its repeats, or none for a pass.
+    /// The reason of a conflict, in the published order and each literal once, or none for a pass.
     pub fn find_inconsistency(&mut self) -> Option<Vec<(usize, bool)>> {
         self.settle();
         let reason = self.board.check().reason()?;

@@ -23,8 +23,8 @@ const OPENS_AT: usize = WALLS_AT + 2;
 /// The length of a board image in bytes: 11,082.
 pub const IMAGE_LENGTH: usize = OPENS_AT + 2;
 
-/// The least length of reason memory in bytes.
-const MEMORY_LENGTH: usize = 32_768;
+/// The least length of reason memory in bytes: 3,968. A reason names no border twice.
+const MEMORY_LENGTH: usize = 2 * BORDER_LIMIT;
 
 pub type Image = [u8; IMAGE_LENGTH];
 pub type Memory = [u8; MEMORY_LENGTH];

@@ -34,7 +34,7 @@ pub enum Refusal {
     Taken = 7,
     /// There is no decision to undo.
     Bare = 8,
-    /// The reason memory is below 32,768 bytes. A [`Board`](crate::Board) has its own and never gives this.
+    /// The reason memory is below 3,968 bytes. A [`Board`](crate::Board) has its own and never gives this.
     Short = 9,
 }
 
@@ -93,7 +93,7 @@ impl fmt::Display for Refusal {
             Refusal::Border => "the page has no border of this number",
             Refusal::Taken => "the border is decided already; undo it first",
             Refusal::Bare => "there is no decision to undo",
-            Refusal::Short => "the reason memory must be at least 32,768 bytes",
+            Refusal::Short => "the reason memory must be at least 3,968 bytes",
         })
     }
 }

@@ -162,6 +162,27 @@ fn numbers_and_words_of_refusals() {
     assert_eq!(Refusal::from_number(10), None);
 }
 
+/// 01's list is 2w 0o 2w: the wall blocks the only placement, and stands at the edge of the unit beside.
+#[test]
+fn a_repeat_is_struck() {
+    assert_eq!(answer(&mut board(&["0011"], "0o 2w")), "conflict 2w 0o");
+}
+
+/// The largest page with every border open and a clue that is too small.
+#[test]
+fn a_reason_that_names_every_border() {
+    let mut clues = [-1; 1024];
+    clues[0] = 1;
+    let mut board = Board::fresh(32, 32, &[0; 1024], &clues).unwrap();
+    let open = |border| Call::Decide(literal(border, 0));
+    let calls: Vec<Call> = (0..board.borders()).map(open).collect();
+    board.apply(&calls).unwrap();
+    let mut reason = board.check().reason().unwrap().to_vec();
+    reason.sort();
+    let every: Vec<Literal> = (0..1984).map(|border| literal(border, 0)).collect();
+    assert_eq!(reason, every);
+}
+
 #[test]
 fn a_reason_from_both_ends() {
     let mut board = board(&["0011"], "0w 1o 2o");

@@ -82,6 +82,7 @@ int main(void)
 
     memset(own + DBCHOCO_CLUES_AT + 4, 0xff, 4);
     EXPECT(check() == DBCHOCO_PASS + 1);
+    EXPECT(dbchoco_check(own, sizeof own, memory, sizeof memory - 1) == DBCHOCO_SHORT);
     EXPECT(dbchoco_decide(own, sizeof own, 0, DBCHOCO_WALL) == DBCHOCO_DONE && tally(0, 1, 0));
     EXPECT(check() == DBCHOCO_CONFLICT + 1);
     EXPECT(memory[0] == 1 && memory[1] == 0);

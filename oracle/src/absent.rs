@@ -76,6 +76,10 @@ impl Published {
         panic!("{ABSENT}")
     }
 
+    pub fn find_inconsistency(&mut self) -> Option<Vec<Literal>> {
+        panic!("{ABSENT}")
+    }
+
     pub fn check(&mut self) -> Option<Vec<Literal>> {
         panic!("{ABSENT}")
     }

@@ -10,9 +10,7 @@ pub type Check<'a> = dyn FnMut(&Puzzle, &[Literal]) -> Option<Vec<Literal>> + 'a
 /// The largest height and width.
 pub const SIDE: usize = 32;
 /// The least reason memory of a check, in literals.
-pub const PLACES: usize = 16_384;
-/// A reason has at most this many literals.
-pub const LONGEST: usize = 16_120;
+pub const PLACES: usize = 1_984;
 
 pub const SIZE: u32 = 1;
 pub const RAGGED: u32 = 2;

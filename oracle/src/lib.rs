@@ -47,6 +47,7 @@ pub mod published {
 pub mod published;
 
 pub mod bench;
+pub mod blocked;
 pub mod book;
 pub mod branch;
 pub mod cuts;
@@ -69,8 +70,8 @@ pub mod vectors02;
 /// Whether the published source was there when this was built.
 pub const SOURCE: bool = cfg!(source);
 
-/// The reason of the published check, or of the plain one where the source is not there; none for a
-/// pass.
+/// The reason of the published check, later repeats struck, or of the plain one where the source is
+/// not there; none for a pass.
 pub fn check(puzzle: &page::Puzzle, decided: &[page::Literal]) -> Option<Vec<page::Literal>> {
     if SOURCE {
         return published::check(puzzle, decided);

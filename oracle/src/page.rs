@@ -1,5 +1,7 @@
 //! Cells, borders and literals of a page, as document 01's section "Board" numbers them.
 
+use std::collections::BTreeSet;
+
 /// A border number with its side; `true` is wall, as in the published code.
 pub type Literal = (usize, bool);
 
@@ -9,6 +11,13 @@ pub type Place = (i32, i32);
 /// What a literal is in reason memory: twice the border, plus 1 for wall.
 pub fn code(literal: &Literal) -> usize {
     2 * literal.0 + usize::from(literal.1)
+}
+
+/// The list with the first of equal literals kept and later ones dropped.
+pub fn struck(mut list: Vec<Literal>) -> Vec<Literal> {
+    let mut kept = BTreeSet::new();
+    list.retain(|&literal| kept.insert(literal));
+    list
 }
 
 #[derive(Clone, Copy, Debug, PartialEq, Eq)]

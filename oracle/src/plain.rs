@@ -1,6 +1,6 @@
-//! Document 01's sections "Groups", "Reasons" and "Check", written plainly from the document.
-//! It names the branch that hit, which the published code does not; tests hold its answers
-//! against the published ones.
+//! Document 01's sections "Groups", "Reasons" and "Check", written plainly from the document, and
+//! document 02's "Each literal once". It names the branch that hit, which the published code does not;
+//! tests hold its answers against the published ones.
 
 pub use crate::branch::{Branch, BRANCHES};
 use crate::page::{Board, Groups, Kind, Literal, Puzzle, State};
@@ -10,9 +10,28 @@ use std::collections::{BTreeSet, VecDeque};
 #[derive(Clone, Debug, PartialEq, Eq)]
 pub struct Hit {
     pub branch: Branch,
-    pub reason: Vec<Literal>,
+    /// 01's list: a literal may stand in it more than once.
+    pub listed: Vec<Literal>,
     /// More about a hit of step 3.
     pub failed: Option<Failed>,
+}
+
+impl Hit {
+    /// The literals of the list in the order in which they first came, each once.
+    pub fn reason(&self) -> Vec<Literal> {
+        let mut reason = vec![];
+        for literal in &self.listed {
+            if !reason.contains(literal) {
+                reason.push(*literal);
+            }
+        }
+        reason
+    }
+
+    /// Whether a literal stands in the list more than once.
+    pub fn repeats(&self) -> bool {
+        self.reason().len() < self.listed.len()
+    }
 }
 
 /// The unit for which no placement fits.
@@ -57,7 +76,7 @@ pub fn reason(puzzle: &Puzzle, decided: &[Literal]) -> Option<Vec<Literal>> {
         puzzle: puzzle.clone(),
         decided: decided.to_vec(),
     };
-    check(&board).map(|hit| hit.reason)
+    check(&board).map(|hit| hit.reason())
 }
 
 /// Groups numbered by first cell; `joins` says of a border with its cells whether it joins them.
@@ -276,7 +295,7 @@ impl<'a> View<'a> {
         parts.push(others);
         Some(Hit {
             branch,
-            reason: parts.concat(),
+            listed: parts.concat(),
             failed: Some(failed),
         })
     }
@@ -377,7 +396,7 @@ impl<'a> View<'a> {
     fn hit(&self, branch: Branch, parts: &[Vec<Literal>]) -> Option<Hit> {
         Some(Hit {
             branch,
-            reason: parts.concat(),
+            listed: parts.concat(),
             failed: None,
         })
     }

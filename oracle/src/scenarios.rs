@@ -39,6 +39,7 @@ pub fn scenarios() -> Vec<Scenario> {
     all.extend(of_drafts());
     all.extend(of_previews());
     all.extend(of_records());
+    all.extend(longest_reason());
     all
 }
 
@@ -193,7 +194,7 @@ fn two_of(pool: &[Found], title: &str, wanted: impl Fn(&Found) -> bool) -> Vec<S
     let all: Vec<&Found> = pool.iter().filter(|found| wanted(found)).collect();
     let size = |found: &&&Found| found.0.puzzle.cells() * 3 + found.0.decided.len();
     let smallest = all.iter().min_by_key(size).expect(title);
-    let length = |found: &Found| found.1.as_ref().map_or(9, |hit| hit.reason.len());
+    let length = |found: &Found| found.1.as_ref().map_or(9, |hit| hit.reason().len());
     let large = |found: &&&Found| found.0.puzzle.cells() >= 12 && length(found) >= 4;
     let mut chosen = vec![replayed(title, &smallest.0)];
     if let Some(second) = all.iter().find(large) {
@@ -257,20 +258,14 @@ fn of_mistakes(pool: &[Found]) -> Vec<Scenario> {
             && hit(found).is_some_and(|hit| hit.branch == Branch::Blocked)
     };
     let dropped = |found: &Found| failed(found).is_some_and(|f| f.dropped > 0 && f.blocked > 0);
-    let repeats = |found: &Found| {
-        let mut once = hit(found).map_or(vec![], |hit| hit.reason);
-        let length = once.len();
-        once.sort();
-        once.dedup();
-        once.len() < length
-    };
+    let repeats = |found: &Found| hit(found).is_some_and(|hit| hit.repeats());
     let loose = |found: &Found| failed(found).is_some_and(|f| loose_inside(&found.0, f.unit));
     let clued = |found: &Found, c: i32| {
         hit(found).is_some_and(|hit| hit.branch == Branch::High(c)) && joined_block(&found.0)
     };
     let mut all = two_of(pool, "walls to units that are not adjacent", others);
     all.extend(two_of(pool, "a wall read before leaving", dropped));
-    all.extend(two_of(pool, "a literal twice", repeats));
+    all.extend(two_of(pool, "a literal struck", repeats));
     all.extend(two_of(pool, "an undecided border inside the unit", loose));
     for c in [0, 1] {
         let title = format!("clue above colour {c} in a block of several cells");
@@ -420,6 +415,15 @@ fn of_records() -> Vec<Scenario> {
         scenario("records on 1x2", page(1, 2, "01", &[]), small),
         scenario("records by chance on 2x3", six, by_chance),
     ]
+}
+
+/// The largest page with every border open and a clue that is too small: the reason names every border.
+fn longest_reason() -> Vec<Scenario> {
+    let mut board = bench::all_open(&Puzzle::without_clues(32, 32, vec![0; 1024]));
+    board.puzzle.clues[0] = 1;
+    let mut calls = decided(&board.decided);
+    calls.push(Call::Check(PLACES - 1));
+    vec![scenario("every border in the reason", board.puzzle, calls)]
 }
 
 /// Calls by chance beside a kept record. No check is needed to tell what it holds.

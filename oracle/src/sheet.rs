@@ -103,17 +103,17 @@ fn spelled(puzzle: &Puzzle) -> bool {
     refusal(puzzle).is_none() || bare && digits
 }
 
-/// Whether a page can spell the call: it is no preview, and names no other length of reason memory.
+/// Whether a page can spell the call: it is no preview, and no check with short reason memory.
 pub fn has(call: &Call) -> bool {
     match call {
-        Call::Check(places) => *places == PLACES,
+        Call::Check(places) => *places >= PLACES,
         Call::Preview(..) => false,
         _ => true,
     }
 }
 
 /// The vectors as pages: every list of calls without previews and records that a page can spell,
-/// without the checks that name another length of reason memory.
+/// without the checks with short reason memory.
 pub fn samples(check: &mut Check) -> Vec<Sample> {
     let mut all = vec![];
     for (number, scenario) in scenarios().into_iter().enumerate() {

@@ -13,8 +13,8 @@ pub const FOLDER: &str = concat!(env!("CARGO_MANIFEST_DIR"), "/../vectors");
 
 const HEAD: &str = "\
 # Calls and their answers. Written by `cargo run --release --bin vectors` in oracle/: the calls are
-# chosen there, the answers to checks are those of the published Rust, compiled unchanged, and the
-# refusals are document 01's book of the calls. Do not edit by hand.
+# chosen there, the answers to checks are those of the published Rust, compiled unchanged, with later
+# repeats struck, and the refusals are document 01's book of the calls. Do not edit by hand.
 # A line is a comment, or decimal numbers with one space between them. The first says what it is:
 #   1 h w n colours m clues   make a board of n colours and m clues (-1 is none)
 #   2 border side             decide: side 1 is wall, 0 is open

@@ -4,11 +4,9 @@
 //!
 //! A script has other calls too. Those leave the board, but for a player whose board the script goes
 //! on with: its trail is decided. Calls refused with 14 or 15, and with 5 for a mark, are left out;
-//! those on a damaged board stand by themselves. Until request No. 4 the vectors' reasons are ours with
-//! later repeats struck, and a check or preview here has memory for 16,384 literals where theirs has
-//! enough.
+//! those on a damaged board stand by themselves.
 
-use crate::book::{Answer, Asked, Call, ALIEN, PLACES};
+use crate::book::{Answer, Asked, Call, ALIEN};
 use crate::json::Json;
 use crate::page::{Literal, Puzzle, Tally};
 use std::path::PathBuf;
@@ -167,17 +165,12 @@ fn answer(answer: &Json) -> Answer {
 fn asked(call: &Json) -> Option<Asked> {
     let number = |key: &str| call.at(key).number() as usize;
     let literal = || (number("b"), number("s") == 1);
-    // A refused call keeps its memory, so that 5, 6 and 7 are seen to come before 9.
-    let places = || match answer(call.at("a")) {
-        Answer::Refused(_) => number("mem"),
-        _ => PLACES,
-    };
     let record = call.get("rec").map(tally);
     let call = match call.at("op").text() {
         "decide" => Call::Decide(literal()),
         "undo" => Call::Undo,
-        "check" => Call::Check(places()),
-        "preview" => Call::Preview(literal(), places()),
+        "check" => Call::Check(number("mem")),
+        "preview" => Call::Preview(literal(), number("mem")),
         _ => return None,
     };
     Some(Asked { call, record })
@@ -226,18 +219,4 @@ fn on_damage(call: &Json, places: &Json, after: usize) -> Option<Damaged> {
         places,
         asked,
     })
-}
-
-/// An answer whose reason keeps the first of equal literals.
-pub fn struck(answer: Answer) -> Answer {
-    let Answer::Conflict(reason) = answer else {
-        return answer;
-    };
-    let mut once: Vec<Literal> = vec![];
-    for literal in reason {
-        if !once.contains(&literal) {
-            once.push(literal);
-        }
-    }
-    Answer::Conflict(once)
 }

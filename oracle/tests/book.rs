@@ -50,7 +50,7 @@ fn told(board: &mut Published, borders: usize, call: Call) -> Answer {
             board.undo();
             Answer::Done
         }
-        Call::Check(places) | Call::Preview(_, places) if places < 16_384 => Answer::Refused(9),
+        Call::Check(places) | Call::Preview(_, places) if places < 1_984 => Answer::Refused(9),
         Call::Check(_) => match board.check() {
             None => Answer::Pass(borders - stack.len()),
             Some(reason) => Answer::Conflict(reason),

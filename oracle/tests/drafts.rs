@@ -2,10 +2,10 @@
 
 mod common;
 
-use common::{holds, published, skipped};
+use common::{found, holds, published, skipped};
 use oracle::drafts::{above_half, draft};
 use oracle::random::Random;
-use oracle::{plain, rules};
+use oracle::rules;
 
 #[test]
 fn plain_check_is_the_published_one() {
@@ -16,16 +16,15 @@ fn plain_check_is_the_published_one() {
     let (mut passes, mut reasons, mut empty) = (0, 0, 0);
     for turn in 0..2_640 {
         let board = draft(&mut random, turn);
-        let reason = published(&board).check();
-        let plain = plain::check(&board).map(|hit| hit.reason);
-        assert_eq!(plain, reason, "{board:?}");
+        let found = found(&mut published(&board), &board);
         let states = board.states();
-        match reason {
+        match found {
             _ if !above_half(&board.puzzle) => {}
             None => passes += 1,
-            Some(reason) if reason.is_empty() => empty += 1,
-            Some(reason) => {
-                assert!(reason.iter().all(|l| holds(&states, l)), "{board:?}");
+            Some(found) if found.reason.is_empty() => empty += 1,
+            Some(found) => {
+                let held = found.reason.iter().all(|l| holds(&states, l));
+                assert!(held, "{board:?}");
                 reasons += 1;
             }
         }

@@ -2,10 +2,10 @@
 
 mod common;
 
-use common::{contained, fresh, skipped};
+use common::{contained, found, fresh, skipped};
 use oracle::page::{Board, Literal, Puzzle};
 use oracle::published::Published;
-use oracle::{plain, rules};
+use oracle::rules;
 
 #[derive(Default)]
 struct Seen {
@@ -13,6 +13,7 @@ struct Seen {
     conflicts: usize,
     full_passes: usize,
     full_conflicts: usize,
+    repeats: usize,
 }
 
 struct Walk {
@@ -39,17 +40,16 @@ impl Walk {
     }
 
     fn judge(&mut self) {
-        let reason = self.published.check();
         let board = &self.board;
-        let plain = plain::check(board).map(|hit| hit.reason);
-        assert_eq!(plain, reason, "{board:?}");
-        if let Some(reason) = &reason {
+        let found = found(&mut self.published, board);
+        if let Some(found) = &found {
             let held = |literal: &Literal| board.decided.contains(literal);
-            assert!(reason.iter().all(held), "{board:?}");
-            let ruled_out = |walls: &Vec<bool>| contained(walls, reason);
+            assert!(found.reason.iter().all(held), "{board:?}");
+            let ruled_out = |walls: &Vec<bool>| contained(walls, &found.reason);
             assert!(!self.solutions.iter().any(ruled_out), "{board:?}");
+            self.seen.repeats += usize::from(found.repeats());
         }
-        let passed = reason.is_none();
+        let passed = found.is_none();
         if board.undecided() == 0 {
             let walls: Vec<bool> = board.decided.iter().map(|literal| literal.1).collect();
             assert_eq!(passed, self.solutions.contains(&walls), "{board:?}");
@@ -74,8 +74,9 @@ fn lists(from: &[i32], length: usize) -> Vec<Vec<i32>> {
     all
 }
 
-/// Walks over all colourings of a page with each of these lists of clues.
-fn walk(h: usize, w: usize, clues: &[Vec<i32>]) {
+/// Walks over all colourings of a page with each of these lists of clues. Gives how many published lists
+/// had repeats.
+fn walk(h: usize, w: usize, clues: &[Vec<i32>]) -> usize {
     let mut seen = Seen::default();
     for colours in lists(&[0, 1], h * w) {
         for clues in clues {
@@ -98,6 +99,11 @@ fn walk(h: usize, w: usize, clues: &[Vec<i32>]) {
     assert!(seen.conflicts > 0 && seen.full_conflicts > 0);
     assert_eq!(seen.passes > 0, h * w > 1);
     assert_eq!(seen.full_passes > 0, (h * w).is_multiple_of(2));
+    println!(
+        "{h}x{w}: {} conflicts, {} with repeats",
+        seen.conflicts, seen.repeats
+    );
+    seen.repeats
 }
 
 /// No clue, and each of these clues alone in each of these cells.
@@ -121,7 +127,8 @@ fn one_row() {
     for w in 1..=4 {
         walk(1, w, &lists(&[-1, 0, 1, 2, 3], w));
     }
-    walk(1, 5, &lists(&[-1, 1, 2], 5));
+    let repeats = walk(1, 5, &lists(&[-1, 1, 2], 5));
+    assert!(repeats > 500, "{repeats}");
 }
 
 #[test]
@@ -139,7 +146,8 @@ fn two_by_two() {
     if skipped() {
         return;
     }
-    walk(2, 2, &lists(&[-1, 0, 1, 2], 4));
+    let repeats = walk(2, 2, &lists(&[-1, 0, 1, 2], 4));
+    assert!(repeats > 100, "{repeats}");
 }
 
 #[test]
@@ -147,7 +155,8 @@ fn two_by_three() {
     if skipped() {
         return;
     }
-    walk(2, 3, &single(6, &[0, 4], &[1, 3]));
+    let repeats = walk(2, 3, &single(6, &[0, 4], &[1, 3]));
+    assert!(repeats > 5_000, "{repeats}");
 }
 
 #[test]
@@ -155,5 +164,6 @@ fn three_by_two() {
     if skipped() {
         return;
     }
-    walk(3, 2, &single(6, &[3], &[2]));
+    let repeats = walk(3, 2, &single(6, &[3], &[2]));
+    assert!(repeats > 2_000, "{repeats}");
 }

@@ -3,7 +3,7 @@
 use oracle::book::{Answer, Book, Call, PLACES};
 use oracle::page::{code, Board, Puzzle};
 use oracle::random::Random;
-use oracle::{generate, image, plain};
+use oracle::{bench, generate, image, plain};
 
 /// The number that 01 gives to an answer.
 fn number(answer: &Answer) -> u32 {
@@ -69,6 +69,27 @@ fn memory_after(answer: &Answer) -> Vec<u8> {
         }
     }
     memory
+}
+
+/// The largest page with every border open and a clue that is too small: its reason names every border.
+#[test]
+fn the_longest_reason_fills_the_least_memory() {
+    let mut board = bench::all_open(&Puzzle::without_clues(32, 32, vec![0; 1_024]));
+    board.puzzle.clues[0] = 1;
+    let image = image::write(&board);
+    let checked = |length: usize, byte: u8| {
+        let mut memory = vec![byte; length];
+        let number = image::check(&image, &mut memory, &mut plain::reason);
+        (number, memory)
+    };
+    for short in [0, 3_966, 3_967] {
+        assert_eq!(checked(short, 7), (9, vec![7; short]), "{short}");
+    }
+    let (number, memory) = checked(3_968, 0);
+    assert_eq!(number, 65_536 + 1_984);
+    assert!(checked(3_968, 255) == (number, memory.clone()));
+    let longer = [&memory[..], &[255; 3]].concat();
+    assert!(checked(3_971, 255) == (number, longer));
 }
 
 /// 1x3, 010 with a clue, border 1 wall and border 0 open.

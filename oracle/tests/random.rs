@@ -2,12 +2,13 @@
 
 mod common;
 
-use common::{contained, fresh, holds, published, skipped};
+use common::{contained, found, fresh, holds, published, skipped};
+use oracle::bench::Named;
 use oracle::generate::{self, Cut};
-use oracle::page::{Board, Kind, Literal, KINDS};
-use oracle::plain::{self, View};
+use oracle::page::{struck, Board, Kind, Literal, KINDS};
+use oracle::plain::View;
 use oracle::random::Random;
-use oracle::{bench, book, rules, shapes};
+use oracle::{bench, blocked, book, rules, shapes};
 
 fn reason(board: &Board) -> Option<Vec<Literal>> {
     published(board).check()
@@ -129,9 +130,9 @@ fn no_reason_is_too_long() {
     }
     let mut longest = 0;
     let mut judge = |board: &Board| {
-        if let Some(reason) = reason(board) {
-            assert!(reason.len() <= book::LONGEST, "{board:?}");
-            longest = longest.max(reason.len());
+        if let Some(found) = found(&mut published(board), board) {
+            assert!(found.reason.len() <= book::PLACES, "{board:?}");
+            longest = longest.max(found.reason.len());
         }
     };
     for named in bench::boards() {
@@ -141,10 +142,42 @@ fn no_reason_is_too_long() {
     for _ in 0..1500 {
         judge(&generate::board(&mut random, 32, 32));
     }
-    for n in 3..=32 {
-        judge(&bench::stairs(n));
+    assert_eq!(longest, book::PLACES, "the bound is reached");
+}
+
+/// Boards whose published list has many repeats.
+#[test]
+fn repeats_are_struck() {
+    if skipped() {
+        return;
     }
-    assert!(longest > 8000, "{longest}");
+    let mut random = Random::new(30);
+    let stairs = (3..=32).map(bench::stairs);
+    let blocked = (0..400).map(|turn| blocked::board(&mut random, turn));
+    let (mut twice_as_long, mut longest) = (0, 0);
+    for board in stairs.chain(blocked) {
+        let Some(found) = found(&mut published(&board), &board) else {
+            continue;
+        };
+        twice_as_long += usize::from(found.listed.len() >= 2 * found.reason.len());
+        longest = longest.max(found.listed.len());
+    }
+    println!("{twice_as_long} lists twice as long as the reason or more, the longest of {longest}");
+    assert!(twice_as_long > 300 && longest > 8_000);
+}
+
+/// 02's sentence on lists of every kind: the first of equal literals stays, and the order.
+#[test]
+fn struck_lists() {
+    let mut random = Random::new(32);
+    for _ in 0..2_000 {
+        let length = random.below(20);
+        let literal = |_| (random.below(6), random.chance(50));
+        let list: Vec<Literal> = (0..length).map(literal).collect();
+        let first = |&at: &usize| !list[..at].contains(&list[at]);
+        let wanted: Vec<Literal> = (0..list.len()).filter(first).map(|at| list[at]).collect();
+        assert_eq!(struck(list.clone()), wanted, "{list:?}");
+    }
 }
 
 #[test]
@@ -156,12 +189,10 @@ fn plain_check_is_the_published_one() {
     for round in 0..30_000 {
         let side = if round % 200 == 0 { 32 } else { 8 };
         let board = generate::board(&mut random, side, side);
-        let plain = plain::check(&board).map(|hit| hit.reason);
-        assert_eq!(plain, reason(&board), "{board:?}");
+        found(&mut published(&board), &board);
     }
-    for named in bench::boards() {
-        let plain = plain::check(&named.board).map(|hit| hit.reason);
-        assert_eq!(plain, reason(&named.board), "{}", named.name);
+    for Named { board, .. } in bench::boards() {
+        found(&mut published(&board), &board);
     }
 }
 
@@ -220,11 +251,9 @@ fn a_reason_alone_conflicts() {
     let mut random = Random::new(27);
     for _ in 0..3000 {
         let board = generate::board(&mut random, 6, 6);
-        let Some(mut reason) = reason(&board) else {
+        let Some(reason) = reason(&board) else {
             continue;
         };
-        reason.sort();
-        reason.dedup();
         let mut alone = fresh(&board.puzzle);
         for &(border, wall) in &reason {
             alone.decide(border, wall);

@@ -33,10 +33,7 @@ fn every_branch() {
             dropped += usize::from(failed.dropped > 0);
             others += usize::from(failed.others > 0);
         }
-        let mut once = hit.reason.clone();
-        once.sort();
-        once.dedup();
-        repeats += usize::from(once.len() < hit.reason.len());
+        repeats += usize::from(hit.repeats());
     }
     for branch in BRANCHES.map(Some).into_iter().chain([None]) {
         let count = counts.get(&branch).copied().unwrap_or(0);

@@ -95,6 +95,22 @@ fn small_answers() {
     assert_eq!(answer(&square, "0o 2o 3o 1w"), conflict("3o 0o 2o 1w"));
 }
 
+/// A wall that blocks the only placement, and stands at the edge of the unit beside.
+#[test]
+fn a_repeat_is_struck() {
+    if skipped() {
+        return;
+    }
+    let page = puzzle(1, 4, "0011", &[]);
+    let board = Board {
+        puzzle: page.clone(),
+        decided: literals("0o 2w"),
+    };
+    let listed = published(&board).find_inconsistency();
+    assert_eq!(listed, Some(literals("2w 0o 2w")));
+    assert_eq!(answer(&page, "0o 2w"), conflict("2w 0o"));
+}
+
 #[test]
 fn page_example() {
     if skipped() {

@@ -1,19 +1,22 @@
 //! The vectors of document 02, by an independent model, against the book and the published check, or
 //! the plain one where the source is not there.
 
-use oracle::book::{self, Answer, Book, Call};
+use oracle::book::{self, Answer, Book, Call, PLACES};
 use oracle::drafts::above_half;
 use oracle::image;
 use oracle::page::Board;
-use oracle::vectors02::{self, struck, Damaged, Replied, Script};
+use oracle::vectors02::{self, Damaged, Replied, Script};
 
-/// How many calls, previews and records there are, and records that are refused.
+/// How many calls, previews and records there are, records that are refused, and calls with short
+/// memory; and how long the longest reason is.
 #[derive(Debug, Default)]
 struct Seen {
     calls: usize,
     previews: usize,
     records: usize,
     refused: usize,
+    short: usize,
+    longest: usize,
 }
 
 impl Seen {
@@ -23,6 +26,10 @@ impl Seen {
         self.previews += usize::from(matches!(one.asked.call, Call::Preview(..)));
         self.records += usize::from(lent);
         self.refused += usize::from(lent && one.answer == Answer::Refused(5));
+        self.short += usize::from(one.answer == Answer::Refused(9));
+        if let Answer::Conflict(reason) = &one.answer {
+            self.longest = self.longest.max(reason.len());
+        }
     }
 }
 
@@ -30,7 +37,7 @@ fn replay(script: &Script, seen: &mut Seen) {
     let mut book = Book::open(&script.puzzle).unwrap_or_else(|_| panic!("{}", script.id));
     for one in &script.calls {
         let (answer, record) = book.reply(one.asked, &mut oracle::check);
-        assert_eq!(struck(answer), one.answer, "{} {:?}", script.id, one.asked);
+        assert_eq!(answer, one.answer, "{} {:?}", script.id, one.asked);
         assert_eq!(record, one.record, "{} {:?}", script.id, one.asked);
         seen.add(one);
     }
@@ -56,6 +63,7 @@ fn the_book_has_their_answers() {
     );
     assert!(!makes.is_empty() && drafts > 10 && seen.calls > 1_000 && seen.previews > 500);
     assert!(seen.records > 1_000 && seen.refused > 200);
+    assert!(seen.short > 100 && seen.longest == PLACES);
 }
 
 /// The images of the damaged boards are alien; the image of the board before the damage is not.

@@ -1,4 +1,4 @@
--- 01's small boards marked P, as one theorem that is computed.
+-- 01's small boards marked P, and one of 02's No. 4, as one theorem that is computed.
 --
 --   Says Z borders answer      Check answers so on that puzzle with those borders, 0 undecided, 1 wall, 2 open
 --   HasTransforms Z borders n  its unit number 0 has n transforms
@@ -23,7 +23,8 @@ use Rattle.rules.specs.Shapes.{quarters, withQuarter, withFlip, flatTransforms}
 use Rattle.rules.specs.Check.{Verdict, pass, conflict, check, hitIf, blockClue, insideBlock, insideUnit, edgeOf, sizeOf}
 use Rattle.rules.specs.Check.{coloured, strayFrom, cellHit, cellHits, smallHit, bigHit, clueHit, blockHitOn, blockHit}
 use Rattle.rules.specs.Check.{wallHit, wallHits, touches, adjacent, mates, judge, laid, transformsOf, placements}
-use Rattle.rules.specs.Check.{farWallsAt, farWalls, unitReason, unitHitIn, unitHitOn, unitHit, hit, undecidedCount}
+use Rattle.rules.specs.Check.{farWallsAt, farWalls, unitReason, unitHitIn, unitHitOn, unitHit, hit}
+use Rattle.rules.specs.Check.{once, undecidedCount}
 use Rattle.rules.specs.Flat.{flat, cellAt, rightOf, belowOf, borderCount, hopIf, hopAbove, hopBelow, hopLeft}
 use Rattle.rules.specs.Flat.{hopRight, aroundAt, aheadAt, flatFirst, flatSecond, flatPlace, flatReadsAt, flatReads}
 
@@ -68,6 +69,8 @@ pub record Boards : Type 0 where
   pub four-passes : Says four (2 ∷ 2 ∷ 2 ∷ []) (pass 0)
   -- "border 0 wall, others open: 1o 2o 0w"
   pub four-wall : Says four (1 ∷ 2 ∷ 2 ∷ []) (conflict (openAt 1 ∷ openAt 2 ∷ wallAt 0 ∷ []))
+  -- 02, No. 4: a wall that blocks a placement and stands in Edge is named once; before striking, 2w 0o 2w
+  pub four-once : Says four (2 ∷ 0 ∷ 1 ∷ []) (conflict (wallAt 2 ∷ openAt 0 ∷ []))
   -- "2×2, rows 01 and 01; 0, 2, 3 open, 1 wall: 3o 0o 2o 1w"
   pub wall-in-block : Says (puzzleIn 2 2 (0 ∷ 1 ∷ 0 ∷ 1 ∷ []) (noClue ∷ noClue ∷ noClue ∷ noClue ∷ []))
       (2 ∷ 1 ∷ 2 ∷ 2 ∷ []) (conflict (openAt 3 ∷ openAt 0 ∷ openAt 2 ∷ wallAt 1 ∷ []))
@@ -83,8 +86,8 @@ unfolding filter any orElse flatMap firstHit countBelow _⊕_ opposite statesIn 
     trace look hunt path apply samePoints insert sort shiftBy normal turned connectionsAt shapeOf withHalf quarters
     withQuarter withFlip flatTransforms check hitIf blockClue insideBlock insideUnit edgeOf sizeOf coloured strayFrom
     cellHit cellHits smallHit bigHit clueHit blockHitOn blockHit wallHit wallHits touches adjacent mates judge laid
-    transformsOf placements farWallsAt farWalls unitReason unitHitIn unitHitOn unitHit hit undecidedCount flat cellAt
-    rightOf belowOf borderCount hopIf hopAbove hopBelow hopLeft hopRight aroundAt aheadAt flatFirst flatSecond
+    transformsOf placements farWallsAt farWalls unitReason unitHitIn unitHitOn unitHit hit once undecidedCount flat
+    cellAt rightOf belowOf borderCount hopIf hopAbove hopBelow hopLeft hopRight aroundAt aheadAt flatFirst flatSecond
     flatPlace flatReadsAt flatReads
 boards =
     record {
@@ -102,6 +105,7 @@ boards =
       both-open = refl;
       four-passes = refl;
       four-wall = refl;
+      four-once = refl;
       wall-in-block = refl;
       cell-one = refl;
       pair-two = refl;

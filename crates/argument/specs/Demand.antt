@@ -12,11 +12,13 @@
 use mathlib.Core.Path.{_≡_}
 use mathlib.Core.Logic.{_↔_}
 use mathlib.Core.List.{List, _∷_, _++_}
-use Prim.Native.Nat.{ℕ, _<_}
+use Prim.Native.Nat.{ℕ, _<_, _≤_}
+use lib.ListN.{length}
+use Rattle.lists.specs.Lists.{Distinct}
 use Rattle.rules.specs.declared.Literal.{Literal}
 use Rattle.rules.specs.Page.{Puzzle, State, undecided, Contains}
 use Rattle.rules.specs.Rules.{Solution}
-use Rattle.rules.specs.Check.{Reason, Verdict, pass, conflict}
+use Rattle.rules.specs.Check.{Reason, Verdict, pass, conflict, bordersNamed}
 use Rattle.rules.specs.Book.{Asked, answered, states, looked, reply, bookAfter}
 
 module _ (Z : Puzzle) where
@@ -65,6 +67,9 @@ BookPassedAt Z calls σ = (n : ℕ) × BookStoodAt Z calls σ (pass n)
 pub record BookDemand (Z : Puzzle) (calls : List Asked) : Type 0 where
   -- each reason handed out held on the board it was handed out on
   pub held : (ls : List Literal) (r : Reason) → BookHandedOut Z calls ls r → Contains (states ls) r
+  -- 02: "no border is named twice, so a reason has at most as many literals as there are decided borders"
+  pub eachOnce : (ls : List Literal) (r : Reason) → BookHandedOut Z calls ls r → Distinct (bordersNamed r)
+  pub few : (ls : List Literal) (r : Reason) → BookHandedOut Z calls ls r → length r ≤ length ls
   -- no solution is ruled out
   pub noSolution : (σ : ℕ → State) → Solution Z σ → BookRuledOut Z calls σ → ⊥
   -- a full setting that stood at an answered check passed there exactly when it is a solution ..

@@ -15,7 +15,7 @@ use Rattle.laws.specs.PageLaws.{Bordered, CellsPlaced, TurnsListed}
 use Rattle.laws.specs.BookLaws.{Clean, decided-mem, book-clean, answered-check, looked-clean}
 use Rattle.argument.specs.Demand.{SameSides, BookAnswered, BookRuledOut, BookStoodAt, Passes, BookDemand}
 use Rattle.argument.specs.Agrees.{sides-sym, solution-agrees}
-use Rattle.argument.specs.Checks.{check-kind, check-holds, check-sound, check-full}
+use Rattle.argument.specs.Checks.{check-kind, check-holds, check-once, check-few, check-sound, check-full}
 
 module _ (Z : Puzzle) where
   pub answered-longer : (calls more : List Asked) (ls : List Literal) (r : Verdict) → BookAnswered Z calls ls r
@@ -99,6 +99,8 @@ module _ (Z : Puzzle) (K : Bordered (Z .page)) (P : CellsPlaced (Z .page)) (I : 
   pub book-demand : (calls : List Asked) → BookDemand Z calls
   book-demand calls = record {
     held = λ ls r a. check-holds Z K P I (states ls) r (checked Z calls ls (conflict r) a);
+    eachOnce = λ ls r a. check-once Z K P I (states ls) r (checked Z calls ls (conflict r) a);
+    few = λ ls r a. check-few Z K P I ls r (checked Z calls ls (conflict r) a);
     noSolution = none-ruled calls;
     verdict = verdicts calls;
     otherwise = failed calls;

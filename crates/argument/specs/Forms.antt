@@ -1,17 +1,18 @@
 -- Every reason has one of six forms; a claim that holds of each form holds of every reason.
 --
 --   Forms Z s Q         the claim Q holds of each form
---   each-form           so it holds of every reason that check gives
+--   blocks-form, walls-form, units-form   so it holds of every hit of each step ..
+--   each-form           .. and of every hit
 use mathlib.Core.Bool.{Bool, true, false, cond}
 use mathlib.Core.List.{List, [], _∷_, _++_}
 use mathlib.Core.Option.{Option, some, none}
 use Prim.Native.Nat.{ℕ, _<_}
 use lib.Dec.{T}
-use Rattle.lists.specs.Lists.{_∈_, any}
+use Rattle.lists.specs.Lists.{_∈_, any, firstHit, range}
 use Rattle.lists.specs.Booleans.{T-and-l}
 use Rattle.lists.specs.Ranges.{range-lt}
 use Rattle.rules.specs.Page.{Hop, Puzzle, State, isWall, wallAt}
-use Rattle.rules.specs.Groups.{members, unitOf, potentialOf}
+use Rattle.rules.specs.Groups.{members, blockCount, unitOf, unitCount, potentialOf}
 use Rattle.rules.specs.Reasons.{path}
 use Rattle.rules.specs.Check.{Reason, isSome, insideBlock, edgeOf, coloured, cellHit, cellHits, smallHit, bigHit}
 use Rattle.rules.specs.Check.{clueHit, blockHitOn, blockHit, wallHit, wallHits, unitReason, unitHitIn, unitHitOn}
@@ -66,19 +67,26 @@ module _ (Z : Puzzle) (s : ℕ → State) (Q : Reason → Type 0) (F : Forms Z s
       each-or Q _ _ (cells-form B [] _)
       (each-or Q _ _ (each-first Q _ _ (λ c m. small-form B _ c _)) (clue-form B _ _))
 
-  walls-form : (x : ℕ) → x < Z .page .cells → Each Q (wallHits Z s x)
+  pub blocks-form : Each Q (firstHit (blockHit Z s) (range (blockCount Z s)))
+  blocks-form = each-first Q _ _ (λ B m. block-form B)
+
+  cell-form : (x : ℕ) → x < Z .page .cells → Each Q (wallHits Z s x)
   unfolding wallHits wallHit
-  walls-form x hx =
+  cell-form x hx =
       each-first Q _ _ (λ h m. each-hit Q _ _ (λ t. F .wall x h hx m (T-and-l (isWall (s (h .border))) _ t)))
+
+  pub walls-form : Each Q (firstHit (wallHits Z s) (range (Z .page .cells)))
+  walls-form = each-first Q _ _ (λ x m. cell-form x (range-lt _ m))
 
   on-form : (U : ℕ) (xs : List ℕ) → Each Q (unitHitOn Z s U xs)
   unfolding unitHitOn unitHitIn
   on-form U [] = each-none Q
   on-form U (x ∷ xs) = each-hit Q _ _ (λ t. F .unit U _)
 
+  pub units-form : Each Q (firstHit (unitHit Z s) (range (unitCount Z s)))
+  unfolding unitHit
+  units-form = each-first Q _ _ (λ U m. on-form U (members (Z .page) (unitOf Z s) U))
+
   pub each-form : Each Q (hit Z s)
-  unfolding hit unitHit
-  each-form =
-      each-or Q _ _ (each-first Q _ _ (λ B m. block-form B))
-      (each-or Q _ _ (each-first Q _ _ (λ x m. walls-form x (range-lt _ m)))
-      (each-first Q _ _ (λ U m. on-form U (members (Z .page) (unitOf Z s) U))))
+  unfolding hit
+  each-form = each-or Q _ _ blocks-form (each-or Q _ _ walls-form units-form)

@@ -1,5 +1,6 @@
 -- Every form of a reason holds on the board it is given on: each literal is collected under a test of its own side.
 --
+--   held-inside, held-edge, held-path, held-nil   Inside, Edge and Path hold, and no literals do
 --   held-forms          each of the six forms holds
 use mathlib.Core.Path.{_≡_, refl, ap, sym, subst}
 use mathlib.Core.Logic.{_⊎_, inl, inr}
@@ -49,13 +50,13 @@ module _ (Z : Puzzle) (K : Bordered (Z .page)) (s : ℕ → State) where
       let r = map-find (λ (h : Hop). record { border = h .border; side = side }) (filter p hs) m in
       rw (r .2) (f (r .0) (filter-test p hs (r .1)))
 
-  held-inside : (number : ℕ → ℕ) (g : ℕ) → Contains s (inside (Z .page) s number g)
+  pub held-inside : (number : ℕ → ℕ) (g : ℕ) → Contains s (inside (Z .page) s number g)
   unfolding inside insideAt
   held-inside number g =
       held-flat _ _
       (λ c m. held-gather Open _ _ (λ h t. open-is _ (T-and-r (eqb (number (h .to)) g) _ t)))
 
-  held-edge : (number : ℕ → ℕ) (g : ℕ) → Contains s (edge (Z .page) (Z .colour) s number g)
+  pub held-edge : (number : ℕ → ℕ) (g : ℕ) → Contains s (edge (Z .page) (Z .colour) s number g)
   unfolding edge edgeAt
   held-edge number g =
       held-flat _ _
@@ -87,11 +88,11 @@ module _ (Z : Puzzle) (K : Bordered (Z .page)) (s : ℕ → State) where
       go true (List·Memᴰ·tail n) i j = j n
       go false n i j = i n
 
-  held-path : (a b : ℕ) → a < Z .page .cells → b < Z .page .cells → Contains s (path (Z .page) s a b)
+  pub held-path : (a b : ℕ) → a < Z .page .cells → b < Z .page .cells → Contains s (path (Z .page) s a b)
   held-path a b ha hb = subst (Contains s) (sym (path-traced Z K s a ha b hb))
       (held-trace a ha _ b (found-all Z K s a ha .chain))
 
-  held-nil : Contains s []
+  pub held-nil : Contains s []
   unfolding Contains
   held-nil l m = absurd (List·Memᴰ·not-nil m)
 

@@ -26,9 +26,6 @@ pub mod Agrees
 -- the answers of check and of the book
 pub mod Checks
 pub mod DemandLaws
--- how long a reason can be
-pub mod Totals
-pub mod Bound
 -- flat pages
 pub mod FlatDemand
 -- small boards: those of document 01, and a solution

@@ -179,11 +179,11 @@ wall-fails S =
 
 -- a decision and a check, with memory enough
 abbrev pub calls : Literal → List Asked
-calls l = ask 0 (Decide l) ∷ ask 16384 Check ∷ []
+calls l = ask 0 (Decide l) ∷ ask 1984 Check ∷ []
 
 -- a preview, with memory enough
 abbrev pub previewOnly : Literal → List Asked
-previewOnly l = ask 16384 (Preview l) ∷ []
+previewOnly l = ask 1984 (Preview l) ∷ []
 
 pub record Witness : Type 0 where
   -- a solution, and a full setting that is none

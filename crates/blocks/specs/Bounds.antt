@@ -1,24 +1,12 @@
--- Bounds: a fault names a potential unit that there is, a faulty block is one of the blocks, and on a page of n cells
--- the reason has at most 6·n literals.
+-- Bounds: a fault names a potential unit that there is, and a faulty block is one of the blocks.
 use mathlib.Core.Path.{_≡_, refl}
 use mathlib.Core.Bool.{Bool, true, false, _&&_, _||_, cond}
 use mathlib.Core.List.{List, [], _∷_}
 use mathlib.Core.Option.{Option}
-use Prim.Native.Nat.{ℕ, zero, suc, _+_, _*_, _<_, _≤_}
-use native.Mathlib.Nat.{le-trans}
+use Prim.Native.Nat.{ℕ, zero, suc, _+_, _<_}
 use native.Mathlib.Omega.{arith}
 use lib.Dec.{eqb, ltb}
-use lib.ListN.{length, length-append}
-use Rattle.lists.specs.Lists.{range}
-use Rattle.lists.specs.Filters.{length-filter}
-use Rattle.lists.specs.Ranges.{length-range}
-use Rattle.rules.specs.declared.Literal.{Literal}
-use Rattle.rules.specs.Flat.{flat}
-use Rattle.rules.specs.Codes.{statesIn, coloursIn}
-use Rattle.rules.specs.Groups.{entry, members}
 use Rattle.rules.specs.Check.{clash}
-use Rattle.laws.specs.FlatReasons.{flat-inside-le, flat-edge-le}
-use Rattle.reasons.specs.Arrays.{insideIn, edgeIn}
 use Rattle.blocks.specs.declared.Clue.{Clue}
 use Rattle.blocks.specs.declared.Clue.the-variants.{Free, Is}
 use Rattle.blocks.specs.declared.Part.{Part}
@@ -30,7 +18,7 @@ use Rattle.blocks.specs.Censuses.{firstIn, ofColour, colourUnit, colourP
 use Rattle.blocks.specs.Faults.{isFaultless, orFault, firstFault, scanFault, smallFault, bigFault, clueFault}
 use Rattle.blocks.specs.Faults.{censusFault, cellFault, scanOn, faultOn}
 use Rattle.blocks.specs.Faulty.{at, faultyFrom, firstFaulty}
-use Rattle.blocks.specs.Written.{faultLiterals, faultUnit, faultyLiterals}
+use Rattle.blocks.specs.Written.{faultUnit}
 
 -- the potential unit that a fault names is below n, as every cell's is
 module _ (n : ℕ) (some : 0 < n) where
@@ -137,30 +125,3 @@ module _ (f : ℕ → Fault) where
               → faultUnit (cond b (faultyFrom f k (suc i)) (at i (f i)) .fault) < m
           go true ih = ih
           go false ih = u i
-
--- lengths
-members-le : (h w : ℕ) (number : ℕ → ℕ) (g : ℕ) → length (members (flat h w) number g) ≤ h * w
-unfolding members flat
-members-le h w number g = le-trans (length-filter _ (range (h * w))) (omega (arith, length-range 0 (h * w)))
-
-literals-le : (i : List Literal) (e : ℕ → List Literal) (f : Fault)
-    → length (faultLiterals i e f) ≤ length i + length (e (faultUnit f))
-unfolding faultLiterals
-literals-le i e Clear = omega arith
-literals-le i e (InsideEdge p) = omega (arith, length-append i (e p))
-literals-le i e Inside = omega arith
-literals-le i e (Edge p) = omega arith
-literals-le i e (EdgeInside p) = omega (arith, length-append (e p) i)
-
-pub fault-short : (h w : ℕ) (cs bs blocks units : List ℕ) (f : Faulty)
-    → length (faultyLiterals h w cs bs blocks units f) ≤ 6 * (h * w)
-unfolding faultyLiterals insideIn edgeIn
-fault-short h w cs bs blocks units f =
-    omega (
-      arith,
-      literals-le (insideIn h w bs blocks (f .block)) (edgeIn h w cs bs units) (f .fault),
-      flat-inside-le h w (statesIn bs) (entry blocks) (f .block),
-      flat-edge-le h w (statesIn bs) (entry units) (faultUnit (f .fault)) (coloursIn cs),
-      members-le h w (entry blocks) (f .block),
-      members-le h w (entry units) (faultUnit (f .fault)),
-    )

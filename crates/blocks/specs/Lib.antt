@@ -11,6 +11,5 @@ pub mod Looked
 pub mod Faulty
 pub mod Bridges
 pub mod Written
-pub mod WriteCases
 pub mod Bounds
 pub mod BlockHits

@@ -1,10 +1,9 @@
-// Step 1's reason, written into lent reason memory.
+// Step 1's reason, written into working memory.
 ghost use mathlib.Core.Path.{_≡_};
-ghost use Prim.Native.Nat.{_≤_};
 ghost use lib.ListN.{length};
 ghost use Rattle.rules.specs.Flat.{Sized};
 ghost use Rattle.groups.specs.Grouping.{numbersIn};
-ghost use Rattle.reasons.specs.Memory.{Wrote};
+ghost use Rattle.reasons.specs.Memory.{Spare, Wrote};
 ghost use Rattle.reasons.specs.Arrays.{GroupAt};
 ghost use Rattle.blocks.specs.Written.{faultUnit, faultyLiterals};
 use crate::Fault;
@@ -26,9 +25,7 @@ pub fn write_fault<'a>(
 ) -> usize
     requires { ⌜ Sized h w × (length (now borders) ≡ 1984) × (length (now colours) ≡ 1024)
         × GroupAt h w (now blocks) (faulty .block) × GroupAt h w (now potential) (faultUnit (faulty .fault))
-        × (length (faultyLiterals h w (now colours) (now borders) (numbersIn (now blocks)) (numbersIn (now potential))
-        faulty)
-        ≤ length (now memory)) ⌝ }
+        × Spare (now memory) 0 ⌝ }
     ensures { λ r. ⌜ Wrote (now (memory .entry)) 0 (faultyLiterals h w (now (colours .entry)) (now (borders .entry))
         (numbersIn (now (blocks .entry))) (numbersIn (now (potential .entry))) faulty) (now (memory .exit)) r ⌝ }
 {

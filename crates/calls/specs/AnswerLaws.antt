@@ -78,11 +78,11 @@ length-written m (pass n) = refl
 length-written m (conflict r) = simp length-sets
 
 module _ (f : Verdict) (m : List ℕ) where
-  pub found-short : length m < 16384 → (Refused Short ≡ foundAnswer f (length m)) × (m ≡ foundMemory f m)
-  found-short h = let e = lt-ltb (length m) 16384 h in (rw e, rw e)
+  pub found-short : length m < 1984 → (Refused Short ≡ foundAnswer f (length m)) × (m ≡ foundMemory f m)
+  found-short h = let e = lt-ltb (length m) 1984 h in (rw e, rw e)
 
-  pub found-long : 16384 ≤ length m → (asAnswer f ≡ foundAnswer f (length m)) × (written m f ≡ foundMemory f m)
-  found-long h = let e = le-ltb (length m) 16384 h in (rw e, rw e)
+  pub found-long : 1984 ≤ length m → (asAnswer f ≡ foundAnswer f (length m)) × (written m f ≡ foundMemory f m)
+  found-long h = let e = le-ltb (length m) 1984 h in (rw e, rw e)
 
 module _ (b : Board) (m : List ℕ) where
   pub check-alien : isAlien b ≡ true → (Refused Alien ≡ checkAnswer b (length m)) × (m ≡ checkMemory b m)
@@ -97,7 +97,7 @@ module _ (b : Board) (m : List ℕ) where
 
 pub length-check : (b : Board) (m : List ℕ) → length (checkMemory b m) ≡ length m
 unfolding checkMemory
-length-check b m = go (isAlien b) (ltb (length m) 16384)
+length-check b m = go (isAlien b) (ltb (length m) 1984)
   where
     f : Verdict
     f = check (puzzleOf b) (statesOf b)

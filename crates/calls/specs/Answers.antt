@@ -82,11 +82,11 @@ written m (conflict r) = put m 0 r
 
 -- "A check answers 9 if its memory is short; else what Check gives"
 abbrev pub foundAnswer : Verdict → ℕ → Answer
-foundAnswer f n = cond (ltb n 16384) (Refused Short) (asAnswer f)
+foundAnswer f n = cond (ltb n 1984) (Refused Short) (asAnswer f)
 
 -- "lent memory stays"
 abbrev pub foundMemory : Verdict → List ℕ → List ℕ
-foundMemory f m = cond (ltb (length m) 16384) m (written m f)
+foundMemory f m = cond (ltb (length m) 1984) m (written m f)
 
 -- "The lowest applicable number is given": 5 for an alien board
 unfoldable pub checkAnswer : Board → ℕ → Answer

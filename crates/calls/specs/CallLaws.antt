@@ -1,25 +1,30 @@
 -- One call on a board that is not alien: its answer and the memory afterwards are the book's.
 --
---   reason-short        a reason of a board has at most 16,120 literals
+--   reason-once         a reason of a board names no border twice
+--   reason-few          so it has at most as many literals as there are decided borders ..
+--   reason-short        .. and at most 1,984
+--   reason-read      a reason is read back from the memory it was written into
 --   check-written       the memory after a conflict
 --   call-told           the answer of a call is the book's reply
 --   call-written        the memory after a call is what the book's reply says
 use mathlib.Core.Path.{_≡_, refl, ap, ap₂, sym, _∙_}
 use mathlib.Core.Bool.{Bool, true, false, cond}
 use mathlib.Core.List.{List, _++_, map}
-use Prim.Native.Nat.{ℕ, _≤_}
+use Prim.Native.Nat.{ℕ, _<_, _≤_}
 use native.Mathlib.Omega.{arith}
 use borrow.Author.Tests.{ltb-false, eqb-true}
 use lib.Dec.{eqb, ltb}
 use lib.ListN.{length, drop}
+use Rattle.lists.specs.Lists.{Distinct}
 use Rattle.rules.specs.declared.Literal.{Literal}
 use Rattle.rules.specs.declared.Call.{Call}
 use Rattle.rules.specs.declared.Call.the-variants.{Decide, Undo, Check, Preview}
 use Rattle.rules.specs.Page.{Puzzle}
 use Rattle.rules.specs.Codes.{literalCode}
-use Rattle.rules.specs.Check.{Reason, Verdict, pass, conflict, check}
+use Rattle.rules.specs.Check.{Reason, Verdict, pass, conflict, bordersNamed, check}
 use Rattle.rules.specs.Book.{Reply, refused, done, answered, states, withLast, thenReply, checkReply, replyTo}
-use Rattle.argument.specs.FlatDemand.{flat-short}
+use Rattle.laws.specs.FlatLaws.{borders-le}
+use Rattle.argument.specs.FlatDemand.{flat-once, flat-few}
 use Rattle.board.specs.declared.Board.{Board}
 use Rattle.board.specs.declared.Outcome.{Outcome}
 use Rattle.board.specs.declared.Outcome.the-variants.{Short}
@@ -28,7 +33,7 @@ use Rattle.board.specs.Board.{numberOf, isDone, decideOf, undoOf, Typed}
 use Rattle.board.specs.View.{puzzleOf, statesOf, literalsOf, replyOf}
 use Rattle.board.specs.NativeLaws.{native-has}
 use Rattle.board.specs.DecideLaws.{done-returned, decide-keeps}
-use Rattle.board.specs.ViewLaws.{states-literals, decided-puzzle}
+use Rattle.board.specs.ViewLaws.{states-literals, literals-length, decided-puzzle}
 use Rattle.board.specs.LiteralLaws.{literals-decided}
 use Rattle.board.specs.StepLaws.{decide-reply, undo-reply}
 use Rattle.calls.specs.declared.Answer.the-variants.{Done, Refused}
@@ -60,19 +65,36 @@ unfolding Fits
 found-written m (pass n) h = refl
 found-written m (conflict r) h = put-start m r (h r refl)
 
+-- a reason that was written is read back
+pub reason-read : (m : List ℕ) (r : Reason) → length r ≤ length m → reasonIn (written m (conflict r)) (length r) ≡ r
+reason-read m r h = ap (λ k. reasonIn k (length r)) (put-start m r h) ∙ reason-in r (drop (length r) m)
+
 found-told : (m : List ℕ) (f : Verdict) → Fits m f → told (asAnswer f) (written m f) ≡ answered f
 unfolding Fits
 found-told m (pass n) h = refl
-found-told m (conflict r) h =
-    ap (λ (k : Reason). answered (conflict k))
-    (ap (λ k. reasonIn k (length r)) (put-start m r (h r refl)) ∙ reason-in r (drop (length r) m))
+found-told m (conflict r) h = ap (λ (k : Reason). answered (conflict k)) (reason-read m r (h r refl))
 
 module _ (b : Board) (t : isAlien b ≡ false) where
-  pub reason-short : (r : Reason) → check (puzzleOf b) (statesOf b) ≡ conflict r → length r ≤ 16120
+  columns : 0 < b .width
+  columns = omega (arith, native-has b t .size .columns)
+
+  -- "no border is named twice"
+  pub reason-once : (r : Reason) → check (puzzleOf b) (statesOf b) ≡ conflict r → Distinct (bordersNamed r)
   unfolding puzzleOf
+  reason-once = flat-once (b .height) (b .width) columns _ _ (statesOf b)
+
+  -- "so a reason has at most as many literals as there are decided borders"
+  pub reason-few : (r : Reason) → check (puzzleOf b) (statesOf b) ≡ conflict r → length r ≤ b .count
+  unfolding puzzleOf
+  reason-few r e =
+      let n = flat-few (b .height) (b .width) columns _ _ (literalsOf b) r
+      (ap (check (puzzleOf b)) (sym (states-literals b (native-has b t))) ∙ e) in
+      omega (arith, n, literals-length b)
+
+  pub reason-short : (r : Reason) → check (puzzleOf b) (statesOf b) ≡ conflict r → length r ≤ 1984
   reason-short r e =
-      let s = native-has b t .size in
-      flat-short (b .height) (b .width) (omega arith) _ _ s (statesOf b) r e
+      let n = native-has b t in
+      omega (arith, reason-few r e, n .few, borders-le (n .size))
 
   module _ (m : List ℕ) where
     found : Verdict
@@ -82,16 +104,16 @@ module _ (b : Board) (t : isAlien b ≡ false) where
     unfolding found
     found-states = ap (check (puzzleOf b)) (sym (states-literals b (native-has b t)))
 
-    fits : ltb (length m) 16384 ≡ false → Fits m found
+    fits : ltb (length m) 1984 ≡ false → Fits m found
     unfolding Fits found
-    fits q r e = let k = reason-short r e in let h = ltb-false (length m) 16384 q in omega arith
+    fits q r e = let k = reason-short r e in let h = ltb-false (length m) 1984 q in omega arith
 
     check-told : told (checkAnswer b (length m)) (checkMemory b m)
         ≡ checkReply (puzzleOf b) (literalsOf b) (length m)
     unfolding checkAnswer checkMemory checkReply found
-    check-told = rw (t, found-states) (go (ltb (length m) 16384) refl)
+    check-told = rw (t, found-states) (go (ltb (length m) 1984) refl)
       where
-        go : (x : Bool) → ltb (length m) 16384 ≡ x
+        go : (x : Bool) → ltb (length m) 1984 ≡ x
             → told (cond x (Refused Short) (asAnswer found)) (cond x m (written m found))
             ≡ cond x (refused 9) (answered found)
         go true q = refl
@@ -99,14 +121,14 @@ module _ (b : Board) (t : isAlien b ≡ false) where
 
     check-memory : checkMemory b m ≡ memoryAs m (checkReply (puzzleOf b) (literalsOf b) (length m))
     unfolding checkMemory checkReply found
-    check-memory = rw (t, found-states) (go (ltb (length m) 16384) refl)
+    check-memory = rw (t, found-states) (go (ltb (length m) 1984) refl)
       where
-        go : (x : Bool) → ltb (length m) 16384 ≡ x
+        go : (x : Bool) → ltb (length m) 1984 ≡ x
             → cond x m (written m found) ≡ memoryAs m (cond x (refused 9) (answered found))
         go true q = refl
         go false q = found-written m found (fits q)
 
-  pub check-written : (m : List ℕ) (r : Reason) → 16384 ≤ length m → check (puzzleOf b) (statesOf b) ≡ conflict r
+  pub check-written : (m : List ℕ) (r : Reason) → 1984 ≤ length m → check (puzzleOf b) (statesOf b) ≡ conflict r
       → checkMemory b m ≡ map literalCode r ++ drop (length r) m
   check-written m r h e =
       let k = reason-short r e in

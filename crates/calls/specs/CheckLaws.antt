@@ -12,7 +12,7 @@ use native.Mathlib.Decide.{decLt}
 use native.Mathlib.Omega.{arith}
 use lib.ListN.{length}
 use Rattle.rules.specs.Codes.{statesIn, puzzleIn}
-use Rattle.rules.specs.Check.{Reason, Verdict, hit, check, verdictOf, undecidedCount}
+use Rattle.rules.specs.Check.{Reason, Verdict, hit, check, once, onceIn, verdictOf, undecidedCount}
 use Rattle.board.specs.declared.Board.{Board}
 use Rattle.board.specs.Alien.{isAlien}
 use Rattle.board.specs.View.{puzzleOf, statesOf}
@@ -54,9 +54,9 @@ module _ (b : Board) (t : isAlien b ≡ false) where
   abbrev hitOf : Option Reason
   hitOf = hit (puzzleIn (b .height) (b .width) (b .colours) (b .clues)) (statesIn (b .borders))
 
-  checked : (o : Option Reason) → hitOf ≡ o → foundOn b ≡ verdictOf (freeOn b) o
+  checked : (o : Option Reason) → hitOf ≡ o → foundOn b ≡ verdictOf (freeOn b) (onceIn o)
   unfolding check puzzleOf statesOf
-  checked o e = ap (verdictOf (freeOn b)) e
+  checked o e = ap (λ (k : Option Reason). verdictOf (freeOn b) (onceIn k)) e
 
   module _ (m after : List ℕ) where
     pub nothing-found : Answers hitOf m after Nothing
@@ -81,7 +81,7 @@ module _ (b : Board) (t : isAlien b ≡ false) where
             → (Conflict n ≡ asAnswer (foundOn b)) × (after ≡ written m (foundOn b))
         go none e f g = let z : _≡_ {A = ℕ} 0 1 = cc in absurd (omega arith)
         go (some r) e f g =
-            let q : n ≡ length r = cc in (
+            let q : n ≡ length (once r) = cc in (
               ap Conflict q ∙ sym (ap asAnswer (checked (some r) e)),
               g ∙ sym (ap (written m) (checked (some r) e)),
             )

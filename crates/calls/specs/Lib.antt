@@ -4,6 +4,7 @@ pub mod Counted
 pub mod AnswerLaws
 pub mod PreviewLaws
 pub mod CallLaws
+pub mod OnceLaws
 pub mod NumberLaws
 pub mod CheckLaws
 pub mod CountedLaws

@@ -24,7 +24,8 @@ use Rattle.rules.specs.declared.Call.{Call}
 use Rattle.rules.specs.declared.Call.the-variants.{Decide, Undo, Check, Preview}
 use Rattle.rules.specs.Page.{Puzzle, State, isUndecided}
 use Rattle.rules.specs.Flat.{flat}
-use Rattle.rules.specs.Check.{Reason, Verdict as Found, pass, conflict, hit, undecidedCount, verdictOf, check}
+use Rattle.rules.specs.Check.{Reason, Verdict as Found, pass, conflict, hit, undecidedCount}
+use Rattle.rules.specs.Check.{onceIn, verdictOf, check}
 use Rattle.laws.specs.FlatLaws.{borders-le}
 use Rattle.board.specs.declared.Board.{Board}
 use Rattle.board.specs.declared.Outcome.{Outcome}
@@ -62,7 +63,7 @@ answerFrom v =
 abbrev pub InRange : Answer → Type 0
 InRange Done = Unit {0}
 InRange (Pass n) = n ≤ 1984
-InRange (Conflict n) = n ≤ 16120
+InRange (Conflict n) = n ≤ 1984
 InRange (Refused o) = 0 < numberOf o
 
 -- ---- what a call answers is in range
@@ -70,7 +71,7 @@ pub check-count : (Z : Puzzle) (s : ℕ → State) (n : ℕ) → check Z s ≡ p
 unfolding check
 check-count Z s n e = go (hit Z s) e
   where
-    go : (o : Option Reason) → verdictOf (undecidedCount Z s) o ≡ pass n → n ≡ undecidedCount Z s
+    go : (o : Option Reason) → verdictOf (undecidedCount Z s) (onceIn o) ≡ pass n → n ≡ undecidedCount Z s
     go none f = cc
     go (some r) f = let z : _≡_ {A = ℕ} 0 1 = cc in absurd (omega arith)
 
@@ -103,7 +104,7 @@ found-range b t (conflict r) e = reason-short b t r e
 
 check-range : (b : Board) (n : ℕ) → InRange (checkAnswer b n)
 unfolding checkAnswer
-check-range b n = go (isAlien b) (ltb n 16384) refl
+check-range b n = go (isAlien b) (ltb n 1984) refl
   where
     go : (x y : Bool) → isAlien b ≡ x
         → InRange (cond x (Refused Alien) (cond y (Refused Short) (asAnswer (check (puzzleOf b) (statesOf b)))))

@@ -19,7 +19,7 @@ use lib.ListN.{length, getD}
 use Rattle.rules.specs.declared.Literal.{Literal}
 use Rattle.rules.specs.declared.Call.the-variants.{Decide, Check, Preview}
 use Rattle.rules.specs.Codes.{codeOf}
-use Rattle.rules.specs.Check.{Reason, check, hit, verdictOf, undecidedCount}
+use Rattle.rules.specs.Check.{Reason, check, hit, onceIn, verdictOf, undecidedCount}
 use Rattle.board.specs.declared.Board.{Board}
 use Rattle.board.specs.declared.Outcome.{Outcome}
 use Rattle.board.specs.declared.Outcome.the-variants.{Done as Fine, Alien, Border, Taken, Short}
@@ -58,13 +58,13 @@ module _ (b : Board) (l : Literal) {o : Outcome} {d : Board} (e : returned o d �
 -- "The number after pass is the stored one"
 pub check-stored : (b : Board) (n k : ℕ) → checkAnswer b n ≡ Pass k → k ≡ b .tally .undecided
 unfolding checkAnswer check
-check-stored b n k e = go (isAlien b) (ltb n 16384) (hit (puzzleOf b) (statesOf b)) refl e
+check-stored b n k e = go (isAlien b) (ltb n 1984) (hit (puzzleOf b) (statesOf b)) refl e
   where
     free : ℕ
     free = undecidedCount (puzzleOf b) (statesOf b)
 
     go : (a s : Bool) (o : Option Reason) → isAlien b ≡ a
-        → cond a (Refused Alien) (cond s (Refused Short) (asAnswer (verdictOf free o))) ≡ Pass k
+        → cond a (Refused Alien) (cond s (Refused Short) (asAnswer (verdictOf free (onceIn o)))) ≡ Pass k
         → k ≡ b .tally .undecided
     go true s o t f = let z : _≡_ {A = ℕ} 0 1 = cc in absurd (omega arith)
     go false true o t f = let z : _≡_ {A = ℕ} 0 1 = cc in absurd (omega arith)
@@ -132,7 +132,7 @@ module _ (b : Board) (l : Literal) (n : ℕ) (B : length (b .borders) ≡ 1984) 
       ≡ cond (isAlien b) (Refused Alien)
       (cond (ltb (l .border) (borderCountOf b))
       (cond (eqb (getD (b .borders) (l .border) 0) 0)
-      (cond (ltb n 16384) (Refused Short)
+      (cond (ltb n 1984) (Refused Short)
       (asAnswer (check (puzzleOf pushedCopy) (statesOf pushedCopy))))
       (Refused Taken))
       (Refused Border))

@@ -1,6 +1,6 @@
 // `check`, `preview`, `call`, check and preview on a board's lent arrays, and a call with a tally record.
 ghost use mathlib.Core.Path.{_≡_};
-ghost use Prim.Native.Nat.{_*_, _≤_};
+ghost use Prim.Native.Nat.{_≤_};
 ghost use lib.ListN.{length};
 ghost use Rattle.board.specs.Alien.{boardOf};
 ghost use Rattle.calls.specs.Answers.{asAnswer, written, foundAnswer, foundMemory, ended, steppedBy};
@@ -61,8 +61,8 @@ fn step(r: Returned) -> Stepped
     }
 }
 
-// What a check answers of a board that is not alien, with room in the memory for 14 literals for each cell. The number
-// after a pass is the stored one.
+// What a check answers of a board that is not alien, with a place in the memory for each border. The number after a
+// pass is the stored one.
 pub fn answer_known<'a>(
     h: usize,
     w: usize,
@@ -73,7 +73,7 @@ pub fn answer_known<'a>(
     memory: &mut [u16],
 ) -> Answer
     requires { ⌜ KnownBoard h w (now colours) (now clues) (now borders) undecided
-        × (14 * (h * w) ≤ length (now memory)) ⌝ }
+        × (1984 ≤ length (now memory)) ⌝ }
     ensures { λ r.
         ⌜ (r ≡ asAnswer (foundIn h w (now (colours .entry)) (now (clues .entry)) (now (borders .entry))))
         × (now (memory .exit) ≡ written (now (memory .entry))
@@ -106,7 +106,7 @@ fn answer_tested<'a>(
         × (now (memory .exit) ≡ foundMemory (foundIn h w (now (colours .entry)) (now (clues .entry))
         (now (borders .entry))) (now (memory .entry))) ⌝ }
 {
-    if memory.len() < 16384 {
+    if memory.len() < 1984 {
         return Answer::Refused(Outcome::Short);
     }
     answer_known(h, w, colours, clues, borders, undecided, memory)

@@ -15,10 +15,12 @@ use mathlib.Core.Path.{_≡_}
 use mathlib.Core.Bool.{false}
 use mathlib.Core.Logic.{_↔_}
 use mathlib.Core.List.{List, _∷_, _++_, map}
-use Prim.Native.Nat.{ℕ}
+use Prim.Native.Nat.{ℕ, _≤_}
+use lib.ListN.{length}
+use Rattle.lists.specs.Lists.{Distinct}
 use Rattle.rules.specs.Page.{Puzzle, State, Contains}
 use Rattle.rules.specs.Rules.{Solution}
-use Rattle.rules.specs.Check.{Reason, Verdict, pass, conflict}
+use Rattle.rules.specs.Check.{Reason, Verdict, pass, conflict, bordersNamed}
 use Rattle.rules.specs.Book.{Book, answered, states, tallyAt, bookAfter, replies, tallies}
 use Rattle.argument.specs.Demand.{Full, SameSides, Passes}
 use Rattle.board.specs.declared.Board.{Board}
@@ -86,8 +88,11 @@ pub record Demand3 (start : Board) (Z : Puzzle) (calls : List Lent) : Type 0 whe
   -- sequence decided
   pub stack : (earlier later : List Lent) → calls ≡ earlier ++ later
       → Standing start Z (bookAfter Z (map askedBy earlier)) (boardAfter start earlier)
-  -- 3. each reason handed out held on the board it was handed out on
+  -- 3. each reason handed out held on the board it was handed out on ..
   pub held : (b : Board) (r : Reason) → HandedOut start calls b r → Contains (statesOf b) r
+  -- .. names no border twice, and has at most as many literals as that board has decided borders
+  pub eachOnce : (b : Board) (r : Reason) → HandedOut start calls b r → Distinct (bordersNamed r)
+  pub few : (b : Board) (r : Reason) → HandedOut start calls b r → length r ≤ b .count
   -- 4. a longer list rules out no less
   pub monotone : (more : List Lent) (σ : ℕ → State) → RuledOut start calls σ → RuledOut start (calls ++ more) σ
   -- 5. no solution is ruled out

@@ -10,7 +10,7 @@
 use mathlib.Core.Path.{_≡_, refl, ap, ap₂, sym, subst, _∙_}
 use mathlib.Core.Logic.{_↔_}
 use mathlib.Core.List.{List, [], _∷_, _++_, map, map-append, append-assoc}
-use Prim.Native.Nat.{ℕ}
+use Prim.Native.Nat.{ℕ, _≤_}
 use native.Mathlib.Omega.{arith}
 use lib.IntN.{ℤ}
 use lib.ListN.{length}
@@ -31,7 +31,7 @@ use Rattle.board.specs.Accepted.{Accepted, madeBoard}
 use Rattle.board.specs.View.{puzzleOf, statesOf, literalsOf}
 use Rattle.board.specs.NativeLaws.{native-has}
 use Rattle.board.specs.FreshLaws.{Made, made-is, made-keeps, made-typed}
-use Rattle.board.specs.ViewLaws.{fresh-puzzle, literals-fresh, states-literals}
+use Rattle.board.specs.ViewLaws.{fresh-puzzle, literals-fresh, literals-length, states-literals}
 use Rattle.demand3.specs.Runs.{Lent, lend, askedBy, givenBy, toldBy, lookedOn, boardAfter}
 use Rattle.demand3.specs.Demand3.{Standing, Answered, HandedOut, RuledOut, StoodAt, Demand3}
 use Rattle.demand3.specs.RunLaws.{Built, none, Facts, Bare, built-facts, built-looked, built-after, step-told}
@@ -264,6 +264,14 @@ module _ (start : Board) (S : Bare start) (D : (asked : List Asked) → BookDema
       let e = facts-states start S (literalsOf b) b (answered-facts start S calls a) in
       rw e (D (map askedBy calls) .held (literalsOf b) r (answered-book start S calls a))
 
+  few-named : (calls : List Lent) (b : Board) (r : Reason) → Answered start calls b (conflict r) → length r ≤ b .count
+  few-named calls b r a =
+      omega (
+        arith,
+        D (map askedBy calls) .few (literalsOf b) r (answered-book start S calls a),
+        literals-length b,
+      )
+
   none-ruled : (calls : List Lent) (σ : ℕ → State) → Solution (puzzleOf start) σ → RuledOut start calls σ → ⊥
   none-ruled calls σ s q = D (map askedBy calls) .noSolution σ s (ruled-book start S calls σ q)
 
@@ -279,6 +287,8 @@ module _ (start : Board) (S : Bare start) (D : (asked : List Asked) → BookDema
         records = run-tallies start S freshBook none calls;
         stack = λ earlier later e. stands earlier;
         held = holds calls;
+        eachOnce = λ b r a. D (map askedBy calls) .eachOnce (literalsOf b) r (answered-book start S calls a);
+        few = few-named calls;
         monotone = ruled-longer start calls;
         noSolution = none-ruled calls;
         verdict = verdicts calls;

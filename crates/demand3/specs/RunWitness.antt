@@ -87,16 +87,16 @@ book-stood d earlier call e f =
       sides = λ b h. refl;
     }
 
-book-decided : (d : Side) → BookStood d (map (ask 16384) (deciding d))
+book-decided : (d : Side) → BookStood d (map (ask 1984) (deciding d))
 unfolding flat borderCount bookFrom after doneBook replyTo decideReply checkReply names any
-book-decided d = book-stood d (ask 16384 (Decide (first d)) ∷ []) (ask 16384 Check) refl refl
+book-decided d = book-stood d (ask 1984 (Decide (first d)) ∷ []) (ask 1984 Check) refl refl
 
-book-previewed : (d : Side) → BookStood d (map (ask 16384) (previewing d))
+book-previewed : (d : Side) → BookStood d (map (ask 1984) (previewing d))
 unfolding flat borderCount bookFrom replyTo decideReply checkReply names any
-book-previewed d = book-stood d [] (ask 16384 (Preview (first d))) refl refl
+book-previewed d = book-stood d [] (ask 1984 (Preview (first d))) refl refl
 
-module _ (m : List ℕ) (p : length m ≡ 16384) where
-  side-stood : (d : Side) (calls : List Call) → BookStood d (map (ask 16384) calls)
+module _ (m : List ℕ) (p : length m ≡ 1984) where
+  side-stood : (d : Side) (calls : List Call) → BookStood d (map (ask 1984) calls)
       → StoodAt witnessBoard (map (lend m) calls) (setting d) (found d)
   side-stood d calls s =
       stood-run witnessBoard (start-bare 1 2 cs ks accepted) (map (lend m) calls) (setting d) (found d)
@@ -111,7 +111,7 @@ module _ (m : List ℕ) (p : length m ≡ 16384) where
     pub wall-stood : StoodAt witnessBoard (map (lend m) (calls Wall)) (setting Wall) (found Wall)
     pub wall-ruled : RuledOut witnessBoard (map (lend m) (calls Wall)) (setting Wall)
 
-  witnessed : (calls : Side → List Call) → ((d : Side) → BookStood d (map (ask 16384) (calls d))) → Witnessed calls
+  witnessed : (calls : Side → List Call) → ((d : Side) → BookStood d (map (ask 1984) (calls d))) → Witnessed calls
   witnessed calls stood =
       let D = demand3 1 2 cs ks accepted in
       let s = side-stood Open (calls Open) (stood Open) in

@@ -1,6 +1,6 @@
 -- 01's small boards marked P, through the calls: from making the board on, what each call answers.
 --
---   RunAnswers h w cs ks calls rs   the calls answer rs on that puzzle's board, each with memory for 16,384 literals
+--   RunAnswers h w cs ks calls rs   the calls answer rs on that puzzle's board, each with memory for 1,984 literals
 --   small-clues, asked-lent, run-answers   how that follows from the book
 --   Pair ks calls rs                so they do on 1×2 with the colours 01 and the clues ks
 --   Four calls rs                   so they do on 1×4 with the colours 0011, without clues
@@ -32,7 +32,8 @@ use Rattle.rules.specs.Shapes.{quarters, withQuarter, withFlip, flatTransforms}
 use Rattle.rules.specs.Check.{pass, conflict, check, hitIf, blockClue, insideBlock, insideUnit, edgeOf, sizeOf}
 use Rattle.rules.specs.Check.{coloured, strayFrom, cellHit, cellHits, smallHit, bigHit, clueHit, blockHitOn, blockHit}
 use Rattle.rules.specs.Check.{wallHit, wallHits, touches, adjacent, mates, judge, laid, transformsOf, placements}
-use Rattle.rules.specs.Check.{farWallsAt, farWalls, unitReason, unitHitIn, unitHitOn, unitHit, hit, undecidedCount}
+use Rattle.rules.specs.Check.{farWallsAt, farWalls, unitReason, unitHitIn, unitHitOn, unitHit, hit}
+use Rattle.rules.specs.Check.{once, undecidedCount}
 use Rattle.rules.specs.Flat.{flat, cellAt, rightOf, belowOf, borderCount, hopIf, hopAbove, hopBelow, hopLeft}
 use Rattle.rules.specs.Flat.{hopRight, aroundAt, aheadAt, flatFirst, flatSecond, flatPlace, flatReadsAt, flatReads}
 use Rattle.rules.specs.Book.{Asked, ask, Reply, refused, done, answered, states, names, withoutLast, doneBook}
@@ -47,7 +48,7 @@ use Rattle.demand3.specs.Demand3.{Demand3}
 use Rattle.demand3.specs.Demand3Laws.{demand3}
 
 pub record RunAnswers (h w : ℕ) (cs : List ℕ) (ks : List ℤ) (calls : List Call) (rs : List Reply) : Type 0 where
-  pub answers : (m : List ℕ) → length m ≡ 16384
+  pub answers : (m : List ℕ) → length m ≡ 1984
       → map toldBy (runFrom (madeBoard h w cs ks) (map (lend m) calls)) ≡ rs
 
 pub asked-lent : (m : List ℕ) (calls : List Call) → map askedBy (map (lend m) calls) ≡ map (ask (length m)) calls
@@ -63,7 +64,7 @@ small-clues (k ∷ ks) e (suc i) =
 
 run-answers : {h w : ℕ} {cs : List ℕ} {ks : List ℤ} {calls : List Call} {rs : List Reply}
     → all (λ k. leZ k (pos 2147483647)) ks ≡ true → freshOf h w cs ks .outcome ≡ Done
-    → replies (puzzleIn h w cs ks) (map (ask 16384) calls) ≡ rs → RunAnswers h w cs ks calls rs
+    → replies (puzzleIn h w cs ks) (map (ask 1984) calls) ≡ rs → RunAnswers h w cs ks calls rs
 run-answers {h} {w} {cs} {ks} {calls} s a e =
     record {
       answers =
@@ -142,6 +143,10 @@ pub record SmallRuns : Type 0 where
   -- "border 0 wall, others open: 1o 2o 0w"
   pub four-wall : Four (Decide (wallAt 0) ∷ Decide (openAt 1) ∷ Decide (openAt 2) ∷ Check ∷ [])
       (done ∷ done ∷ done ∷ answered (conflict (openAt 1 ∷ openAt 2 ∷ wallAt 0 ∷ [])) ∷ [])
+  -- 02, No. 4: before striking, 2w 0o 2w; by a preview and by a check
+  pub four-once : Four (Decide (openAt 0) ∷ Preview (wallAt 2) ∷ Decide (wallAt 2) ∷ Check ∷ [])
+      (done ∷ answered (conflict (wallAt 2 ∷ openAt 0 ∷ [])) ∷ done ∷ answered (conflict (wallAt 2 ∷ openAt 0 ∷ []))
+      ∷ [])
   -- "2×2, rows 01 and 01; 0, 2, 3 open, 1 wall: 3o 0o 2o 1w"
   pub wall-in-block : RunAnswers 2 2 (0 ∷ 1 ∷ 0 ∷ 1 ∷ []) (noClue ∷ noClue ∷ noClue ∷ noClue ∷ [])
       (Decide (openAt 0) ∷ Decide (openAt 2) ∷ Decide (openAt 3) ∷ Decide (wallAt 1) ∷ Check ∷ [])
@@ -158,12 +163,12 @@ pub record SmallRuns : Type 0 where
       (answered (conflict (wallAt 0 ∷ [])) ∷ answered (pass 0) ∷ answered (pass 1) ∷ refused 6 ∷ done ∷ refused 7 ∷
       answered (pass 0) ∷ [])
   -- a record that disagrees is 5 before all else; a stale one is such
-  pub lent-answers : (m : List ℕ) → length m ≡ 16384
+  pub lent-answers : (m : List ℕ) → length m ≡ 1984
       → map toldBy (givenOn m)
       ≡ done ∷ refused 5 ∷ answered (conflict (wallAt 0 ∷ [])) ∷ refused 5 ∷ done ∷ answered (pass 0)
       ∷ answered (pass 1) ∷ refused 6 ∷ []
   -- a decide or an undo that is done updates the record; nothing else does
-  pub lent-records : (m : List ℕ) → length m ≡ 16384
+  pub lent-records : (m : List ℕ) → length m ≡ 1984
       → map (λ (g : Given). g .tally) (givenOn m)
       ≡ some (tallyOf 0 1 0) ∷ some (tallyOf 1 0 0) ∷ some (tallyOf 0 1 0) ∷ some (tallyOf 0 0 1)
       ∷ some (tallyOf 1 0 0) ∷ some (tallyOf 1 0 0) ∷ none ∷ some (tallyOf 1 0 0) ∷ []
@@ -174,8 +179,8 @@ unfolding filter any all orElse flatMap firstHit countBelow _⊕_ opposite state
     trace look hunt path apply samePoints insert sort shiftBy normal turned connectionsAt shapeOf withHalf quarters
     withQuarter withFlip flatTransforms check hitIf blockClue insideBlock insideUnit edgeOf sizeOf coloured strayFrom
     cellHit cellHits smallHit bigHit clueHit blockHitOn blockHit wallHit wallHits touches adjacent mates judge laid
-    transformsOf placements farWallsAt farWalls unitReason unitHitIn unitHitOn unitHit hit undecidedCount flat cellAt
-    rightOf belowOf borderCount hopIf hopAbove hopBelow hopLeft hopRight aroundAt aheadAt flatFirst flatSecond
+    transformsOf placements farWallsAt farWalls unitReason unitHitIn unitHitOn unitHit hit once undecidedCount flat
+    cellAt rightOf belowOf borderCount hopIf hopAbove hopBelow hopLeft hopRight aroundAt aheadAt flatFirst flatSecond
     flatPlace flatReadsAt flatReads states names withoutLast doneBook tallyAt decideReply checkReply replyTo after
     repliesFrom talliesFrom freshOf puzzleRefusal sizeRight coloursRight cluesRight allBelow
 small-runs =
@@ -189,6 +194,7 @@ small-runs =
       both-open = run-answers refl refl refl;
       four-passes = run-answers refl refl refl;
       four-wall = run-answers refl refl refl;
+      four-once = run-answers refl refl refl;
       wall-in-block = run-answers refl refl refl;
       refusals = run-answers refl refl refl;
       previews = run-answers refl refl refl;

@@ -2,7 +2,7 @@
 // chunk after chunk as crate transcript puts them.
 //
 // What the chunks are together is proved in crate transcript (specs/PageTheorem, `printed`). Here it is proved that the
-// program is safe, keeps to fixed memory, has room for one byte more than a page has and for 16,384 literals, and ends.
+// program is safe, keeps to fixed memory, has room for one byte more than a page has and for 1,984 literals, and ends.
 // To be read, and tested: that `answer` begins with `first()`, calls `next` on what the last call left, and writes each
 // chunk once. Assumed, since nothing proves C: that `read` and `write` do what POSIX says of them, each returns, and
 // their counts lie within the buffer (kit's library libc); that `io::write_all` writes each byte once and in order is
@@ -47,7 +47,7 @@ fn read_page(page: &mut [u8]) -> Input
 
 // Writes the answers of the page s; false where a write failed. The memory is as long as `printed` asks.
 fn answer(s: &[u8], memory: &mut [u16], out: &mut [u8]) -> bool
-    requires { ⌜ (32 ≤ length (now out)) × (length (now memory) ≡ 16384) ⌝ }
+    requires { ⌜ (32 ≤ length (now out)) × (length (now memory) ≡ 1984) ⌝ }
 {
     let mut run = transcript::first();
     while transcript::goes_on(run) {
@@ -68,7 +68,7 @@ fn main() {
         return;
     }
     let n = input.count;
-    let mut memory = [0u16; 16384];
+    let mut memory = [0u16; 1984];
     let mut out = [0u8; 4096];
     if !answer(&page[..n], &mut memory, &mut out) {
         os::fail(b"standard output");

@@ -9,24 +9,22 @@
 use mathlib.Core.Path.{_≡_, refl, ap, sym, _∙_}
 use mathlib.Core.Bool.{true, false}
 use mathlib.Core.List.{List}
-use Prim.Native.Nat.{ℕ, _*_, _/_, _<_, _≤_}
+use Prim.Native.Nat.{ℕ, _/_, _≤_}
 use native.Mathlib.Omega.{arith}
 use borrow.Author.Tests.{ne-eqb, ltb-true, ltb-false, lt-ltb, le-ltb}
 use lib.IntN.{ℤ}
 use lib.ListN.{length}
-use Rattle.rules.specs.Codes.{statesIn, coloursIn, cluesIn}
 use Rattle.rules.specs.Check.{Verdict, pass, conflict, check}
-use Rattle.argument.specs.FlatDemand.{flat-bound}
 use Rattle.board.specs.declared.Board.{Board}
 use Rattle.board.specs.Alien.{isAlien, boardOf}
 use Rattle.board.specs.View.{puzzleOf, statesOf}
-use Rattle.board.specs.NativeLaws.{native-has}
 use Rattle.calls.specs.declared.Answer.{Answer}
 use Rattle.calls.specs.declared.Answer.the-variants.{Done, Pass, Conflict, Refused}
 use Rattle.calls.specs.Answers.{answerNumber, asAnswer, written, checkAnswer}
 use Rattle.calls.specs.AnswerLaws.{length-written}
 use Rattle.calls.specs.Known.{KnownBoard, foundIn}
 use Rattle.calls.specs.CheckLaws.{same-found}
+use Rattle.calls.specs.CallLaws.{reason-short}
 use Rattle.calls.specs.NumberLaws.{InRange, found-range}
 use Rattle.image.specs.Image.{spelledBoard, rightLength, putCodes, isShort, placeCount, bytesAfter, bytesBy}
 use Rattle.image.specs.Image.{checkNumber}
@@ -69,7 +67,7 @@ module _ (s m : List ℕ) (e : length s ≡ 11082) (b : Board) (q : b ≡ spelle
     pub short-checked : isShort m ≡ true → (9 ≡ checkNumber s m) × (m ≡ checkBytes s m)
     unfolding checkAnswer isShort
     short-checked t =
-        let few = lt-ltb (length m / 2) 16384 (omega (arith, ltb-true (length m) 32768 t)) in
+        let few = lt-ltb (length m / 2) 1984 (omega (arith, ltb-true (length m) 3968 t)) in
         let n : 9 ≡ answerNumber (checkAnswer b (placeCount m)) = rw (a, few) in
         let k : m ≡ bytesBy b m = rw (a, few) in
         (n ∙ number-is, k ∙ bytes-is)
@@ -81,7 +79,7 @@ module _ (s m : List ℕ) (e : length s ≡ 11082) (b : Board) (q : b ≡ spelle
         → (answerNumber (asAnswer found) ≡ checkNumber s m) × (bytesAfter m found ≡ checkBytes s m)
     unfolding checkAnswer isShort
     found-checked t =
-        let many = le-ltb (length m / 2) 16384 (omega (arith, ltb-false (length m) 32768 t)) in
+        let many = le-ltb (length m / 2) 1984 (omega (arith, ltb-false (length m) 3968 t)) in
         let n : answerNumber (asAnswer found)
         ≡ answerNumber (checkAnswer b (placeCount m)) = rw (a, many, same-found b) in
         let k : bytesAfter m found ≡ bytesBy b m = rw (a, many, same-found b) in
@@ -122,7 +120,7 @@ pub record Checks (m codes : List ℕ) (f : Verdict) (a : Answer) : Type 0 where
   pub reason : (n : ℕ) → a ≡ Conflict n → putCodes m codes n ≡ bytesAfter m f
 
 module _ {h w : ℕ} {cs : List ℕ} {ks : List ℤ} {bs : List ℕ} {n : ℕ} (K : KnownBoard h w cs ks bs n) (m before : List ℕ)
-    (room : 14 * (h * w) < length before) where
+    (room : 1984 ≤ length before) where
   abbrev b : Board
   b = boardOf h w cs ks bs (K .stack) (K .count) (K .tally)
 
@@ -135,8 +133,7 @@ module _ {h w : ℕ} {cs : List ℕ} {ks : List ℤ} {bs : List ℕ} {n : ℕ} (
   fit : (g : Verdict) → f ≡ g → AnswerFits (length before) (asAnswer g)
   fit (pass x) e = tt
   fit (conflict r) e =
-      let z = native-has b (K .native) .size in
-      omega (arith, flat-bound h w (omega (arith, z .columns)) (coloursIn cs) (cluesIn ks) (statesIn bs) r e)
+      omega (arith, reason-short b (K .native) r (sym (same-found b) ∙ e), room)
 
   after : (g : Verdict) → f ≡ g → left m (written before g) (asAnswer g) ≡ bytesAfter m g
   after (pass x) e = refl

@@ -7,19 +7,19 @@ use mathlib.Core.Path.{_≡_, refl, ap, ap₂, sym, _∙_}
 use mathlib.Core.Bool.{false}
 use mathlib.Core.List.{List, [], _∷_, _++_, map, List·Memᴰ·head, List·Memᴰ·tail}
 use Prim.Native.Nat.{ℕ, zero, suc, _+_, _*_, _/_, _%_, _<_, _≤_}
-use native.Mathlib.Decide.{decLt}
 use native.Mathlib.Nat.{zero-add}
 use native.Mathlib.Omega.{arith}
-use lib.ListN.{length, drop, length-map, List·getD-eq-default}
+use lib.ListN.{length, drop, length-map}
 use lib.Seq.{sets-eq}
 use Rattle.lists.specs.Lists.{_∈_, flatMap}
 use Rattle.lists.specs.Flats.{length-flat}
 use Rattle.rules.specs.declared.Side.{Side}
 use Rattle.rules.specs.declared.Side.the-variants.{Wall, Open}
 use Rattle.rules.specs.declared.Literal.{Literal}
-use Rattle.rules.specs.Page.{undecided, decided, Contains}
-use Rattle.rules.specs.Codes.{stateOf, statesIn, sideCode, literalCode, put}
+use Rattle.rules.specs.Page.{Contains}
+use Rattle.rules.specs.Codes.{sideCode, literalCode, put}
 use Rattle.rules.specs.Check.{Reason, conflict, check}
+use Rattle.laws.specs.CodeLaws.{decided-below}
 use Rattle.argument.specs.FlatDemand.{flat-holds}
 use Rattle.board.specs.declared.Board.{Board}
 use Rattle.board.specs.Alien.{isAlien}
@@ -74,19 +74,6 @@ module _ (r : Reason) (h : (l : Literal) → l ∈ r → literalCode l < 65536) 
       ∙ ap (λ (l : List ℕ). cs ++ l) (codes-drop (length cs) m)
       ∙ sym (sets-eq cs (codesIn m) 0 (omega arith) ∙ simp zero-add)
 
--- a decided border is one of the board's places
-border-small : (bs : List ℕ) (n : ℕ) (d : Side) → statesIn bs n ≡ decided d → n < length bs
-unfolding statesIn
-border-small bs n d e = go (decLt n (length bs))
-  where
-    go : Dec (n < length bs) → n < length bs
-    go (yes l) = l
-    go (no l) =
-        let z = List·getD-eq-default bs 0 {n = n} (omega arith) in
-        let q : undecided ≡ decided d = sym (ap stateOf z) ∙ e in
-        let y : _≡_ {A = ℕ} 0 1 = cc in
-        absurd (omega arith)
-
 side-small : (d : Side) → sideCode d < 2
 side-small Wall = omega arith
 side-small Open = omega arith
@@ -96,7 +83,7 @@ pub literals-small : (b : Board) → isAlien b ≡ false → Typed b → (r : Re
 unfolding puzzleOf statesOf Contains
 literals-small b t T r e l m =
     let z = native-has b t .size in
-    let k = border-small (b .borders) (l .border) (l .side)
+    let k = decided-below (b .borders) (l .border) (l .side)
     (flat-holds (b .height) (b .width) (omega arith) _ _ (statesOf b) r e l m) in
     let q = T .borders in
     let s = side-small (l .side) in

@@ -26,7 +26,7 @@
 --   imageWritten s ..  the image s with one border, the count, one entry of the stack and the tally rewritten
 --   putCodes m xs n    reason memory with the first n codes of xs written from its start, in two bytes each
 --   putBytes m ls      reason memory beside an image with the literals ls written from its start
---   isShort m          reason memory below 16,384 literals
+--   isShort m          reason memory below 1,984 literals
 --   placeCount m       how many literals reason memory of bytes holds
 --   bytesAfter m f     reason memory of bytes after the answer f of Check
 --   bytesBy b m        reason memory of bytes after a check of the board b
@@ -174,9 +174,9 @@ putCodes m codes n = sets m 0 (flatMap twoBytes (take n codes))
 unfoldable pub putBytes : List ℕ → List Literal → List ℕ
 putBytes m ls = sets m 0 (flatMap twoBytes (map literalCode ls))
 
--- "beside an image, 32,768 bytes"
+-- 02: "below 1,984 literals (3,968 bytes)"
 unfoldable pub isShort : List ℕ → Bool
-isShort m = ltb (length m) 32768
+isShort m = ltb (length m) 3968
 
 -- "In reason memory .. a literal is .. in 2 bytes"
 abbrev pub placeCount : List ℕ → ℕ
@@ -190,7 +190,7 @@ bytesAfter m (conflict ls) = putBytes m ls
 abbrev pub bytesBy : Board → List ℕ → List ℕ
 bytesBy b m =
     cond (isAlien b) m
-    (cond (ltb (placeCount m) 16384) m
+    (cond (ltb (placeCount m) 1984) m
     (bytesAfter m (check (puzzleOf b) (statesOf b))))
 
 -- "the refusal number .. 32 plus the undecided count for a pass; 65,536 plus the literal count for a conflict"

@@ -104,7 +104,7 @@ above n m l e = omega arith
 
 check-else : (b : Board) → isAlien b ≡ false → (n : ℕ) → answerNumber (checkAnswer b n) ≡ 5 → ⊥
 unfolding checkAnswer
-check-else b k n = rw k (go (ltb n 16384) (check (puzzleOf b) (statesOf b)))
+check-else b k n = rw k (go (ltb n 1984) (check (puzzleOf b) (statesOf b)))
   where
     go : (x : Bool) (f : Verdict) → answerNumber (cond x (Refused Short) (asAnswer f)) ≡ 5 → ⊥
     go true f e = eqb-false 9 5 refl e
@@ -116,7 +116,7 @@ unfolding imageAlien checkNumber checkAnswer
 check-alien s m k = go (rightLength s) (isAlien (spelledBoard s)) k
   where
     go : (x y : Bool) → cond x y true ≡ true
-        → cond x (answerNumber (cond y (Refused Alien) (cond (ltb (placeCount m) 16384) (Refused Short)
+        → cond x (answerNumber (cond y (Refused Alien) (cond (ltb (placeCount m) 1984) (Refused Short)
         (asAnswer (check (puzzleOf (spelledBoard s)) (statesOf (spelledBoard s))))))) 5 ≡ 5
     go true true e = refl
     go true false e = absurd (false≢true e)

@@ -78,7 +78,7 @@ module _ (b : Board) (P : Proper b) where
   unfolding checkBytes
   bytes-image m = rw (long-is (imageOf b) (image-long b (P .typed)), board-image b P)
 
-  bytes-known : (m : List ℕ) (f : Verdict) → check (puzzleOf b) (statesOf b) ≡ f → 16384 ≤ placeCount m
+  bytes-known : (m : List ℕ) (f : Verdict) → check (puzzleOf b) (statesOf b) ≡ f → 1984 ≤ placeCount m
       → codesIn (bytesAfter m f) ≡ written (codesIn m) f
   bytes-known m (pass n) e h = refl
   bytes-known m (conflict r) e h =
@@ -88,15 +88,15 @@ module _ (b : Board) (P : Proper b) where
   pub check-codes : (m : List ℕ) → codesIn (checkBytes (imageOf b) m) ≡ checkMemory b (codesIn m)
   unfolding checkMemory
   check-codes m =
-      ap codesIn (bytes-image m) ∙ rw (P .known, length-codes m) (go (ltb (length m / 2) 16384) refl)
+      ap codesIn (bytes-image m) ∙ rw (P .known, length-codes m) (go (ltb (length m / 2) 1984) refl)
     where
       f : Verdict
       f = check (puzzleOf b) (statesOf b)
 
-      go : (x : Bool) → ltb (length m / 2) 16384 ≡ x
+      go : (x : Bool) → ltb (length m / 2) 1984 ≡ x
           → codesIn (cond x m (bytesAfter m f)) ≡ cond x (codesIn m) (written (codesIn m) f)
       go true e = refl
-      go false e = bytes-known m f refl (omega (arith, ltb-false (length m / 2) 16384 e))
+      go false e = bytes-known m f refl (omega (arith, ltb-false (length m / 2) 1984 e))
 
 -- ---- any call
 answer-ended : (o : Outcome) → answerNumber (ended o) ≡ numberOf o

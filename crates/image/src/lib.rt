@@ -2,7 +2,7 @@
 // `dbchoco_check` and `dbchoco_calls`.
 ghost use mathlib.Core.Path.{_≡_};
 ghost use mathlib.Core.Bool.{false};
-ghost use Prim.Native.Nat.{_*_, _<_};
+ghost use Prim.Native.Nat.{_≤_};
 ghost use lib.ListN.{length};
 ghost use Rattle.calls.specs.Answers.{answerNumber, asAnswer};
 ghost use Rattle.calls.specs.Known.{KnownBoard, foundIn};
@@ -37,9 +37,6 @@ pub const LENGTH: usize = 11082;
 const ALIEN: u32 = 5;
 
 const SHORT: u32 = 9;
-
-// The most cells of a small page. A reason has at most 14 literals for each cell and one more: 4,096 codes hold it.
-const SMALL: usize = 256;
 
 // Whether decides and undos cannot produce the image.
 pub fn alien(image: &[u8]) -> bool
@@ -106,7 +103,7 @@ fn answered<'a>(
     codes: &mut [u16],
     memory: &mut [u8],
 ) -> u32
-    requires { ⌜ KnownBoard h w (now colours) (now clues) (now borders) undecided × (14 * (h * w) < length (now codes))
+    requires { ⌜ KnownBoard h w (now colours) (now clues) (now borders) undecided × (1984 ≤ length (now codes))
         × (isShort (now memory) ≡ false) ⌝ }
     ensures number { λ r. ⌜ r ≡ answerNumber (asAnswer (foundIn h w (now (colours .entry)) (now (clues .entry))
         (now (borders .entry)))) ⌝ }
@@ -145,20 +142,7 @@ pub extern "C" fn dbchoco_check(image: &[u8], memory: &mut [u8]) -> u32
     if writing::short(memory) {
         return SHORT;
     }
-    if h * w <= SMALL {
-        let mut codes = [0u16; 4096];
-        return answered(
-            h,
-            w,
-            &b.colours,
-            &b.clues,
-            &b.borders,
-            t.undecided,
-            &mut codes,
-            memory,
-        );
-    }
-    let mut codes = [0u16; 16384];
+    let mut codes = [0u16; Board::BORDER_LIMIT];
     answered(
         h,
         w,

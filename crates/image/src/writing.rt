@@ -12,7 +12,7 @@ use rules::Tally;
 use rules::index;
 
 // The least length of reason memory beside an image.
-const REASON_LENGTH: usize = 32768;
+const REASON_LENGTH: usize = 3968;
 
 // Stores a number in two bytes, low byte first.
 pub fn put_two(s: &mut [u8], k: usize, v: usize)
@@ -44,7 +44,7 @@ pub fn rewrite(s: &mut [u8], n: usize, v: u8, c: usize, i: usize, e: usize, t: T
     put_tally(s, t);
 }
 
-// Whether reason memory beside an image is below 16,384 literals.
+// Whether reason memory beside an image is below 1,984 literals.
 pub fn short(memory: &[u8]) -> bool
     ensures { λ r. ⌜ r ≡ isShort (now (memory .entry)) ⌝ }
 {

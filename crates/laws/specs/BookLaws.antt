@@ -5,7 +5,6 @@
 --   names-table         the borders that a sequence names, by its places
 --   states-all          where each literal of a sequence holds, the borders that it names have their states by it
 --   without-last        taking the last literal off undoes putting it last
---   bordersNamed ls     the borders that a sequence names
 --   Clean Z ls          the sequence names borders of the page, none of them twice
 --   clean-none, clean-with, clean-without   the empty sequence is so; with a literal put last; with the last taken off
 --   decided-mem         a decided border has its literal in the sequence
@@ -44,7 +43,7 @@ use Rattle.rules.specs.declared.Literal.{Literal}
 use Rattle.rules.specs.declared.Call.{Call}
 use Rattle.rules.specs.declared.Call.the-variants.{Decide, Undo, Check, Preview}
 use Rattle.rules.specs.Page.{Puzzle, State, undecided, decided, Has, isUndecided}
-use Rattle.rules.specs.Check.{Verdict, undecidedCount, check}
+use Rattle.rules.specs.Check.{Verdict, bordersNamed, undecidedCount, check}
 use Rattle.rules.specs.Book.{Asked, ask, Reply, refused, done, answered, Book, freshBook, stateIf, states, names}
 use Rattle.rules.specs.Book.{withLast, withoutLast, bareOr, looked, thenReply, doneBook, afterBy, decideReply}
 use Rattle.rules.specs.Book.{checkReply, replyTo, orAlien, disagrees, reply, after, bookFrom, repliesFrom, bookAfter}
@@ -89,9 +88,6 @@ unfolding withoutLast
 without-last [] l = refl
 without-last (a ∷ []) l = refl
 without-last (a ∷ b ∷ ls) l = ap (λ (t : List Literal). a ∷ t) (without-last (b ∷ ls) l)
-
-abbrev pub bordersNamed : List Literal → List ℕ
-bordersNamed ls = map (λ l. l .border) ls
 
 pub record Clean (Z : Puzzle) (ls : List Literal) : Type 0 where
   pub below : (l : Literal) → l ∈ ls → l .border < Z .page .borders
@@ -373,7 +369,7 @@ module _ (Z : Puzzle) (ls : List Literal) where
 
   checked : (ks : List Literal) (n : ℕ) (f : Verdict) → checkReply Z ks n ≡ answered f → check Z (states ks) ≡ f
   unfolding checkReply
-  checked ks n f e = go (ltb n 16384) e
+  checked ks n f e = go (ltb n 1984) e
     where
       go : (b : Bool) → cond b (refused 9) (answered (check Z (states ks))) ≡ answered f → check Z (states ks) ≡ f
       go true q = absurd (not-answered 9 f q)
@@ -422,7 +418,7 @@ module _ (Z : Puzzle) (k : Book) (a : Asked) (f : Verdict) (e : reply Z k a ≡ 
   looked-clean = looks .clean
 
 -- a call with memory that is not short is refused with 6, 7 or 8
-module _ (Z : Puzzle) (m n : ℕ) (l : 16384 ≤ m) where
+module _ (Z : Puzzle) (m n : ℕ) (l : 1984 ≤ m) where
   refused-is : (k : ℕ) → refused k ≡ refused n → n ≡ k
   refused-is k e = cc
 
@@ -437,7 +433,7 @@ module _ (Z : Puzzle) (m n : ℕ) (l : 16384 ≤ m) where
 
   check-refused : (ls : List Literal) → checkReply Z ls m ≡ refused n → ⊥
   unfolding checkReply
-  check-refused ls e = not-answered n (check Z (states ls)) (sym (rw (le-ltb m 16384 l) at e))
+  check-refused ls e = not-answered n (check Z (states ls)) (sym (rw (le-ltb m 1984 l) at e))
 
   call-refused : (ls : List Literal) (c : Call) → replyTo Z ls m c ≡ refused n → n ∈ (6 ∷ 7 ∷ 8 ∷ [])
   unfolding replyTo

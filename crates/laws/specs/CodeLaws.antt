@@ -2,18 +2,19 @@
 --
 --   wall-state, open-state   what a number says
 --   state-wall, state-open   the same in an array
+--   decided-below            a decided border is one of the array's places
 --   side-in, side-of         a decided border's side is told by its number
 --   bit-same                 two colours' numbers
 --   clue-fits                a clue of 32 bits that is not negative is a number of 64 bits
-use mathlib.Core.Path.{_≡_, refl}
+use mathlib.Core.Path.{_≡_, refl, ap, sym, _∙_}
 use mathlib.Core.Bool.{Bool, true, false, cond, Bool·beq}
 use mathlib.Core.List.{List}
-use Prim.Native.Nat.{ℕ, zero, suc, _≤_}
-use native.Mathlib.Decide.{ℕ-discrete}
+use Prim.Native.Nat.{ℕ, zero, suc, _<_, _≤_}
+use native.Mathlib.Decide.{ℕ-discrete, decLt}
 use native.Mathlib.Omega.{arith}
 use borrow.Author.Tests.{ne-eqb}
 use lib.Dec.{eqb, T}
-use lib.ListN.{getD}
+use lib.ListN.{length, getD, List·getD-eq-default}
 use lib.IntN.{ℤ, pos, negsuc, natAbs}
 use lib.Signed.{leZ, nonNeg}
 use mir.Syntax.{w32, w64}
@@ -47,6 +48,18 @@ module _ (bs : List ℕ) (b : ℕ) where
   pub state-open : isOpen (statesIn bs b) ≡ eqb (getD bs b 0) 2
   unfolding statesIn
   state-open = open-state (getD bs b 0)
+
+pub decided-below : (bs : List ℕ) (n : ℕ) (d : Side) → statesIn bs n ≡ decided d → n < length bs
+unfolding statesIn
+decided-below bs n d e = go (decLt n (length bs))
+  where
+    go : Dec (n < length bs) → n < length bs
+    go (yes l) = l
+    go (no l) =
+        let z = List·getD-eq-default bs 0 {n = n} (omega arith) in
+        let q : undecided ≡ decided d = sym (ap stateOf z) ∙ e in
+        let y : _≡_ {A = ℕ} 0 1 = cc in
+        absurd (omega arith)
 
 pub side-in : (d : Side) → sideIn (codeOf d) ≡ d
 side-in Wall = refl

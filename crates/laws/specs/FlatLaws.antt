@@ -1,14 +1,12 @@
 -- Laws of the flat page: its counts and the numbers at a cell, which are products of variables that `omega` does not
 -- find by itself.
 use mathlib.Core.Path.{_≡_, sym, _∙_}
-use mathlib.Core.Bool.{Bool, true, false}
 use Prim.Native.Nat.{ℕ, zero, suc, _+_, _-_, _*_, _/_, _%_, _<_, _≤_}
 use native.Mathlib.Nat.{mul-le-mul-left, mul-le-mul-right, add-mul, le-trans, mul-zero, mod-lt, div-add-mod'}
 use native.Mathlib.Nat.{div-lt-iff-lt-mul}
 use native.Mathlib.Omega.{arith}
 use lib.Arith.{digits-lt, digits-div, digits-mod}
-use lib.ListN.{length}
-use Rattle.rules.specs.Flat.{Sized, hopIf, borderCount}
+use Rattle.rules.specs.Flat.{Sized, borderCount}
 
 -- the page's counts
 pub record Counts (h w : ℕ) : Type 0 where
@@ -84,8 +82,3 @@ row-of h (suc w) c q =
       column = mod-lt c (omega arith);
       same = sym (div-add-mod' c (suc w));
     }
-
-pub hop-le : (v : Bool) (b t : ℕ) → length (hopIf v b t) ≤ 1
-unfolding hopIf
-hop-le true b t = omega arith
-hop-le false b t = omega arith

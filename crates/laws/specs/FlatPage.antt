@@ -9,21 +9,19 @@ use mathlib.Core.Logic.{_⊎_, inl, inr}
 use mathlib.Core.Bool.{not}
 use mathlib.Core.List.{List·Memᴰ·head, List·Memᴰ·tail, List·Memᴰ·not-nil}
 use mathlib.Core.Option.{some, none}
-use Prim.Native.Nat.{ℕ, zero, suc, _+_, _-_, _*_, _/_, _%_, _<_, _≤_}
+use Prim.Native.Nat.{ℕ, zero, suc, _+_, _-_, _*_, _/_, _%_, _<_}
 use native.Mathlib.Numerals.{add-one}
 use native.Mathlib.Omega.{arith}
 use borrow.Author.Tests.{lt-leb}
 use lib.Dec.{T, ltb, leb, ltb→lt, nltb→le}
 use lib.IntN.{pos, negsuc}
-use lib.ListN.{length, length-append}
 use Rattle.lists.specs.Lists.{_∈_}
 use Rattle.lists.specs.ListLaws.{mem-map, map-find}
 use Rattle.lists.specs.Booleans.{and-fails, T-dec}
 use Rattle.rules.specs.Page.{Hop, Point, _⊕_}
 use Rattle.rules.specs.Turns.{apply, flatTable}
-use Rattle.rules.specs.Flat.{hopAbove, hopBelow, hopLeft, hopRight, aheadAt, flat, cellAt, rightOf, belowOf, aroundAt}
+use Rattle.rules.specs.Flat.{flat, cellAt, rightOf, belowOf, aroundAt}
 use Rattle.rules.specs.Flat.{flatPlace, flatReadsAt, flatReads}
-use Rattle.laws.specs.FlatLaws.{hop-le}
 use Rattle.laws.specs.PointLaws.{point-eq}
 use Rattle.laws.specs.PageLaws.{OneStep, sixSteps, at3, Bordered, CellsPlaced, TurnsListed, Moved}
 use Rattle.laws.specs.Links.{Linking, linking-hop, linking-in, linking-reads, linked-bordered, linked-near}
@@ -276,37 +274,3 @@ flat-listed h w =
 pub flat-swaps : (h w : ℕ) → Swaps ((flat h w) .turns)
 unfolding flat
 flat-swaps h w = table-swaps
-
--- a cell has at most two hops ahead, and at most four around
-module _ (h w y x : ℕ) where
-  above-few : length (hopAbove h w y x) ≤ 1
-  unfolding hopAbove
-  above-few = hop-le (ltb 0 y) (belowOf h w (y - 1) x) (cellAt h w (y - 1) x)
-
-  below-few : length (hopBelow h w y x) ≤ 1
-  unfolding hopBelow
-  below-few = hop-le (ltb (y + 1) h) (belowOf h w y x) (cellAt h w (y + 1) x)
-
-  left-few : length (hopLeft h w y x) ≤ 1
-  unfolding hopLeft
-  left-few = hop-le (ltb 0 x) (rightOf h w y (x - 1)) (cellAt h w y (x - 1))
-
-  right-few : length (hopRight h w y x) ≤ 1
-  unfolding hopRight
-  right-few = hop-le (ltb (x + 1) w) (rightOf h w y x) (cellAt h w y (x + 1))
-
-  ahead-two : length (aheadAt h w y x) ≤ 2
-  unfolding aheadAt
-  ahead-two = simp length-append (omega (arith, below-few, right-few))
-
-  around-four : length (aroundAt h w y x) ≤ 4
-  unfolding aroundAt
-  around-four = simp length-append (omega (arith, above-few, below-few, left-few, right-few))
-
-pub flat-ahead : (h w c : ℕ) → length ((flat h w) .ahead c) ≤ 2
-unfolding flat
-flat-ahead h w c = ahead-two h w (c / w) (c % w)
-
-pub flat-around : (h w c : ℕ) → length ((flat h w) .around c) ≤ 4
-unfolding flat
-flat-around h w c = around-four h w (c / w) (c % w)

@@ -26,8 +26,9 @@ pub mod FlatPage
 pub mod RuleLaws
 pub mod LabelLaws
 pub mod GroupLaws
--- Codes, Reasons, Book
+-- Codes, Reasons, Check's each literal once, Book
 pub mod CodeLaws
 pub mod ReasonLaws
 pub mod FlatReasons
+pub mod OnceLaws
 pub mod BookLaws

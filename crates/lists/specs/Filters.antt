@@ -1,11 +1,11 @@
 -- Laws of filters: how long one is, when two are equal, and a filter of the numbers below a bound.
 use mathlib.Core.Path.{_≡_, refl, ap, _∙_}
 use mathlib.Core.Logic.{_⊎_, inl, inr}
-use mathlib.Core.Bool.{Bool, true, false}
+use mathlib.Core.Bool.{Bool, true, false, _&&_}
 use mathlib.Core.List.{List, [], _∷_, _++_, List·Memᴰ·head, List·Memᴰ·tail, List·Memᴰ·not-nil, List·Memᴰ·cases-cons}
-use Prim.Native.Nat.{ℕ, zero, suc, _+_, _≤_, _<_}
+use Prim.Native.Nat.{ℕ, zero, suc, _≤_, _<_}
 use native.Mathlib.Omega.{arith}
-use lib.Dec.{T, eqb, eqb→eq, eqb-refl}
+use lib.Dec.{eqb, eqb→eq, eqb-refl}
 use lib.ListN.{length, length-append}
 use Rattle.lists.specs.Lists.{_∈_, Distinct, keepIf, filter, any, range}
 use Rattle.lists.specs.Count.{bit, countBelow}
@@ -36,24 +36,27 @@ module _ {A : Type 0} where
       go true f (inr n) ih = omega (arith, ih n)
       go false f c ih = omega (arith, length-filter p xs)
 
-  -- two tests that exclude each other
-  pub filter-two : (p q : A → Bool) (xs : List A) → ((x : A) → T (p x) → T (q x) → ⊥)
-      → length (filter p xs) + length (filter q xs) ≤ length xs
-  unfolding filter
-  filter-two p q [] h = omega arith
-  filter-two p q (x ∷ xs) h = go (p x) refl (q x) refl (filter-two p q xs h)
-    where
-      go : (a : Bool) → p x ≡ a → (b : Bool) → q x ≡ b → length (filter p xs) + length (filter q xs) ≤ length xs
-          → length (keepIf a x (filter p xs)) + length (keepIf b x (filter q xs)) ≤ suc (length xs)
-      go true e true f k = absurd (h x (rw e tt) (rw f tt))
-      go true e false f k = omega arith
-      go false e true f k = omega arith
-      go false e false f k = omega arith
-
   pub filter-same : (p q : A → Bool) (xs : List A) → ((x : A) → x ∈ xs → p x ≡ q x) → filter p xs ≡ filter q xs
   unfolding filter
   filter-same p q [] e = refl
   filter-same p q (x ∷ xs) e = rw (e x (List·Memᴰ·head refl), filter-same p q xs (λ y m. e y (List·Memᴰ·tail m)))
+
+  -- all pass
+  pub filter-all : (p : A → Bool) (xs : List A) → ((x : A) → x ∈ xs → p x ≡ true) → filter p xs ≡ xs
+  unfolding filter
+  filter-all p [] e = refl
+  filter-all p (x ∷ xs) e = rw (e x (List·Memᴰ·head refl), filter-all p xs (λ y m. e y (List·Memᴰ·tail m)))
+
+  -- one test after another
+  pub filter-twice : (p q : A → Bool) (xs : List A) → filter p (filter q xs) ≡ filter (λ x. q x && p x) xs
+  unfolding filter
+  filter-twice p q [] = refl
+  filter-twice p q (x ∷ xs) = go (q x) (filter-twice p q xs)
+    where
+      go : (b : Bool) → filter p (filter q xs) ≡ filter (λ y. q y && p y) xs
+          → filter p (keepIf b x (filter q xs)) ≡ keepIf (b && p x) x (filter (λ y. q y && p y) xs)
+      go true h = ap (keepIf (p x) x) h
+      go false h = h
 
   -- none passes
   pub filter-none : (p : A → Bool) (xs : List A) → ((x : A) → x ∈ xs → p x ≡ false) → filter p xs ≡ []

@@ -1,7 +1,7 @@
 -- Laws of flatMap: two functions that agree, one after another, its length, and what stands where in it.
 use mathlib.Core.Path.{_≡_, refl, ap, ap₂, sym, _∙_}
 use mathlib.Core.List.{List, [], _∷_, _++_, map, append-nil, List·Memᴰ·head, List·Memᴰ·tail}
-use Prim.Native.Nat.{ℕ, zero, suc, _+_, _*_, _≤_, _<_}
+use Prim.Native.Nat.{ℕ, zero, suc, _+_, _*_, _<_}
 use native.Mathlib.Nat.{not-suc-le-zero, le-of-suc-le-suc, mul-zero, mul-suc}
 use native.Mathlib.Omega.{arith}
 use lib.ListN.{length, getD, replicate, length-append, replicate-append-replicate, List·getD-append}
@@ -32,34 +32,12 @@ module _ {A B : Type 0} where
   unfolding flatMap
   flat-one f x = append-nil (f x)
 
-  -- one element for each
-  pub flat-each : (f : A → B) (xs : List A) → flatMap (λ x. f x ∷ []) xs ≡ map f xs
-  unfolding flatMap
-  flat-each f [] = refl
-  flat-each f (x ∷ xs) = ap (λ (l : List B). f x ∷ l) (flat-each f xs)
-
   -- one more element, at the end
   pub flat-last : (f : A → List B) (xs : List A) (x : A) → flatMap f (xs ++ (x ∷ [])) ≡ flatMap f xs ++ f x
   flat-last f xs x =
       flat-append f xs (x ∷ []) ∙ ap (λ (l : List B). flatMap f xs ++ l) (flat-one f x)
 
   -- ---- lengths
-  pub flat-le : (f : A → List B) (k : ℕ) (xs : List A) → ((x : A) → x ∈ xs → length (f x) ≤ k)
-      → length (flatMap f xs) ≤ k * length xs
-  unfolding flatMap
-  flat-le f k [] h = omega arith
-  flat-le f k (x ∷ xs) h = let a = h x (List·Memᴰ·head refl) in
-      let b = flat-le f k xs (λ y m. h y (List·Memᴰ·tail m)) in let c = length-append (f x) (flatMap f xs) in
-      let d = mul-suc k (length xs) in omega arith
-
-  pub flat-two : (f g : A → List B) (k : ℕ) (xs : List A) → ((x : A) → length (f x) + length (g x) ≤ k)
-      → length (flatMap f xs) + length (flatMap g xs) ≤ k * length xs
-  unfolding flatMap
-  flat-two f g k [] h = omega arith
-  flat-two f g k (x ∷ xs) h = let a = h x in let b = flat-two f g k xs h in
-      let c = length-append (f x) (flatMap f xs) in let d = length-append (g x) (flatMap g xs) in
-      let e = mul-suc k (length xs) in omega arith
-
   pub length-flat : (f : A → List B) (k : ℕ) (xs : List A) → ((x : A) → x ∈ xs → length (f x) ≡ k)
       → length (flatMap f xs) ≡ k * length xs
   unfolding flatMap

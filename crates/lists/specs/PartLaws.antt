@@ -7,9 +7,8 @@ use native.Mathlib.Numerals.{add-one}
 use native.Mathlib.Omega.{arith}
 use lib.ListN.{length, getD, set, drop, length-take, length-drop, drop-of-length-le}
 use lib.Seq.{drop-cons, take-add, drop-drop, take-nil, take-all, length-take-le, drop-set-lt}
-use Rattle.lists.specs.Lists.{any, all, flatMap}
+use Rattle.lists.specs.Lists.{any, all}
 use Rattle.lists.specs.Parts.{part}
-use Rattle.lists.specs.Appends.{flat-append}
 
 module _ {A : Type 0} where
   -- ---- nothing: a part that ends before it starts, and one that starts past the end
@@ -94,10 +93,3 @@ module _ (f : ℕ → Bool) (l : List ℕ) (i to : ℕ) {whole : Bool} (inv : wh
     pub all-next : f (getD l i 0) ≡ true → whole ≡ all f (part l (i + 1) to)
     unfolding all
     all-next e = inv ∙ rw (part-next l i to q r, e)
-
--- what a part gives: what stands before a number gives, what it gives, and the rest
-pub flat-whole : {A : Type 0} (f : ℕ → List A) (l : List ℕ) (from i to : ℕ) → from ≤ i → i < to → to ≤ length l
-    → flatMap f (part l from to) ≡ flatMap f (part l from i) ++ (f (getD l i 0) ++ flatMap f (part l (i + 1) to))
-unfolding flatMap
-flat-whole f l from i to h q r =
-    rw (part-split l from i to h (omega arith), flat-append f, part-next l i to q r)

@@ -1,17 +1,15 @@
--- Laws of WroteAs: nothing written, one element, one list after another, what place is next, and loops.
+-- Laws of WroteAs: nothing written, one element, one list after another, what place is next, and a loop.
 use mathlib.Core.Path.{_≡_, refl, ap, _∙_}
 use mathlib.Core.List.{List, [], _∷_, _++_}
-use Prim.Native.Nat.{ℕ, _+_, _*_, _<_, _≤_}
+use Prim.Native.Nat.{ℕ, _+_, _*_}
 use native.Mathlib.Omega.{arith}
-use lib.ListN.{length, getD, length-append}
+use lib.ListN.{length, length-append}
 use lib.Seq.{sets, length-sets}
 use Rattle.lists.specs.Lists.{flatMap}
-use Rattle.lists.specs.Parts.{part}
 use Rattle.lists.specs.UpTo.{upTo}
 use Rattle.lists.specs.Wrote.{WroteAs}
 use Rattle.lists.specs.Appends.{flat-append}
-use Rattle.lists.specs.Flats.{length-flat, flat-one, flat-last}
-use Rattle.lists.specs.PartLaws.{part-none, part-more}
+use Rattle.lists.specs.Flats.{length-flat, flat-one}
 use Rattle.lists.specs.Stores.{sets-append}
 use Rattle.lists.specs.UpToLaws.{up-none, up-more}
 
@@ -65,20 +63,3 @@ module _ {A B : Type 0} {code : A → List B} where
     module _ (k : ℕ) {m′ : List B} {j : ℕ} (a : WroteAs code m i (upTo f k) m′ j) where
       pub loop-more : {m″ : List B} {l : ℕ} → WroteAs code m′ j (f k) m″ l → WroteAs code m i (upTo f (k + 1)) m″ l
       loop-more b = rw (up-more f k) (wrote-more a b)
-
-      pub loop-end : (n : ℕ) → k ≤ n → n ≤ k → WroteAs code m i (upTo f n) m′ j
-      loop-end n p q = let e : k ≡ n = omega arith in rw e at a
-
-  -- a loop over a part of a list, that writes what each element gives
-  module _ (f : ℕ → List A) (l : List ℕ) {m : List B} {a : ℕ} where
-    pub write-none : (from : ℕ) → WroteAs code m a (flatMap f (part l from from)) m a
-    unfolding flatMap
-    write-none from = rw (part-none l from from (omega arith)) (wrote-none m a)
-
-    pub write-more : (from i : ℕ) → from ≤ i → {m′ : List B} {b : ℕ}
-        → WroteAs code m a (flatMap f (part l from i)) m′ b → i < length l
-        → {m″ : List B} {c : ℕ} → WroteAs code m′ b (f (getD l i 0)) m″ c
-        → WroteAs code m a (flatMap f (part l from (i + 1))) m″ c
-    write-more from i h w q v =
-        rw (part-more l from i h q, flat-last f (part l from i) (getD l i 0))
-        (wrote-more w v)

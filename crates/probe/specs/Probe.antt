@@ -6,12 +6,10 @@
 --   probeFits h w room    h and w are a page's, and the memory has 16,384 places
 --   kindOf k              the kind of groups with the number k: blocks, units, potential units
 --   kindGroups h w cs bs k   the groups of that kind, for lists of colours and borders
---   reasonWords ..        Inside(G) (open) or Edge(G) (wall) of the group g, as literal codes
---   pathWords ..          Path(a, b), as literal codes
---   ProbeWritten m ws m′ r     the words ws were written into the memory m from its start: m′ is the memory afterwards,
---                              and
---                         r their number
---   ProbeAnswered h w m ws m′ r   the same where the call fits; otherwise m′ is m, and r is 65,535
+--   reasonWords ..        Inside(G) (open) or Edge(G) (wall) of the group g, each literal once, as literal codes
+--   pathWords ..          Path(a, b), each literal once, as literal codes
+--   ProbeAnswered h w m ws m′ r   where the call fits, the words ws were written into the memory m from its start:
+--                         m′ is the memory afterwards, and r their number; otherwise m′ is m, and r is 65,535
 use mathlib.Core.Path.{_≡_}
 use mathlib.Core.Bool.{Bool, _&&_, cond}
 use mathlib.Core.List.{List, map}
@@ -24,6 +22,7 @@ use Rattle.rules.specs.declared.Side.{Side}
 use Rattle.rules.specs.Flat.{flat}
 use Rattle.rules.specs.Codes.{literalCode}
 use Rattle.rules.specs.Groups.{entry}
+use Rattle.rules.specs.Check.{once}
 use Rattle.board.specs.declared.Board.{Board}
 use Rattle.board.specs.Alien.{cellsOf}
 use Rattle.board.specs.Board.{zeroBoard}
@@ -53,14 +52,11 @@ module _ (h w : ℕ) (cs bs : List ℕ) (k : ℕ) where
   kindGroups = groupsOf (flat h w) (joinsIn (kindOf k) h w (placesOf 1024 cs) (placesOf 1984 bs))
 
   unfoldable pub reasonWords : Side → ℕ → List ℕ
-  reasonWords side g = map literalCode (groupReason h w (placesOf 1024 cs) (placesOf 1984 bs) (kindGroups .ids) side g)
+  reasonWords side g =
+      map literalCode (once (groupReason h w (placesOf 1024 cs) (placesOf 1984 bs) (kindGroups .ids) side g))
 
 unfoldable pub pathWords : ℕ → ℕ → List ℕ → ℕ → ℕ → List ℕ
-pathWords h w bs a b = map literalCode (pathIn h w (placesOf 1984 bs) a b)
-
-pub record ProbeWritten (m words after : List ℕ) (r : ℕ) : Type 0 where
-  pub memory : after ≡ sets m 0 words
-  pub count : r ≡ length words
+pathWords h w bs a b = map literalCode (once (pathIn h w (placesOf 1984 bs) a b))
 
 pub record ProbeAnswered (h w : ℕ) (m words after : List ℕ) (r : ℕ) : Type 0 where
   pub memory : after ≡ cond (probeFits h w (length m)) (sets m 0 words) m

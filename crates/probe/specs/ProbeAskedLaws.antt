@@ -19,7 +19,7 @@ use Rattle.groups.specs.Grouping.{cellsIn, startIn, groupCells}
 use Rattle.groups.specs.Parts.{partFrom}
 use Rattle.image.specs.Image.{rightLength, spelledBoard}
 use Rattle.image.specs.RoundLaws.{long-is}
-use Rattle.probe.specs.Probe.{ProbeWritten}
+use Rattle.reasons.specs.Memory.{WordsWritten}
 use Rattle.probe.specs.ProbeAsked.{askedIn, partIn, AskedTold}
 
 -- ---- the two cases of an image's length
@@ -64,7 +64,7 @@ module _ {f n : ℕ} {m words : List ℕ} (e : n ≡ f) where
       let z = eq-eqb f 0 (sym e ∙ h) in
       record { memory = rw (z, lt-leb 16384 (length m) l); number = rw (z, lt-leb 16384 (length m) l) }
 
-  pub told-words : {after : List ℕ} {r : ℕ} → n ≡ 0 → 16384 ≤ length m → ProbeWritten m words after r
+  pub told-words : {after : List ℕ} {r : ℕ} → n ≡ 0 → 16384 ≤ length m → WordsWritten m words after r
       → AskedTold f m words after r
   told-words h l w =
       let z = eq-eqb f 0 (sym e ∙ h) in

@@ -1,44 +1,47 @@
--- Laws of the probes: the two cases of an image's length, the lengths of their arrays and words, a group, and the two
--- cases of an answer.
+-- Laws of the probes: the two cases of an image's length, the lengths of their arrays, what is handed out, a group, and
+-- the two cases of an answer.
 use mathlib.Core.Path.{_≡_, refl}
+use mathlib.Core.Logic.{_⊎_, inl, inr}
 use mathlib.Core.Bool.{Bool, true, false, _&&_, cond}
 use mathlib.Core.List.{List, [], map}
 use Prim.Native.Nat.{ℕ, _*_, _<_, _≤_}
 use native.Mathlib.Omega.{arith}
-use native.Mathlib.Nat.{le-trans}
 use lib.Dec.{leb}
 use borrow.Author.Tests.{leb-true, ne-eqb}
-use lib.ListN.{length, length-map}
+use lib.ListN.{length, take, replicate}
 use Rattle.rules.specs.declared.Side.{Side}
 use Rattle.rules.specs.declared.Side.the-variants.{Wall, Open}
 use Rattle.rules.specs.declared.Literal.{Literal}
 use Rattle.rules.specs.Flat.{Sized, flat}
-use Rattle.rules.specs.Codes.{literalCode, put}
+use Rattle.rules.specs.Page.{State, Contains}
+use Rattle.rules.specs.Codes.{literalCode, statesIn, unclued}
+use Rattle.rules.specs.Check.{once}
 use Rattle.lists.specs.Lists.{flatMap}
+use Rattle.lists.specs.Arithmetic.{le-or-lt}
 use Rattle.lists.specs.TableLaws.{length-table}
 use Rattle.rules.specs.Groups.{entry, groupCount, members}
 use Rattle.rules.specs.Reasons.{inside, edge}
-use Rattle.rules.specs.Codes.{statesIn, coloursIn}
 use Rattle.laws.specs.FlatLaws.{counts}
 use Rattle.laws.specs.GroupLaws.{members-none}
-use Rattle.laws.specs.FlatReasons.{flat-inside-le, flat-edge-le, flat-path-le}
+use Rattle.laws.specs.FlatReasons.{bordered}
+use Rattle.argument.specs.Held.{held-nil, held-inside, held-edge, held-path}
 use Rattle.board.specs.Alien.{sizeRight, cellsOf}
 use Rattle.board.specs.Board.{zeroBoard}
 use Rattle.board.specs.ConditionLaws.{sized}
 use Rattle.groups.specs.Kinds.{joinsIn}
 use Rattle.groups.specs.Grouping.{countIn, Filled}
 use Rattle.groups.specs.Parts.{groupsOf}
-use Rattle.groups.specs.PartLaws.{ids-entry, members-cells}
-use Rattle.groups.specs.SortLaws.{cells-length, size-le}
+use Rattle.groups.specs.PartLaws.{ids-entry}
 use Rattle.reasons.specs.GroupReasons.{group-at}
 use Rattle.reasons.specs.Arrays.{GroupAt, groupReason, insideIn, edgeIn}
-use Rattle.reasons.specs.Memory.{Wrote}
-use Rattle.reasons.specs.MemoryLaws.{wrote-put, wrote-next}
+use Rattle.reasons.specs.Memory.{Wrote, WordsWritten}
+use Rattle.reasons.specs.MemoryLaws.{once-handed}
+use Rattle.reasons.specs.PathLaws.{path-off-a, path-off-b}
 use Rattle.reasons.specs.Search.{pathIn}
 use Rattle.image.specs.Image.{rightLength, spelledBoard}
 use Rattle.image.specs.RoundLaws.{long-is}
 use Rattle.probe.specs.Probe.{boardFrom, placesOf, probeFits, kindOf, kindGroups, reasonWords}
-use Rattle.probe.specs.Probe.{ProbeWritten, ProbeAnswered}
+use Rattle.probe.specs.Probe.{ProbeAnswered}
 
 pub from-other : (s : List ℕ) → (length s ≡ 11082 → ⊥) → zeroBoard ≡ boardFrom s
 unfolding boardFrom rightLength
@@ -79,16 +82,15 @@ module _ {h w : ℕ} {m words : List ℕ} where
   pub unfit : probeFits h w (length m) ≡ false → ProbeAnswered h w m words m 65535
   unfit e = record { memory = rw e; count = rw e }
 
-  pub done : {after : List ℕ} {r : ℕ} → probeFits h w (length m) ≡ true → ProbeWritten m words after r
+  pub done : {after : List ℕ} {r : ℕ} → probeFits h w (length m) ≡ true → WordsWritten m words after r
       → ProbeAnswered h w m words after r
   done e a = record { memory = rw e (a .memory); count = rw e (a .count) }
 
--- literals from the start of the memory
-pub literals : {m after : List ℕ} {r : ℕ} {ls : List Literal} → Wrote m 0 ls after r
-    → ProbeWritten m (map literalCode ls) after r
-unfolding put
-literals {ls = ls} a =
-    record { memory = wrote-put a; count = omega (arith, wrote-next a, length-map ls literalCode) }
+-- what stands in working memory is handed out: each literal once
+pub literals : (bs : List ℕ) {r : List Literal} → Contains (statesIn (placesOf 1984 bs)) r
+    → {m work after : List ℕ} {n k : ℕ} → Wrote (replicate 3968 0) 0 r work n
+    → WordsWritten m (take n work) after k → WordsWritten m (map literalCode (once r)) after k
+literals bs {r} c w = once-handed (placesOf 1984 bs) (places-length 1984 bs) r c w
 
 -- a page's groups
 module _ {h w : ℕ} (z : Sized h w) (cs bs : List ℕ) (k : ℕ) where
@@ -121,33 +123,28 @@ module _ {h w : ℕ} (z : Sized h w) (cs bs : List ℕ) (k : ℕ) where
       rw (ids-entry (flat h w) link some small) (members-none (flat h w) link g (omega (arith, count-is)))
 
   pub no-reason : (side : Side) (g : ℕ) → kindGroups h w cs bs k .count ≤ g → reasonWords h w cs bs k side g ≡ []
-  unfolding reasonWords insideIn edgeIn inside edge flatMap
+  unfolding reasonWords insideIn edgeIn inside edge flatMap once
   no-reason Wall g l = rw (no-members g l)
   no-reason Open g l = rw (no-members g l)
 
-  members-few : (g : ℕ) → length (members (flat h w) (entry (kindGroups h w cs bs k .ids)) g) ≤ 1024
-  members-few g =
-      let number = entry (kindGroups h w cs bs k .ids) in
-      rw (members-cells (flat h w) number g)
-      (omega (arith, cells-length number (flat h w .cells) g, size-le number (flat h w .cells) g, small))
-
-  pub reason-few : (side : Side) (g : ℕ)
-      → length (groupReason h w (placesOf 1024 cs) (placesOf 1984 bs) (kindGroups h w cs bs k .ids) side g) ≤ 4096
+  -- Inside and Edge hold on their board
+  pub reason-held : (side : Side) (g : ℕ)
+      → Contains (statesIn (placesOf 1984 bs))
+      (groupReason h w (placesOf 1024 cs) (placesOf 1984 bs) (kindGroups h w cs bs k .ids) side g)
   unfolding insideIn edgeIn
-  reason-few Wall g =
-      omega (
-        arith,
-        members-few g,
-        flat-edge-le h w (statesIn (placesOf 1984 bs)) (entry (kindGroups h w cs bs k .ids)) g
-            (coloursIn (placesOf 1024 cs)),
-      )
-  reason-few Open g =
-      omega (
-        arith,
-        members-few g,
-        flat-inside-le h w (statesIn (placesOf 1984 bs)) (entry (kindGroups h w cs bs k .ids)) g,
-      )
+  reason-held Wall g = held-edge (unclued h w (placesOf 1024 cs)) (bordered z) (statesIn (placesOf 1984 bs)) _ g
+  reason-held Open g = held-inside (unclued h w (placesOf 1024 cs)) (bordered z) (statesIn (placesOf 1984 bs)) _ g
 
-pub path-few : {h w : ℕ} → Sized h w → (bs : List ℕ) (a b : ℕ) → length (pathIn h w bs a b) ≤ 1024
-unfolding pathIn
-path-few z bs a b = le-trans (flat-path-le z (statesIn bs) a b) (counts z .cells)
+-- so does Path
+pub path-held : {h w : ℕ} → Sized h w → (bs : List ℕ) (a b : ℕ)
+    → Contains (statesIn (placesOf 1984 bs)) (pathIn h w (placesOf 1984 bs) a b)
+unfolding pathIn flat
+path-held {h} {w} z bs a b = go (le-or-lt (h * w) a) (le-or-lt (h * w) b)
+  where
+    s : ℕ → State
+    s = statesIn (placesOf 1984 bs)
+
+    go : (h * w ≤ a) ⊎ (a < h * w) → (h * w ≤ b) ⊎ (b < h * w) → Contains s (pathIn h w (placesOf 1984 bs) a b)
+    go (inl p) y = rw (path-off-a h w (placesOf 1984 bs) a b p) (held-nil (unclued h w []) (bordered z) s)
+    go (inr p) (inl q) = rw (path-off-b h w (placesOf 1984 bs) a b q) (held-nil (unclued h w []) (bordered z) s)
+    go (inr p) (inr q) = held-path (unclued h w []) (bordered z) s a b p q

@@ -11,11 +11,11 @@ ghost use Rattle.probe.specs.ProbeAsked.{whichOf, askedIn, partIn, Asked
 use crate::ROOM;
 use crate::UNFIT;
 use crate::kind_of;
-use crate::write;
 use board::Board;
 use groups::BoardGroups;
 use groups::Kind;
 use groups::Which;
+use reasons::hand_out;
 
 // 0 is the unit list, any other number the potential list.
 fn which_of(which: u32) -> Which
@@ -55,7 +55,7 @@ pub extern "C" fn probe_asked(s: &[u8], kind: u32, memory: &mut [u16]) -> usize
         return UNFIT;
     }
     let grouping = a.groups;
-    write(memory, &grouping)
+    hand_out(memory, &grouping)
 }
 
 // The cells of group g of the units or of the potential units, each given as a grouping.
@@ -89,5 +89,5 @@ pub extern "C" fn probe_part(s: &[u8], which: u32, g: usize, memory: &mut [u16])
     let units = a.groups;
     let potential = b.groups;
     let cells = part_in(&units, &potential, which_of(which), g);
-    write(memory, cells)
+    hand_out(memory, cells)
 }

@@ -10,11 +10,14 @@ ghost use Rattle.rules.specs.Groups.{entry};
 ghost use Rattle.groups.specs.Grouping.{arrayOf, Filled};
 ghost use Rattle.probe.specs.Probe.{boardFrom, placesOf, probeFits, kindOf, kindGroups};
 ghost use Rattle.image.specs.Image.{sideOf};
-ghost use Rattle.probe.specs.Probe.{reasonWords, pathWords, ProbeWritten, ProbeAnswered};
+ghost use Rattle.probe.specs.Probe.{reasonWords, pathWords, ProbeAnswered};
+ghost use Rattle.reasons.specs.Memory.{WordsWritten};
 use board::Board;
 use groups::Grouping;
 use groups::Kind;
 use groups::count_of;
+use reasons::WORK_LENGTH;
+use reasons::hand_out;
 
 mod asked; // asked.rt: the groups asked of a board, and their parts
 mod checks; // checks.rt: many checks in one call
@@ -77,19 +80,6 @@ fn borders_in(s: &[u8]) -> [u8; Board::BORDER_LIMIT]
     out
 }
 
-// Writes the words from the start of the memory; gives how many they are.
-fn write(memory: &mut [u16], words: &[u16]) -> usize
-    requires { ⌜ length (now words) ≤ length (now memory) ⌝ }
-    ensures { λ r. ⌜ ProbeWritten (now (memory .entry)) (now (words .entry)) (now (memory .exit)) r ⌝ }
-{
-    let mut i: usize = 0;
-    while i < words.len() {
-        memory[i] = words[i];
-        i += 1;
-    }
-    i
-}
-
 // Whether the size is a page's, and the memory is large enough.
 fn fits(h: usize, w: usize, room: usize) -> bool
     ensures { λ r. ⌜ r ≡ probeFits h w room ⌝ }
@@ -123,7 +113,7 @@ fn grouped(h: usize, w: usize, colours: &[u8], borders: &[u8], kind: u32) -> Gro
     groups::groups_of(h, w, &c, &b, kind_of(kind))
 }
 
-// Writes Inside (side 0) or Edge (any other side) of the group with that number.
+// Writes Inside (side 0) or Edge (any other side) of the group with that number, each border once.
 fn put_reason(
     memory: &mut [u16],
     h: usize,
@@ -135,7 +125,7 @@ fn put_reason(
     group: usize,
 ) -> usize
     requires { ⌜ Sized h w × (16384 ≤ length (now memory)) ⌝ }
-    ensures { λ r. ⌜ ProbeWritten (now (memory .entry))
+    ensures { λ r. ⌜ WordsWritten (now (memory .entry))
         (reasonWords h w (now (colours .entry)) (now (borders .entry)) kind
         (sideOf side) group) (now (memory .exit)) r ⌝ }
 {
@@ -144,21 +134,26 @@ fn put_reason(
         return 0;
     }
     let b = borders_in(borders);
+    let mut work = [0u16; WORK_LENGTH];
     if side == 0 {
-        return reasons::inside(memory, 0, h, w, &b, &grouping, group);
+        let n = reasons::inside(&mut work, 0, h, w, &b, &grouping, group);
+        return hand_out(memory, &work[..n]);
     }
     let c = colours_in(colours);
-    reasons::edge(memory, 0, h, w, &c, &b, &grouping, group)
+    let n = reasons::edge(&mut work, 0, h, w, &c, &b, &grouping, group);
+    hand_out(memory, &work[..n])
 }
 
-// Writes the path from cell a to cell b.
+// Writes the path from cell a to cell b, each border once.
 fn put_path(memory: &mut [u16], h: usize, w: usize, borders: &[u8], a: usize, b: usize) -> usize
     requires { ⌜ Sized h w × (16384 ≤ length (now memory)) ⌝ }
-    ensures { λ r. ⌜ ProbeWritten (now (memory .entry)) (pathWords h w (now (borders .entry)) a b) (now (memory .exit))
+    ensures { λ r. ⌜ WordsWritten (now (memory .entry)) (pathWords h w (now (borders .entry)) a b) (now (memory .exit))
         r ⌝ }
 {
     let states = borders_in(borders);
-    reasons::paths::path(memory, 0, h, w, &states, a, b)
+    let mut work = [0u16; WORK_LENGTH];
+    let n = reasons::paths::path(&mut work, 0, h, w, &states, a, b);
+    hand_out(memory, &work[..n])
 }
 
 // The groups of one kind, as they stand in a grouping: the cells' numbers (1,024 places), the cells group by group
@@ -177,7 +172,7 @@ pub extern "C" fn probe_groups(
 {
     if fits(h, w, memory.len()) {
         let grouping = grouped(h, w, colours, borders, kind);
-        return write(memory, &grouping);
+        return hand_out(memory, &grouping);
     }
     UNFIT
 }

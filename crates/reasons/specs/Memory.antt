@@ -1,12 +1,61 @@
--- Reason memory: what a function that writes literals says of it.
+-- Working memory of a reason: what a function that writes literals says of it. It has 1,984 places for the numbers of
+-- the literals, then one place for each border, which is 0 until the border is named.
 --
---   Wrote m from ls after next   the literals ls were written into m from the place `from`, each as its number: `after`
---                                is the memory afterwards, and `next` the place after the last of them
+--   Work                working memory, and the place of the next literal
+--   workAt m i          the working memory m, with the next literal at the place i
+--   namedIn m b         the border b is named in m
+--   namedBy p l         p with the literal l written and its border named; p as it is where the border is named
+--   namedAll p ls       p with the literals ls, one after another
+--   unnamed m           how many borders are not named
+--   Spare m at          m is whole, and before the borders there is a place from `at` on for each border not named
+--   Wrote m from ls after next   the literals ls were written into m from the place `from`, each border once: `after`
+--                       is the memory afterwards, and `next` the next place
+--   WordsWritten m words after r   the words were written into the lent memory m from its start: `after` is the memory
+--                       afterwards, and r their number
+use mathlib.Core.Path.{_≡_}
+use mathlib.Core.Bool.{Bool, cond, not}
 use mathlib.Core.List.{List, [], _∷_}
-use Prim.Native.Nat.{ℕ}
-use Rattle.lists.specs.Wrote.{WroteAs}
+use Prim.Native.Nat.{ℕ, _+_, _≤_}
+use lib.Dec.{eqb}
+use lib.ListN.{length, getD, set}
+use lib.Seq.{sets}
+use Rattle.lists.specs.Count.{countBelow}
 use Rattle.rules.specs.declared.Literal.{Literal}
 use Rattle.rules.specs.Codes.{literalCode}
 
-abbrev pub Wrote : List ℕ → ℕ → List Literal → List ℕ → ℕ → Type 0
-Wrote m from ls after next = WroteAs (λ l. literalCode l ∷ []) m from ls after next
+pub record Work : Type 0 where
+  pub memory : List ℕ
+  pub next : ℕ
+
+abbrev pub workAt : List ℕ → ℕ → Work
+workAt m i = record { memory = m; next = i }
+
+unfoldable pub namedIn : List ℕ → ℕ → Bool
+namedIn m b = not (eqb (getD m (1984 + b) 0) 0)
+
+-- "A reason keeps the first of equal literals and drops later ones"
+unfoldable pub namedBy : Work → Literal → Work
+namedBy p l =
+    cond (namedIn (p .memory) (l .border)) p
+    (workAt (set (set (p .memory) (1984 + l .border) 1) (p .next) (literalCode l)) (p .next + 1))
+
+unfoldable pub namedAll : Work → List Literal → Work
+namedAll p [] = p
+namedAll p (l ∷ ls) = namedAll (namedBy p l) ls
+
+unfoldable pub unnamed : List ℕ → ℕ
+unnamed m = countBelow 1984 (λ b. not (namedIn m b))
+
+pub record Spare (m : List ℕ) (at : ℕ) : Type 0 where
+  pub long : length m ≡ 3968
+  pub room : at + unnamed m ≤ 1984
+
+pub record Wrote (m : List ℕ) (from : ℕ) (ls : List Literal) (after : List ℕ) (next : ℕ) : Type 0 where
+  pub is : workAt after next ≡ namedAll (workAt m from) ls
+  pub long : length after ≡ length m
+  pub spare : Spare after next
+
+-- "writes its literals from the start of the memory and nothing beyond"
+pub record WordsWritten (m words after : List ℕ) (r : ℕ) : Type 0 where
+  pub memory : after ≡ sets m 0 words
+  pub count : r ≡ length words

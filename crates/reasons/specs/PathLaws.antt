@@ -7,21 +7,20 @@ use native.Mathlib.Numerals.{add-one}
 use native.Mathlib.Omega.{arith}
 use borrow.Author.Tests.{eq-eqb, ne-eqb, lt-ltb, le-ltb}
 use lib.Dec.{ltb}
-use lib.ListN.{length, getD, set, length-append, length-set, replicate, getD-replicate, length-replicate}
+use lib.ListN.{length, getD, set, length-set, replicate, getD-replicate, length-replicate}
 use lib.Seq.{slice, slice-cons, slice-empty, getD-set-same, getD-set-other}
 use Rattle.lists.specs.Lists.{any}
 use Rattle.lists.specs.Booleans.{and-fails, false-true}
 use Rattle.lists.specs.CountLaws.{count-none, count-le}
 use Rattle.lists.specs.Arithmetic.{if-same}
 use Rattle.lists.specs.Stores.{slice-push}
-use Rattle.lists.specs.WroteLaws.{wrote-none, wrote-more, wrote-length}
 use Rattle.rules.specs.declared.Literal.{Literal}
 use Rattle.rules.specs.Page.{Page, State, Hop, isOpen, openAt}
 use Rattle.rules.specs.Flat.{flat}
 use Rattle.rules.specs.Codes.{statesIn}
 use Rattle.rules.specs.Reasons.{Found, Search, isFound, visitIf, look, hunt, trace, path}
-use Rattle.reasons.specs.Memory.{Wrote}
-use Rattle.reasons.specs.MemoryLaws.{wrote-next}
+use Rattle.reasons.specs.Memory.{Spare, Wrote}
+use Rattle.reasons.specs.MemoryLaws.{naming-none, naming-more}
 use Rattle.reasons.specs.Arrays.{isFlagged}
 use Rattle.reasons.specs.Search.{pathIn, Lined, Holds, Looked, Ended}
 use Rattle.reasons.specs.SearchLaws.{trace-other, found-other, count-set, unflagged}
@@ -175,9 +174,17 @@ module _ (h w : ℕ) (bs : List ℕ) (a : ℕ) where
       }
 
 module _ {h w : ℕ} {bs : List ℕ} {a head : ℕ} {Q P O F : List ℕ} {tail : ℕ} (g : Going h w bs a head Q P O F tail) where
+  -- the way back of a cell that is found stays
+  found-way : (c : ℕ) → c < h * w → getD F c 0 ≡ 1 → trace (g .searched .found) c ≡ pathIn h w bs a c
+  unfolding isFlagged
+  found-way c hc e =
+      sym
+      (hunt-keeps a (flat h w) (statesIn bs) (h * w - head) (g .searched .queue) (g .searched .found) c
+      (g .holds .flag c hc ∙ eq-eqb _ _ e))
+      ∙ rw (path-is h w bs a c (g .holds .inside) hc) (ap (λ (f : List Found). trace f c) (g .rest))
+
   -- b is found
   pub end-early : (b : ℕ) → b < h * w → getD F b 0 ≡ 1 → Ended h w bs a b P O F
-  unfolding isFlagged
   end-early b hb e =
       record {
         Q = Q;
@@ -186,11 +193,8 @@ module _ {h w : ℕ} {bs : List ℕ} {a head : ℕ} {Q P O F : List ℕ} {tail :
         searched = g .searched;
         lined = g .lined;
         holds = g .holds;
-        is =
-            sym
-            (hunt-keeps a (flat h w) (statesIn bs) (h * w - head) (g .searched .queue) (g .searched .found) b
-            (g .holds .flag b hb ∙ eq-eqb _ _ e))
-            ∙ rw (path-is h w bs a b (g .holds .inside) hb) (ap (λ (f : List Found). trace f b) (g .rest));
+        is = found-way b hb e;
+        ways = found-way;
       }
 
   -- the queue is empty
@@ -210,6 +214,7 @@ module _ {h w : ℕ} {bs : List ℕ} {a head : ℕ} {Q P O F : List ℕ} {tail :
         lined = g .lined;
         holds = g .holds;
         is = rw (path-is h w bs a b (g .holds .inside) hb) (ap (λ (f : List Found). trace f b) over);
+        ways = found-way;
       }
 
   module _ (more : head < tail) where
@@ -274,13 +279,13 @@ pub record Tracing (h w : ℕ) (bs : List ℕ) (a b : ℕ) (P O F m : List ℕ) 
   pub whole : done ++ trace (ended .searched .found) c ≡ pathIn h w bs a b
 
 module _ {h w : ℕ} {bs : List ℕ} {a b : ℕ} {P O F : List ℕ} (e : Ended h w bs a b P O F) (hb : b < h * w)
-    (m : List ℕ) (from : ℕ) where
+    {m : List ℕ} {from : ℕ} (S : Spare m from) where
   pub tracing-start : getD F b 0 ≡ 1 → Tracing h w bs a b P O F m from b m from
   tracing-start q =
-      record { ended = e; inside = hb; old = q; done = []; wrote = wrote-none m from; whole = e .is }
+      record { ended = e; inside = hb; old = q; done = []; wrote = naming-none S; whole = e .is }
 
   pub tracing-none : (getD F b 0 ≡ 1 → ⊥) → Wrote m from (pathIn h w bs a b) m from
-  tracing-none q = rw (← e .is, e .holds .none b hb q) (wrote-none m from)
+  tracing-none q = rw (← e .is, e .holds .none b hb q) (naming-none S)
 
 module _ {h w : ℕ} {bs : List ℕ} {a b : ℕ} {P O F m : List ℕ} {from c : ℕ} {m′ : List ℕ} {at : ℕ}
     (t : Tracing h w bs a b P O F m from c m′ at) where
@@ -298,17 +303,19 @@ module _ {h w : ℕ} {bs : List ℕ} {a b : ℕ} {P O F m : List ℕ} {from c : 
         ∙ ap (λ (l : List Literal). t .done ++ l) (sym (t .ended .holds .step c (t .inside) (t .old) ne))
         ∙ t .whole
 
-    pub tracing-left : at < from + length (pathIn h w bs a b)
-    tracing-left = omega (arith, wrote-next (t .wrote), simp length-append at (ap length one))
-
-    pub tracing-room : from + length (pathIn h w bs a b) ≤ length m → at < length m′
-    tracing-room q = omega (arith, tracing-left, wrote-length (t .wrote))
-
     pub tracing-narrow : getD O c 0 < 1984
     tracing-narrow = t .ended .holds .narrow c (t .inside) (t .old) ne
 
     pub tracing-kin : getD P c 0 < h * w
     tracing-kin = t .ended .holds .kin c (t .inside) (t .old) ne
+
+    -- the way from the finder is shorter
+    pub tracing-less : length (pathIn h w bs a (getD P c 0)) < length (pathIn h w bs a c)
+    tracing-less =
+        let k = t .ended .holds in
+        let up = t .ended .ways (getD P c 0) tracing-kin (k .older c (t .inside) (t .old) ne) in
+        let here = t .ended .ways c (t .inside) (t .old) in
+        omega (arith, ap length up, ap length here, ap length (k .step c (t .inside) (t .old) ne))
 
     pub tracing-more : {m″ : List ℕ} {at′ : ℕ} → Wrote m′ at (openAt (getD O c 0) ∷ []) m″ at′
         → Tracing h w bs a b P O F m from (getD P c 0) m″ at′
@@ -318,6 +325,6 @@ module _ {h w : ℕ} {bs : List ℕ} {a b : ℕ} {P O F m : List ℕ} {from c : 
           inside = tracing-kin;
           old = t .ended .holds .older c (t .inside) (t .old) ne;
           done = t .done ++ (openAt (getD O c 0) ∷ []);
-          wrote = wrote-more (t .wrote) o;
+          wrote = naming-more (t .wrote) o;
           whole = one;
         }

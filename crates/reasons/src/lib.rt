@@ -1,4 +1,4 @@
-// Inside, Edge and Path, written into lent reason memory.
+// Inside, Edge and Path, written into a reason's working memory, each border once.
 ghost use mathlib.Core.Path.{_≡_};
 ghost use mathlib.Core.List.{[], _∷_};
 ghost use Prim.Native.Nat.{_+_, _*_, _<_, _≤_};
@@ -7,7 +7,7 @@ ghost use Rattle.lists.specs.Parts.{part};
 ghost use Rattle.rules.specs.Flat.{Sized};
 ghost use Rattle.rules.specs.Codes.{literalCode};
 ghost use Rattle.groups.specs.Grouping.{numbersIn, cellsIn};
-ghost use Rattle.reasons.specs.Memory.{Wrote};
+ghost use Rattle.reasons.specs.Memory.{Spare, Wrote, WordsWritten};
 ghost use Rattle.reasons.specs.Arrays.{Arrays, Cells, GroupAt, Stepped, scanOf, insideIn, edgeIn, groupReason};
 use crate::scans::scan_cell;
 use groups::Grouping;
@@ -18,6 +18,9 @@ use rules::Side;
 
 pub mod paths; // paths.rt: Path, by a search over open borders, and the reason of a wall
 pub mod scans; // scans.rt: what a scan keeps of one cell
+
+// The places of working memory: 1,984 for literals, then one for each border.
+pub const WORK_LENGTH: usize = 3968;
 
 // A neighbour of a cell, if there is one: over which border, and which cell.
 pub struct Neighbour {
@@ -48,13 +51,31 @@ fn code(literal: Literal) -> u16
     }
 }
 
-// Writes a literal at the place `at`; gives the next place.
+// Writes a literal at the place `at` and names its border, unless that is named; gives the next place.
 pub fn append(memory: &mut [u16], at: usize, literal: Literal) -> usize
-    requires { ⌜ (at < length (now memory)) × (literal .border < 1984) ⌝ }
+    requires { ⌜ Spare (now memory) at × (literal .border < 1984) ⌝ }
     ensures { λ r. ⌜ Wrote (now (memory .entry)) at (literal ∷ []) (now (memory .exit)) r ⌝ }
 {
+    let named = 1984 + literal.border;
+    if memory[named] != 0 {
+        return at;
+    }
+    memory[named] = 1;
     memory[at] = code(literal);
     at + 1
+}
+
+// Writes the words from the start of the lent memory, and nothing beyond; gives how many they are.
+pub fn hand_out(memory: &mut [u16], words: &[u16]) -> usize
+    requires { ⌜ length (now words) ≤ length (now memory) ⌝ }
+    ensures { λ r. ⌜ WordsWritten (now (memory .entry)) (now (words .entry)) (now (memory .exit)) r ⌝ }
+{
+    let mut i = 0;
+    while i < words.len() {
+        memory[i] = words[i];
+        i += 1;
+    }
+    i
 }
 
 // The neighbour of the cell c, which is (y,x), above, below, left, right, for d 0, 1, 2, 3.
@@ -110,8 +131,7 @@ pub fn scan<'a>(
 ) -> usize
     requires { ⌜ Sized h w × Arrays (now borders) (numbersIn (now grouping)) × (length (now colours) ≡ 1024)
         × (length (now flagged) ≡ 1024) × Cells h w (cellsIn (now grouping)) from to
-        × (start + length (scanOf h w (now colours) (now borders) (numbersIn (now grouping)) side same (now flagged)
-        (part (cellsIn (now grouping)) from to)) ≤ length (now memory)) ⌝ }
+        × Spare (now memory) start ⌝ }
     ensures { λ r. ⌜ Wrote (now (memory .entry)) start (scanOf h w (now (colours .entry)) (now (borders .entry))
         (numbersIn (now (grouping .entry))) side same (now (flagged .entry))
         (part (cellsIn (now (grouping .entry))) from to)) (now (memory .exit)) r ⌝ }
@@ -152,9 +172,7 @@ fn group_reason<'a>(
     g: usize,
 ) -> usize
     requires { ⌜ Sized h w × (length (now borders) ≡ 1984) × (length (now colours) ≡ 1024)
-        × GroupAt h w (now grouping) g
-        × (start + length (groupReason h w (now colours) (now borders) (numbersIn (now grouping)) side g)
-        ≤ length (now memory)) ⌝ }
+        × GroupAt h w (now grouping) g × Spare (now memory) start ⌝ }
     ensures { λ r. ⌜ Wrote (now (memory .entry)) start (groupReason h w (now (colours .entry)) (now (borders .entry))
         (numbersIn (now (grouping .entry))) side g) (now (memory .exit)) r ⌝ }
 {
@@ -190,9 +208,7 @@ pub fn edge<'a>(
     g: usize,
 ) -> usize
     requires { ⌜ Sized h w × (length (now borders) ≡ 1984) × (length (now colours) ≡ 1024)
-        × GroupAt h w (now grouping) g
-        × (start + length (edgeIn h w (now colours) (now borders) (numbersIn (now grouping)) g)
-        ≤ length (now memory)) ⌝ }
+        × GroupAt h w (now grouping) g × Spare (now memory) start ⌝ }
     ensures { λ r. ⌜ Wrote (now (memory .entry)) start (edgeIn h w (now (colours .entry)) (now (borders .entry))
         (numbersIn (now (grouping .entry))) g) (now (memory .exit)) r ⌝ }
 {
@@ -220,7 +236,7 @@ pub fn inside<'a>(
     g: usize,
 ) -> usize
     requires { ⌜ Sized h w × (length (now borders) ≡ 1984) × GroupAt h w (now grouping) g
-        × (start + length (insideIn h w (now borders) (numbersIn (now grouping)) g) ≤ length (now memory)) ⌝ }
+        × Spare (now memory) start ⌝ }
     ensures { λ r. ⌜ Wrote (now (memory .entry)) start (insideIn h w (now (borders .entry))
         (numbersIn (now (grouping .entry))) g) (now (memory .exit)) r ⌝ }
 {

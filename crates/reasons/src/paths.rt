@@ -1,12 +1,12 @@
 // Path: breadth first over open borders, written back from its end; and the reason of a wall.
 ghost use mathlib.Core.Path.{_≡_};
 ghost use mathlib.Core.List.{[], _∷_, _++_};
-ghost use Prim.Native.Nat.{_+_, _*_, _/_, _%_, _<_, _≤_};
+ghost use Prim.Native.Nat.{_+_, _*_, _/_, _%_, _<_};
 ghost use lib.ListN.{length, getD, replicate};
 ghost use Rattle.rules.specs.Page.{wallAt};
 ghost use Rattle.rules.specs.Flat.{Sized, flat};
 ghost use Rattle.rules.specs.Groups.{entry};
-ghost use Rattle.reasons.specs.Memory.{Wrote};
+ghost use Rattle.reasons.specs.Memory.{Spare, Wrote};
 ghost use Rattle.reasons.specs.Arrays.{hopAt};
 ghost use Rattle.reasons.specs.Search.{pathIn, Lined, Looked, Ended};
 use crate::append;
@@ -129,7 +129,7 @@ fn trace_back<'a>(
     b: usize,
 ) -> usize
     requires { ⌜ Sized h w × (b < h * w) × Ended h w (now borders) a b (now parent) (now over) (now found)
-        × (from + length (pathIn h w (now borders) a b) ≤ length (now memory)) ⌝ }
+        × Spare (now memory) from ⌝ }
     ensures { λ r. ⌜ Wrote (now (memory .entry)) from (pathIn h w (now (borders .entry)) a b) (now (memory .exit)) r ⌝ }
 {
     if found[b] != 1 {
@@ -162,7 +162,7 @@ pub fn path(
     b: usize,
 ) -> usize
     requires { ⌜ Sized h w × (length (now borders) ≡ 1984)
-        × (from + length (pathIn h w (now borders) a b) ≤ length (now memory)) ⌝ }
+        × Spare (now memory) from ⌝ }
     ensures { λ r. ⌜ Wrote (now (memory .entry)) from (pathIn h w (now (borders .entry)) a b) (now (memory .exit)) r ⌝ }
 {
     if h * w <= a {
@@ -200,7 +200,7 @@ pub fn wall_reason(
     border: usize,
 ) -> usize
     requires { ⌜ Sized h w × (length (now borders) ≡ 1984) × (border < 1984)
-        × (length (pathIn h w (now borders) a b) < length (now memory)) ⌝ }
+        × Spare (now memory) 0 ⌝ }
     ensures { λ r. ⌜ Wrote (now (memory .entry)) 0 (pathIn h w (now (borders .entry)) a b ++ (wallAt border ∷ []))
         (now (memory .exit)) r ⌝ }
 {

@@ -2,7 +2,7 @@
 ghost use mathlib.Core.Path.{_≡_};
 ghost use mathlib.Core.Bool.{true, _&&_, Bool·beq};
 ghost use mathlib.Core.List.{[]};
-ghost use Prim.Native.Nat.{_+_, _*_, _<_, _≤_};
+ghost use Prim.Native.Nat.{_*_, _<_};
 ghost use lib.ListN.{length};
 ghost use Rattle.lists.specs.Lists.{keepIf};
 ghost use Rattle.rules.specs.Flat.{Sized};
@@ -11,7 +11,7 @@ ghost use Rattle.rules.specs.Groups.{entry};
 ghost use Rattle.rules.specs.Reasons.{gather};
 ghost use Rattle.rules.specs.declared.Side.the-variants.{Wall, Open};
 ghost use Rattle.groups.specs.Grouping.{numbersIn};
-ghost use Rattle.reasons.specs.Memory.{Wrote};
+ghost use Rattle.reasons.specs.Memory.{Spare, Wrote};
 ghost use Rattle.reasons.specs.Arrays.{Arrays, InArrays, hopOf, hopsIn, isFlagged, openKept, wallKept, scanAt};
 use crate::Neighbour;
 use crate::append;
@@ -21,10 +21,9 @@ use groups::group_of;
 use rules::Literal;
 use rules::Side;
 
-// Writes a literal at the place `at`, where `kept`; otherwise nothing is written. Gives the next place.
+// Appends a literal at the place `at`, where `kept`; otherwise nothing is written. Gives the next place.
 fn append_if(memory: &mut [u16], at: usize, kept: bool, literal: Literal) -> usize
-    requires { ⌜ (at + length (keepIf kept literal []) ≤ length (now memory))
-        × (kept ≡ true → literal .border < 1984) ⌝ }
+    requires { ⌜ Spare (now memory) at × (kept ≡ true → literal .border < 1984) ⌝ }
     ensures { λ r. ⌜ Wrote (now (memory .entry)) at (keepIf kept literal []) (now (memory .exit)) r ⌝ }
 {
     if kept {
@@ -120,10 +119,7 @@ fn open_hop<'a>(
     n: Neighbour,
 ) -> usize
     requires { ⌜ Arrays (now borders) (numbersIn (now grouping)) × (length (now flagged) ≡ 1024)
-        × (n .some ≡ true → InArrays n)
-        × (from + length (gather Open (openKept (statesIn (now borders)) (entry (numbersIn (now grouping)))
-        (isFlagged (now flagged)))
-        (hopsIn n)) ≤ length (now memory)) ⌝ }
+        × (n .some ≡ true → InArrays n) × Spare (now memory) from ⌝ }
     ensures { λ r. ⌜ Wrote (now (memory .entry)) from (gather Open (openKept (statesIn (now (borders .entry)))
         (entry (numbersIn (now (grouping .entry)))) (isFlagged (now (flagged .entry)))) (hopsIn n))
         (now (memory .exit)) r ⌝ }
@@ -154,9 +150,7 @@ fn wall_hop<'a>(
 ) -> usize
     requires { ⌜ Arrays (now borders) (numbersIn (now grouping)) × (length (now colours) ≡ 1024)
         × (length (now flagged) ≡ 1024)
-        × (c < 1024) × (n .some ≡ true → InArrays n) × (from + length (gather Wall (wallKept (coloursIn (now colours))
-        (statesIn (now borders)) (entry (numbersIn (now grouping))) same (isFlagged (now flagged)) c) (hopsIn n))
-        ≤ length (now memory)) ⌝ }
+        × (c < 1024) × (n .some ≡ true → InArrays n) × Spare (now memory) from ⌝ }
     ensures { λ r. ⌜ Wrote (now (memory .entry)) from (gather Wall (wallKept (coloursIn (now (colours .entry)))
         (statesIn (now (borders .entry))) (entry (numbersIn (now (grouping .entry)))) same
         (isFlagged (now (flagged .entry))) c)
@@ -186,9 +180,7 @@ fn open_cell<'a>(
     c: usize,
 ) -> usize
     requires { ⌜ Sized h w × Arrays (now borders) (numbersIn (now grouping)) × (length (now flagged) ≡ 1024)
-        × (c < h * w)
-        × (from + length (scanAt h w [] (now borders) (numbersIn (now grouping)) Open true (now flagged) c)
-        ≤ length (now memory)) ⌝ }
+        × (c < h * w) × Spare (now memory) from ⌝ }
     ensures { λ r. ⌜ Wrote (now (memory .entry)) from (scanAt h w [] (now (borders .entry))
         (numbersIn (now (grouping .entry))) Open
         true (now (flagged .entry)) c) (now (memory .exit)) r ⌝ }
@@ -216,8 +208,7 @@ fn wall_cell<'a>(
     c: usize,
 ) -> usize
     requires { ⌜ Sized h w × Arrays (now borders) (numbersIn (now grouping)) × (length (now colours) ≡ 1024)
-        × (length (now flagged) ≡ 1024) × (c < h * w) × (from + length (scanAt h w (now colours) (now borders)
-        (numbersIn (now grouping)) Wall same (now flagged) c) ≤ length (now memory)) ⌝ }
+        × (length (now flagged) ≡ 1024) × (c < h * w) × Spare (now memory) from ⌝ }
     ensures { λ r. ⌜ Wrote (now (memory .entry)) from (scanAt h w (now (colours .entry)) (now (borders .entry))
         (numbersIn (now (grouping .entry))) Wall same (now (flagged .entry)) c) (now (memory .exit)) r ⌝ }
 {
@@ -248,8 +239,7 @@ pub fn scan_cell<'a>(
     c: usize,
 ) -> usize
     requires { ⌜ Sized h w × Arrays (now borders) (numbersIn (now grouping)) × (length (now colours) ≡ 1024)
-        × (length (now flagged) ≡ 1024) × (c < h * w) × (from + length (scanAt h w (now colours) (now borders)
-        (numbersIn (now grouping)) side same (now flagged) c) ≤ length (now memory)) ⌝ }
+        × (length (now flagged) ≡ 1024) × (c < h * w) × Spare (now memory) from ⌝ }
     ensures { λ r. ⌜ Wrote (now (memory .entry)) from (scanAt h w (now (colours .entry)) (now (borders .entry))
         (numbersIn (now (grouping .entry))) side same (now (flagged .entry)) c) (now (memory .exit)) r ⌝ }
 {

@@ -160,7 +160,7 @@ module _ (Z : Puzzle) where
 
   -- "A check answers 9 if its memory is short; else what Check gives"
   unfoldable pub checkReply : List Literal → ℕ → Reply
-  checkReply ls places = cond (ltb places 16384) (refused 9) (answered (check Z (states ls)))
+  checkReply ls places = cond (ltb places 1984) (refused 9) (answered (check Z (states ls)))
 
   -- "An undo answers 8 on the empty sequence"; a preview "returns .. what decide followed by check would"
   unfoldable pub replyTo : List Literal → ℕ → Call → Reply

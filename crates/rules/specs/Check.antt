@@ -40,9 +40,14 @@
 --   unitHitOn U xs      step 3 for unit U with the cells xs
 --   unitHit U           step 3 for unit U
 --   hit Z s             the first hit of the three steps
+--   bordersNamed r      the borders that the literals of r name, in order
+--   sameSide a b        a and b are one side
+--   sameLiteral l k     l and k are equal literals
+--   once r              r with the first of equal literals kept and later ones dropped
+--   onceIn o            the same of a hit's reason
 --   undecidedCount Z s  the count of undecided borders
 --   verdictOf n o       conflict with the reason o; pass with n where o is no hit
---   check Z s           pass with the count of undecided borders, or the reason
+--   check Z s           pass with the count of undecided borders, or the reason, each literal once
 use mathlib.Core.Bool.{Bool, true, false, not, _&&_, _||_, cond, Bool·beq}
 use mathlib.Core.List.{List, [], _∷_, _++_, map}
 use mathlib.Core.Option.{Option, some, none}
@@ -51,7 +56,8 @@ use lib.Dec.{eqb, ltb}
 use lib.ListN.{length}
 use Rattle.lists.specs.Lists.{filter, flatMap, any, firstHit, orElse, head?, range}
 use Rattle.lists.specs.Count.{countBelow}
-use Rattle.rules.specs.declared.Side.the-variants.{Wall}
+use Rattle.rules.specs.declared.Side.{Side}
+use Rattle.rules.specs.declared.Side.the-variants.{Wall, Open}
 use Rattle.rules.specs.declared.Literal.{Literal}
 use Rattle.rules.specs.declared.Placement.{Placement}
 use Rattle.rules.specs.declared.Placement.the-variants.{Fits, Blocked, Cannot}
@@ -252,10 +258,32 @@ module _ (Z : Puzzle) (s : ℕ → State) where
   unfoldable pub undecidedCount : ℕ
   undecidedCount = countBelow (Z .page .borders) (λ b. isUndecided (s b))
 
+-- "A literal is a border number with its side"
+abbrev pub bordersNamed : Reason → List ℕ
+bordersNamed r = map (λ (l : Literal). l .border) r
+
+abbrev pub sameSide : Side → Side → Bool
+sameSide Wall Wall = true
+sameSide Wall Open = false
+sameSide Open Wall = false
+sameSide Open Open = true
+
+abbrev pub sameLiteral : Literal → Literal → Bool
+sameLiteral l k = eqb (l .border) (k .border) && sameSide (l .side) (k .side)
+
+-- 02: "A reason keeps the first of equal literals and drops later ones, in the order they first came"
+unfoldable pub once : Reason → Reason
+once [] = []
+once (l ∷ ls) = l ∷ filter (λ k. not (sameLiteral l k)) (once ls)
+
+abbrev pub onceIn : Option Reason → Option Reason
+onceIn none = none
+onceIn (some r) = some (once r)
+
 abbrev pub verdictOf : ℕ → Option Reason → Verdict
 verdictOf n none = pass n
 verdictOf n (some r) = conflict r
 
 -- "No hit: pass, with the count of undecided borders"
 unfoldable pub check : Puzzle → (ℕ → State) → Verdict
-check Z s = verdictOf (undecidedCount Z s) (hit Z s)
+check Z s = verdictOf (undecidedCount Z s) (onceIn (hit Z s))

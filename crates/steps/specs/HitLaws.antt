@@ -6,20 +6,25 @@ use mathlib.Core.Option.{Option, some, none}
 use Prim.Native.Nat.{ℕ, _*_, _≤_}
 use native.Mathlib.Omega.{arith}
 use lib.IntN.{ℤ}
-use lib.ListN.{length}
+use lib.ListN.{length, take, replicate, length-map}
 use Rattle.lists.specs.Lists.{orElse}
 use Rattle.rules.specs.Flat.{Sized, flat}
-use Rattle.rules.specs.Codes.{statesIn, puzzleIn}
-use Rattle.rules.specs.Check.{Reason}
+use Rattle.rules.specs.Page.{Puzzle, Contains}
+use Rattle.rules.specs.Codes.{statesIn, puzzleIn, literalCode, put}
+use Rattle.rules.specs.Check.{Reason, once}
 use Rattle.laws.specs.FlatLaws.{counts}
+use Rattle.laws.specs.FlatReasons.{bordered}
+use Rattle.argument.specs.Hits.{Each, each-some}
+use Rattle.argument.specs.Forms.{Forms, blocks-form, walls-form, units-form}
+use Rattle.argument.specs.Held.{held-forms}
 use Rattle.groups.specs.declared.Kind.the-variants.{Blocks, Potential}
 use Rattle.groups.specs.Parts.{groupsOf}
 use Rattle.groups.specs.Grouping.{numbersIn, Filled, Vacant}
 use Rattle.groups.specs.PartLaws.{ids-length, filled-ids, filled-cells, filled-offs}
 use Rattle.groups.specs.Pages.{groupsIn}
 use Rattle.reasons.specs.Arrays.{Arrays, GroupAt}
-use Rattle.reasons.specs.Memory.{Wrote}
-use Rattle.reasons.specs.MemoryLaws.{wrote-put, wrote-next}
+use Rattle.reasons.specs.Memory.{Wrote, WordsWritten}
+use Rattle.reasons.specs.MemoryLaws.{once-handed}
 use Rattle.blocks.specs.declared.Faulty.{Faulty}
 use Rattle.blocks.specs.Faults.{isFaultless}
 use Rattle.blocks.specs.Written.{faultUnit, faultyLiterals}
@@ -29,16 +34,40 @@ use Rattle.walls.specs.Written.{breachLiterals}
 use Rattle.walls.specs.WallHits.{breachIn, two-hit, two-none}
 use Rattle.steps.specs.declared.Found.{Found}
 use Rattle.steps.specs.declared.Found.the-variants.{Nothing, Reason as Given}
-use Rattle.steps.specs.Found.{foundOf, writtenBy, blocksHit, wallsHit, Answers}
+use Rattle.steps.specs.Found.{foundOf, writtenBy, blocksHit, wallsHit, unitsHit, Answers}
 
 pub answers-none : {o : Option Reason} (m : List ℕ) → o ≡ none → Answers o m m Nothing
 unfolding foundOf writtenBy
 answers-none m e = record { found = rw e; memory = rw e }
 
-pub answers-some : {o : Option Reason} {m after : List ℕ} {r : Reason} {n : ℕ} → o ≡ some r → Wrote m 0 r after n
-    → Answers o m after (Given n)
-unfolding foundOf writtenBy
-answers-some e w = record { found = rw (e, wrote-next w) (ap Given (omega arith)); memory = rw e (wrote-put w) }
+-- what working memory has of a hit's reason is handed out: its literals, each once
+pub answers-some : {o : Option Reason} (bs : List ℕ) {m work after : List ℕ} {r : Reason} {n k : ℕ} → length bs ≡ 1984
+    → Each (Contains (statesIn bs)) o → o ≡ some r → Wrote (replicate 3968 0) 0 r work n
+    → WordsWritten m (take n work) after k → Answers o m after (Given k)
+unfolding foundOf writtenBy put
+answers-some bs {r = r} l h e w p =
+    let q = once-handed bs l r (each-some (Contains (statesIn bs)) r (rw e at h)) w p in
+    record { found = rw (e, q .count) (ap Given (length-map (once r) literalCode)); memory = rw e (q .memory) }
+
+-- every reason of a step holds on its board
+module _ {h w : ℕ} (z : Sized h w) (cs : List ℕ) (ks : List ℤ) (bs : List ℕ) where
+  abbrev Z : Puzzle
+  Z = puzzleIn h w cs ks
+
+  forms : Forms Z (statesIn bs) (Contains (statesIn bs))
+  forms = held-forms Z (bordered z) (statesIn bs)
+
+  pub blocks-held : Each (Contains (statesIn bs)) (blocksHit Z (statesIn bs))
+  unfolding blocksHit
+  blocks-held = blocks-form Z (statesIn bs) _ forms
+
+  pub walls-held : Each (Contains (statesIn bs)) (wallsHit Z (statesIn bs))
+  unfolding wallsHit
+  walls-held = walls-form Z (statesIn bs) _ forms
+
+  pub units-held : Each (Contains (statesIn bs)) (unitsHit Z (statesIn bs))
+  unfolding unitsHit
+  units-held = units-form Z (statesIn bs) _ forms
 
 -- one search after another: the first one's hit stands, and where there was none the memory is still the old one
 pub answers-first : (a b : Option Reason) {m after : List ℕ} {r : Found} (n : ℕ) → r ≡ Given n → Answers a m after r
@@ -52,6 +81,12 @@ pub answers-next : (a b : Option Reason) {m mid after : List ℕ} {r : Found} �
 unfolding foundOf writtenBy orElse
 answers-next none b t u = record { found = u .found; memory = u .memory ∙ ap (writtenBy b) (t .memory) }
 answers-next (some q) b t u = let z : _≡_ {A = ℕ} 0 1 = (let v = t .found in cc) in absurd (omega arith)
+
+-- where nothing was found the memory is as it was
+pub answers-kept : (o : Option Reason) {m after : List ℕ} → Answers o m after Nothing → after ≡ m
+unfolding foundOf writtenBy
+answers-kept none a = a .memory
+answers-kept (some r) a = let z : _≡_ {A = ℕ} 0 1 = (let v = a .found in cc) in absurd (omega arith)
 
 -- nothing was found, as a match tells it
 pub answers-told : {o : Option Reason} {m after : List ℕ} {r : Found} → r ≡ Nothing → Answers o m after r

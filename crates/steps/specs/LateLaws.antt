@@ -1,21 +1,17 @@
--- Step 3: what the search for a stuck unit means, and how long its reason can be; the steps together.
+-- Step 3: what the search for a stuck unit means; the steps together.
 use mathlib.Core.Path.{_≡_, refl, sym, ap, _∙_}
 use mathlib.Core.List.{List}
 use mathlib.Core.Option.{Option, some, none}
-use Prim.Native.Nat.{ℕ, _*_, _<_, _≤_}
+use Prim.Native.Nat.{ℕ, _<_, _≤_}
 use native.Mathlib.Omega.{arith}
 use borrow.Author.Tests.{lt-ltb, le-ltb}
 use lib.IntN.{ℤ}
-use lib.ListN.{length}
 use Rattle.lists.specs.Lists.{orElse}
-use Rattle.rules.specs.Page.{State, Puzzle, Shape}
-use Rattle.rules.specs.Flat.{Sized, flat}
+use Rattle.rules.specs.Page.{State, Puzzle}
+use Rattle.rules.specs.Flat.{Sized}
 use Rattle.rules.specs.Codes.{statesIn, cluesIn, puzzleIn, unclued}
 use Rattle.rules.specs.Groups.{unitCount}
 use Rattle.rules.specs.Check.{Reason, unitReason, hit}
-use Rattle.laws.specs.FlatPage.{flat-bordered, flat-ahead, flat-around}
-use Rattle.laws.specs.FlatShapes.{flat-eight}
-use Rattle.argument.specs.Bound.{unit-bound}
 use Rattle.groups.specs.declared.Kind.the-variants.{Units}
 use Rattle.groups.specs.Pages.{groupsIn, potentialIn}
 use Rattle.groups.specs.PageLaws.{kind-count}
@@ -23,24 +19,6 @@ use Rattle.fitting.specs.FirstStuck.{fitsUnit, firstFail, stuckHit}
 use Rattle.fitting.specs.ClueLaws.{stuck-clue}
 use Rattle.steps.specs.declared.Found.{Found}
 use Rattle.steps.specs.Found.{blocksHit, wallsHit, earlyHit, unitsHit, Answers}
-
-images-eight : (h w : ℕ) (t : Shape) → length (flat h w .transforms t) ≤ 8
-unfolding flat
-images-eight h w = flat-eight
-
-cells-are : (h w : ℕ) → flat h w .cells ≡ h * w
-unfolding flat
-cells-are h w = refl
-
--- at most 8 blockers, 2 and 4 literals for each cell
-pub unit-short : {h w : ℕ} → Sized h w → (cs : List ℕ) (s : ℕ → State) (U P : ℕ)
-    → length (unitReason (unclued h w cs) s U P) ≤ 14 * (h * w)
-unit-short {h} {w} z cs s U P =
-    let few =
-    unit-bound (unclued h w cs) (flat-bordered h w (omega (arith, z .columns))) s 2 4 8 (flat-ahead h w)
-    (flat-around h w)
-    (images-eight h w) U P in
-    omega (arith, few, cells-are h w)
 
 -- u is what the search found
 module _ {h w : ℕ} (z : Sized h w) (cs : List ℕ) (bs : List ℕ) (u : ℕ)

@@ -2,7 +2,7 @@
 use mathlib.Core.Path.{_≡_, refl, ap, _∙_}
 use mathlib.Core.List.{List}
 use mathlib.Core.Option.{Option}
-use Prim.Native.Nat.{ℕ, _<_, _≤_}
+use Prim.Native.Nat.{ℕ, _<_}
 use native.Mathlib.Omega.{arith}
 use lib.ListN.{length}
 use Rattle.rules.specs.Codes.{cluedBy, statesIn, unclued}
@@ -94,10 +94,6 @@ module _ {h w : ℕ} {cs bs us ps : List ℕ} {u : ℕ} (q : StuckAt h w cs bs u
   pub home-in : homeIn us ps u ≡ potentialIn Z s u
   unfolding potentialIn
   home-in = home-is (q .ready) u (q .low) ∙ ap (potentialOf Z s) (head-of (q .ready) u (q .low))
-
-  pub room-home : {p : ℕ} (m : ℕ) → p ≡ homeIn us ps u → length (unitReason Z s u (potentialIn Z s u)) ≤ m
-      → length (unitReason Z s u p) ≤ m
-  room-home m e l = rw (e, home-in) l
 
   pub home-written : {p : ℕ} (c : ℕ → Option ℕ) {m m′ : List ℕ} {r : ℕ} → p ≡ homeIn us ps u
       → Wrote m 0 (unitReason (cluedBy h w cs c) s u p) m′ r

@@ -8,7 +8,6 @@ use lib.ListN.{length, getD, List·getD-append}
 use Rattle.lists.specs.Lists.{flatMap}
 use Rattle.lists.specs.Flats.{flat-map, flat-flat, flat-same}
 use Rattle.lists.specs.UpToLaws.{flat-up, up-same}
-use Rattle.lists.specs.WroteLaws.{wrote-more}
 use Rattle.rules.specs.Codes.{cluedBy, statesIn, coloursIn, unclued}
 use Rattle.rules.specs.declared.Literal.{Literal}
 use Rattle.rules.specs.Page.{Puzzle, Point, Shape, State}
@@ -22,7 +21,7 @@ use Rattle.groups.specs.Grouping.{numbersIn, cellsIn, startsIn, startIn, groupC
 use Rattle.reasons.specs.Arrays.{Cells, GroupAt, insideIn, edgeIn, isFlagged}
 use Rattle.reasons.specs.FarLaws.{far-walls}
 use Rattle.reasons.specs.Memory.{Wrote}
-use Rattle.reasons.specs.MemoryLaws.{room-first, room-second, room-third}
+use Rattle.reasons.specs.MemoryLaws.{naming-more}
 use Rattle.shapes.specs.declared.Listed.{Listed as RowList}
 use Rattle.shapes.specs.Listing.{listing}
 use Rattle.shapes.specs.Rows.{image, rowsOf}
@@ -211,21 +210,7 @@ module _ {h w : ℕ} {cs bs us ps list : List ℕ} {u p : ℕ} (a : Arranged h w
     unfolding unitReason
     reason-is = rw (blocks-are, inside-is, walls-are)
 
-    -- the memory has room for each of the three
-    room : (m : ℕ) → length (unitReason Z s u p) ≤ m → 0 + length (blocked ++ (inner ++ walls)) ≤ m
-    room m l = omega (arith, ap length reason-is)
-
-    pub room-blocks : (m : ℕ) → length (unitReason Z s u p) ≤ m → length blocked ≤ m
-    room-blocks m l = omega (arith, room-first blocked inner walls 0 m (room m l))
-
-    module _ {m m′ : List ℕ} {j : ℕ} (l : length (unitReason Z s u p) ≤ length m) (x : Wrote m 0 blocked m′ j) where
-      pub room-inside : j + length inner ≤ length m′
-      room-inside = room-second blocked inner walls (room (length m) l) x
-
-      pub room-walls : {m″ : List ℕ} {i : ℕ} → Wrote m′ j inner m″ i → i + length walls ≤ length m″
-      room-walls y = room-third blocked inner walls (room (length m) l) x y
-
     pub reason-written : (c : ℕ → Option ℕ) {m m′ m″ m‴ : List ℕ} {i j r : ℕ} → Wrote m 0 blocked m′ i
         → Wrote m′ i inner m″ j → Wrote m″ j walls m‴ r → Wrote m 0 (unitReason (cluedBy h w cs c) s u p) m‴ r
     reason-written c x y z =
-        rw (reason-clue h w cs c s u p, reason-is) (wrote-more x (wrote-more y z))
+        rw (reason-clue h w cs c s u p, reason-is) (naming-more x (naming-more y z))

@@ -1,12 +1,11 @@
-// Step 3 of the check: the reason of a unit that fits nowhere, written into lent reason memory.
+// Step 3 of the check: the reason of a unit that fits nowhere, written into working memory.
 ghost use mathlib.Core.Option.{Option};
-ghost use Prim.Native.Nat.{ℕ, _≤_};
-ghost use lib.ListN.{length};
+ghost use Prim.Native.Nat.{ℕ};
 ghost use Rattle.rules.specs.Codes.{cluedBy, statesIn, unclued};
 ghost use Rattle.rules.specs.Check.{unitReason};
 ghost use Rattle.groups.specs.Grouping.{cellsIn, startsIn};
 ghost use Rattle.groups.specs.Pages.{Drawn, potentialIn};
-ghost use Rattle.reasons.specs.Memory.{Wrote};
+ghost use Rattle.reasons.specs.Memory.{Spare, Wrote};
 ghost use Rattle.shapes.specs.Images.{Jointed};
 ghost use Rattle.shapes.specs.Spots.{Spotted, cellSpots, jointSpots};
 ghost use Rattle.shapes.specs.Listing.{Rows};
@@ -53,9 +52,7 @@ fn block_rows<'a>(
 ) -> usize
     requires { ⌜ Rows listed × Drawn h w (now colours) × Spotted (now outline) × Jointed (now outline)
         × Beside h w (now potential) (now mates)
-        × (length (blocksListed (unclued h w (now colours)) (statesIn (now borders)) (cellsIn (now potential))
-        (startsIn (now potential)) (matesIn (now mates)) (cellSpots (now outline)) (jointSpots (now outline)) listed)
-        ≤ length (now memory)) ⌝ }
+        × Spare (now memory) 0 ⌝ }
     ensures { λ r. ⌜ Wrote (now (memory .entry)) 0
         (blocksListed (unclued h w (now (colours .entry))) (statesIn (now (borders .entry)))
         (cellsIn (now (potential .entry))) (startsIn (now (potential .entry))) (matesIn (now (mates .entry)))
@@ -114,7 +111,7 @@ fn write_unit<'a>(
 ) -> usize
     requires { ⌜ Arranged h w (now colours) (now borders) (now units) (now potential) (now mates) u p
         × Imaged h w (now colours) (now borders) (now units) (now outline) listed u
-        × (length (unitReason (unclued h w (now colours)) (statesIn (now borders)) u p) ≤ length (now memory)) ⌝ }
+        × Spare (now memory) 0 ⌝ }
     ensures { λ r. ⌜ ((c : ℕ → Option ℕ) → Wrote (now (memory .entry)) 0
         (unitReason (cluedBy h w (now (colours .entry)) c) (statesIn (now (borders .entry))) u p)
         (now (memory .exit)) r) ⌝ }
@@ -146,8 +143,7 @@ pub fn write_stuck<'a>(
     u: usize,
 ) -> usize
     requires { ⌜ StuckAt h w (now colours) (now borders) (now units) (now potential) u
-        × (length (unitReason (unclued h w (now colours)) (statesIn (now borders)) u
-        (potentialIn (unclued h w (now colours)) (statesIn (now borders)) u)) ≤ length (now memory)) ⌝ }
+        × Spare (now memory) 0 ⌝ }
     ensures { λ r. ⌜ ((c : ℕ → Option ℕ) → Wrote (now (memory .entry)) 0
         (unitReason (cluedBy h w (now (colours .entry)) c) (statesIn (now (borders .entry))) u
         (potentialIn (cluedBy h w (now (colours .entry)) c) (statesIn (now (borders .entry))) u))

@@ -1,7 +1,7 @@
 // Blockers: only an origin at which every connection joins one colour can have one. Those survivors are found for all
 // origins of a row at once; there a placement is read from its last connection on, and its first wall is the blocker.
 ghost use mathlib.Core.Path.{_≡_};
-ghost use Prim.Native.Nat.{ℕ, _+_, _*_, _/_, _%_, _<_, _≤_};
+ghost use Prim.Native.Nat.{ℕ, _+_, _*_, _/_, _%_, _<_};
 ghost use lib.ListN.{getD, length, replicate};
 ghost use Rattle.lists.specs.Lists.{flatMap};
 ghost use Rattle.lists.specs.Parts.{part};
@@ -9,7 +9,7 @@ ghost use Rattle.rules.specs.Flat.{Sized};
 ghost use Rattle.groups.specs.Grouping.{cellsIn, startsIn};
 ghost use Rattle.groups.specs.Parts.{partOf};
 ghost use Rattle.reasons.specs.Arrays.{Cells};
-ghost use Rattle.reasons.specs.Memory.{Wrote};
+ghost use Rattle.reasons.specs.Memory.{Spare, Wrote};
 ghost use Rattle.shapes.specs.Raising.{ysIn, xsIn, Raised};
 ghost use Rattle.adjacent.specs.Mates.{matesIn, Beside};
 ghost use Rattle.planes.specs.Bits.{bitAt};
@@ -167,8 +167,7 @@ fn block_at<'a>(
     o: usize,
 ) -> usize
     requires { ⌜ Sized h w × Raised (now turned) n × Lain h w (now rows) (now turned) n
-        × PlacesDrawn h w (now places) × (o < h * w)
-        × (at + length (blockIn h w (now borders) (now rows) (now turned) n o) ≤ length (now memory)) ⌝ }
+        × PlacesDrawn h w (now places) × (o < h * w) × Spare (now memory) at ⌝ }
     ensures { λ r. ⌜ Wrote (now (memory .entry)) at
         (blockIn h w (now (borders .entry)) (now (rows .entry)) (now (turned .entry)) n o)
         (now (memory .exit)) r ⌝ }
@@ -205,8 +204,7 @@ fn block_group<'a>(
 ) -> usize
     requires { ⌜ Sized h w × Raised (now turned) n × Lain h w (now rows) (now turned) n
         × PlacesDrawn h w (now places) × Cells h w (cellsIn (now potential)) from to
-        × (start + length (flatMap (blockIn h w (now borders) (now rows) (now turned) n)
-        (part (cellsIn (now potential)) from to)) ≤ length (now memory)) ⌝ }
+        × Spare (now memory) start ⌝ }
     ensures { λ r. ⌜ Wrote (now (memory .entry)) start
         (flatMap (blockIn h w (now (borders .entry)) (now (rows .entry)) (now (turned .entry)) n)
         (part (cellsIn (now (potential .entry))) from to)) (now (memory .exit)) r ⌝ }
@@ -247,10 +245,7 @@ pub fn block_mates<'a>(
     mates: &'a Mates,
 ) -> usize
     requires { ⌜ Sized h w × Raised (now turned) n × Lain h w (now rows) (now turned) n × PlacesDrawn h w (now places)
-        × Beside h w (now potential) (now mates)
-        × (start + length (flatMap (λ Q. flatMap (blockIn h w (now borders) (now rows) (now turned) n)
-        (partOf (cellsIn (now potential)) (startsIn (now potential)) Q)) (matesIn (now mates)))
-        ≤ length (now memory)) ⌝ }
+        × Beside h w (now potential) (now mates) × Spare (now memory) start ⌝ }
     ensures { λ r. ⌜ Wrote (now (memory .entry)) start
         (flatMap (λ Q. flatMap (blockIn h w (now (borders .entry)) (now (rows .entry)) (now (turned .entry)) n)
         (partOf (cellsIn (now (potential .entry))) (startsIn (now (potential .entry))) Q))

@@ -1,11 +1,11 @@
 // The walls in the reason of a unit: those of its potential unit, of the adjacent ones, and to the others.
 ghost use mathlib.Core.Path.{_≡_};
-ghost use Prim.Native.Nat.{_+_, _≤_};
+ghost use Prim.Native.Nat.{_+_};
 ghost use lib.ListN.{length};
 ghost use Rattle.rules.specs.Flat.{Sized};
 ghost use Rattle.groups.specs.Grouping.{numbersIn, cellsIn, startIn, groupCells};
 ghost use Rattle.reasons.specs.Arrays.{Cells, GroupAt};
-ghost use Rattle.reasons.specs.Memory.{Wrote};
+ghost use Rattle.reasons.specs.Memory.{Spare, Wrote};
 ghost use Rattle.adjacent.specs.Mates.{matesIn};
 ghost use Rattle.stuck.specs.Writing.{Low, Mated, flagsOf, edgesIn, farIn, wallsIn};
 use adjacent::Mates;
@@ -29,9 +29,7 @@ fn edges_of<'a>(
     mates: &'a Mates,
 ) -> usize
     requires { ⌜ Sized h w × (length (now borders) ≡ 1984) × (length (now colours) ≡ 1024)
-        × Mated h w (now potential) (now mates)
-        × (start + length (edgesIn h w (now colours) (now borders) (numbersIn (now potential)) (matesIn (now mates)))
-        ≤ length (now memory)) ⌝ }
+        × Mated h w (now potential) (now mates) × Spare (now memory) start ⌝ }
     ensures { λ r. ⌜ Wrote (now (memory .entry)) start
         (edgesIn h w (now (colours .entry)) (now (borders .entry)) (numbersIn (now (potential .entry)))
         (matesIn (now (mates .entry)))) (now (memory .exit)) r ⌝ }
@@ -79,8 +77,7 @@ fn far_walls<'a>(
     requires { ⌜ Sized h w × (length (now borders) ≡ 1984) × (length (now colours) ≡ 1024)
         × GroupAt h w (now potential) p × Cells h w (cellsIn (now potential)) (startIn (now potential) p)
         (startIn (now potential) (p + 1)) × Low (now mates)
-        × (start + length (farIn h w (now colours) (now borders) (numbersIn (now potential)) (matesIn (now mates))
-        (groupCells (now potential) p)) ≤ length (now memory)) ⌝ }
+        × Spare (now memory) start ⌝ }
     ensures { λ r. ⌜ Wrote (now (memory .entry)) start
         (farIn h w (now (colours .entry)) (now (borders .entry)) (numbersIn (now (potential .entry)))
         (matesIn (now (mates .entry))) (groupCells (now (potential .entry)) p)) (now (memory .exit)) r ⌝ }
@@ -120,8 +117,7 @@ pub fn walls_of<'a>(
     requires { ⌜ Sized h w × (length (now borders) ≡ 1984) × (length (now colours) ≡ 1024)
         × Mated h w (now potential) (now mates) × GroupAt h w (now potential) p
         × Cells h w (cellsIn (now potential)) (startIn (now potential) p) (startIn (now potential) (p + 1))
-        × (start + length (wallsIn h w (now colours) (now borders) (numbersIn (now potential)) p
-        (matesIn (now mates)) (groupCells (now potential) p)) ≤ length (now memory)) ⌝ }
+        × Spare (now memory) start ⌝ }
     ensures { λ r. ⌜ Wrote (now (memory .entry)) start
         (wallsIn h w (now (colours .entry)) (now (borders .entry)) (numbersIn (now (potential .entry))) p
         (matesIn (now (mates .entry))) (groupCells (now (potential .entry)) p)) (now (memory .exit)) r ⌝ }

@@ -25,7 +25,7 @@ abbrev sampleReplies : List Reply
 sampleReplies =
     answered (pass 1) ∷ done ∷ answered (conflict (wallAt 0 ∷ [])) ∷ done ∷ done ∷ answered (pass 0) ∷ []
 
-module _ (m : List ℕ) (l : length m ≡ 16384) where
+module _ (m : List ℕ) (l : length m ≡ 1984) where
   abbrev asked : ℕ → List Asked
   asked n = map (ask n) (samplePage .calls)
 
@@ -33,7 +33,7 @@ module _ (m : List ℕ) (l : length m ≡ 16384) where
   lent = map (lend m) (samplePage .calls)
 
   -- the answers of a run on the page's board (crate demand3, SmallRuns) are the book's, by demand 3
-  sample-book : replies (puzzleOn samplePage) (map (ask 16384) (samplePage .calls)) ≡ sampleReplies
+  sample-book : replies (puzzleOn samplePage) (map (ask 1984) (samplePage .calls)) ≡ sampleReplies
   unfolding coloursOf cluesOf flatMap table clueOn
   sample-book =
       ap (λ n. replies (puzzleOn samplePage) (asked n)) (sym l)
@@ -45,4 +45,4 @@ pub sample-text : transcript sample ≡ sampleText
 unfolding transcript pageReplies decimalIn decimal showAll showLiteral showReply showAnswers
 sample-text =
     ap (λ (v : Judgement). showAnswers (pageReplies v)) sample-accepted
-    ∙ ap showAnswers (sample-book (replicate 16384 0) (length-replicate {A = ℕ} 16384 0))
+    ∙ ap showAnswers (sample-book (replicate 1984 0) (length-replicate {A = ℕ} 1984 0))

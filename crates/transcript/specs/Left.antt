@@ -113,12 +113,12 @@ module _ (s : List ℕ) where
   abbrev pub left : Run → List ℕ → List ℕ
   left r m = leftAt (r .stage) (r .board) (r .at) m
 
-  -- a call takes a byte or more of the page, and a reason has at most 16,120 literals
+  -- a call takes a byte or more of the page, and a reason has at most 1,984 literals
   unfoldable pub stepsAt : Stage → ℕ → ℕ
-  stepsAt Begin at = length s * 20000 + 3
+  stepsAt Begin at = length s * 2000 + 3
   stepsAt (Refused n) at = 2
-  stepsAt Calls at = (length s - at) * 20000 + 2
-  stepsAt (Reason a e) at = (length s - at) * 20000 + 3 + (e - a)
+  stepsAt Calls at = (length s - at) * 2000 + 2
+  stepsAt (Reason a e) at = (length s - at) * 2000 + 3 + (e - a)
   stepsAt Last at = 1
   stepsAt Over at = 0
 

@@ -149,7 +149,7 @@ module _ (s : List ℕ) (b : Board) (at : ℕ) (m : List ℕ) where
 
 -- a reason is short
 few-less : (s : List ℕ) (a : Answer) (at next : ℕ) → InRange a → length s - next < length s - at
-    → stepsAt s (stageOf a) next < (length s - at) * 20000 + 2
+    → stepsAt s (stageOf a) next < (length s - at) * 2000 + 2
 unfolding stageOf stepsAt
 few-less s answer.Done at next f h = omega arith
 few-less s (answer.Pass n) at next f h = omega arith
@@ -157,7 +157,7 @@ few-less s (answer.Conflict n) at next f h = omega arith
 few-less s (answer.Refused o) at next f h = omega arith
 
 pub turn-less : (s : List ℕ) (b : Board) (c : Call) (m : List ℕ) (at next : ℕ) → length s - next < length s - at
-    → stepsAt s (stageOf (callOf b c m .answer)) next < (length s - at) * 20000 + 2
+    → stepsAt s (stageOf (callOf b c m .answer)) next < (length s - at) * 2000 + 2
 turn-less s b c m at next h = few-less s (callOf b c m .answer) at next (call-range b c m) h
 
 -- ---- the page
@@ -178,7 +178,7 @@ module _ (s m : List ℕ) where
 module _ (s : List ℕ) (b : Board) (at : ℕ) (m : List ℕ) (from to : ℕ) where
   module _ (p : Chunk) (before out : List ℕ) (P : Put m from to before out p) where
     pub reason-more : from < p .next
-        → Goes s (literalsText m from to ++ (endWord ++ linesFrom s b at m)) ((length s - at) * 20000 + 3 + (to - from))
+        → Goes s (literalsText m from to ++ (endWord ++ linesFrom s b at m)) ((length s - at) * 2000 + 3 + (to - from))
         before (record { board = b; at = at; stage = Reason (p .next) to; count = p .count }) m out
     unfolding leftAt stepsAt
     reason-more h =
@@ -198,7 +198,7 @@ module _ (s : List ℕ) (b : Board) (at : ℕ) (m : List ℕ) (from to : ℕ) wh
 
     pub reason-end : {line : Line} {after : List ℕ} {n : ℕ} → p .next ≤ from → LineHolds line endWord
         → Written out 0 (textOf line) after n → 32 ≤ length before
-        → Goes s (literalsText m from to ++ (endWord ++ linesFrom s b at m)) ((length s - at) * 20000 + 3 + (to - from))
+        → Goes s (literalsText m from to ++ (endWord ++ linesFrom s b at m)) ((length s - at) * 2000 + 3 + (to - from))
         before (record { board = b; at = at; stage = Calls; count = n }) m after
     unfolding leftAt stepsAt
     reason-end {n = n} h k w l =
@@ -208,7 +208,7 @@ module _ (s : List ℕ) (b : Board) (at : ℕ) (m : List ℕ) (from to : ℕ) wh
 -- ---- calls
 module _ (s : List ℕ) (b : Board) (at : ℕ) (m : List ℕ) where
   pub turn-end : (out : List ℕ) → call (rest s at) ≡ none
-      → Goes s (linesFrom s b at m) ((length s - at) * 20000 + 2) out
+      → Goes s (linesFrom s b at m) ((length s - at) * 2000 + 2) out
       (record { board = b; at = at; stage = Last; count = 0 }) m out
       × (m ≡ firstMemory b m (allFrom call s at))
   unfolding leftAt stepsAt
@@ -221,7 +221,7 @@ module _ (s : List ℕ) (b : Board) (at : ℕ) (m : List ℕ) where
       {n : ℕ} → call (rest s at) ≡ some (c, rest s next) → (t ≡ callOf b c m) × (after ≡ callMemory b c m)
       → g ≡ stageOf (t .answer) → LineHolds line (lineOf (t .answer)) → Written before 0 (textOf line) out n
       → 32 ≤ length before
-      → Goes s (linesFrom s b at m) ((length s - at) * 20000 + 2) before
+      → Goes s (linesFrom s b at m) ((length s - at) * 2000 + 2) before
       (record { board = t .board; at = next; stage = g; count = n }) after out
       × (after ≡ firstMemory b m (allFrom call s at))
   turn-goes c next {t} {after} {g} {n = n} e p q h w l =

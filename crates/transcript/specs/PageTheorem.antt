@@ -36,8 +36,8 @@ unfoldable pub lentFrom : Board → List ℕ → List Call → List Lent
 lentFrom b m [] = []
 lentFrom b m (c ∷ cs) = lend m c ∷ lentFrom (callOf b c m .board) (callMemory b c m) cs
 
-asked-from : (b : Board) (m : List ℕ) (cs : List Call) → length m ≡ 16384
-    → map askedBy (lentFrom b m cs) ≡ map (ask 16384) cs
+asked-from : (b : Board) (m : List ℕ) (cs : List Call) → length m ≡ 1984
+    → map askedBy (lentFrom b m cs) ≡ map (ask 1984) cs
 unfolding lentFrom
 asked-from b m [] l = refl
 asked-from b m (c ∷ cs) l =
@@ -53,11 +53,11 @@ calls-run b m (c ∷ cs) =
     rw (calls-run (callOf b c m .board) (callMemory b c m) cs)
     (sym (append-assoc (showReply (told (callOf b c m .answer) (callMemory b c m))) _ endWord))
 
-module _ (s m : List ℕ) (l : length m ≡ 16384) where
+module _ (s m : List ℕ) (l : length m ≡ 1984) where
   -- demand 3, for the page's puzzle and its calls
   calls-book : (p : Sheet) → judgementOf s ≡ accepted p
       → callsText (startBoard p) m (p .calls)
-      ≡ showAll showReply (replies (puzzleOn p) (map (ask 16384) (p .calls))) ++ endWord
+      ≡ showAll showReply (replies (puzzleOn p) (map (ask 1984) (p .calls))) ++ endWord
   unfolding startBoard
   calls-book p e =
       calls-run (startBoard p) m (p .calls)
@@ -88,8 +88,8 @@ chunks-left (chunk {r = r} {out = out} n p) =
     ap (λ (t : List ℕ). take (r .count) out ++ t) (chunks-left p) ∙ n .prints
 
 -- "It prints `(answers`, one line a check or refused call, `)`": what is written for the bytes s, with reason memory
--- for 16,384 literals, is the text of the book's answers to the page's calls; or its refusal alone
-pub printed : (s m text : List ℕ) → length m ≡ 16384 → Chunks s firstRun m text → text ≡ transcript s
+-- for 1,984 literals, is the text of the book's answers to the page's calls; or its refusal alone
+pub printed : (s m text : List ℕ) → length m ≡ 1984 → Chunks s firstRun m text → text ≡ transcript s
 printed s m text l p = chunks-left p ∙ first-left s m l
 
 -- "a page gives 1 to 3, 10 .. then its calls 6 to 8"; "Number 11 is retired and not used again"
@@ -104,4 +104,4 @@ page-number s n i = go (judgementOf s) refl i
         let r : n ≡ k = cc in
         Memᴰ·append-left (6 ∷ 7 ∷ 8 ∷ []) (judgement-number s n (e ∙ ap rejected (sym r)))
     go (accepted p) e j =
-        Memᴰ·append-right (10 ∷ 1 ∷ 2 ∷ 3 ∷ []) (replies-refused (puzzleOn p) 16384 n (omega arith) (p .calls) j)
+        Memᴰ·append-right (10 ∷ 1 ∷ 2 ∷ 3 ∷ []) (replies-refused (puzzleOn p) 1984 n (omega arith) (p .calls) j)

@@ -15,10 +15,10 @@ use Rattle.print.specs.Answers.{showAnswers}
 abbrev pub puzzleOn : Sheet → Puzzle
 puzzleOn p = puzzleIn (p .height) (p .width) (coloursOf p) (cluesOf p)
 
--- each check has reason memory for 16,384 literals; "A page that makes no board prints just that line between these"
+-- each check has reason memory for 1,984 literals; "A page that makes no board prints just that line between these"
 unfoldable pub pageReplies : Judgement → List Reply
 pageReplies (rejected n) = refused n ∷ []
-pageReplies (accepted p) = replies (puzzleOn p) (map (ask 16384) (p .calls))
+pageReplies (accepted p) = replies (puzzleOn p) (map (ask 1984) (p .calls))
 
 -- "It prints `(answers`, one line a check or refused call, `)`"
 unfoldable pub transcript : List ℕ → List ℕ

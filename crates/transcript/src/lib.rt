@@ -84,7 +84,7 @@ fn begin(s: &[u8], out: &mut [u8]) -> Run
     requires { ⌜ 32 ≤ length (now out) ⌝ }
     ensures { λ r.
         ⌜ ((m : List ℕ) → Goes (now (s .entry)) (answersWord ++ judgedText m (judgementOf (now (s .entry))))
-        (length (now (s .entry)) * 20000 + 3) (now (out .entry)) r m (now (out .exit))) ⌝ }
+        (length (now (s .entry)) * 2000 + 3) (now (out .entry)) r m (now (out .exit))) ⌝ }
 {
     let count = print::put_line(out, 0, print::answers_line());
     let judged = page::judge(s);
@@ -148,7 +148,7 @@ fn turn(s: &[u8], board: Board, at: usize, memory: &mut [u16], out: &mut [u8]) -
     requires { ⌜ 32 ≤ length (now out) ⌝ }
     ensures { λ r.
         ⌜ Goes (now (s .entry)) (linesFrom (now (s .entry)) board at (now (memory .entry)))
-        ((length (now (s .entry)) - at) * 20000 + 2) (now (out .entry)) r (now (memory .exit)) (now (out .exit))
+        ((length (now (s .entry)) - at) * 2000 + 2) (now (out .entry)) r (now (memory .exit)) (now (out .exit))
         × (now (memory .exit) ≡ firstMemory board (now (memory .entry)) (allFrom call (now (s .entry)) at)) ⌝ }
 {
     let CallRead::Got(call, next) = page::call_at(s, at) else {
@@ -178,7 +178,7 @@ fn reason(board: Board, at: usize, memory: &[u16], out: &mut [u8], from: usize, 
     ensures { λ r.
         ⌜ ((s : List ℕ) → Goes s (literalsText (now (memory .entry)) from to
         ++ (endWord ++ linesFrom s board at (now (memory .entry))))
-        ((length s - at) * 20000 + 3 + (to - from)) (now (out .entry)) r (now (memory .entry))
+        ((length s - at) * 2000 + 3 + (to - from)) (now (out .entry)) r (now (memory .entry))
         (now (out .exit))) ⌝ }
 {
     let chunk = print::put_literals(out, memory, from, to);

@@ -1,16 +1,13 @@
--- Bounds: a breach's border is on the page, and on a page of n cells the reason has at most n + 1 literals.
+-- Bounds: a breach's border is on the page.
 use mathlib.Core.Path.{_≡_, refl, sym, ap, _∙_}
 use mathlib.Core.Bool.{Bool, true, false, cond}
-use mathlib.Core.List.{List, [], _∷_}
+use mathlib.Core.List.{List}
 use Prim.Native.Nat.{ℕ, zero, suc, _+_, _*_, _/_, _%_, _<_, _≤_}
 use native.Mathlib.Omega.{arith}
-use lib.ListN.{length, length-append}
-use Rattle.rules.specs.Page.{State, wallAt}
+use Rattle.rules.specs.Page.{State}
 use Rattle.rules.specs.Flat.{Sized, flat, hopIf}
 use Rattle.rules.specs.Codes.{statesIn}
 use Rattle.rules.specs.Groups.{entry}
-use Rattle.rules.specs.Reasons.{path}
-use Rattle.laws.specs.FlatReasons.{flat-path-le}
 use Rattle.laws.specs.FlatLaws.{row-of}
 use Rattle.reasons.specs.declared.Neighbour.{Neighbour}
 use Rattle.reasons.specs.Arrays.{Stepped, hopsIn, hopOf}
@@ -18,19 +15,7 @@ use Rattle.reasons.specs.StepLaws.{step-any}
 use Rattle.walls.specs.declared.Breach.{Breach}
 use Rattle.walls.specs.Breaches.{noBreach, orBreach, isBreach, hopBreach, breachOn, breachFrom, firstBreach}
 use Rattle.walls.specs.WallCases.{breachAt, cell-split}
-use Rattle.walls.specs.Written.{breachLiterals}
 
-pub breach-short : {h w : ℕ} → Sized h w → (s : ℕ → State) (b : Breach)
-    → length (breachLiterals (flat h w) s b) ≤ h * w + 1
-unfolding breachLiterals
-breach-short {h} {w} z s b =
-    omega (
-      arith,
-      length-append (path (flat h w) s (b .cell) (b .to)) (wallAt (b .border) ∷ []),
-      flat-path-le z s (b .cell) (b .to),
-    )
-
--- a breach's border
 or-small : (a b : Breach) → a .border < 1984 → b .border < 1984 → orBreach a b .border < 1984
 unfolding orBreach
 or-small a b p q = go (a .found)

@@ -10,7 +10,7 @@ ghost use Rattle.rules.specs.Codes.{statesIn};
 ghost use Rattle.rules.specs.Groups.{entry};
 ghost use Rattle.groups.specs.Grouping.{numbersIn};
 ghost use Rattle.reasons.specs.Arrays.{Arrays, InArrays, hopsIn, hopOf};
-ghost use Rattle.reasons.specs.Memory.{Wrote};
+ghost use Rattle.reasons.specs.Memory.{Spare, Wrote};
 ghost use Rattle.walls.specs.Breaches.{noBreach, isBreach, breachOn, breachFrom, firstBreach};
 ghost use Rattle.walls.specs.WallCases.{breachAt};
 ghost use Rattle.walls.specs.Clean.{Apart};
@@ -192,7 +192,7 @@ pub fn first_breach<'a>(h: usize, w: usize, borders: &'a [u8; 1984], blocks: &'a
     nothing()
 }
 
-// The reason of a breach, from the start of the memory; gives the number of literals.
+// The reason of a breach, from the start of working memory; gives the number of literals.
 pub fn write_breach(
     memory: &mut [u16],
     h: usize,
@@ -201,7 +201,7 @@ pub fn write_breach(
     breach: Breach,
 ) -> usize
     requires { ⌜ Sized h w × (length (now borders) ≡ 1984) × (breach .border < 1984)
-        × (length (breachLiterals (flat h w) (statesIn (now borders)) breach) ≤ length (now memory)) ⌝ }
+        × Spare (now memory) 0 ⌝ }
     ensures { λ r. ⌜ Wrote (now (memory .entry)) 0 (breachLiterals (flat h w) (statesIn (now (borders .entry))) breach)
         (now (memory .exit)) r ⌝ }
 {

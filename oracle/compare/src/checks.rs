@@ -3,6 +3,7 @@
 use crate::ours::Memory;
 use oracle::book::Answer;
 use oracle::page::{code, Board, Literal};
+use std::collections::BTreeSet;
 
 // A slice goes over as its address and its length.
 extern "C" {
@@ -96,10 +97,15 @@ impl Trial {
         self.checks(1, 1, memory)
     }
 
+    /// At most so many borders are decided: one that is named twice is refused the second time.
+    fn decided(&self) -> usize {
+        borders(&self.codes).len()
+    }
+
     /// What one check answers. The memory beyond the reason must be as it was.
     pub fn answer(&self, memory: &mut Memory) -> Answer {
         let (number, written) = memory.lend_for(|places| self.check(1, places), reason_length);
-        answer(number, &written)
+        answer(number, &written, self.decided())
     }
 }
 
@@ -122,12 +128,28 @@ pub fn number(answer: &Answer) -> u32 {
     }
 }
 
-/// The answer with this number.
-pub fn answer(number: usize, written: &[u16]) -> Answer {
+/// The borders that literals name.
+fn borders(codes: &[u16]) -> BTreeSet<u16> {
+    codes.iter().map(|code| code / 2).collect()
+}
+
+/// A reason on a board with so many decided borders names no border twice, and has at most as many
+/// literals as there are decided borders.
+pub fn look_at_reason(codes: &[u16], decided: usize) {
+    let named = borders(codes).len();
+    assert_eq!(named, codes.len(), "a border is named twice: {codes:?}");
+    assert!(named <= decided, "{named} borders of {decided}: {codes:?}");
+}
+
+/// The answer with this number, on a board with so many decided borders.
+pub fn answer(number: usize, written: &[u16], decided: usize) -> Answer {
     match number {
         0 => Answer::Done,
         1..=31 => Answer::Refused(number as u32),
         32..=65_535 => Answer::Pass(number - 32),
-        _ => Answer::Conflict(written.iter().map(literal).collect()),
+        _ => {
+            look_at_reason(written, decided);
+            Answer::Conflict(written.iter().map(literal).collect())
+        }
     }
 }

@@ -2,8 +2,8 @@
 //! source is not there.
 
 use oracle::book::Answer;
-use oracle::page::{code, Board, Groups, Kind, Literal, Transform, KINDS};
-use oracle::plain::View;
+use oracle::page::{code, struck, Board, Groups, Kind, Literal, Transform, KINDS};
+use oracle::plain::{self, View};
 use oracle::published::Published;
 use oracle::shapes;
 
@@ -23,16 +23,32 @@ pub fn published(board: &Board) -> Published {
     made
 }
 
-/// The reason of a check, or none for a pass.
-pub fn reason(board: &Board) -> Option<Vec<Literal>> {
-    oracle::check(&board.puzzle, &board.decided)
+/// 01's list of the first hit, in which a literal may stand more than once; none for a pass.
+pub fn listed(board: &Board) -> Option<Vec<Literal>> {
+    if oracle::SOURCE {
+        return published(board).find_inconsistency();
+    }
+    plain::check(board).map(|hit| hit.listed)
+}
+
+/// What a check answers whose first hit has this list: later repeats are struck.
+pub fn answer(board: &Board, listed: Option<Vec<Literal>>) -> Answer {
+    match listed {
+        Some(listed) => Answer::Conflict(struck(listed)),
+        None => Answer::Pass(board.undecided()),
+    }
 }
 
 /// What a check answers.
 pub fn check(board: &Board) -> Answer {
-    match reason(board) {
-        Some(reason) => Answer::Conflict(reason),
-        None => Answer::Pass(board.undecided()),
+    answer(board, listed(board))
+}
+
+/// The reason of a check, or none for a pass.
+pub fn reason(board: &Board) -> Option<Vec<Literal>> {
+    match check(board) {
+        Answer::Conflict(reason) => Some(reason),
+        _ => None,
     }
 }
 

@@ -4,6 +4,7 @@
 // The host's crate links the static library of crate image.
 use dbchoco as _;
 
+use crate::checks::{look_at_reason, reason_length};
 use crate::expected;
 use oracle::image;
 use oracle::page::{Board, Literal, Puzzle};
@@ -41,7 +42,7 @@ extern "C" {
 pub const UNDO: u16 = 65_535;
 
 /// The least length of reason memory, in bytes.
-pub const MEMORY: usize = 32_768;
+pub const MEMORY: usize = 3_968;
 
 /// Guard bytes before and behind what is lent.
 const GUARD: usize = 64;
@@ -99,9 +100,22 @@ pub const DAMAGES: usize = 13;
 /// turned together with the tally.
 pub const HARMLESS: [usize; 2] = [5, 11];
 
+/// The number of two bytes from this place on.
+fn two(bytes: &[u8], at: usize) -> u16 {
+    u16::from_le_bytes([bytes[at], bytes[at + 1]])
+}
+
+/// How many borders an image says are decided; none where it has another length.
+pub fn decided(bytes: &[u8]) -> usize {
+    if bytes.len() != image::LENGTH {
+        return 0;
+    }
+    usize::from(two(bytes, 7_106))
+}
+
 /// Damage of one kind. Many keep the image good, or nearly so.
 pub fn damage(random: &mut Random, bytes: &mut [u8], kind: usize) {
-    let count = usize::from(u16::from_le_bytes([bytes[7_106], bytes[7_107]]));
+    let count = decided(bytes);
     let entry = |random: &mut Random| 7_108 + 2 * random.below(count.clamp(1, 1_984));
     let low = |random: &mut Random| random.below(4) as u8;
     match kind {
@@ -137,13 +151,13 @@ pub fn damage(random: &mut Random, bytes: &mut [u8], kind: usize) {
 
 /// Adds to a number of two bytes; 65,535 takes one off.
 fn add(bytes: &mut [u8], at: usize, more: u16) {
-    let number = u16::from_le_bytes([bytes[at], bytes[at + 1]]).wrapping_add(more);
+    let number = two(bytes, at).wrapping_add(more);
     bytes[at..at + 2].copy_from_slice(&number.to_le_bytes());
 }
 
 /// Turns the border of a stack entry, if it is decided, and the tally with it.
 fn turn(bytes: &mut [u8], entry: usize) {
-    let border = 5_122 + usize::from(u16::from_le_bytes([bytes[entry], bytes[entry + 1]]));
+    let border = 5_122 + usize::from(two(bytes, entry));
     let (turned, less, more) = match bytes.get(border) {
         Some(1) => (2, 11_078, 11_080),
         Some(2) => (1, 11_080, 11_078),
@@ -289,7 +303,8 @@ impl Judge {
         }
     }
 
-    /// The number of a call, after comparing it, every byte of image and memory, and the guards.
+    /// The number of a call, after comparing it, every byte of image and memory, and the guards, and after
+    /// a look at its reason.
     pub fn call(&mut self, image: &mut Lent, memory: &mut Lent, call: ImageCall) -> u32 {
         let mut image_wanted = image.content().to_vec();
         let mut memory_wanted = memory.content().to_vec();
@@ -305,6 +320,9 @@ impl Judge {
         assert!(memory.content() == memory_wanted, "memory after {call:?}");
         image.look_at_guards();
         memory.look_at_guards();
+        let literals = 0..reason_length(number as usize);
+        let codes: Vec<u16> = literals.map(|i| two(memory.content(), 2 * i)).collect();
+        look_at_reason(&codes, decided(image.content()));
         number
     }
 }

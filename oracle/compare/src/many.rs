@@ -3,11 +3,11 @@
 use crate::boards;
 use crate::checks::Trial;
 use crate::expected;
-use crate::ours::{Memory, ROOM};
-use oracle::book::Answer;
-use oracle::generate;
+use crate::ours::Memory;
+use oracle::book::{Answer, PLACES};
 use oracle::page::{Board, Puzzle};
 use oracle::random::Random;
+use oracle::{blocked, generate};
 
 /// What the compared checks answered.
 #[derive(Debug, Default)]
@@ -18,10 +18,15 @@ pub struct Seen {
     pub empty_reasons: usize,
     pub literals: usize,
     pub longest: usize,
+    /// Boards on which later repeats were struck, and those on which 01's list has at least twice as
+    /// many literals as the reason.
+    pub struck: usize,
+    pub twice_as_long: usize,
 }
 
 impl Seen {
-    fn add(&mut self, answer: &Answer) {
+    /// An answer, and how many literals 01's list has.
+    fn add(&mut self, answer: &Answer, listed: usize) {
         self.boards += 1;
         match answer {
             Answer::Conflict(reason) => {
@@ -29,6 +34,8 @@ impl Seen {
                 self.empty_reasons += usize::from(reason.is_empty());
                 self.literals += reason.len();
                 self.longest = self.longest.max(reason.len());
+                self.struck += usize::from(listed > reason.len());
+                self.twice_as_long += usize::from(listed >= 2 * reason.len().max(1));
             }
             _ => self.passes += 1,
         }
@@ -36,7 +43,7 @@ impl Seen {
 }
 
 /// Compares the proved check with the published one: pass with its count, or the reason literal by
-/// literal, and the memory beyond it.
+/// literal, later repeats struck, and the memory beyond it.
 pub struct Judge {
     memory: Memory,
     pub seen: Seen,
@@ -45,15 +52,18 @@ pub struct Judge {
 impl Judge {
     pub fn new(seed: u64) -> Judge {
         Judge {
-            memory: Memory::new(&mut Random::new(seed), ROOM + 5),
+            memory: Memory::new(&mut Random::new(seed), PLACES + 5),
             seen: Seen::default(),
         }
     }
 
     pub fn judge(&mut self, board: &Board) {
         let answer = Trial::new(board).answer(&mut self.memory);
-        assert!(answer == expected::check(board), "{answer:?} {board:?}");
-        self.seen.add(&answer);
+        let listed = expected::listed(board);
+        let length = listed.as_ref().map_or(0, Vec::len);
+        let wanted = expected::answer(board, listed);
+        assert!(answer == wanted, "{answer:?} {board:?}");
+        self.seen.add(&answer, length);
     }
 
     /// Every colouring of a page, with each list of clues from these numbers, and each border
@@ -64,7 +74,8 @@ impl Judge {
         }
     }
 
-    /// So many generated boards: half of them up to 8x8, the others up to 16x16 and 32x32.
+    /// So many generated boards: half of them up to 8x8, the others up to 16x16 and 32x32; one in 16 has
+    /// many repeats.
     pub fn generated(&mut self, seed: u64, count: usize) {
         let mut random = Random::new(seed);
         for turn in 0..count {
@@ -74,6 +85,7 @@ impl Judge {
                 3 => generate::noise(&mut random, side, side),
                 7 => generate::cut_board(&mut random, side, side),
                 11 => boards::opened(&mut random, side, side),
+                15 => blocked::board(&mut random, turn / 16),
                 _ => generate::board(&mut random, side, side),
             };
             self.judge(&board);

@@ -3,7 +3,7 @@
 use oracle::page::{Board, Kind, State};
 use oracle::random::Random;
 
-/// The least memory that a call takes.
+/// The least memory that a call takes which is no check, no preview and no transform.
 pub const ROOM: usize = 16_384;
 /// The least memory that a transform takes.
 pub const TRANSFORM_ROOM: usize = 6_144;

@@ -1,6 +1,7 @@
 //! Safe calls of crate probe: the proved preview, on the board that an image spells.
 
 use crate::checks::{answer, reason_length};
+use crate::images::decided;
 use crate::ours::Memory;
 use oracle::book::Answer;
 use oracle::page::{code, Literal};
@@ -38,5 +39,5 @@ pub fn preview(image: &[u8], literal: Literal, memory: &mut Memory) -> Answer {
     let once = |places: &mut [u16]| previews(image, literal, 1, places);
     let (number, written) = memory.lend_for(once, reason_length);
     assert!(image == before, "image after a preview of {literal:?}");
-    answer(number, &written)
+    answer(number, &written, decided(image) + 1)
 }

@@ -2,7 +2,7 @@
 //! probe, on the board that an image spells.
 
 use crate::checks::{answer, reason_length};
-use crate::images::{ours, ImageCall};
+use crate::images::{decided, ours, ImageCall};
 use crate::ours::Memory;
 use crate::previews::previews;
 use oracle::book::{Answer, Asked, Call};
@@ -110,5 +110,7 @@ pub fn reply(image: &mut [u8], asked: Asked, memory: &mut Memory) -> (Answer, Op
         number
     };
     let (number, written) = memory.lend_for(lent, reason_length);
-    (answer(number, &written), record)
+    let previewed = usize::from(matches!(asked.call, Call::Preview(..)));
+    let decided = decided(image) + previewed;
+    (answer(number, &written, decided), record)
 }

@@ -1,11 +1,11 @@
 //! The proved check against the published one: pass with its count, or the reason literal by literal,
-//! in order and with repeats; the memory beyond; refused calls.
+//! in order and with later repeats struck; the memory beyond; refused calls.
 
 use compare::checks::Trial;
 use compare::many::Judge;
-use compare::ours::{Memory, ROOM};
+use compare::ours::Memory;
 use compare::{boards, expected};
-use oracle::book::{self, Answer};
+use oracle::book::{self, Answer, PLACES};
 use oracle::page::{Board, Puzzle};
 use oracle::random::Random;
 use oracle::{bench, drafts};
@@ -22,6 +22,7 @@ fn small_pages_whole() {
     judge.page(2, 2, &[-1, 1, 2]);
     println!("{:?}", judge.seen);
     assert!(judge.seen.passes > 10_000 && judge.seen.conflicts > 100_000);
+    assert!(judge.seen.struck > 100);
 }
 
 #[test]
@@ -32,6 +33,7 @@ fn pages_of_six_cells_whole() {
     judge.page(2, 3, &[-1]);
     println!("{:?}", judge.seen);
     assert!(judge.seen.passes > 10_000 && judge.seen.conflicts > 100_000);
+    assert!(judge.seen.struck > 2_000 && judge.seen.twice_as_long > 500);
 }
 
 #[test]
@@ -43,7 +45,8 @@ fn generated_boards() {
     }
     println!("{:?}", judge.seen);
     assert!(judge.seen.passes > 500 && judge.seen.conflicts > 500);
-    assert!(judge.seen.longest > 1000);
+    assert!(judge.seen.longest == PLACES);
+    assert!(judge.seen.struck > 150 && judge.seen.twice_as_long > 100);
 }
 
 /// Pages with clues at, above and far above half the cells.
@@ -75,7 +78,7 @@ fn chosen() -> Vec<Board> {
 fn short_memory_is_refused() {
     let mut random = Random::new(65);
     for board in chosen() {
-        let length = *random.pick(&[0, 1, random.clone().below(ROOM), ROOM - 1]);
+        let length = *random.pick(&[0, 1, random.clone().below(PLACES), PLACES - 1]);
         let mut memory = Memory::new(&mut random, length);
         let answer = Trial::new(&board).answer(&mut memory);
         assert!(answer == Answer::Refused(book::SHORT), "{length} {board:?}");
@@ -88,7 +91,7 @@ fn later_checks_repeat_the_answer() {
     let mut random = Random::new(66);
     for board in chosen() {
         let trial = Trial::new(&board);
-        let fresh: Vec<u16> = (0..ROOM).map(|_| random.word() as u16).collect();
+        let fresh: Vec<u16> = (0..PLACES).map(|_| random.word() as u16).collect();
         let (mut none, mut once, mut often) = (fresh.clone(), fresh.clone(), fresh.clone());
         assert_eq!(trial.check(0, &mut none), 0);
         assert!(none == fresh);
@@ -106,7 +109,7 @@ fn streams_end_with_the_last_check() {
             continue;
         }
         let trial = Trial::new(&board);
-        let mut memory: Vec<u16> = (0..ROOM).map(|_| random.word() as u16).collect();
+        let mut memory: Vec<u16> = (0..PLACES).map(|_| random.word() as u16).collect();
         let fresh = memory.clone();
         let number = trial.stream(&mut memory);
         let mut wanted = fresh;
@@ -124,7 +127,7 @@ fn streams_end_with_the_last_check() {
 #[test]
 fn refused_decides_change_nothing() {
     let mut random = Random::new(68);
-    let mut memory = Memory::new(&mut random, ROOM);
+    let mut memory = Memory::new(&mut random, PLACES);
     for board in chosen() {
         let plain = Trial::new(&board);
         let mut more = plain.clone();
@@ -168,7 +171,7 @@ fn refused_puzzles_give_their_number() {
     let mut seen = [0; 6];
     for _ in 0..5000 {
         let trial = spoiled(&mut random);
-        let length = *random.pick(&[0, ROOM - 1, ROOM]);
+        let length = *random.pick(&[0, PLACES - 1, PLACES]);
         let mut memory = Memory::new(&mut random, length);
         let puzzle = Puzzle {
             h: trial.h,
@@ -182,7 +185,7 @@ fn refused_puzzles_give_their_number() {
         };
         let wanted = match book::refusal(&puzzle) {
             Some(number) => Answer::Refused(number),
-            None if length < ROOM => Answer::Refused(book::SHORT),
+            None if length < PLACES => Answer::Refused(book::SHORT),
             None => expected::check(&Board {
                 puzzle,
                 decided: vec![],

@@ -1,8 +1,11 @@
-//! The host's drop-in beside the published constraint, both behind the published trait.
+//! The host's drop-in beside the published constraint, both behind the published trait. What the
+//! published one finds is taken with later repeats struck: as a clause it is the same.
 
 use compare::boards;
+use compare::checks::look_at_reason;
+use compare::expected::codes;
 use oracle::generate;
-use oracle::page::Board;
+use oracle::page::{struck, Board};
 use oracle::published::{PropagatorGenerator, Published, ReasonVerifier, SimpleCustomConstraint};
 use oracle::random::Random;
 
@@ -24,15 +27,23 @@ fn theirs(board: &Board) -> impl SimpleCustomConstraint + Clone {
     Published::new(puzzle.h, puzzle.w, &puzzle.colours, &puzzle.clues).constraint()
 }
 
-/// Notifies and undoes the same on all, by chance, and compares what they find.
+/// How many inconsistencies were found, and how many published lists had repeats.
+#[derive(Debug, Default)]
+struct Seen {
+    found: usize,
+    struck: usize,
+}
+
+/// Notifies and undoes the same on all, by chance, and compares what they find: the first is the
+/// drop-in, and of the others later repeats are struck.
 fn beside(
     random: &mut Random,
     board: &Board,
     all: &mut [&mut dyn SimpleCustomConstraint],
-) -> usize {
+    seen: &mut Seen,
+) {
     let mut waiting = board.decided.clone();
     let mut standing = vec![];
-    let mut found = 0;
     for one in all.iter_mut() {
         one.initialize_sat(board.puzzle.borders());
     }
@@ -47,15 +58,18 @@ fn beside(
             all.iter_mut().for_each(|one| one.undo());
         }
         if random.chance(50) {
-            let reasons: Vec<_> = all.iter_mut().map(|one| one.find_inconsistency()).collect();
-            assert!(
-                reasons.iter().all(|reason| *reason == reasons[0]),
-                "{board:?}"
-            );
-            found += usize::from(reasons[0].is_some());
+            let mut lists = all.iter_mut().map(|one| one.find_inconsistency());
+            let ours = lists.next().expect("the drop-in");
+            if let Some(reason) = &ours {
+                look_at_reason(&codes(reason), standing.len());
+                seen.found += 1;
+            }
+            for theirs in lists {
+                seen.struck += usize::from(theirs != ours);
+                assert!(theirs.map(struck) == ours, "{board:?}");
+            }
         }
     }
-    found
 }
 
 #[test]
@@ -65,17 +79,22 @@ fn the_drop_in_finds_what_the_published_constraint_finds() {
         return;
     }
     let mut random = Random::new(90);
-    let mut found = 0;
+    let mut seen = Seen::default();
     for round in 0..150 * boards::rounds() {
         let side = if round % 30 == 0 { 32 } else { 8 };
         let board = generate::board(&mut random, side, side);
         let mut ours = ours(&mut random, &board);
         let mut theirs = theirs(&board);
         assert_eq!(ours.lazy_propagation(), theirs.lazy_propagation());
-        found += beside(&mut random, &board, &mut [&mut ours, &mut theirs]);
+        beside(
+            &mut random,
+            &board,
+            &mut [&mut ours, &mut theirs],
+            &mut seen,
+        );
     }
-    println!("{found} inconsistencies, the same on both");
-    assert!(found > 500);
+    println!("{seen:?}, the same on both");
+    assert!(seen.found > 500 && seen.struck > 50);
 }
 
 /// The published verifier checks that each reason of the drop-in conflicts when it stands alone.
@@ -90,7 +109,12 @@ fn the_published_verifier_takes_the_drop_in() {
         let board = generate::board(&mut random, 8, 8);
         let ours = ours(&mut random, &board);
         let mut verified = ReasonVerifier::new(ours.clone(), ours.clone());
-        beside(&mut random, &board, &mut [&mut verified]);
+        beside(
+            &mut random,
+            &board,
+            &mut [&mut verified],
+            &mut Seen::default(),
+        );
         // What `add_custom_constraint` of the published solver takes.
         let _: Box<dyn PropagatorGenerator> = Box::new(ours);
     }

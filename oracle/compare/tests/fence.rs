@@ -3,7 +3,7 @@
 
 #![cfg(target_os = "linux")]
 
-use compare::images::{our_fresh, ours, ImageCall};
+use compare::images::{our_fresh, ours, ImageCall, MEMORY};
 use oracle::page::{Board, Puzzle};
 use oracle::random::Random;
 use oracle::{bench, generate, image};
@@ -87,7 +87,7 @@ fn nothing_beside_an_image_or_memory_is_touched() {
     let (mut image, mut memory) = (Fenced::new(), Fenced::new());
     let mut answered = 0;
     for bytes in images() {
-        for length in [32_768, 32_769, 0, 1, 32_767] {
+        for length in [MEMORY, MEMORY + 1, 0, 1, MEMORY - 1] {
             for (call, at_end) in CALLS.iter().flat_map(|&call| [(call, true), (call, false)]) {
                 let memory = memory.lay(&vec![7; length], at_end);
                 let number = ours(image.lay(&bytes, at_end), memory, call);
@@ -104,7 +104,7 @@ fn nothing_past_an_image_of_any_length_is_touched() {
     let bytes = [&images()[1][..], &[0; 24]].concat();
     for length in 0..=11_100 {
         for call in CALLS {
-            let memory = memory.lay(&[7; 32_768], true);
+            let memory = memory.lay(&[7; MEMORY], true);
             let number = ours(image.lay(&bytes[..length], true), memory, call);
             assert_eq!(number == 5, length != image::LENGTH, "{length} {call:?}");
         }

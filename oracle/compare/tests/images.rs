@@ -122,8 +122,8 @@ fn a_list_in_one_call_goes_as_its_calls_one_by_one() {
 /// Mostly just enough memory; at times too little, or an odd length.
 fn a_length(random: &mut Random) -> usize {
     match random.below(6) {
-        0 => *random.pick(&[0, 1, 2, 32_767, 32_766]),
-        1 => *random.pick(&[32_769, 32_770, 40_001]),
+        0 => *random.pick(&[0, 1, 2, MEMORY - 1, MEMORY - 2]),
+        1 => *random.pick(&[MEMORY + 1, MEMORY + 2, 40_001]),
         _ => MEMORY,
     }
 }

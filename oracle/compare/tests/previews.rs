@@ -7,9 +7,9 @@ use compare::checks::{board_checks, number, Trial};
 use compare::expected::{self, note_source};
 use compare::images::{damage, ours, ImageCall, Judge, DAMAGES, MEMORY};
 use compare::many::{puzzles, settings};
-use compare::ours::{Memory, ROOM};
+use compare::ours::Memory;
 use compare::previews::{preview, previews};
-use oracle::book::{Answer, Book, Call};
+use oracle::book::{Answer, Book, Call, PLACES};
 use oracle::page::{Board, Literal, Puzzle};
 use oracle::random::Random;
 use oracle::{generate, image, rules};
@@ -40,7 +40,7 @@ fn other_call(random: &mut Random, book: &mut Book, image: &mut [u8], literals: 
     let mut judge = Judge::default();
     let (call, asked) = match random.below(5) {
         0 => (ImageCall::Undo, Call::Undo),
-        1 => (ImageCall::Check, Call::Check(ROOM)),
+        1 => (ImageCall::Check, Call::Check(PLACES)),
         _ if literals.is_empty() => (ImageCall::Undo, Call::Undo),
         _ => {
             let &(border, wall) = random.pick(literals);
@@ -66,7 +66,7 @@ fn lists_of_calls_with_previews_answer_as_the_book() {
             puzzle: puzzle.clone(),
             decided: vec![],
         });
-        let lengths = [0, ROOM - 1, ROOM, ROOM, ROOM, ROOM + 1];
+        let lengths = [0, PLACES - 1, PLACES, PLACES, PLACES, PLACES + 1];
         for _ in 0..2 * decided.len().clamp(10, 100) {
             if random.chance(60) {
                 other_call(&mut random, &mut book, &mut image, &decided);
@@ -150,7 +150,7 @@ impl Walk {
 fn every_preview_of_small_pages() {
     note_source();
     let mut walk = Walk {
-        memory: Memory::new(&mut Random::new(91), ROOM + 3),
+        memory: Memory::new(&mut Random::new(91), PLACES + 3),
         solutions: vec![],
         seen: Seen::default(),
         full: [0; 2],
@@ -190,10 +190,10 @@ fn an_alien_image_comes_first() {
             damage(&mut random, &mut image, round % DAMAGES);
         }
         let literal = (random.below(12), random.chance(50));
-        let places = *random.pick(&[0, ROOM]);
+        let places = *random.pick(&[0, PLACES]);
         let mut memory = Memory::new(&mut random, places);
         let answer = preview(&image, literal, &mut memory);
-        let checked = board_checks(&image, 1, &mut [0; ROOM]);
+        let checked = board_checks(&image, 1, &mut [0; PLACES]);
         let number = ours(&mut image, &mut [0; MEMORY], ImageCall::Check);
         assert_eq!(checked, number as usize, "{board:?}");
         let Some(board) = image::read(&image) else {
@@ -228,11 +228,14 @@ fn every_length_of_an_image_and_of_memory() {
         let answer = preview(&other, (1, true), &mut memory);
         assert_eq!(answer, Answer::Refused(number), "{length}");
     }
-    for places in (0..ROOM + 100).step_by(7).chain([ROOM - 1, ROOM, ROOM + 1]) {
+    for places in (0..PLACES + 100)
+        .step_by(7)
+        .chain([PLACES - 1, PLACES, PLACES + 1])
+    {
         let mut memory = vec![7; places];
         let mut number = |literal| previews(&image, literal, 1, &mut memory);
         assert_eq!([number((7, true)), number((0, true))], [6, 7]);
-        assert_eq!(number((1, true)) == 9, places < ROOM, "{places}");
+        assert_eq!(number((1, true)) == 9, places < PLACES, "{places}");
         assert_eq!(previews(&image, (1, true), 0, &mut memory), 0);
     }
 }

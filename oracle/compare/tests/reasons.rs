@@ -1,5 +1,5 @@
-//! Inside, Edge and Path of the proved code against the published ones: literals in order, with
-//! their repeats, and the memory beyond.
+//! Inside, Edge and Path of the proved code against the published ones: literals in order, and the
+//! memory beyond.
 
 use compare::boards;
 use compare::expected::{self, codes, Paths};

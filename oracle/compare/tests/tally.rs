@@ -8,7 +8,7 @@ use compare::images::{our_calls, our_fresh, ours, ImageCall, Judge, MEMORY, UNDO
 use compare::ours::{asked, part, transform, Counts, Memory, PARTED, ROOM, TRANSFORM_ROOM};
 use compare::previews::previews;
 use compare::tally::{counted, reply};
-use oracle::book::{Answer, Asked, Book, Call};
+use oracle::book::{Answer, Asked, Book, Call, PLACES};
 use oracle::page::{Board, Literal, Puzzle, Tally, KINDS};
 use oracle::random::Random;
 use oracle::records::{wrong_records, Kept};
@@ -194,11 +194,11 @@ fn calls_of_every_kind(board: &Board) -> Vec<Call> {
     let taken = |border: &usize| board.decided.iter().any(|literal| literal.0 == *border);
     let undecided = (0..borders).find(|border| !taken(border));
     let first = board.decided.first().map(|literal| literal.0);
-    let mut calls = vec![Call::Undo, Call::Check(ROOM), Call::Check(0)];
+    let mut calls = vec![Call::Undo, Call::Check(PLACES), Call::Check(0)];
     for border in [undecided, first, Some(borders)].into_iter().flatten() {
         for wall in [true, false] {
             calls.push(Call::Decide((border, wall)));
-            calls.push(Call::Preview((border, wall), ROOM));
+            calls.push(Call::Preview((border, wall), PLACES));
             calls.push(Call::Preview((border, wall), 0));
         }
     }
@@ -255,7 +255,7 @@ fn records_of_another_length() {
         for length in [0, 1, 2, 4, 5] {
             for which in 0..5 {
                 let mut record = words[..length].to_vec();
-                let mut memory = vec![7; ROOM];
+                let mut memory = vec![7; PLACES];
                 let number = counted(&image, which, 0, &mut record, &mut memory);
                 assert_eq!(number, 5, "{which} {length} {board:?}");
                 assert_eq!(record, words[..length], "{which} {board:?}");
@@ -271,7 +271,7 @@ fn numbers_of_the_calls() {
     for board in some_boards() {
         let image = image::write(&board);
         let number = |which: usize, code: usize| {
-            let (mut record, mut memory) = (board.tally().counts(), vec![7; ROOM]);
+            let (mut record, mut memory) = (board.tally().counts(), vec![7; PLACES]);
             let number = counted(&image, which, code, &mut record, &mut memory);
             (number, record, memory)
         };
@@ -367,7 +367,7 @@ impl Seen {
 
 fn a_call(random: &mut Random, borders: usize, literals: &[Literal]) -> (Call, usize) {
     let literal = a_literal(random, borders, literals);
-    let places = *random.pick(&[0, ROOM - 1, ROOM, ROOM, ROOM, ROOM + 1]);
+    let places = *random.pick(&[0, PLACES - 1, PLACES, PLACES, PLACES, PLACES + 1]);
     match random.below(20) {
         0..=3 => (Call::Undo, random.below(4)),
         4..=6 => (Call::Check(places), places),

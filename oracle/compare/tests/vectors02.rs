@@ -4,13 +4,13 @@
 
 use compare::checks::Trial;
 use compare::images::our_fresh;
-use compare::ours::{Memory, ROOM};
+use compare::ours::Memory;
 use compare::tally::reply;
-use oracle::book::{Answer, Asked, Call};
+use oracle::book::{Answer, Asked, Call, PLACES};
 use oracle::image;
 use oracle::page::{Puzzle, Tally};
 use oracle::random::Random;
-use oracle::vectors02::{self, struck, Damaged, Script};
+use oracle::vectors02::{self, Damaged, Script};
 
 /// An image made of a puzzle, and the number.
 fn made(puzzle: &Puzzle) -> (Vec<u8>, u32) {
@@ -72,7 +72,7 @@ fn on_a_board(script: &Script, bytes: &[u8], call: Call, memory: &mut Memory) ->
     if let Call::Preview(literal, _) = call {
         board.decided.push(literal);
     }
-    struck(Trial::new(&board).answer(memory))
+    Trial::new(&board).answer(memory)
 }
 
 /// The calls of a script on its image.
@@ -82,7 +82,7 @@ fn replay(script: &Script, memory: &mut Memory, seen: &mut Seen) {
     seen.alien_boards += damaged(script, 0, &bytes);
     for (i, one) in script.calls.iter().enumerate() {
         let (answer, record) = replied(&mut bytes, one.asked);
-        assert_eq!(struck(answer), one.answer, "{} {:?}", script.id, one.asked);
+        assert_eq!(answer, one.answer, "{} {:?}", script.id, one.asked);
         assert_eq!(record, one.record, "{} {:?}", script.id, one.asked);
         if matches!(one.answer, Answer::Pass(_) | Answer::Conflict(_)) {
             let answer = on_a_board(script, &bytes, one.asked.call, memory);
@@ -109,7 +109,7 @@ fn the_exported_calls_have_their_answers() {
         let number = made(&make.puzzle).1;
         assert_eq!(number, make.refusal.unwrap_or(0), "{}", make.id);
     }
-    let mut memory = Memory::new(&mut Random::new(70), ROOM);
+    let mut memory = Memory::new(&mut Random::new(70), PLACES);
     let mut seen = Seen::default();
     for script in &scripts {
         replay(script, &mut memory, &mut seen);

@@ -5,14 +5,14 @@
 //!     cargo run --release --bin pages -- answer FILE..       the answers beside accepted pages
 //!     cargo run --release --bin pages -- vectors02 DIR       the vectors of document 02 as pages
 //!
-//! The answers are those of the published Rust, or of the plain check where its source is not there;
-//! those of the vectors of document 02 are the vectors' own, in which a reason has no repeats.
+//! The answers are those of the published Rust, later repeats struck, or of the plain check where its
+//! source is not there; those of the vectors of document 02 are the vectors' own.
 
 use oracle::book::{Answer, Call, ALIEN, PLACES};
 use oracle::page::Board;
 use oracle::random::Random;
 use oracle::vectors02::{self, Replied};
-use oracle::{drafts, generate, sheet};
+use oracle::{blocked, drafts, generate, sheet};
 use std::path::{Path, PathBuf};
 use std::{env, fs, process::ExitCode};
 
@@ -37,11 +37,12 @@ fn calls(random: &mut Random, board: &Board) -> Vec<Call> {
     calls
 }
 
-/// A generated board; three sizes take turns.
+/// A generated board; three sizes and boards with many repeats take turns.
 fn generated(random: &mut Random, turn: usize) -> Board {
     let side = match turn % 10 {
         0 => 32,
         1..=3 => 10,
+        4 => return blocked::board(random, turn / 10),
         _ => 5,
     };
     generate::board(random, side, side)

@@ -1,4 +1,5 @@
-//! Prints N generated boards of at most 5x5 with the published answers and transforms:
+//! Prints N generated boards of at most 5x5 with the published answers, later repeats struck, and the
+//! published transforms:
 //!
 //!     cargo run --release --bin sample -- N [seed]
 //!

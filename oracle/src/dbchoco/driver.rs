@@ -2,7 +2,7 @@ pub use crate::custom_constraints::{PropagatorGenerator, SimpleCustomConstraint}
 pub use crate::util::ReasonVerifier;
 
 use super::{enumerate_transforms, BoardManager, Border, DoublechocoConstraint, GroupInfo, Shape};
-use crate::page::{Groups, Kind, Literal, Puzzle, Transform};
+use crate::page::{struck, Groups, Kind, Literal, Puzzle, Transform};
 use crate::util::Grid;
 
 /// A board of the published code.
@@ -45,9 +45,14 @@ impl Published {
         self.constraint.undo();
     }
 
-    /// The reason of the first hit, or none for a pass.
-    pub fn check(&mut self) -> Option<Vec<Literal>> {
+    /// The published list of the first hit, repeats included, or none for a pass.
+    pub fn find_inconsistency(&mut self) -> Option<Vec<Literal>> {
         self.constraint.find_inconsistency()
+    }
+
+    /// The reason of the first hit, or none for a pass: the published list with later repeats struck.
+    pub fn check(&mut self) -> Option<Vec<Literal>> {
+        self.find_inconsistency().map(struck)
     }
 
     /// The decided borders with their sides, the last decided last.
@@ -169,7 +174,7 @@ impl Published {
     }
 }
 
-/// The published check on a puzzle with just these literals decided.
+/// The reason on a puzzle with just these literals decided, or none for a pass.
 pub fn check(puzzle: &Puzzle, decided: &[Literal]) -> Option<Vec<Literal>> {
     let mut board = Published::new(puzzle.h, puzzle.w, &puzzle.colours, &puzzle.clues);
     for &(border, wall) in decided {

@@ -1,11 +1,8 @@
 -- `answer_tested` meets its contract: short memory, and memory with room for a reason.
 use mathlib.Core.Path.{_∙_}
-use native.Mathlib.Omega.{arith}
 use Rattle.rules.specs.Check.{Verdict}
-use Rattle.laws.specs.FlatLaws.{counts}
 use Rattle.calls.specs.Known.{foundIn}
 use Rattle.calls.specs.AnswerLaws.{found-short, found-long}
-use Rattle.calls.specs.CheckLaws.{drawn-of}
 use borrow.Author.Needs.{needs}
 use Rattle.calls.proofs.answer_tested.Statement.{statement}
 use Rattle.calls.proofs.answer_tested.Tie as tie
@@ -21,8 +18,7 @@ returns c = let s = c .before .before in found-short (found s) (s .args .memory 
 
 answer-known-requires : tie.Need-answer-known-requires
 answer-known-requires c κs =
-    let p = c .before .before .before .pre in
-    (p, omega (arith, c .before .if1 .left, counts (drawn-of _ (p .native) .sized) .cells))
+    (c .before .before .before .pre, c .before .if1 .left)
 
 same-length : tie.Need-same-length
 same-length c = search needs

@@ -55,7 +55,7 @@ put-codes-requires c κs =
     let k = c .before .before .before .before .before in
     let e = c .before .before .before .answer2 .given .1 in
     let r = facts k .range _ e in
-    let h = ltb-false (length (memory k)) 32768 (start k .pre .2) in
+    let h = ltb-false (length (memory k)) 3968 (start k .pre .2) in
     (facts k .fits _ e, omega arith)
 
 cast-result-2 : tie.Need-cast-result-2

@@ -1,15 +1,13 @@
--- `dbchoco_check` meets its contract: the refusals, and what Check gives of the image's board, by its size.
+-- `dbchoco_check` meets its contract: the refusals, and what Check gives of the image's board.
 use mathlib.Core.Path.{_≡_, refl, sym, _∙_}
 use mathlib.Core.Bool.{false}
 use mathlib.Core.List.{List}
-use Prim.Native.Nat.{ℕ, _*_, _≤_}
+use Prim.Native.Nat.{ℕ}
 use native.Mathlib.Omega.{arith}
 use borrow.Author.Needs.{needs}
 use lib.ListN.{length-replicate}
-use Rattle.laws.specs.FlatLaws.{counts}
 use Rattle.board.specs.declared.Board.{Board}
 use Rattle.board.specs.Alien.{isAlien}
-use Rattle.board.specs.NativeLaws.{native-has}
 use Rattle.calls.specs.Answers.{answerNumber, asAnswer}
 use Rattle.calls.specs.Known.{KnownBoard, foundIn}
 use Rattle.image.specs.Image.{isShort, bytesAfter, checkNumber, checkBytes}
@@ -45,9 +43,6 @@ board-known e =
 
 room : (e : Left) → isShort (memory e) ≡ false
 room e = sym (e .before .short .ensures) ∙ e .if3 .left
-
-few : (e : Left) → board e .height * board e .width ≤ 1024
-few e = counts (native-has (board e) (known e) .size) .cells
 
 -- what Check gives of the board is the answer of the check
 told : (e : Left) → let b = board e in
@@ -86,48 +81,21 @@ returns-3 c =
     short-checked _ _ (i .before .if1 .left) _ (i .board .ensures) t
     (sym (c .before .short .ensures) ∙ c .if3 .taken)
 
-mul-if4 : tie.Need-mul-if4
-mul-if4 c = omega (arith, few c)
-
 slice-aggregate-answered : tie.Need-slice-aggregate-answered
 slice-aggregate-answered c = search needs
 
 answered-requires : tie.Need-answered-requires
 answered-requires c κs =
-    let i = c .before .before .before .before .before .before in
-    let e = i .before in (
-      board-known e,
-      omega (arith, i .if4 .taken, length-replicate {A = ℕ} 4096 0),
-      room e,
-    )
+    let e = c .before .before .before .before .before .before in
+    (board-known e, omega (arith, length-replicate {A = ℕ} 1984 0), room e)
 
 same-length-2 : tie.Need-same-length-2
 same-length-2 c = search needs
 
 returns-4 : tie.Need-returns-4
 returns-4 c =
-    let f = told (c .before .before .before .before .before .before .before .before .before .before .before) in
+    let f = told (c .before .before .before .before .before .before .before .before .before .before) in
     let r = c .before .before .before .answered .ensures in
-    (r .0 ∙ f .0, r .1 ∙ f .1)
-
-slice-aggregate-answered-2 : tie.Need-slice-aggregate-answered-2
-slice-aggregate-answered-2 c = search needs
-
-answered-requires-2 : tie.Need-answered-requires-2
-answered-requires-2 c κs =
-    let e = c .before .before .before .before .before .before .before in (
-      board-known e,
-      omega (arith, few e, length-replicate {A = ℕ} 16384 0),
-      room e,
-    )
-
-same-length-3 : tie.Need-same-length-3
-same-length-3 c = search needs
-
-returns-5 : tie.Need-returns-5
-returns-5 c =
-    let f = told (c .before .before .before .before .before .before .before .before .before .before .before) in
-    let r = c .before .before .before .answered2 .ensures in
     (r .0 ∙ f .0, r .1 ∙ f .1)
 
 pub dbchoco-check-spec : {M : Type 1} → statement M
@@ -141,12 +109,7 @@ dbchoco-check-spec =
     short-requires
     same-length
     returns-3
-    mul-if4
     slice-aggregate-answered
     answered-requires
     same-length-2
-    returns-4
-    slice-aggregate-answered-2
-    answered-requires-2
-    same-length-3
-    returns-5)
+    returns-4)

@@ -42,7 +42,7 @@ scan-requires c κs =
       s .pre .2,
       flag s .long,
       part-cells (s .pre .3 .is),
-      rw (whole s) at (s .pre .4),
+      s .pre .4,
     )
 
 same-length : tie.Need-same-length

@@ -4,14 +4,13 @@ use mathlib.Core.List.{List}
 use Prim.Native.Nat.{ℕ, _+_, _-_, _≤_}
 use native.Mathlib.Omega.{arith}
 use lib.ListN.{getD}
-use Rattle.lists.specs.WroteLaws.{loop-none, loop-more, loop-end, wrote-length}
 use Rattle.lists.specs.UpTo.{upTo}
 use Rattle.lists.specs.Parts.{part}
 use Rattle.rules.specs.declared.Literal.{Literal}
 use Rattle.groups.specs.Grouping.{numbersIn, cellsIn}
 use Rattle.reasons.specs.Memory.{Wrote}
 use Rattle.reasons.specs.Arrays.{Cells, scanAt, scanOf}
-use Rattle.reasons.specs.MemoryLaws.{loop-fits}
+use Rattle.reasons.specs.MemoryLaws.{turns-none, turns-more, turns-end}
 use Rattle.reasons.specs.ScanLaws.{scan-part}
 use Rattle.reasons.proofs.scan.Statement.{statement}
 use Rattle.reasons.proofs.scan.Tie as tie
@@ -52,7 +51,7 @@ sub-count : tie.Need-sub-count Inv-loop μ-loop
 sub-count c = omega (arith, listed (c .before))
 
 loop-holds : tie.Need-loop-holds Inv-loop μ-loop
-loop-holds c = (omega arith, loop-none _)
+loop-holds c = (omega arith, turns-none _ (c .before .pre .5))
 
 add-cell-at : tie.Need-add-cell-at Inv-loop μ-loop
 add-cell-at c = omega (arith, listed (c .before .before .before))
@@ -70,8 +69,7 @@ scan-cell-requires c κs =
       s .pre .2,
       s .pre .3,
       rw e (listed s .each (l .i) (omega arith)),
-      rw e (loop-fits (at s) (l .i) (l .inv .1) (s .args .to - s .args .from) (omega arith)
-          (rw (whole s) at (s .pre .5))),
+      l .inv .1 .spare,
     )
 
 add-i : tie.Need-add-i Inv-loop μ-loop
@@ -85,16 +83,16 @@ loop-again c =
     let s = c .before .before .before .before .before .before .before .before in
     let l = c .before .before .before .before .before .before .loop in
     let e = c .before .before .before .before .cell-at .ensures in
-    (omega arith, loop-more (at s) (l .i) (l .inv .1) (rw e at (c .before .before .scan-cell .ensures)))
+    (omega arith, turns-more (at s) (l .i) (l .inv .1) (rw e at (c .before .before .scan-cell .ensures)))
 
 same-length : tie.Need-same-length Inv-loop μ-loop
-same-length c = wrote-length (c .before .loop .inv .1)
+same-length c = c .before .loop .inv .1 .long
 
 returns : tie.Need-returns Inv-loop μ-loop
 returns c =
     let s = c .before .before .before in
     let l = c .before .loop in
-    rw (whole s) (loop-end (at s) (l .i) (l .inv .1) (s .args .to - s .args .from) (omega arith) (omega arith))
+    rw (whole s) (turns-end (at s) (l .i) (l .inv .1) (s .args .to - s .args .from) (omega arith) (omega arith))
 
 pub scan-spec : {M : Type 1} → statement M
 scan-spec =

@@ -1,14 +1,13 @@
 -- `block_hit` meets its contract: what first_faulty finds is the first faulty block, and its reason is written.
 use mathlib.Core.Path.{_≡_, sym, _∙_}
-use native.Mathlib.Omega.{arith}
 use borrow.Author.Needs.{needs}
 use Rattle.groups.specs.declared.Kind.the-variants.{Blocks, Potential}
 use Rattle.groups.specs.Kinds.{joinsIn}
-use Rattle.groups.specs.Grouping.{numbersIn}
+use Rattle.reasons.specs.MemoryLaws.{spare-zeros, front-length, front-fits}
 use Rattle.blocks.specs.Bridges.{lists-of, parted-of}
 use Rattle.blocks.specs.BlockHits.{faultyIn}
-use Rattle.blocks.specs.Bounds.{fault-short}
-use Rattle.steps.specs.HitLaws.{answers-none, answers-some, blocks-clear, blocks-fault, fault-block, fault-unit}
+use Rattle.steps.specs.HitLaws.{answers-none, answers-some, blocks-held}
+use Rattle.steps.specs.HitLaws.{blocks-clear, blocks-fault, fault-block, fault-unit}
 use Rattle.steps.proofs.block_hit.Statement.{statement}
 use Rattle.steps.proofs.block_hit.Tie as tie
 
@@ -34,11 +33,12 @@ returns c =
     answers-none _ (blocks-clear (p .0) _ _ _ _ (found (c .before .before))
     (sym (c .before .is-clear .ensures) ∙ c .if1 .taken))
 
+slice-aggregate-write-fault : tie.Need-slice-aggregate-write-fault
+slice-aggregate-write-fault c = search needs
+
 write-fault-requires : tie.Need-write-fault-requires
 write-fault-requires c κs =
-    let s = c .before .before .before .before .before in
-    let p = s .pre in
-    let a = s .args in
+    let p = c .before .before .before .before .before .pre in
     let f = found (c .before .before .before) in
     let e = sym (c .before .before .is-clear .ensures) ∙ c .before .if1 .left in (
       p .0,
@@ -46,25 +46,31 @@ write-fault-requires c κs =
       p .1 .colours,
       fault-block (p .0) _ _ _ _ f (p .2) e,
       fault-unit (p .0) _ _ _ _ f (p .3),
-      omega (
-        arith,
-        fault-short (a .h) (a .w) (a .colours .now) (a .borders .now) (numbersIn (a .blocks .now))
-            (numbersIn (a .potential .now))
-            (c .before .before .before .first-faulty .result),
-        p .1 .memory,
-      ),
+      spare-zeros,
     )
+
+array-share-prefix-work : tie.Need-array-share-prefix-work
+array-share-prefix-work c = search needs
+
+slice-aggregate-hand-out : tie.Need-slice-aggregate-hand-out
+slice-aggregate-hand-out c = front-length (c .before .before .before .write-fault .ensures)
+
+hand-out-requires : tie.Need-hand-out-requires
+hand-out-requires c κs =
+    let p = c .before .before .before .before .before .before .before .before .before .pre in
+    front-fits (c .before .before .before .write-fault .ensures) _ (p .1 .memory)
 
 same-length : tie.Need-same-length
 same-length c = search needs
 
 returns-2 : tie.Need-returns-2
 returns-2 c =
-    let p = c .before .before .before .before .before .before .before .before .pre in
-    let e = sym (c .before .before .before .before .before .is-clear .ensures) ∙ c .before .before .before .before
-    .if1 .left in
-    answers-some (blocks-fault (p .0) _ _ _ _ (found (c .before .before .before .before .before .before)) e)
-    (rw (p .2 .numbers, p .3 .numbers) at (c .before .before .write-fault .ensures))
+    let n = c .before .before .before .before .before .before in
+    let p = c .before .before .before .before .before .before .before .before .before .before .before .before .pre in
+    let e = sym (n .before .before .before .is-clear .ensures) ∙ n .before .before .if1 .left in
+    answers-some _ (p .1 .borders) (blocks-held (p .0) _ _ _)
+    (blocks-fault (p .0) _ _ _ _ (found (n .before .before .before .before)) e)
+    (rw (p .2 .numbers, p .3 .numbers) at (n .write-fault .ensures)) (c .before .before .hand-out .ensures)
 
 pub block-hit-spec : {M : Type 1} → statement M
 block-hit-spec =
@@ -73,6 +79,10 @@ block-hit-spec =
     first-faulty-requires
     is-clear-requires
     returns
+    slice-aggregate-write-fault
     write-fault-requires
+    array-share-prefix-work
+    slice-aggregate-hand-out
+    hand-out-requires
     same-length
     returns-2)

@@ -1,15 +1,16 @@
 -- `early_hit` meets its contract: step 1's hit, and where there is none step 2's.
 use mathlib.Core.Path.{_≡_}
-use native.Mathlib.Omega.{arith}
 use borrow.Author.Needs.{needs}
-use Rattle.rules.specs.Codes.{statesIn}
-use Rattle.laws.specs.FlatLaws.{counts}
+use borrow.Author.Tests.{not-true, not-false}
+use Rattle.rules.specs.Codes.{statesIn, puzzleIn}
 use Rattle.groups.specs.Grouping.{numbersIn}
+use Rattle.reasons.specs.MemoryLaws.{spare-zeros, front-length, front-fits}
 use Rattle.walls.specs.WallHits.{breachIn}
-use Rattle.walls.specs.Bounds.{breach-small, breach-short}
-use Rattle.steps.specs.Found.{earlyHit}
+use Rattle.walls.specs.Bounds.{breach-small}
+use Rattle.steps.specs.declared.Found.the-variants.{Nothing}
+use Rattle.steps.specs.Found.{blocksHit, earlyHit, Answers}
 use Rattle.steps.specs.HitLaws.{answers-first, answers-next, answers-told, answers-none, answers-some}
-use Rattle.steps.specs.HitLaws.{walls-clear, walls-breach, arrays-of}
+use Rattle.steps.specs.HitLaws.{answers-kept, walls-held, walls-clear, walls-breach, arrays-of}
 use Rattle.steps.proofs.early_hit.Statement.{statement}
 use Rattle.steps.proofs.early_hit.Tie as tie
 
@@ -18,6 +19,13 @@ found : (c : tie.After-first-breach) → let s = c .before .before .before .befo
     ≡ breachIn (s .pre .0) (s .args .colours .now) (s .args .clues .now) (s .args .borders .now)
 found c = rw (c .before .before .before .before .before .before .before .before .pre .2 .numbers) at (c .first-breach
     .ensures)
+
+-- step 1 found nothing
+nothing : (c : tie.After-enum-told) → let s = c .before .before .before .before .before .before .before in
+    Answers (blocksHit (puzzleIn (s .args .h) (s .args .w) (s .args .colours .now) (s .args .clues .now))
+    (statesIn (s .args .borders .now)))
+    (s .args .memory .now) (c .before .before .before .before .block-hit .last .1 .1 .1 .1 .1 .1 .1 .0) Nothing
+nothing c = answers-told (c .enum-told .given .1) (c .before .before .before .before .block-hit .ensures)
 
 block-hit-requires : tie.Need-block-hit-requires
 block-hit-requires c κs = search needs
@@ -40,35 +48,38 @@ first-breach-requires c κs =
     let p = c .before .before .before .before .before .before .before .pre in
     (p .0, arrays-of (p .0) _ (p .2) (p .1 .borders))
 
-write-breach-requires : tie.Need-write-breach-requires
-write-breach-requires c κs =
-    let s = c .before .before .before .before .before .before .before .before .before .before in
-    let p = s .pre in
-    let b = c .before .before .first-breach in (
-      p .0,
-      p .1 .borders,
-      rw (b .ensures) (breach-small (p .0) (s .args .borders .now) (numbersIn (s .args .blocks .now))),
-      omega (
-        arith,
-        breach-short (p .0) (statesIn (s .args .borders .now)) (b .result),
-        p .1 .memory,
-        counts (p .0) .some,
-      ),
-    )
-
 same-length-2 : tie.Need-same-length-2
 same-length-2 c = search needs
 
 returns-2 : tie.Need-returns-2
 unfolding earlyHit
 returns-2 c =
-    let p = c .before .before .before .before .before .before .before .before .before .before .before .before .before
-    .pre in
-    answers-next _ _ (answers-told (c .before .before .before .before .before .before .enum-told .given .1) (c
-    .before .before .before .before .before .before .before .before .before .before .block-hit .ensures))
-    (answers-some (walls-breach (p .0) _ _ _ _ (found (c .before .before .before .before .before)) (c .before .before
-    .before .before .if1 .taken))
-    (c .before .before .write-breach .ensures))
+    let p = c .before .before .before .before .before .before .before .before .before .before .pre in
+    answers-next _ _ (nothing (c .before .before .before))
+    (answers-none _ (walls-clear (p .0) _ _ _ _ (found (c .before .before)) (not-true _ (c .if1 .taken))))
+
+slice-aggregate-write-breach : tie.Need-slice-aggregate-write-breach
+slice-aggregate-write-breach c = search needs
+
+write-breach-requires : tie.Need-write-breach-requires
+write-breach-requires c κs =
+    let s = c .before .before .before .before .before .before .before .before .before .before .before in
+    let p = s .pre in
+    let small = breach-small (p .0) (s .args .borders .now) (numbersIn (s .args .blocks .now)) in
+    (p .0, p .1 .borders, rw (c .before .before .before .first-breach .ensures) small, spare-zeros)
+
+array-share-prefix-work : tie.Need-array-share-prefix-work
+array-share-prefix-work c = search needs
+
+slice-aggregate-hand-out : tie.Need-slice-aggregate-hand-out
+slice-aggregate-hand-out c = front-length (c .before .before .before .write-breach .ensures)
+
+hand-out-requires : tie.Need-hand-out-requires
+hand-out-requires c κs =
+    let n = c .before .before .before .before .before .before .before .before in
+    let p = n .before .before .before .before .before .before .before .pre in
+    front-fits (c .before .before .before .write-breach .ensures) _
+    (rw (answers-kept _ (nothing n)) (p .1 .memory))
 
 same-length-3 : tie.Need-same-length-3
 same-length-3 c = search needs
@@ -76,10 +87,14 @@ same-length-3 c = search needs
 returns-3 : tie.Need-returns-3
 unfolding earlyHit
 returns-3 c =
-    let p = c .before .before .before .before .before .before .before .before .before .pre in
-    answers-next _ _ (answers-told (c .before .before .enum-told .given .1) (c .before .before .before .before
-    .before .before .block-hit .ensures))
-    (answers-none _ (walls-clear (p .0) _ _ _ _ (found (c .before)) (c .if1 .left)))
+    let w = c .before .before .before .before .before .before in
+    let f = w .before .before .before .before in
+    let p = c .before .before .before .before .before .before .before .before .before .before .before
+    .before .before .before .before .before .before .before .pre in
+    answers-next _ _ (nothing (f .before))
+    (answers-some _ (p .1 .borders) (walls-held (p .0) _ _ _)
+    (walls-breach (p .0) _ _ _ _ (found f) (not-false _ (w .before .before .if1 .left)))
+    (w .write-breach .ensures) (c .before .before .hand-out .ensures))
 
 pub early-hit-spec : {M : Type 1} → statement M
 early-hit-spec =
@@ -91,8 +106,12 @@ early-hit-spec =
     same-length
     returns
     first-breach-requires
-    write-breach-requires
     same-length-2
     returns-2
+    slice-aggregate-write-breach
+    write-breach-requires
+    array-share-prefix-work
+    slice-aggregate-hand-out
+    hand-out-requires
     same-length-3
     returns-3)

@@ -5,12 +5,11 @@ use Prim.Native.Nat.{ℕ, zero, _≤_, _-_}
 use native.Mathlib.Omega.{arith}
 use lib.ListN.{length, getD, length-replicate}
 use Rattle.lists.specs.UpTo.{upTo}
-use Rattle.lists.specs.WroteLaws.{wrote-length, loop-none, loop-more, loop-end}
 use Rattle.rules.specs.Codes.{statesIn, unclued}
 use Rattle.rules.specs.declared.Literal.{Literal}
 use Rattle.groups.specs.Grouping.{cellsIn, startsIn}
 use Rattle.reasons.specs.Memory.{Wrote}
-use Rattle.reasons.specs.MemoryLaws.{loop-fits}
+use Rattle.reasons.specs.MemoryLaws.{turns-none, turns-more, turns-end}
 use Rattle.shapes.specs.Raising.{Raised, spelled}
 use Rattle.shapes.specs.Images.{imageJoints}
 use Rattle.shapes.specs.Spots.{cellSpots, jointSpots}
@@ -64,7 +63,9 @@ joint-count-requires : tie.Need-joint-count-requires Inv-loop μ-loop
 joint-count-requires c κs = tt
 
 loop-holds : tie.Need-loop-holds Inv-loop μ-loop
-loop-holds c = (omega arith, length-replicate 4096 zero, length-replicate 32 zero, loop-none (each (first c)))
+loop-holds c =
+    let s = first c in
+    (omega arith, length-replicate 4096 zero, length-replicate 32 zero, turns-none (each s) (s .pre .5))
 
 element-copy-out-row : tie.Need-element-copy-out-row Inv-loop μ-loop
 element-copy-out-row c = omega (arith, first (c .before .before) .pre .0 .few, c .loop-test .taken)
@@ -112,12 +113,10 @@ survivors-requires c κs =
     )
 
 block-mates-requires : tie.Need-block-mates-requires Inv-loop μ-loop
-unfolding blocksBy blocksListed
 block-mates-requires c κs =
     let v = c .before .before .before .before in
     let t = v .before .before .before .before .before in
-    let r = t .before .before .before in
-    let l = r .before in
+    let l = t .before .before .before .before in
     let d = l .before .before in
     let s = first (l .before) in
     let bs = s .args .borders .now in
@@ -127,10 +126,7 @@ block-mates-requires c κs =
       lain-rows (s .pre .1) bs _ _ (image-raised t) e (v .survivors .ensures),
       d .draw-places .ensures,
       s .pre .4,
-      rw (blocks-row (s .pre .1) bs _ _ (image-raised t) e (v .survivors .ensures) (s .pre .4)
-          (d .before .before .draw-mask .ensures .0) (image-spelled t))
-          (loop-fits (each s) (l .loop .j) (l .loop .inv .3) (s .args .t6 .count) (r .loop-test .taken)
-          (omega (arith, s .pre .5))),
+      l .loop .inv .3 .spare,
     )
 
 -- the loop's test, as its end sees it
@@ -161,21 +157,21 @@ loop-again c =
       omega (arith, r .loop-test .taken),
       t .turn-row .ensures .2,
       v .survivors .ensures .size,
-      loop-more (each s) (l .loop .j) (l .loop .inv .3)
+      turns-more (each s) (l .loop .j) (l .loop .inv .3)
           (rw (blocks-row (s .pre .1) bs _ _ (image-raised t) e (v .survivors .ensures) (s .pre .4)
           (d .before .before .draw-mask .ensures .0) (image-spelled t))
           at (m .block-mates .ensures)),
     )
 
 same-length : tie.Need-same-length Inv-loop μ-loop
-same-length c = wrote-length (c .before .loop .inv .3)
+same-length c = c .before .loop .inv .3 .long
 
 returns : tie.Need-returns Inv-loop μ-loop
 unfolding blocksListed
 returns c =
     let l = c .before in
     let s = first (l .before) in
-    loop-end (each s) (l .loop .j) (l .loop .inv .3) (s .args .t6 .count) (omega (arith, l .loop .inv .0))
+    turns-end (each s) (l .loop .j) (l .loop .inv .3) (s .args .t6 .count) (omega (arith, l .loop .inv .0))
     (c .loop-test .left)
 
 pub block-rows-spec : {M : Type 1} → statement M

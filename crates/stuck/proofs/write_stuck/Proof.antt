@@ -8,7 +8,7 @@ use Rattle.laws.specs.FlatLaws.{counts}
 use Rattle.groups.specs.Grouping.{numbersIn, cellsIn}
 use Rattle.adjacent.specs.Homes.{homeIn}
 use Rattle.adjacent.specs.HomeLaws.{unit-part, unit-placed, home-few, home-cells, head-low}
-use Rattle.stuck.specs.AskedLaws.{unit-low, stuck-part, at-home, arranged, imaged, room-home, home-written}
+use Rattle.stuck.specs.AskedLaws.{unit-low, stuck-part, at-home, arranged, imaged, home-written}
 use Rattle.stuck.proofs.write_stuck.Statement.{statement}
 use Rattle.stuck.proofs.write_stuck.Tie as tie
 
@@ -69,7 +69,7 @@ write-unit-requires c κs =
     let q = s .pre .0 in (
       arranged q (home-is p) (m .mates-of .ensures),
       imaged q (j .joints .ensures .0) (j .joints .ensures .1) (l .list-rows .ensures),
-      room-home q _ (home-is p) (s .pre .1),
+      s .pre .1,
     )
 
 same-length : tie.Need-same-length

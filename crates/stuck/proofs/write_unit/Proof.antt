@@ -6,8 +6,7 @@ use Rattle.rules.specs.Shapes.{shapeOf}
 use Rattle.groups.specs.Grouping.{numbersIn}
 use Rattle.shapes.specs.ImageLaws.{jointed}
 use Rattle.shapes.specs.ListingLaws.{rows-listed}
-use Rattle.stuck.specs.ReasonLaws.{own, own-cells, beside, mated, room-blocks, room-inside, room-walls}
-use Rattle.stuck.specs.ReasonLaws.{reason-written}
+use Rattle.stuck.specs.ReasonLaws.{own, own-cells, beside, mated, reason-written}
 use Rattle.stuck.proofs.write_unit.Statement.{statement}
 use Rattle.stuck.proofs.write_unit.Tie as tie
 
@@ -22,7 +21,7 @@ block-rows-requires c κs =
       b .cells .spotted,
       jointed (b .cells) (b .connections),
       beside a,
-      room-blocks a b _ (s .pre .2),
+      s .pre .2,
     )
 
 inside-requires : tie.Need-inside-requires
@@ -30,7 +29,7 @@ inside-requires c κs =
     let t = c .before .before .before in
     let s = t .before .before .before in
     let a = s .pre .0 in
-    (a .drawn .sized, a .borders, a .unit, room-inside a (s .pre .1) (s .pre .2) (t .block-rows .ensures))
+    (a .drawn .sized, a .borders, a .unit, t .block-rows .ensures .spare)
 
 walls-of-requires : tie.Need-walls-of-requires
 walls-of-requires c κs =
@@ -44,7 +43,7 @@ walls-of-requires c κs =
       mated a,
       own a,
       own-cells a,
-      room-walls a (s .pre .1) (s .pre .2) (t .block-rows .ensures) (i .inside .ensures),
+      i .inside .ensures .spare,
     )
 
 same-length : tie.Need-same-length

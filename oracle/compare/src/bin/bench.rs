@@ -13,6 +13,7 @@ use compare::ours::{Ours, ROOM};
 use compare::previews::previews;
 use compare::timing::{least, plain, times_of, Side, BATCHES, FEWEST};
 use oracle::bench::{self, Named};
+use oracle::book::PLACES;
 use oracle::generate;
 use oracle::image;
 use oracle::page::{code, Board, Literal, Puzzle, KINDS};
@@ -143,7 +144,7 @@ fn groupings(board: &Board) -> [Side; 2] {
 fn on_board(board: &Board, work: impl Fn(&[u8], usize, &mut [u16]) + Clone + 'static) -> Side {
     let image = image::write(board);
     let run = |each: usize| {
-        let (image, work, mut memory) = (image.clone(), work.clone(), vec![0; ROOM]);
+        let (image, work, mut memory) = (image.clone(), work.clone(), vec![0; PLACES]);
         times_of(move || work(&image, black_box(each), &mut memory))
     };
     Side {
@@ -161,7 +162,7 @@ fn checking(board: &Board) -> Side {
 fn check(board: &Board) -> [Side; 2] {
     let mut theirs = published(board);
     let their_work = move || {
-        black_box(theirs.check());
+        black_box(theirs.find_inconsistency());
     };
     [checking(board), plain(their_work)]
 }
@@ -229,7 +230,7 @@ fn preview(board: &Board) -> [Side; 2] {
     let their_work = move || {
         if let Some(border) = black_box(border) {
             theirs.decide(border, true);
-            black_box(theirs.check());
+            black_box(theirs.find_inconsistency());
             theirs.undo();
         }
     };
@@ -304,7 +305,7 @@ fn image_calls(board: &Board) -> [Side; 2] {
 fn image_check(board: &Board) -> [Side; 2] {
     let mut theirs = published(board);
     let their_work = move || {
-        black_box(theirs.check());
+        black_box(theirs.find_inconsistency());
     };
     [on_image(board, ImageCall::Check), plain(their_work)]
 }
@@ -313,7 +314,7 @@ fn image_check(board: &Board) -> [Side; 2] {
 fn stream(board: &Board) -> [Side; 2] {
     let trial = Trial::new(board);
     let less = trial.clone();
-    let (mut memory, mut less_memory) = (vec![0; ROOM], vec![0; ROOM]);
+    let (mut memory, mut less_memory) = (vec![0; PLACES], vec![0; PLACES]);
     let ours = Side {
         run: times_of(move || {
             black_box(trial.stream(&mut memory));
@@ -330,7 +331,7 @@ fn stream(board: &Board) -> [Side; 2] {
     let their_work = move || {
         for &(border, wall) in &decided {
             theirs.decide(border, wall);
-            black_box(theirs.check());
+            black_box(theirs.find_inconsistency());
         }
         for _ in &decided {
             theirs.undo();

@@ -2,15 +2,13 @@
 use mathlib.Core.Path.{_≡_}
 use mathlib.Core.List.{List, [], _++_}
 use Prim.Native.Nat.{ℕ}
-use native.Mathlib.Omega.{arith}
 use borrow.Author.Needs.{needs}
-use Rattle.lists.specs.WroteLaws.{wrote-none, wrote-more}
 use Rattle.rules.specs.declared.Literal.{Literal}
 use Rattle.groups.specs.Grouping.{numbersIn}
 use Rattle.reasons.specs.Arrays.{insideIn, edgeIn}
+use Rattle.reasons.specs.MemoryLaws.{naming-none, naming-more}
 use Rattle.blocks.specs.declared.Fault.the-variants.{Clear, InsideEdge, Inside, Edge, EdgeInside}
 use Rattle.blocks.specs.Written.{faultLiterals, faultyLiterals}
-use Rattle.blocks.specs.WriteCases.{fits-first, fits-second}
 use Rattle.blocks.proofs.write.write_fault.Statement.{statement}
 use Rattle.blocks.proofs.write.write_fault.Tie as tie
 
@@ -54,31 +52,20 @@ enum-known-fault c = search needs
 
 inside-requires : tie.Need-inside-requires
 inside-requires c κs =
-    let s = c .before .before .before .before .before in
-    let f = c .before .before .fault .given in
-    let e = inside-edge s (f .1) in
-    (s .pre .0, s .pre .1, s .pre .3, fits-first (within s) (around s (f .0 .0)) _ (rw e at (s .pre .5)))
+    let s = c .before .before .before .before .before in (s .pre .0, s .pre .1, s .pre .3, s .pre .5)
 
 edge-requires : tie.Need-edge-requires
 edge-requires c κs =
     let s = c .before .before .before .before .before .before .before .before .before in
     let f = c .before .before .before .before .before .before .fault .given .1 in
-    let e = inside-edge s f in (
-      s .pre .0,
-      s .pre .1,
-      s .pre .2,
-      rw f at (s .pre .4),
-      fits-second (c .before .before .before .inside .ensures) _ (rw e at (s .pre .5)),
-    )
+    (s .pre .0, s .pre .1, s .pre .2, rw f at (s .pre .4), c .before .before .before .inside .ensures .spare)
 
 enum-told-2 : tie.Need-enum-told-2
 enum-told-2 c = search needs
 
 inside-requires-2 : tie.Need-inside-requires-2
 inside-requires-2 c κs =
-    let s = c .before .before .before .before in
-    let e = inside s (c .before .enum-told2 .given .1) in
-    (s .pre .0, s .pre .1, s .pre .3, omega (arith, rw e at (s .pre .5)))
+    let s = c .before .before .before .before in (s .pre .0, s .pre .1, s .pre .3, s .pre .5)
 
 enum-known-fault-2 : tie.Need-enum-known-fault-2
 enum-known-fault-2 c = search needs
@@ -87,8 +74,7 @@ edge-requires-2 : tie.Need-edge-requires-2
 edge-requires-2 c κs =
     let s = c .before .before .before .before .before in
     let f = c .before .before .fault2 .given .1 in
-    let e = edge s f in
-    (s .pre .0, s .pre .1, s .pre .2, rw f at (s .pre .4), omega (arith, rw e at (s .pre .5)))
+    (s .pre .0, s .pre .1, s .pre .2, rw f at (s .pre .4), s .pre .5)
 
 enum-known-fault-3 : tie.Need-enum-known-fault-3
 enum-known-fault-3 c = search needs
@@ -96,29 +82,18 @@ enum-known-fault-3 c = search needs
 edge-requires-3 : tie.Need-edge-requires-3
 edge-requires-3 c κs =
     let s = c .before .before .before .before .before in
-    let f = c .before .before .fault3 .given in
-    let e = edge-inside s (f .1) in (
-      s .pre .0,
-      s .pre .1,
-      s .pre .2,
-      rw (f .1) at (s .pre .4),
-      fits-first (around s (f .0 .0)) (within s) _ (rw e at (s .pre .5)),
-    )
+    let f = c .before .before .fault3 .given .1 in
+    (s .pre .0, s .pre .1, s .pre .2, rw f at (s .pre .4), s .pre .5)
 
 inside-requires-3 : tie.Need-inside-requires-3
 inside-requires-3 c κs =
     let s = c .before .before .before .before .before .before .before .before .before in
-    let e = edge-inside s (c .before .before .before .before .before .before .fault3 .given .1) in (
-      s .pre .0,
-      s .pre .1,
-      s .pre .3,
-      fits-second (c .before .before .before .edge3 .ensures) _ (rw e at (s .pre .5)),
-    )
+    (s .pre .0, s .pre .1, s .pre .3, c .before .before .before .edge3 .ensures .spare)
 
 returns : tie.Need-returns
 returns c =
     let s = c .before .before .before in
-    rw (clear s (c .enum-told .given .1)) (wrote-none _ _)
+    rw (clear s (c .enum-told .given .1)) (naming-none (s .pre .5))
 
 same-length : tie.Need-same-length
 same-length c = search needs
@@ -127,7 +102,7 @@ returns-2 : tie.Need-returns-2
 returns-2 c =
     let s = c .before .before .before .before .before .before .before .before .before .before .before .before in
     rw (inside-edge s (c .before .before .before .before .before .before .before .before .before .fault .given .1))
-    (wrote-more (c .before .before .before .before .before .before .inside .ensures)
+    (naming-more (c .before .before .before .before .before .before .inside .ensures)
     (c .before .before .edge .ensures))
 
 same-length-2 : tie.Need-same-length-2
@@ -153,7 +128,7 @@ returns-5 : tie.Need-returns-5
 returns-5 c =
     let s = c .before .before .before .before .before .before .before .before .before .before .before .before in
     rw (edge-inside s (c .before .before .before .before .before .before .before .before .before .fault3 .given .1))
-    (wrote-more (c .before .before .before .before .before .before .edge3 .ensures)
+    (naming-more (c .before .before .before .before .before .before .edge3 .ensures)
     (c .before .before .inside3 .ensures))
 
 pub write-fault-spec : {M : Type 1} → statement M

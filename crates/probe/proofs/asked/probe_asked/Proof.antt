@@ -39,13 +39,13 @@ returns c = told-refusal (refusal (c .before)) (c .if1 .taken)
 returns-2 : tie.Need-returns-2
 returns-2 c = told-short (refusal (c .before .before)) (c .before .if1 .left) (c .if2 .taken)
 
-slice-aggregate-write : tie.Need-slice-aggregate-write
-slice-aggregate-write c = search needs
+slice-aggregate-hand-out : tie.Need-slice-aggregate-hand-out
+slice-aggregate-hand-out c = search needs
 
-write-requires : tie.Need-write-requires
-write-requires c κs =
+hand-out-requires : tie.Need-hand-out-requires
+hand-out-requires c κs =
     let n : 3074 ≡ length (c .before .before .before .before .before .before .asked-in .result .groups) =
-    slice-aggregate-write c in
+    slice-aggregate-hand-out c in
     omega (arith, n, c .before .before .before .if2 .left)
 
 same-length : tie.Need-same-length
@@ -56,7 +56,7 @@ returns-3 c =
     let n = c .before .before .before .before .before .before .before .before in
     told-words (refusal n) (c .before .before .before .before .before .before .before .if1 .left)
     (c .before .before .before .before .before .before .if2 .left)
-    (rw (answer (n .before)) at (c .before .before .write .ensures))
+    (rw (answer (n .before)) at (c .before .before .hand-out .ensures))
 
 pub probe-asked-spec : {M : Type 1} → statement M
 probe-asked-spec =
@@ -68,7 +68,7 @@ probe-asked-spec =
     cast-refusal
     returns
     returns-2
-    slice-aggregate-write
-    write-requires
+    slice-aggregate-hand-out
+    hand-out-requires
     same-length
     returns-3)

@@ -37,8 +37,8 @@ which-of-requires c κs = search needs
 part-in-requires : tie.Need-part-in-requires
 part-in-requires c κs = search needs
 
-write-requires : tie.Need-write-requires
-write-requires c κs =
+hand-out-requires : tie.Need-hand-out-requires
+hand-out-requires c κs =
     let i = c .before .before .before .before .before .before .before .before .before in
     let a = i .before .before .before .args in
     omega (arith, ap length (cells (c .before)), part-few (a .s .now) (whichOf (a .which)) (a .g), i .if1 .left)
@@ -50,7 +50,7 @@ returns-2 : tie.Need-returns-2
 returns-2 c =
     let p = c .before .before .before .before in
     let i = p .before .before .before .before .before .before .before .before in
-    told-words refl refl (i .if1 .left) (rw (cells p) at (c .before .before .write .ensures))
+    told-words refl refl (i .if1 .left) (rw (cells p) at (c .before .before .hand-out .ensures))
 
 pub probe-part-spec : {M : Type 1} → statement M
 probe-part-spec =
@@ -63,6 +63,6 @@ probe-part-spec =
     slice-aggregate-part-in-2
     which-of-requires
     part-in-requires
-    write-requires
+    hand-out-requires
     same-length
     returns-2)

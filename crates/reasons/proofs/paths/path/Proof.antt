@@ -2,8 +2,8 @@
 use mathlib.Core.Path.{refl}
 use native.Mathlib.Omega.{arith}
 use borrow.Author.Needs.{needs}
-use Rattle.lists.specs.WroteLaws.{wrote-none}
 use Rattle.laws.specs.FlatLaws.{Counts, counts}
+use Rattle.reasons.specs.MemoryLaws.{naming-none}
 use Rattle.reasons.specs.PathLaws.{path-off-a, path-off-b}
 use Rattle.reasons.proofs.paths.path.Statement.{statement}
 use Rattle.reasons.proofs.paths.path.Tie as tie
@@ -16,16 +16,18 @@ mul-if1 c = omega (arith, few (c .before))
 
 returns : tie.Need-returns
 returns c =
-    let a = c .before .before .args in
-    rw (path-off-a (a .h) (a .w) (a .borders .now) (a .a) (a .b) (c .if1 .taken)) (wrote-none _ _)
+    let s = c .before .before in
+    let a = s .args in
+    rw (path-off-a (a .h) (a .w) (a .borders .now) (a .a) (a .b) (c .if1 .taken)) (naming-none (s .pre .2))
 
 mul-if2 : tie.Need-mul-if2
 mul-if2 c = omega (arith, few (c .before .before))
 
 returns-2 : tie.Need-returns-2
 returns-2 c =
-    let a = c .before .before .before .args in
-    rw (path-off-b (a .h) (a .w) (a .borders .now) (a .a) (a .b) (c .if2 .taken)) (wrote-none _ _)
+    let s = c .before .before .before in
+    let a = s .args in
+    rw (path-off-b (a .h) (a .w) (a .borders .now) (a .a) (a .b) (c .if2 .taken)) (naming-none (s .pre .2))
 
 hunt-requires : tie.Need-hunt-requires
 hunt-requires c κs =

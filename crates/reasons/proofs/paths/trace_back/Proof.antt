@@ -1,14 +1,11 @@
 -- The way back: what is written, and the way from `c`, is the whole path.
-use Prim.Native.Nat.{_+_, _-_}
 use native.Mathlib.Omega.{arith}
 use borrow.Author.Needs.{needs}
 use lib.ListN.{length}
-use Rattle.lists.specs.WroteLaws.{wrote-length}
 use Rattle.laws.specs.FlatLaws.{Counts, counts}
 use Rattle.reasons.specs.Search.{pathIn}
-use Rattle.reasons.specs.MemoryLaws.{wrote-next}
-use Rattle.reasons.specs.PathLaws.{Tracing, tracing-start, tracing-none, tracing-end, tracing-left, tracing-room}
-use Rattle.reasons.specs.PathLaws.{tracing-narrow, tracing-more}
+use Rattle.reasons.specs.PathLaws.{Tracing, tracing-start, tracing-none, tracing-end, tracing-narrow}
+use Rattle.reasons.specs.PathLaws.{tracing-less, tracing-more}
 use Rattle.reasons.proofs.paths.trace_back.Statement.{statement}
 use Rattle.reasons.proofs.paths.trace_back.Tie as tie
 
@@ -18,7 +15,7 @@ Inv-loop memory₀ from parent over found borders h w a b c₀ at₀ memory c at
 
 abbrev μ-loop : tie.MeasureT-loop
 μ-loop memory₀ from parent over found borders h w a b c₀ at₀ memory c at =
-    from + length (pathIn h w borders a b) - at
+    length (pathIn h w borders a c)
 
 few : (s : tie.Start Inv-loop μ-loop) → Counts (s .args .h) (s .args .w)
 few s = counts (s .pre .0)
@@ -30,11 +27,11 @@ element-copy-out-if1 c =
 
 returns : tie.Need-returns Inv-loop μ-loop
 returns c =
-    let s = c .before .before .before in tracing-none (s .pre .2) (s .pre .1) _ _ (c .if1 .taken)
+    let s = c .before .before .before in tracing-none (s .pre .2) (s .pre .1) (s .pre .3) (c .if1 .taken)
 
 loop-holds : tie.Need-loop-holds Inv-loop μ-loop
 loop-holds c =
-    let s = c .before .before .before in tracing-start (s .pre .2) (s .pre .1) _ _ (c .if1 .left)
+    let s = c .before .before .before in tracing-start (s .pre .2) (s .pre .1) (s .pre .3) (c .if1 .left)
 
 mul-index : tie.Need-mul-index Inv-loop μ-loop
 mul-index c =
@@ -51,10 +48,9 @@ index-requires c κs = search needs
 
 append-requires : tie.Need-append-requires Inv-loop μ-loop
 append-requires c κs =
-    let s = c .before .before .before .before .before .before .before .before in
     let t = c .before .before .before .before .loop .inv in
     let ne = c .before .before .before .loop-test .taken in
-    (tracing-room t ne (s .pre .3), rw (c .index .ensures) (tracing-narrow t ne))
+    (t .wrote .spare, rw (c .index .ensures) (tracing-narrow t ne))
 
 mul-index-2 : tie.Need-mul-index-2 Inv-loop μ-loop
 mul-index-2 c =
@@ -78,7 +74,7 @@ loop-less : tie.Need-loop-less Inv-loop μ-loop
 loop-less c =
     let t = c .before .before .before .before .before .before .before .before .before .loop .inv in
     let ne = c .before .before .before .before .before .before .before .before .loop-test .taken in
-    omega (arith, tracing-left t ne, wrote-next (c .before .before .before .before .append .ensures))
+    rw (c .index2 .ensures) (tracing-less t ne)
 
 loop-again : tie.Need-loop-again Inv-loop μ-loop
 loop-again c =
@@ -88,7 +84,7 @@ loop-again c =
     rw (c .index2 .ensures) (tracing-more t ne (rw e at (c .before .before .before .before .append .ensures)))
 
 same-length : tie.Need-same-length Inv-loop μ-loop
-same-length c = wrote-length (c .before .loop .inv .wrote)
+same-length c = c .before .loop .inv .wrote .long
 
 returns-2 : tie.Need-returns-2 Inv-loop μ-loop
 returns-2 c = tracing-end (c .before .loop .inv) (c .loop-test .left)

@@ -2,11 +2,8 @@
 use mathlib.Core.Path.{_≡_}
 use mathlib.Core.Bool.{true}
 use mathlib.Core.List.{List, []}
-use Prim.Native.Nat.{ℕ, _+_, _*_, _≤_}
-use native.Mathlib.Omega.{arith}
+use Prim.Native.Nat.{ℕ, _+_, _*_}
 use borrow.Author.Needs.{needs}
-use lib.ListN.{length}
-use Rattle.lists.specs.WroteLaws.{loop-none, loop-more}
 use Rattle.lists.specs.UpTo.{upTo}
 use Rattle.rules.specs.declared.Side.the-variants.{Open}
 use Rattle.rules.specs.declared.Literal.{Literal}
@@ -14,7 +11,7 @@ use Rattle.laws.specs.FlatLaws.{OnPage, row-of}
 use Rattle.groups.specs.Grouping.{numbersIn}
 use Rattle.reasons.specs.Memory.{Wrote}
 use Rattle.reasons.specs.Arrays.{scanTo, scanAt}
-use Rattle.reasons.specs.MemoryLaws.{loop-fits}
+use Rattle.reasons.specs.MemoryLaws.{turns-none, turns-more}
 use Rattle.reasons.specs.ScanLaws.{scan-open}
 use Rattle.reasons.proofs.scans.open_cell.Statement.{statement}
 use Rattle.reasons.proofs.scans.open_cell.Tie as tie
@@ -37,10 +34,7 @@ whole s =
     scan-open (a .h) (a .w) [] (a .borders .now) (numbersIn (a .grouping .now)) true (a .flagged .now) (a .c)
 
 start : (s : tie.Start) → let a = s .args in Wrote (a .memory .now) (a .from) (upTo (at s) 0) (a .memory .now) (a .from)
-start s = loop-none (at s)
-
-room : (s : tie.Start) → s .args .from + length (upTo (at s) 2) ≤ length (s .args .memory .now)
-room s = rw (whole s) at (s .pre .4)
+start s = turns-none (at s) (s .pre .4)
 
 div-y : tie.Need-div-y
 div-y c = row (c .before) .broad
@@ -58,19 +52,14 @@ open-hop-requires : tie.Need-open-hop-requires
 open-hop-requires c κs =
     let n = c .before in
     let s = n .before .before .before in
-    let fits = loop-fits (at s) 0 (start s) 2 (omega arith) (room s) in
-    let below = n .before .beside .ensures in
-    (s .pre .1, s .pre .2, λ t. below .near t .fits, rw (below .is) fits)
+    (s .pre .1, s .pre .2, λ t. n .before .beside .ensures .near t .fits, s .pre .4)
 
 open-hop-requires-2 : tie.Need-open-hop-requires-2
 open-hop-requires-2 c κs =
     let v = c .before .before .before in
     let n = v .before .before in
     let s = n .before .before .before in
-    let one = loop-more (at s) 0 (start s) (rw (n .before .beside .ensures .is) at (v .open-hop .ensures)) in
-    let fits = loop-fits (at s) 1 one 2 (omega arith) (room s) in
-    let right = n .beside2 .ensures in
-    (s .pre .1, s .pre .2, λ t. right .near t .fits, rw (right .is) fits)
+    (s .pre .1, s .pre .2, λ t. n .beside2 .ensures .near t .fits, v .open-hop .ensures .spare)
 
 same-length : tie.Need-same-length
 same-length c = search needs
@@ -81,8 +70,8 @@ returns c =
     let v1 = v2 .before .before .before .before in
     let n = v1 .before .before in
     let s = n .before .before .before in
-    let one = loop-more (at s) 0 (start s) (rw (n .before .beside .ensures .is) at (v1 .open-hop .ensures)) in
-    rw (whole s) (loop-more (at s) 1 one (rw (n .beside2 .ensures .is) at (v2 .open-hop2 .ensures)))
+    let one = turns-more (at s) 0 (start s) (rw (n .before .beside .ensures .is) at (v1 .open-hop .ensures)) in
+    rw (whole s) (turns-more (at s) 1 one (rw (n .beside2 .ensures .is) at (v2 .open-hop2 .ensures)))
 
 pub open-cell-spec : {M : Type 1} → statement M
 open-cell-spec =

@@ -33,7 +33,7 @@ append-if-requires : tie.Need-append-if-requires
 append-if-requires c κs =
     let k = c .before in
     let s = k .before .before in (
-      rw (kept k) at (s .pre .3),
+      s .pre .3,
       λ t. s .pre .2 (kept-some Open (test s) (s .args .n) (k .open-kept .ensures) t) .border,
     )
 

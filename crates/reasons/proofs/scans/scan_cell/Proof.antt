@@ -10,16 +10,15 @@ enum-told c = search needs
 wall-cell-requires : tie.Need-wall-cell-requires
 wall-cell-requires c κs =
     let s = c .before .before .before .before in
-    (s .pre .0, s .pre .1, s .pre .2, s .pre .3, s .pre .4, rw (c .before .enum-told .given .1) at (s .pre .5))
+    (s .pre .0, s .pre .1, s .pre .2, s .pre .3, s .pre .4, s .pre .5)
 
 enum-told-2 : tie.Need-enum-told-2
 enum-told-2 c = search needs
 
 open-cell-requires : tie.Need-open-cell-requires
-unfolding scanAt
 open-cell-requires c κs =
     let s = c .before .before .before .before in
-    (s .pre .0, s .pre .1, s .pre .3, s .pre .4, rw (c .before .enum-told2 .given .1) at (s .pre .5))
+    (s .pre .0, s .pre .1, s .pre .3, s .pre .4, s .pre .5)
 
 same-length : tie.Need-same-length
 same-length c = search needs

@@ -3,7 +3,6 @@ use mathlib.Core.Path.{_≡_}
 use mathlib.Core.List.{List}
 use Prim.Native.Nat.{ℕ, _-_, _<_, _≤_}
 use native.Mathlib.Omega.{arith}
-use Rattle.lists.specs.WroteLaws.{wrote-length, loop-none, loop-more, loop-end}
 use Rattle.lists.specs.UpTo.{upTo}
 use Rattle.rules.specs.declared.Side.the-variants.{Wall}
 use Rattle.rules.specs.declared.Literal.{Literal}
@@ -11,7 +10,7 @@ use Rattle.laws.specs.FlatLaws.{counts, OnPage, row-of}
 use Rattle.groups.specs.Grouping.{numbersIn}
 use Rattle.reasons.specs.Memory.{Wrote}
 use Rattle.reasons.specs.Arrays.{scanTo, scanAt}
-use Rattle.reasons.specs.MemoryLaws.{loop-fits}
+use Rattle.reasons.specs.MemoryLaws.{turns-none, turns-more, turns-end}
 use Rattle.reasons.specs.ScanLaws.{scan-walls}
 use Rattle.reasons.proofs.scans.wall_cell.Statement.{statement}
 use Rattle.reasons.proofs.scans.wall_cell.Tie as tie
@@ -50,7 +49,7 @@ rem-x : tie.Need-rem-x Inv-loop μ-loop
 rem-x c = row (c .before) .broad
 
 loop-holds : tie.Need-loop-holds Inv-loop μ-loop
-loop-holds c = (omega arith, loop-none _)
+loop-holds c = (omega arith, turns-none _ (c .before .pre .5))
 
 beside-requires : tie.Need-beside-requires Inv-loop μ-loop
 beside-requires c κs =
@@ -62,8 +61,7 @@ wall-hop-requires c κs =
     let l = c .before .before .before .loop in
     let n = c .before .beside .ensures in
     let few : s .args .c < 1024 = omega (arith, counts (s .pre .0), s .pre .4) in
-    let fits = loop-fits (at s) (l .d) (l .inv .1) 4 (omega arith) (rw (whole s) at (s .pre .5)) in
-    (s .pre .1, s .pre .2, s .pre .3, few, λ t. n .near t .fits, rw (n .is) fits)
+    (s .pre .1, s .pre .2, s .pre .3, few, λ t. n .near t .fits, l .inv .1 .spare)
 
 add-d : tie.Need-add-d Inv-loop μ-loop
 add-d c = omega arith
@@ -76,16 +74,16 @@ loop-again c =
     let s = c .before .before .before .before .before .before .before .before in
     let l = c .before .before .before .before .before .before .loop in
     let n = c .before .before .before .before .beside .ensures in
-    (omega arith, loop-more (at s) (l .d) (l .inv .1) (rw (n .is) at (c .before .before .wall-hop .ensures)))
+    (omega arith, turns-more (at s) (l .d) (l .inv .1) (rw (n .is) at (c .before .before .wall-hop .ensures)))
 
 same-length : tie.Need-same-length Inv-loop μ-loop
-same-length c = wrote-length (c .before .loop .inv .1)
+same-length c = c .before .loop .inv .1 .long
 
 returns : tie.Need-returns Inv-loop μ-loop
 returns c =
     let s = c .before .before .before in
     let l = c .before .loop in
-    rw (whole s) (loop-end (at s) (l .d) (l .inv .1) 4 (omega arith) (omega arith))
+    rw (whole s) (turns-end (at s) (l .d) (l .inv .1) 4 (omega arith) (omega arith))
 
 pub wall-cell-spec : {M : Type 1} → statement M
 wall-cell-spec =

@@ -34,7 +34,7 @@ append-if-requires : tie.Need-append-if-requires
 append-if-requires c κs =
     let k = c .before in
     let s = k .before .before in (
-      rw (kept k) at (s .pre .5),
+      s .pre .5,
       λ t. s .pre .4 (kept-some Wall (test s) (s .args .n) (k .wall-kept .ensures) t) .border,
     )
 

@@ -1,17 +1,17 @@
 -- A blocked placement is written; the two others give nothing.
 use mathlib.Core.List.{[], _∷_}
 use mathlib.Core.Logic.{inl, inr, ⊎-elim}
-use mathlib.Core.Path.{_≡_, ap, ap₂, _∙_}
+use mathlib.Core.Path.{_≡_, ap₂, _∙_}
 use Prim.Native.Nat.{_/_, _%_, _<_}
 use native.Mathlib.Nat.{mod-lt, div-lt-iff-lt-mul}
 use native.Mathlib.Omega.{arith}
 use borrow.Author.Needs.{needs}
 use borrow.Enum.Known.{lives-at}
-use lib.ListN.{length, getD}
-use Rattle.lists.specs.WroteLaws.{wrote-none}
+use lib.ListN.{getD}
 use Rattle.rules.proofs.Placement.{enum}
 use Rattle.rules.specs.Page.{wallAt}
 use Rattle.laws.specs.FlatLaws.{counts}
+use Rattle.reasons.specs.MemoryLaws.{naming-none}
 use Rattle.stuck.specs.Survivors.{placedAt, blockIn}
 use Rattle.stuck.specs.PlacedLaws.{place-row, place-column, placed-within, block-one, block-none}
 use Rattle.stuck.proofs.survivors.block_at.Statement.{statement}
@@ -80,14 +80,14 @@ returns c =
     let e = block-none (s .args .h) (s .args .w) (s .args .borders .now) (s .args .rows .now) (s .args .turned .now)
     (s .args .n) (s .args .o) (is (c .before))
     (⊎-elim (λ t. inl (lives-at enum p 0 t .1)) (λ t. inr (lives-at enum p 2 t .1)) (c .match .keys2)) in
-    rw e (wrote-none _ _)
+    rw e (naming-none (s .pre .5))
 
 append-requires : tie.Need-append-requires
 append-requires c κs =
     let s = c .before .before .before .before .before .before .before in
     let w = placed-within (s .args .h) (s .args .w) (s .args .borders .now) (s .args .rows .now) (s .args .turned .now)
     (s .args .n) (s .pre .0) (s .pre .2) _ _ (low s) (slim s) in (
-      omega (arith, ap length (one (c .before)), s .pre .5),
+      s .pre .5,
       rw (← is (c .before .before .before .before), c .before .before .border .given .1) at w,
     )
 

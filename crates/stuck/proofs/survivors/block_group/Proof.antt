@@ -6,11 +6,10 @@ use native.Mathlib.Omega.{arith}
 use borrow.Author.Needs.{needs}
 use Rattle.lists.specs.Lists.{flatMap}
 use Rattle.lists.specs.Parts.{part}
-use Rattle.lists.specs.WroteLaws.{wrote-length, write-none, write-more}
 use Rattle.rules.specs.declared.Literal.{Literal}
 use Rattle.groups.specs.Grouping.{cellsIn}
 use Rattle.reasons.specs.Memory.{Wrote}
-use Rattle.reasons.specs.MemoryLaws.{write-fits}
+use Rattle.reasons.specs.MemoryLaws.{write-none, write-more}
 use Rattle.reasons.specs.CellLaws.{cells-reach, cells-at}
 use Rattle.stuck.specs.Survivors.{blockIn}
 use Rattle.stuck.proofs.survivors.block_group.Statement.{statement}
@@ -34,7 +33,7 @@ loop-holds : tie.Need-loop-holds Inv-loop μ-loop
 loop-holds c = let s = c .before in (
   omega arith,
   s .pre .4 .order,
-  write-none (each s) (cellsIn (s .args .potential .now)) (s .args .from),
+  write-none (each s) (cellsIn (s .args .potential .now)) (s .args .from) (s .pre .5),
 )
 
 cell-at-requires : tie.Need-cell-at-requires Inv-loop μ-loop
@@ -50,9 +49,7 @@ block-at-requires c κs =
       s .pre .3,
       cells-at (s .pre .4) _ (c .before .before .before .loop .inv .0)
           (c .before .before .loop-test .taken),
-      write-fits (each s) (cellsIn (s .args .potential .now)) _ _
-          (c .before .before .before .loop .inv .0) (c .before .before .before .loop .inv .2) _
-          (c .before .before .loop-test .taken) (cells-reach (s .pre .4)) (s .pre .5),
+      c .before .before .before .loop .inv .2 .spare,
     )
 
 add-i : tie.Need-add-i Inv-loop μ-loop
@@ -73,7 +70,7 @@ loop-again c =
     )
 
 same-length : tie.Need-same-length Inv-loop μ-loop
-same-length c = wrote-length (c .before .loop .inv .2)
+same-length c = c .before .loop .inv .2 .long
 
 returns : tie.Need-returns Inv-loop μ-loop
 returns c =

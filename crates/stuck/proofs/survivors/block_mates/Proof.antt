@@ -7,12 +7,11 @@ use borrow.Author.Needs.{needs}
 use lib.ListN.{getD}
 use Rattle.lists.specs.Lists.{flatMap}
 use Rattle.lists.specs.Parts.{part}
-use Rattle.lists.specs.WroteLaws.{wrote-length, write-none, write-more}
 use Rattle.rules.specs.declared.Literal.{Literal}
 use Rattle.groups.specs.Grouping.{cellsIn, startsIn}
 use Rattle.groups.specs.Parts.{partOf}
 use Rattle.reasons.specs.Memory.{Wrote}
-use Rattle.reasons.specs.MemoryLaws.{write-fits}
+use Rattle.reasons.specs.MemoryLaws.{write-none, write-more}
 use Rattle.adjacent.specs.Mates.{mateCount}
 use Rattle.adjacent.specs.BesideLaws.{mates-reach}
 use Rattle.stuck.specs.Survivors.{blockIn}
@@ -42,7 +41,8 @@ index-requires : tie.Need-index-requires Inv-loop μ-loop
 index-requires c κs = search needs
 
 loop-holds : tie.Need-loop-holds Inv-loop μ-loop
-loop-holds c = let s = c .before .before .before in (omega arith, write-none (each s) (s .args .mates .now) 0)
+loop-holds c =
+    let s = c .before .before .before in (omega arith, write-none (each s) (s .args .mates .now) 0 (s .pre .5))
 
 -- the start, and the next unit in the list
 abbrev begin : tie.In-loop Inv-loop μ-loop → tie.Start Inv-loop μ-loop
@@ -76,10 +76,8 @@ start-of-requires-2 : tie.Need-start-of-requires-2 Inv-loop μ-loop
 start-of-requires-2 c κs = omega (arith, low (c .before .before .before))
 
 block-group-requires : tie.Need-block-group-requires Inv-loop μ-loop
-unfolding partOf
 block-group-requires c κs =
     let t = c .before .before .before .before in
-    let l = t .before in
     let s = begin t in
     rw (c .start-of2 .ensures, c .before .start-of .ensures) (
       s .pre .0,
@@ -87,8 +85,7 @@ block-group-requires c κs =
       s .pre .2,
       s .pre .3,
       s .pre .4 .each _ (next t),
-      write-fits (each s) (s .args .mates .now) _ _ (omega arith) (l .loop .inv .1) _ (next t)
-          (mates-reach (s .pre .4)) (s .pre .5),
+      t .before .loop .inv .1 .spare,
     )
 
 add-i : tie.Need-add-i Inv-loop μ-loop
@@ -113,7 +110,7 @@ loop-again c =
     )
 
 same-length : tie.Need-same-length Inv-loop μ-loop
-same-length c = wrote-length (c .before .loop .inv .1)
+same-length c = c .before .loop .inv .1 .long
 
 returns : tie.Need-returns Inv-loop μ-loop
 returns c =

@@ -6,12 +6,11 @@ use native.Mathlib.Omega.{arith}
 use borrow.Author.Needs.{needs}
 use Rattle.lists.specs.Lists.{flatMap}
 use Rattle.lists.specs.Parts.{part}
-use Rattle.lists.specs.WroteLaws.{wrote-length, write-none, write-more}
 use Rattle.rules.specs.declared.Literal.{Literal}
 use Rattle.groups.specs.Grouping.{numbersIn}
 use Rattle.reasons.specs.Arrays.{edgeIn}
 use Rattle.reasons.specs.Memory.{Wrote}
-use Rattle.reasons.specs.MemoryLaws.{write-fits}
+use Rattle.reasons.specs.MemoryLaws.{write-none, write-more}
 use Rattle.adjacent.specs.Mates.{mateCount}
 use Rattle.stuck.specs.Writing.{edgesIn}
 use Rattle.stuck.proofs.unit_walls.edges_of.Statement.{statement}
@@ -38,7 +37,8 @@ index-requires : tie.Need-index-requires Inv-loop μ-loop
 index-requires c κs = tt
 
 loop-holds : tie.Need-loop-holds Inv-loop μ-loop
-loop-holds c = let s = c .before .before .before in (omega arith, write-none (each s) (s .args .mates .now) 0)
+loop-holds c =
+    let s = c .before .before .before in (omega arith, write-none (each s) (s .args .mates .now) 0 (s .pre .4))
 
 -- the start, and the next group of the list
 abbrev begin : tie.In-loop Inv-loop μ-loop → tie.Start Inv-loop μ-loop
@@ -57,18 +57,15 @@ index-requires-2 : tie.Need-index-requires-2 Inv-loop μ-loop
 index-requires-2 c κs = tt
 
 edge-requires : tie.Need-edge-requires Inv-loop μ-loop
-unfolding edgesIn
 edge-requires c κs =
     let t = c .before .before .before in
     let s = begin t in
-    let l = s .pre .3 .low in
     rw (c .before .index2 .ensures) (
       s .pre .0,
       s .pre .1,
       s .pre .2,
       s .pre .3 .each _ (next t),
-      write-fits (each s) (s .args .mates .now) _ _ (omega arith) (t .before .loop .inv .1) _ (next t)
-          (omega (arith, l .end, l .long)) (s .pre .4),
+      t .before .loop .inv .1 .spare,
     )
 
 add-i : tie.Need-add-i Inv-loop μ-loop
@@ -89,7 +86,7 @@ loop-again c =
     )
 
 same-length : tie.Need-same-length Inv-loop μ-loop
-same-length c = wrote-length (c .before .loop .inv .1)
+same-length c = c .before .loop .inv .1 .long
 
 returns : tie.Need-returns Inv-loop μ-loop
 unfolding edgesIn

@@ -18,7 +18,6 @@ start-of-requires-2 : tie.Need-start-of-requires-2
 start-of-requires-2 c κs = omega (arith, c .before .before .before .pre .3 .few)
 
 scan-requires : tie.Need-scan-requires
-unfolding farIn
 scan-requires c κs =
     let e = c .before .before in
     let f = e .before in
@@ -28,7 +27,7 @@ scan-requires c κs =
       s .pre .2,
       search needs,
       rw (f .start-of .ensures, e .start-of2 .ensures) (s .pre .4),
-      rw (f .start-of .ensures, e .start-of2 .ensures, f .before .flags-of .ensures) (s .pre .6),
+      s .pre .6,
     )
 
 same-length : tie.Need-same-length

@@ -6,8 +6,8 @@ use borrow.Author.Needs.{needs}
 use lib.ListN.{length, take}
 use lib.Seq.{sets, length-sets, take-all}
 use Rattle.lists.specs.Stores.{sets-more}
-use Rattle.probe.proofs.write.Statement.{statement}
-use Rattle.probe.proofs.write.Tie as tie
+use Rattle.reasons.proofs.hand_out.Statement.{statement}
+use Rattle.reasons.proofs.hand_out.Tie as tie
 
 abbrev Inv-loop : tie.InvT-loop
 Inv-loop memory₀ words i₀ memory i = (i ≤ length words) × (memory ≡ sets memory₀ 0 (take i words))
@@ -63,8 +63,8 @@ returns c =
       count = omega (arith, r .inv .0);
     }
 
-pub write-spec : {M : Type 1} → statement M
-write-spec =
+pub hand-out-spec : {M : Type 1} → statement M
+hand-out-spec =
     tie.close
     (tie.spec
     Inv-loop
