@@ -1,6 +1,7 @@
 -- Every reason has one of six forms; a claim that holds of each form holds of every reason.
 --
---   Forms Z s Q         the claim Q holds of each form
+--   EarlyForms Z s Q    the claim Q holds of each form that steps 1 and 2 give
+--   Forms Z s Q         it holds of step 3's form too
 --   blocks-form, walls-form, units-form   so it holds of every hit of each step ..
 --   each-form           .. and of every hit
 use mathlib.Core.Bool.{Bool, true, false, cond}
@@ -19,7 +20,7 @@ use Rattle.rules.specs.Check.{clueHit, blockHitOn, blockHit, wallHit, wallHits,
 use Rattle.rules.specs.Check.{unitHit, hit}
 use Rattle.argument.specs.Hits.{Each, each-none, each-hit, each-or, each-first}
 
-pub record Forms (Z : Puzzle) (s : ℕ → State) (Q : Reason → Type 0) : Type 0 where
+pub record EarlyForms (Z : Puzzle) (s : ℕ → State) (Q : Reason → Type 0) : Type 0 where
   -- step 1: (a), and a potential unit that is too small; (b), and a clue that is too small; a clue that is too large
   pub inEdge : (B P : ℕ) → Q (insideBlock Z s B ++ edgeOf Z s P)
   pub inOnly : (B : ℕ) → Q (insideBlock Z s B)
@@ -28,10 +29,13 @@ pub record Forms (Z : Puzzle) (s : ℕ → State) (Q : Reason → Type 0) : Type
   -- step 2
   pub wall : (x : ℕ) (h : Hop) → x < Z .page .cells → h ∈ Z .page .ahead x → T (isWall (s (h .border)))
       → Q (path (Z .page) s x (h .to) ++ (wallAt (h .border) ∷ []))
+
+pub record Forms (Z : Puzzle) (s : ℕ → State) (Q : Reason → Type 0) : Type 0 where
+  pub early : EarlyForms Z s Q
   -- step 3
   pub unit : (U P : ℕ) → Q (unitReason Z s U P)
 
-module _ (Z : Puzzle) (s : ℕ → State) (Q : Reason → Type 0) (F : Forms Z s Q) where
+module _ (Z : Puzzle) (s : ℕ → State) (Q : Reason → Type 0) (F : EarlyForms Z s Q) where
   cells-form : (B : ℕ) (earlier xs : List ℕ) → Each Q (cellHits Z s B earlier xs)
   unfolding cellHits cellHit
   cells-form B earlier [] = each-none Q
@@ -78,6 +82,7 @@ module _ (Z : Puzzle) (s : ℕ → State) (Q : Reason → Type 0) (F : Forms Z s
   pub walls-form : Each Q (firstHit (wallHits Z s) (range (Z .page .cells)))
   walls-form = each-first Q _ _ (λ x m. cell-form x (range-lt _ m))
 
+module _ (Z : Puzzle) (s : ℕ → State) (Q : Reason → Type 0) (F : Forms Z s Q) where
   on-form : (U : ℕ) (xs : List ℕ) → Each Q (unitHitOn Z s U xs)
   unfolding unitHitOn unitHitIn
   on-form U [] = each-none Q
@@ -89,4 +94,5 @@ module _ (Z : Puzzle) (s : ℕ → State) (Q : Reason → Type 0) (F : Forms Z s
 
   pub each-form : Each Q (hit Z s)
   unfolding hit
-  each-form = each-or Q _ _ blocks-form (each-or Q _ _ walls-form units-form)
+  each-form =
+      each-or Q _ _ (blocks-form Z s Q (F .early)) (each-or Q _ _ (walls-form Z s Q (F .early)) units-form)

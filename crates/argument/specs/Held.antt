@@ -151,11 +151,15 @@ module _ (Z : Puzzle) (K : Bordered (Z .page)) (s : ℕ → State) where
 
   pub held-forms : Forms Z s (Contains s)
   held-forms = record {
-    inEdge = λ B P. held-append _ _ (held-block B) (held-edge-of P);
-    inOnly = held-block;
-    edgeOnly = λ P. held-append _ _ (held-edge-of P) held-nil;
-    edgeIn = λ B P. held-append _ _ (held-edge-of P) (held-block B);
-    wall = λ x h hx m t.
-        held-append _ _ (held-path x (h .to) hx (K .hop-in x h hx (K .ahead-around x h hx m))) (held-one (h .border) t);
+    early =
+        record {
+          inEdge = λ B P. held-append _ _ (held-block B) (held-edge-of P);
+          inOnly = held-block;
+          edgeOnly = λ P. held-append _ _ (held-edge-of P) held-nil;
+          edgeIn = λ B P. held-append _ _ (held-edge-of P) (held-block B);
+          wall = λ x h hx m t.
+              held-append _ _ (held-path x (h .to) hx (K .hop-in x h hx (K .ahead-around x h hx m)))
+              (held-one (h .border) t);
+        };
     unit = held-unit;
   }

@@ -16,6 +16,8 @@ pub mod Mates
 -- a reason holds on its board
 pub mod Forms
 pub mod Held
+-- steps 1 and 2 name no border twice
+pub mod EarlyOnce
 -- a full board that passes is a solution
 pub mod Fulls
 pub mod Passes

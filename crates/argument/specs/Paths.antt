@@ -1,7 +1,8 @@
 -- Path(a, b): the search finds every cell that is joined to a, and a setting that contains the path joins its ends.
 --
 --   PathReached a f x   x is the start, or is among the found cells f
---   Chain, FoundLinked  each found cell was found from a cell reached before it, over an open border
+--   reached-new, reached-old   a cell that is found is reached, and stays so
+--   Chain, FoundLinked  each found cell was found once, from a cell reached before it, over an open border
 --   Shut f y            every neighbour of y over an open border is reached
 --   Searched f          the found cells f are a chain, and every reached cell is shut
 --   found-all           what the search finds is so
@@ -34,11 +35,11 @@ module _ (Z : Puzzle) (K : Bordered (Z .page)) (s : ℕ → State) (a : ℕ) (ha
   unfolding isFound
   reached-start f = T-or-l (eqb a a) _ (eqb-refl a)
 
-  reached-new : (f : List Found) (e : Found) → PathReached (e ∷ f) (e .cell)
+  pub reached-new : (f : List Found) (e : Found) → PathReached (e ∷ f) (e .cell)
   unfolding isFound any
   reached-new f e = T-or-r (eqb (e .cell) a) _ (T-or-l (eqb (e .cell) (e .cell)) _ (eqb-refl (e .cell)))
 
-  reached-old : (f : List Found) (e : Found) (x : ℕ) → PathReached f x → PathReached (e ∷ f) x
+  pub reached-old : (f : List Found) (e : Found) (x : ℕ) → PathReached f x → PathReached (e ∷ f) x
   unfolding isFound any
   reached-old f e x t = go (T-or (eqb x a) _ t)
     where
@@ -74,6 +75,7 @@ module _ (Z : Puzzle) (K : Bordered (Z .page)) (s : ℕ → State) (a : ℕ) (ha
     pub hop : record { border = e .over; to = e .cell } ∈ Z .page .around (e .from)
     pub opens : T (isOpen (s (e .over)))
     pub known : PathReached f (e .from)
+    pub new : T (not (isFound a f (e .cell)))
 
   abbrev pub Chain : List Found → Type 0
   Chain [] = Unit {0}
@@ -135,6 +137,7 @@ module _ (Z : Puzzle) (K : Bordered (Z .page)) (s : ℕ → State) (a : ℕ) (ha
         opens =
             T-and-l (isOpen (s (h .border))) (not (isFound a (t .found) (h .to))) (rw e tt);
         known = fx;
+        new = T-and-r (isOpen (s (h .border))) (not (isFound a (t .found) (h .to))) (rw e tt);
       },
       i .chain,
     );

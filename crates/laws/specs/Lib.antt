@@ -22,6 +22,7 @@ pub mod Sums
 pub mod FlatLaws
 pub mod FlatLinks
 pub mod FlatPage
+pub mod FlatHops
 -- Rules, Groups
 pub mod RuleLaws
 pub mod LabelLaws

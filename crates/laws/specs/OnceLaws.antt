@@ -4,6 +4,7 @@
 --   holds-once, contains-once     so `once r` holds where r does, and what contains it contains r
 --   once-order                    in the order they first came: what is once in the first part stands first
 --   once-borders                  no border is named twice, where the reason holds on one board
+--   once-same                     a list that names no border twice is as it is
 --   onceBy f r                    the literals of r whose border f does not have, the first of those with one border
 --   by-border                     on one board, striking by border is striking by literal
 use mathlib.Core.Path.{_≡_, _∙_, refl, ap, sym, subst}
@@ -11,13 +12,14 @@ use mathlib.Core.Logic.{_⊎_, inl, inr}
 use mathlib.Core.Bool.{Bool, true, false, not, _&&_, _||_, cond}
 use mathlib.Core.List.{[], _∷_, _++_, List·Memᴰ·head, List·Memᴰ·tail}
 use Prim.Native.Nat.{ℕ}
-use borrow.Author.Tests.{eqb-true}
+use borrow.Author.Tests.{eqb-true, ne-eqb}
 use lib.Dec.{eqb, T, eqb→eq, eqb-refl, T-not}
 use Rattle.lists.specs.Lists.{_∈_, filter, any, keepIf, Distinct}
 use Rattle.lists.specs.Booleans.{T-and-l, T-and-r, T-dec}
 use Rattle.lists.specs.ListLaws.{filter-mem, filter-test, mem-filter, mem-map, map-find}
 use Rattle.lists.specs.Appends.{filter-append}
 use Rattle.lists.specs.Filters.{filter-all, filter-same, filter-twice}
+use Rattle.lists.specs.Pairs.{distinct-kept}
 use Rattle.rules.specs.declared.Side.{Side}
 use Rattle.rules.specs.declared.Side.the-variants.{Wall, Open}
 use Rattle.rules.specs.declared.Literal.{Literal}
@@ -99,21 +101,6 @@ once-order (l ∷ r) q =
     ∙ filter-same _ _ (once q) (λ k m. neither (sameLiteral l k) (any (λ (j : Literal). sameLiteral j k) r))))
 
 -- ---- no border twice
-distinct-kept : (p : Literal → Bool) (r : Reason) → Distinct (bordersNamed r) → Distinct (bordersNamed (filter p r))
-unfolding filter
-distinct-kept p [] d = tt
-distinct-kept p (l ∷ r) d = go (p l) (distinct-kept p r (d .1))
-  where
-    go : (b : Bool) → Distinct (bordersNamed (filter p r)) → Distinct (bordersNamed (keepIf b l (filter p r)))
-    go false e = e
-    go true e = (
-      λ m.
-          let f = map-find (λ (k : Literal). k .border) (filter p r) m in
-          d .0
-          (subst (λ b. b ∈ bordersNamed r) (sym (f .2)) (mem-map (λ (k : Literal). k .border) (filter-mem p r (f .1)))),
-      e,
-    )
-
 pub once-borders : (s : ℕ → State) (r : Reason) → Contains s r → Distinct (bordersNamed (once r))
 unfolding once Contains
 once-borders s [] c = tt
@@ -124,8 +111,23 @@ once-borders s (l ∷ r) c = (
       let h = c (f .0) (List·Memᴰ·tail (once-mem r (filter-mem p (once r) (f .1)))) in
       T-not (sameLiteral l (f .0)) (filter-test p (once r) (f .1))
       (rw (same-border s l (f .0) (c l (List·Memᴰ·head refl)) h, ← f .2) (eqb-refl (l .border))),
-  distinct-kept _ (once r) (once-borders s r (λ k m. c k (List·Memᴰ·tail m))),
+  distinct-kept (λ (k : Literal). k .border) _ (once r) (once-borders s r (λ k m. c k (List·Memᴰ·tail m))),
 )
+
+-- a list that names no border twice is as it is
+pub once-same : (r : Reason) → Distinct (bordersNamed r) → once r ≡ r
+unfolding once
+once-same [] d = refl
+once-same (l ∷ r) d =
+    ap (λ (ls : Reason). l ∷ ls)
+    (ap (filter (λ k. not (sameLiteral l k))) (once-same r (d .1))
+    ∙ filter-all _ r
+    (λ k m.
+    other k
+    (λ e. d .0 (subst (λ b. b ∈ bordersNamed r) (sym e) (mem-map (λ (j : Literal). j .border) m)))))
+  where
+    other : (k : Literal) → (l .border ≡ k .border → ⊥) → not (sameLiteral l k) ≡ true
+    other k n = rw (ne-eqb (l .border) (k .border) n)
 
 -- ---- by border
 unfoldable pub onceBy : (ℕ → Bool) → Reason → Reason

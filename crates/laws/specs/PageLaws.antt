@@ -2,6 +2,7 @@
 -- of it (FlatPage, FlatList).
 --
 --   Bordered G          neighbours stay on the page, and go both ways over the border between them
+--   HopsOnce G          a cell's neighbours lie over different borders, and it is the first cell of those ahead
 --   second-in           so the second cell of a border is on the page
 --   at3 l y x           the place with the layer l, the row y and the column x
 --   sixSteps            the six steps to a neighbour
@@ -14,11 +15,11 @@
 --   near-eq             places that are equal to near ones
 use mathlib.Core.Path.{_≡_, _∙_, ap, sym, subst}
 use mathlib.Core.Logic.{_⊎_}
-use mathlib.Core.List.{List, [], _∷_}
+use mathlib.Core.List.{List, [], _∷_, map}
 use mathlib.Core.Option.{some}
 use Prim.Native.Nat.{ℕ, _<_}
 use lib.IntN.{ℤ, pos, negsuc}
-use Rattle.lists.specs.Lists.{_∈_}
+use Rattle.lists.specs.Lists.{_∈_, Distinct}
 use Rattle.rules.specs.Page.{Page, Hop, Point, Shape, _⊕_}
 use Rattle.laws.specs.PointLaws.{origin, add-assoc, add-comm}
 
@@ -35,6 +36,11 @@ pub record Bordered (G : Page) : Type 0 where
   pub ahead-around : (x : ℕ) (h : Hop) → x < G .cells → h ∈ G .ahead x → h ∈ G .around x
   pub ahead-all : (x : ℕ) (h : Hop) → x < G .cells → h ∈ G .around x
       → h ∈ G .ahead x ⊎ record { border = h .border; to = x } ∈ G .ahead (h .to)
+
+pub record HopsOnce (G : Page) : Type 0 where
+  pub ahead-first : (x : ℕ) (h : Hop) → x < G .cells → h ∈ G .ahead x → G .first (h .border) ≡ x
+  pub ahead-once : (x : ℕ) → x < G .cells → Distinct (map (λ (h : Hop). h .border) (G .ahead x))
+  pub around-once : (x : ℕ) → x < G .cells → Distinct (map (λ (h : Hop). h .border) (G .around x))
 
 -- the second cell of a border is on the page
 pub second-in : (G : Page) → Bordered G → (b : ℕ) → b < G .borders → G .second b < G .cells

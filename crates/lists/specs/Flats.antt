@@ -1,6 +1,6 @@
 -- Laws of flatMap: two functions that agree, one after another, its length, and what stands where in it.
 use mathlib.Core.Path.{_≡_, refl, ap, ap₂, sym, _∙_}
-use mathlib.Core.List.{List, [], _∷_, _++_, map, append-nil, List·Memᴰ·head, List·Memᴰ·tail}
+use mathlib.Core.List.{List, [], _∷_, _++_, map, map-append, append-nil, List·Memᴰ·head, List·Memᴰ·tail}
 use Prim.Native.Nat.{ℕ, zero, suc, _+_, _*_, _<_}
 use native.Mathlib.Nat.{not-suc-le-zero, le-of-suc-le-suc, mul-zero, mul-suc}
 use native.Mathlib.Omega.{arith}
@@ -15,6 +15,11 @@ module _ {A B C : Type 0} where
   unfolding flatMap
   flat-map f g [] = refl
   flat-map f g (x ∷ xs) = rw (flat-map f g xs)
+
+  pub map-flat : (g : B → C) (f : A → List B) (xs : List A) → map g (flatMap f xs) ≡ flatMap (λ x. map g (f x)) xs
+  unfolding flatMap
+  map-flat g f [] = refl
+  map-flat g f (x ∷ xs) = map-append g (f x) (flatMap f xs) ∙ ap (λ (l : List C). map g (f x) ++ l) (map-flat g f xs)
 
   pub flat-flat : (f : B → List C) (g : A → List B) (xs : List A)
       → flatMap f (flatMap g xs) ≡ flatMap (λ x. flatMap f (g x)) xs

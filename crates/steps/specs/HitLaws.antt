@@ -59,11 +59,11 @@ module _ {h w : ℕ} (z : Sized h w) (cs : List ℕ) (ks : List ℤ) (bs : List 
 
   pub blocks-held : Each (Contains (statesIn bs)) (blocksHit Z (statesIn bs))
   unfolding blocksHit
-  blocks-held = blocks-form Z (statesIn bs) _ forms
+  blocks-held = blocks-form Z (statesIn bs) _ (forms .early)
 
   pub walls-held : Each (Contains (statesIn bs)) (wallsHit Z (statesIn bs))
   unfolding wallsHit
-  walls-held = walls-form Z (statesIn bs) _ forms
+  walls-held = walls-form Z (statesIn bs) _ (forms .early)
 
   pub units-held : Each (Contains (statesIn bs)) (unitsHit Z (statesIn bs))
   unfolding unitsHit
