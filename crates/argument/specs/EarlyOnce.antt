@@ -24,7 +24,7 @@ use Rattle.rules.specs.Page.{Hop, Puzzle, State, isWall, isOpen, wallAt, openAt
 use Rattle.rules.specs.Groups.{members, blockOf, blockCount, potentialOf}
 use Rattle.rules.specs.Reasons.{gather, insideAt, inside, edgeAt, edge, Found, isFound, trace, hunt, path}
 use Rattle.rules.specs.Check.{Reason, insideBlock, edgeOf, blockHit, wallHits, bordersNamed}
-use Rattle.laws.specs.PageLaws.{Bordered, HopsOnce}
+use Rattle.laws.specs.PageLaws.{Bordered, hopBorders, HopsOnce}
 use Rattle.laws.specs.GroupLaws.{members-lt, members-number, members-distinct}
 use Rattle.laws.specs.StateLaws.{open-not-wall, wall-is}
 use Rattle.argument.specs.Hits.{Each}
@@ -34,16 +34,13 @@ use Rattle.argument.specs.Paths.{PathReached, reached-new, reached-old, 
 abbrev pub NoTwice : Reason → Type 0
 NoTwice r = Distinct (bordersNamed r)
 
-abbrev over : List Hop → List ℕ
-over hs = map (λ (h : Hop). h .border) hs
-
 -- ---- what is gathered at a cell
-gather-borders : (side : Side) (p : Hop → Bool) (hs : List Hop) → bordersNamed (gather side p hs) ≡ over (filter p hs)
+gather-borders : (side : Side) (p : Hop → Bool) (hs : List Hop) → bordersNamed (gather side p hs) ≡ hopBorders (filter p hs)
 unfolding gather
 gather-borders side p hs =
     map-map (λ (l : Literal). l .border) (λ (h : Hop). record { border = h .border; side = side }) (filter p hs)
 
-gather-once : (side : Side) (p : Hop → Bool) (hs : List Hop) → Distinct (over hs) → NoTwice (gather side p hs)
+gather-once : (side : Side) (p : Hop → Bool) (hs : List Hop) → Distinct (hopBorders hs) → NoTwice (gather side p hs)
 gather-once side p hs d = rw (gather-borders side p hs) (distinct-kept (λ (h : Hop). h .border) p hs d)
 
 gather-find : (side : Side) (p : Hop → Bool) (hs : List Hop) {b : ℕ} → b ∈ bordersNamed (gather side p hs)

@@ -3,7 +3,7 @@
 --   reason-once         a reason of a board names no border twice
 --   reason-few          so it has at most as many literals as there are decided borders ..
 --   reason-short        .. and at most 1,984
---   reason-read      a reason is read back from the memory it was written into
+--   reason-read         a reason is read back from the memory it was written into
 --   check-written       the memory after a conflict
 --   call-told           the answer of a call is the book's reply
 --   call-written        the memory after a call is what the book's reply says

@@ -17,89 +17,86 @@ use Rattle.rules.specs.Flat.{hopIf, cellAt, rightOf, belowOf, hopAbove, hopBelo
 use Rattle.rules.specs.Flat.{flat}
 use Rattle.laws.specs.FlatLaws.{Spot, spot, row-of}
 use Rattle.laws.specs.FlatLinks.{flat-linked}
-use Rattle.laws.specs.PageLaws.{HopsOnce}
+use Rattle.laws.specs.PageLaws.{hopBorders, HopsOnce}
 
-abbrev over : List Hop → List ℕ
-over hs = map (λ (h : Hop). h .border) hs
-
-if-once : (v : Bool) (b t : ℕ) → Distinct (over (hopIf v b t))
+if-once : (v : Bool) (b t : ℕ) → Distinct (hopBorders (hopIf v b t))
 unfolding hopIf
 if-once true b t = (λ m. List·Memᴰ·not-nil m, tt)
 if-once false b t = tt
 
-if-over : (v : Bool) (b t : ℕ) {c : ℕ} → c ∈ over (hopIf v b t) → (v ≡ true) × (c ≡ b)
+if-over : (v : Bool) (b t : ℕ) {c : ℕ} → c ∈ hopBorders (hopIf v b t) → (v ≡ true) × (c ≡ b)
 unfolding hopIf
 if-over true b t m = (refl, List·Memᴰ·eq-of-singleton m)
 if-over false b t m = absurd (List·Memᴰ·not-nil m)
 
 -- two lists of hops with different borders
-sum-once : (hs ks : List Hop) → Distinct (over hs) → Distinct (over ks)
-    → ((b : ℕ) → b ∈ over hs → b ∈ over ks → ⊥) → Distinct (over (hs ++ ks))
+sum-once : (hs ks : List Hop) → Distinct (hopBorders hs) → Distinct (hopBorders ks)
+    → ((b : ℕ) → b ∈ hopBorders hs → b ∈ hopBorders ks → ⊥) → Distinct (hopBorders (hs ++ ks))
 sum-once hs ks d e n =
-    rw (map-append (λ (h : Hop). h .border) hs ks) (distinct-append (over hs) (over ks) d e n)
+    rw (map-append (λ (h : Hop). h .border) hs ks) (distinct-append (hopBorders hs) (hopBorders ks) d e n)
 
-sum-over : (hs ks : List Hop) {b : ℕ} → b ∈ over (hs ++ ks) → b ∈ over hs ⊎ b ∈ over ks
-sum-over hs ks m = List·Memᴰ·append-cases (over hs) (rw (map-append (λ (h : Hop). h .border) hs ks) at m)
+sum-over : (hs ks : List Hop) {b : ℕ} → b ∈ hopBorders (hs ++ ks) → b ∈ hopBorders hs ⊎ b ∈ hopBorders ks
+sum-over hs ks m = List·Memᴰ·append-cases (hopBorders hs) (rw (map-append (λ (h : Hop). h .border) hs ks) at m)
 
 module _ (h w y x : ℕ) (hy : y < h) (hx : x < w) where
   S : Spot h w y x
   S = spot h w y x hy hx
 
-  above : {b : ℕ} → b ∈ over (hopAbove h w y x) → (0 < y) × (b ≡ h * (w - 1) + ((y - 1) * w + x))
+  above : {b : ℕ} → b ∈ hopBorders (hopAbove h w y x) → (0 < y) × (b ≡ h * (w - 1) + ((y - 1) * w + x))
   unfolding hopAbove belowOf cellAt
   above m = let r = if-over (ltb 0 y) _ _ m in (ltb-true 0 y (r .0), r .1)
 
-  below : {b : ℕ} → b ∈ over (hopBelow h w y x) → b ≡ h * (w - 1) + (y * w + x)
+  below : {b : ℕ} → b ∈ hopBorders (hopBelow h w y x) → b ≡ h * (w - 1) + (y * w + x)
   unfolding hopBelow belowOf cellAt
   below m = if-over (ltb (y + 1) h) _ _ m .1
 
-  left : {b : ℕ} → b ∈ over (hopLeft h w y x) → (0 < x) × (b ≡ y * (w - 1) + (x - 1))
+  left : {b : ℕ} → b ∈ hopBorders (hopLeft h w y x) → (0 < x) × (b ≡ y * (w - 1) + (x - 1))
   unfolding hopLeft rightOf
   left m = let r = if-over (ltb 0 x) _ _ m in (ltb-true 0 x (r .0), r .1)
 
-  right : {b : ℕ} → b ∈ over (hopRight h w y x) → (x + 1 < w) × (b ≡ y * (w - 1) + x)
+  right : {b : ℕ} → b ∈ hopBorders (hopRight h w y x) → (x + 1 < w) × (b ≡ y * (w - 1) + x)
   unfolding hopRight rightOf
   right m = let r = if-over (ltb (x + 1) w) _ _ m in (ltb-true (x + 1) w (r .0), r .1)
 
-  above-once : Distinct (over (hopAbove h w y x))
+  above-once : Distinct (hopBorders (hopAbove h w y x))
   unfolding hopAbove
   above-once = if-once (ltb 0 y) (belowOf h w (y - 1) x) (cellAt h w (y - 1) x)
 
-  below-once : Distinct (over (hopBelow h w y x))
+  below-once : Distinct (hopBorders (hopBelow h w y x))
   unfolding hopBelow
   below-once = if-once (ltb (y + 1) h) (belowOf h w y x) (cellAt h w (y + 1) x)
 
-  left-once : Distinct (over (hopLeft h w y x))
+  left-once : Distinct (hopBorders (hopLeft h w y x))
   unfolding hopLeft
   left-once = if-once (ltb 0 x) (rightOf h w y (x - 1)) (cellAt h w y (x - 1))
 
-  right-once : Distinct (over (hopRight h w y x))
+  right-once : Distinct (hopBorders (hopRight h w y x))
   unfolding hopRight
   right-once = if-once (ltb (x + 1) w) (rightOf h w y x) (cellAt h w y (x + 1))
 
   abbrev side : List Hop
   side = hopLeft h w y x ++ hopRight h w y x
 
-  side-once : Distinct (over side)
+  side-once : Distinct (hopBorders side)
   side-once =
       sum-once (hopLeft h w y x) (hopRight h w y x) left-once right-once
       (λ b p q. let a = left p in let c = right q in omega (arith, a, c))
 
   -- a border on the side has a smaller number than one above or below
-  side-low : {b : ℕ} → b ∈ over side → b < h * (w - 1)
+  side-low : {b : ℕ} → b ∈ hopBorders side → b < h * (w - 1)
   side-low m = go (sum-over (hopLeft h w y x) (hopRight h w y x) m)
     where
-      go : {b : ℕ} → b ∈ over (hopLeft h w y x) ⊎ b ∈ over (hopRight h w y x) → b < h * (w - 1)
+      go : {b : ℕ} → b ∈ hopBorders (hopLeft h w y x) ⊎ b ∈ hopBorders (hopRight h w y x) → b < h * (w - 1)
       go (inl p) = let a = left p in omega (arith, a, S .line)
       go (inr p) = let a = right p in omega (arith, a, S .line)
 
-  at-ahead : Distinct (over (aheadAt h w y x))
+  at-ahead : Distinct (hopBorders (aheadAt h w y x))
   unfolding aheadAt
   at-ahead =
       sum-once (hopBelow h w y x) (hopRight h w y x) below-once right-once
       (λ b p q. let a = below p in let c = right q in omega (arith, a, c, S .line))
 
-  at-around : Distinct (over (aroundAt h w y x))
+  at-around : Distinct (hopBorders (aroundAt h w y x))
   unfolding aroundAt
   at-around =
       sum-once (hopAbove h w y x) (hopBelow h w y x ++ side) above-once
@@ -108,7 +105,7 @@ module _ (h w y x : ℕ) (hy : y < h) (hx : x < w) where
       (λ b p q. upper (above p) (sum-over (hopBelow h w y x) side q))
     where
       upper : {b : ℕ} → (0 < y) × (b ≡ h * (w - 1) + ((y - 1) * w + x))
-          → b ∈ over (hopBelow h w y x) ⊎ b ∈ over side → ⊥
+          → b ∈ hopBorders (hopBelow h w y x) ⊎ b ∈ hopBorders side → ⊥
       upper a (inl q) = let c = below q in omega (arith, a, c, S .up (a .0))
       upper a (inr q) = let c = side-low q in omega (arith, a, c)
 

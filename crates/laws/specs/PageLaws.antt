@@ -2,6 +2,7 @@
 -- of it (FlatPage, FlatList).
 --
 --   Bordered G          neighbours stay on the page, and go both ways over the border between them
+--   hopBorders hs       the borders that the hops hs go over
 --   HopsOnce G          a cell's neighbours lie over different borders, and it is the first cell of those ahead
 --   second-in           so the second cell of a border is on the page
 --   at3 l y x           the place with the layer l, the row y and the column x
@@ -37,10 +38,13 @@ pub record Bordered (G : Page) : Type 0 where
   pub ahead-all : (x : ℕ) (h : Hop) → x < G .cells → h ∈ G .around x
       → h ∈ G .ahead x ⊎ record { border = h .border; to = x } ∈ G .ahead (h .to)
 
+abbrev pub hopBorders : List Hop → List ℕ
+hopBorders hs = map (λ (h : Hop). h .border) hs
+
 pub record HopsOnce (G : Page) : Type 0 where
   pub ahead-first : (x : ℕ) (h : Hop) → x < G .cells → h ∈ G .ahead x → G .first (h .border) ≡ x
-  pub ahead-once : (x : ℕ) → x < G .cells → Distinct (map (λ (h : Hop). h .border) (G .ahead x))
-  pub around-once : (x : ℕ) → x < G .cells → Distinct (map (λ (h : Hop). h .border) (G .around x))
+  pub ahead-once : (x : ℕ) → x < G .cells → Distinct (hopBorders (G .ahead x))
+  pub around-once : (x : ℕ) → x < G .cells → Distinct (hopBorders (G .around x))
 
 -- the second cell of a border is on the page
 pub second-in : (G : Page) → Bordered G → (b : ℕ) → b < G .borders → G .second b < G .cells
