@@ -35,7 +35,8 @@ abbrev pub NoTwice : Reason → Type 0
 NoTwice r = Distinct (bordersNamed r)
 
 -- ---- what is gathered at a cell
-gather-borders : (side : Side) (p : Hop → Bool) (hs : List Hop) → bordersNamed (gather side p hs) ≡ hopBorders (filter p hs)
+gather-borders : (side : Side) (p : Hop → Bool) (hs : List Hop)
+    → bordersNamed (gather side p hs) ≡ hopBorders (filter p hs)
 unfolding gather
 gather-borders side p hs =
     map-map (λ (l : Literal). l .border) (λ (h : Hop). record { border = h .border; side = side }) (filter p hs)
