@@ -5,21 +5,26 @@
 --   once-order                    in the order they first came: what is once in the first part stands first
 --   once-borders                  no border is named twice, where the reason holds on one board
 --   once-same                     a list that names no border twice is as it is
+--   named-few                     and has at most n literals, where its borders are below n
 --   onceBy f r                    the literals of r whose border f does not have, the first of those with one border
 --   by-border                     on one board, striking by border is striking by literal
 use mathlib.Core.Path.{_≡_, _∙_, refl, ap, sym, subst}
 use mathlib.Core.Logic.{_⊎_, inl, inr}
 use mathlib.Core.Bool.{Bool, true, false, not, _&&_, _||_, cond}
 use mathlib.Core.List.{[], _∷_, _++_, List·Memᴰ·head, List·Memᴰ·tail}
-use Prim.Native.Nat.{ℕ}
+use Prim.Native.Nat.{ℕ, _<_, _≤_}
+use native.Mathlib.Omega.{arith}
 use borrow.Author.Tests.{eqb-true, ne-eqb}
 use lib.Dec.{eqb, T, eqb→eq, eqb-refl, T-not}
-use Rattle.lists.specs.Lists.{_∈_, filter, any, keepIf, Distinct}
+use lib.ListN.{length, length-map}
+use Rattle.lists.specs.Lists.{_∈_, filter, any, keepIf, range, Distinct}
 use Rattle.lists.specs.Booleans.{T-and-l, T-and-r, T-dec}
 use Rattle.lists.specs.ListLaws.{filter-mem, filter-test, mem-filter, mem-map, map-find}
 use Rattle.lists.specs.Appends.{filter-append}
 use Rattle.lists.specs.Filters.{filter-all, filter-same, filter-twice}
 use Rattle.lists.specs.Pairs.{distinct-kept}
+use Rattle.lists.specs.Ranges.{mem-range, length-range}
+use Rattle.lists.specs.Lengths.{subset-le}
 use Rattle.rules.specs.declared.Side.{Side}
 use Rattle.rules.specs.declared.Side.the-variants.{Wall, Open}
 use Rattle.rules.specs.declared.Literal.{Literal}
@@ -128,6 +133,16 @@ once-same (l ∷ r) d =
   where
     other : (k : Literal) → (l .border ≡ k .border → ⊥) → not (sameLiteral l k) ≡ true
     other k n = rw (ne-eqb (l .border) (k .border) n)
+
+-- and is no longer than there are borders
+pub named-few : (n : ℕ) (r : Reason) → Distinct (bordersNamed r) → ((l : Literal) → l ∈ r → l .border < n)
+    → length r ≤ n
+named-few n r d below =
+    let k = subset-le (bordersNamed r) (range n) d (λ b m. found b (map-find (λ (l : Literal). l .border) r m)) in
+    omega (arith, length-map r (λ (l : Literal). l .border), length-range 0 n)
+  where
+    found : (b : ℕ) → (l : Literal) × l ∈ r × (b ≡ l .border) → b ∈ range n
+    found b f = mem-range n (rw (f .2) (below (f .0) (f .1)))
 
 -- ---- by border
 unfoldable pub onceBy : (ℕ → Bool) → Reason → Reason

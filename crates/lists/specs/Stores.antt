@@ -1,7 +1,7 @@
 -- Laws of stores: into one list after another, of one list after another, past the end, of a flag, and of the lists of
 -- a flatMap.
 use mathlib.Core.Path.{_≡_, refl, ap, ap₂, sym, _∙_}
-use mathlib.Core.List.{List, [], _∷_, _++_}
+use mathlib.Core.List.{List, [], _∷_, _++_, append-assoc}
 use Prim.Native.Nat.{ℕ, zero, suc, _+_, _*_, _<_, _≤_}
 use native.Mathlib.Nat.{not-suc-le-zero, le-of-suc-le-suc, mul-zero, mul-suc}
 use native.Mathlib.Numerals.{add-one}
@@ -51,6 +51,15 @@ module _ {A : Type 0} where
       let l = length-append r t in
       sets-eq vs (r ++ t) 0 (omega arith)
       ∙ ap (λ (x : List A). vs ++ x) (drop-at r t (0 + length vs) (omega arith))
+
+  -- stored into the first of two lists
+  pub sets-front : (p q vs : List A) → length vs ≤ length p → sets (p ++ q) 0 vs ≡ sets p 0 vs ++ q
+  sets-front p q vs h =
+      let l = length-append p q in
+      sets-eq vs (p ++ q) 0 (omega arith)
+      ∙ ap (λ (x : List A). vs ++ x) (drop-append-le (0 + length vs) p q (omega arith))
+      ∙ sym (ap (λ (x : List A). x ++ q) (sets-eq vs p 0 (omega arith))
+      ∙ append-assoc vs (drop (0 + length vs) p) q)
 
   -- the elements before i are stored from a on, and one more
   pub sets-more : (l : List A) (a : ℕ) (xs : List A) (i : ℕ) (d : A) → i < length xs

@@ -140,7 +140,9 @@ fn put_reason(
         return hand_out(memory, &work[..n]);
     }
     let c = colours_in(colours);
-    let n = reasons::edge(&mut work, 0, h, w, &c, &b, &grouping, group);
+    let mut flagged = [0u8; 1024];
+    let f = &mut flagged;
+    let n = reasons::edge(&mut work, 0, h, w, &c, &b, &grouping, group, f);
     hand_out(memory, &work[..n])
 }
 

@@ -1,43 +1,44 @@
--- Laws of Wrote: nothing written, one literal, one list after another, and loops; from working memory that is 0, each
--- literal once.
+-- Laws of Wrote: nothing written, one literal, one list after another, and loops. From working memory that is 0, a
+-- reason's literals come out each once; memory without places for the borders has them all.
 --
---   named-some, named-none   whether a border is named, as the code asks it
---   spare-zeros         working memory that is 0 has a place for every border
---   naming-none, naming-old, naming-new, naming-more   no literal; one whose border is named; one whose border is not;
---                       two lists, one after another
---   place-new           the place of a literal whose border is not named is before the borders'
+--   named-some, named-none, named-out, naming-out   whether a border is named, as the code asks it; where there is no
+--                       place for that, it is not, and cannot be
+--   length-naming       naming keeps the length
+--   spare-zeros, spare-front   working memory that is 0 has room, and so have the first 1,984 places of lent memory
+--   naming-none, naming-full, naming-old, naming-new, naming-more   no literal; one for which no place is left; one
+--                       whose border is named; one whose border is not; two lists, one after another
 --   front-length, front-fits   how many literals stand before the next place, and that they fit lent memory
 --   turns-none, turns-more, turns-end, write-none, write-more   loops
 --   once-handed         where a reason holds on a board, what is handed out of working memory is its literals, each
 --                       once
+--   plain-handed        where it names no border twice, it may be written into the front of lent memory straight away
 use mathlib.Core.Path.{_≡_, refl, ap, ap₂, sym, _∙_}
 use mathlib.Core.Bool.{Bool, true, false, not, _||_, cond, or-true, or-false}
 use mathlib.Core.List.{List, [], _∷_, _++_, map, append-assoc, append-nil, List·Memᴰ·head, List·Memᴰ·tail}
-use Prim.Native.Nat.{ℕ, _+_, _<_, _≤_}
+use Prim.Native.Nat.{ℕ, suc, _+_, _<_, _≤_}
 use native.Mathlib.Omega.{arith}
 use native.Mathlib.Numerals.{add-one}
-use borrow.Author.Tests.{eqb-true, eqb-false, eq-eqb, ne-eqb}
-use lib.Dec.{eqb}
-use lib.ListN.{length, getD, set, take, replicate, length-set, length-replicate}
-use lib.ListN.{getD-replicate}
-use lib.Seq.{getD-set-same, getD-set-other, take-set-le, take-suc-set, length-take-le}
-use Rattle.lists.specs.Lists.{_∈_, flatMap}
+use borrow.Author.Tests.{eqb-true, eqb-false, eq-eqb, ne-eqb, le-leb, lt-leb}
+use lib.Dec.{eqb, leb}
+use lib.ListN.{length, getD, set, take, drop, replicate, length-set, length-map, length-replicate}
+use lib.ListN.{getD-replicate, List·getD-eq-default, take-append-drop}
+use lib.Seq.{sets, getD-set-same, getD-set-other, take-set-le, take-suc-set, length-take-le, set-out}
+use Rattle.lists.specs.Lists.{_∈_, flatMap, Distinct}
 use Rattle.lists.specs.Parts.{part}
-use Rattle.lists.specs.Count.{countBelow}
 use Rattle.lists.specs.UpTo.{upTo}
-use Rattle.lists.specs.CountLaws.{count-cong, count-more, count-not, count-lt, count-le}
 use Rattle.lists.specs.Filters.{filter-all}
 use Rattle.lists.specs.Flats.{flat-last}
+use Rattle.lists.specs.Stores.{sets-front}
 use Rattle.lists.specs.PartLaws.{part-none, part-more}
 use Rattle.lists.specs.UpToLaws.{up-none, up-more}
 use Rattle.rules.specs.declared.Literal.{Literal}
 use Rattle.rules.specs.Page.{Contains}
 use Rattle.rules.specs.Codes.{statesIn, literalCode}
-use Rattle.rules.specs.Check.{once}
+use Rattle.rules.specs.Check.{bordersNamed, once}
 use Rattle.laws.specs.StateLaws.{has}
 use Rattle.laws.specs.CodeLaws.{decided-below}
-use Rattle.laws.specs.OnceLaws.{once-mem, onceBy, by-border}
-use Rattle.reasons.specs.Memory.{Work, workAt, namedIn, namedBy, namedAll, unnamed, Spare, Wrote}
+use Rattle.laws.specs.OnceLaws.{once-mem, once-borders, once-same, named-few, onceBy, by-border}
+use Rattle.reasons.specs.Memory.{Work, workAt, namedIn, naming, namedBy, namedAll, Spare, Wrote}
 use Rattle.reasons.specs.Memory.{WordsWritten}
 
 all-append : (p : Work) (a b : List Literal) → namedAll p (a ++ b) ≡ namedAll (namedAll p a) b
@@ -45,14 +46,14 @@ unfolding namedAll
 all-append p [] b = refl
 all-append p (l ∷ a) b = all-append (namedBy p l) a b
 
--- ---- room
--- working memory with the border b named, and the number v at the place i
+-- ---- what is named
+-- memory with the border b named, and the number v at the place i
 abbrev named : List ℕ → ℕ → ℕ → ℕ → List ℕ
-named m i b v = set (set m (1984 + b) 1) i v
+named m i b v = set (naming m b) i v
 
 named-at : (m : List ℕ) (i b v x : ℕ) → length m ≡ 3968 → i < 1984 → b < 1984
     → namedIn (named m i b v) x ≡ (namedIn m x || eqb b x)
-unfolding namedIn
+unfolding namedIn naming
 named-at m i b v x e hi h =
     ap (λ k. not (eqb k 0)) (getD-set-other (set m (1984 + b) 1) i (1984 + x) v 0 (λ (z : 1984 + x ≡ i). omega arith))
     ∙ go (eqb b x) refl
@@ -79,55 +80,53 @@ pub named-none : (m : List ℕ) (b : ℕ) → getD m (1984 + b) 0 ≡ 0 → name
 unfolding namedIn
 named-none m b q = ap not (eq-eqb (getD m (1984 + b) 0) 0 q)
 
--- a border that is not named has a place
-unnamed-some : (m : List ℕ) (b : ℕ) → b < 1984 → namedIn m b ≡ false → 0 < unnamed m
-unfolding unnamed
-unnamed-some m b h q = omega (arith, count-not 1984 (namedIn m), count-lt 1984 (namedIn m) b h q)
+pub named-out : (m : List ℕ) (b : ℕ) → length m ≤ 1984 + b → namedIn m b ≡ false
+named-out m b h = named-none m b (List·getD-eq-default m 0 h)
 
--- one border more is named
-unnamed-less : (m : List ℕ) (i b v : ℕ) → length m ≡ 3968 → i < 1984 → b < 1984 → namedIn m b ≡ false
-    → unnamed (named m i b v) + 1 ≡ unnamed m
-unfolding unnamed
-unnamed-less m i b v e hi h q =
-    let n = named m i b v in
-    let c : countBelow 1984 (namedIn n) ≡ countBelow 1984 (λ x. namedIn m x || eqb b x) =
-    count-cong 1984 _ _ (λ x l. named-at m i b v x e hi h) in
-    omega (arith, c, count-more 1984 (namedIn m) b h q, count-not 1984 (namedIn m), count-not 1984 (namedIn n))
+pub naming-out : (m : List ℕ) (b : ℕ) → length m ≤ 1984 + b → naming m b ≡ m
+unfolding naming
+naming-out m b h = set-out m (1984 + b) 1 h
+
+pub length-naming : (m : List ℕ) (b : ℕ) → length (naming m b) ≡ length m
+unfolding naming
+length-naming m b = length-set m (1984 + b) 1
+
+-- a name does not change what stands before the places for names
+take-naming : (m : List ℕ) (i b : ℕ) → i ≤ 1984 → take i (naming m b) ≡ take i m
+unfolding naming
+take-naming m i b h = take-set-le i m (1984 + b) 1 (omega arith)
 
 pub spare-zeros : Spare (replicate 3968 0) 0
-unfolding unnamed
-spare-zeros = record {
-  long = length-replicate {A = ℕ} 3968 0;
-  room = omega (arith, count-le 1984 (λ b. not (namedIn (replicate 3968 0) b)));
-}
+spare-zeros = record { long = omega (arith, length-replicate {A = ℕ} 3968 0); room = omega arith }
+
+pub spare-front : (m : List ℕ) → 1984 ≤ length m → Spare (take 1984 m) 0
+spare-front m h = record { long = omega (arith, length-take-le 1984 m h); room = omega arith }
 
 -- ---- Wrote
 pub naming-none : {m : List ℕ} {i : ℕ} → Spare m i → Wrote m i [] m i
 unfolding namedAll
 naming-none S = record { is = refl; long = refl; spare = S }
 
-module _ (m : List ℕ) (i : ℕ) (l : Literal) (S : Spare m i) (h : l .border < 1984) where
+module _ (m : List ℕ) (i : ℕ) (l : Literal) (S : Spare m i) where
+  pub naming-full : 1984 ≤ i → Wrote m i (l ∷ []) m i
+  unfolding namedAll namedBy
+  naming-full h =
+      record { is = rw (le-leb 1984 i h, or-true (namedIn m (l .border))); long = refl; spare = S }
+
   pub naming-old : namedIn m (l .border) ≡ true → Wrote m i (l ∷ []) m i
   unfolding namedAll namedBy
   naming-old q = record { is = rw q; long = refl; spare = S }
 
-  module _ (q : namedIn m (l .border) ≡ false) where
-    pub place-new : i < 1984
-    place-new = omega (arith, S .room, unnamed-some m (l .border) h q)
-
-    pub naming-new : Wrote m i (l ∷ []) (named m i (l .border) (literalCode l)) (i + 1)
-    unfolding namedAll namedBy
-    naming-new =
-        let k = length-set (set m (1984 + l .border) 1) i (literalCode l) ∙ length-set m (1984 + l .border) 1 in
-        record {
-          is = rw q;
-          long = k;
-          spare =
-              record {
-                long = k ∙ S .long;
-                room = omega (arith, S .room, unnamed-less m i (l .border) (literalCode l) (S .long) place-new h q);
-              };
-        }
+  pub naming-new : i < 1984 → namedIn m (l .border) ≡ false
+      → Wrote m i (l ∷ []) (named m i (l .border) (literalCode l)) (i + 1)
+  unfolding namedAll namedBy
+  naming-new h q =
+      let k = length-set (naming m (l .border)) i (literalCode l) ∙ length-naming m (l .border) in
+      record {
+        is = rw (q, lt-leb 1984 i h);
+        long = k;
+        spare = record { long = omega (arith, k, S .long); room = omega arith };
+      }
 
 module _ {m : List ℕ} {i : ℕ} {ls : List Literal} {m′ : List ℕ} {j : ℕ} (a : Wrote m i ls m′ j) where
   pub naming-more : {ls′ : List Literal} {m″ : List ℕ} {k : ℕ} → Wrote m′ j ls′ m″ k → Wrote m i (ls ++ ls′) m″ k
@@ -173,59 +172,95 @@ module _ (f : ℕ → List Literal) (l : List ℕ) {m : List ℕ} {a : ℕ} wher
 unfoldable front : Work → List ℕ
 front p = take (p .next) (p .memory)
 
-written-once : (m : List ℕ) (i : ℕ) (ls : List Literal) → Spare m i → ((l : Literal) → l ∈ ls → l .border < 1984)
+written-once : (m : List ℕ) (i : ℕ) (ls : List Literal) → length m ≡ 3968
+    → ((l : Literal) → l ∈ ls → l .border < 1984) → i + length (onceBy (namedIn m) ls) ≤ 1984
     → front (namedAll (workAt m i) ls) ≡ take i m ++ map literalCode (onceBy (namedIn m) ls)
 unfolding namedAll namedBy onceBy front
-written-once m i [] S below = sym (append-nil (take i m))
-written-once m i (l ∷ ls) S below =
-    let h = below l (List·Memᴰ·head refl) in
-    go h (namedIn m (l .border)) refl
-    (written-once m i ls S (λ k n. below k (List·Memᴰ·tail n)))
-    (λ G. written-once m1 (i + 1) ls G (λ k n. below k (List·Memᴰ·tail n)))
+written-once m i [] long below room = sym (append-nil (take i m))
+written-once m i (l ∷ ls) long below room =
+    go (below l (List·Memᴰ·head refl)) (namedIn m (l .border)) refl room
+    (written-once m i ls long (λ k n. below k (List·Memᴰ·tail n)))
+    (λ e. written-once m1 (i + 1) ls e (λ k n. below k (List·Memᴰ·tail n)))
   where
     m1 : List ℕ
     m1 = named m i (l .border) (literalCode l)
 
     go : l .border < 1984 → (x : Bool) → namedIn m (l .border) ≡ x
-        → front (namedAll (workAt m i) ls) ≡ take i m ++ map literalCode (onceBy (namedIn m) ls)
-        → (Spare m1 (i + 1) → front (namedAll (workAt m1 (i + 1)) ls)
-        ≡ take (i + 1) m1 ++ map literalCode (onceBy (namedIn m1) ls))
-        → front (namedAll (cond x (workAt m i) (workAt m1 (i + 1))) ls)
+        → i + length (cond x (onceBy (namedIn m) ls) (l ∷ onceBy (λ y. namedIn m y || eqb (l .border) y) ls)) ≤ 1984
+        → (i + length (onceBy (namedIn m) ls) ≤ 1984
+        → front (namedAll (workAt m i) ls) ≡ take i m ++ map literalCode (onceBy (namedIn m) ls))
+        → (length m1 ≡ 3968 → (i + 1) + length (onceBy (namedIn m1) ls) ≤ 1984
+        → front (namedAll (workAt m1 (i + 1)) ls) ≡ take (i + 1) m1 ++ map literalCode (onceBy (namedIn m1) ls))
+        → front (namedAll (cond (x || leb 1984 i) (workAt m i) (workAt m1 (i + 1))) ls)
         ≡ take i m ++ map literalCode (cond x (onceBy (namedIn m) ls)
         (l ∷ onceBy (λ y. namedIn m y || eqb (l .border) y) ls))
-    go h true q old new = old
-    go h false q old new =
-        let r = place-new m i l S h q in
-        let n = length-set m (1984 + l .border) 1 in
+    go h true q r old new = old r
+    go h false q r old new =
+        let hi : i < 1984 = omega arith in
+        let n = length-naming m (l .border) in
         let t : take (i + 1) m1 ≡ take i m ++ (literalCode l ∷ []) =
         ap (λ k. take k m1) (add-one i)
-        ∙ take-suc-set (set m (1984 + l .border) 1) i (literalCode l) (omega (arith, n, S .long))
-        ∙ ap (λ k. k ++ (literalCode l ∷ [])) (take-set-le i m (1984 + l .border) 1 (omega arith)) in
+        ∙ take-suc-set (naming m (l .border)) i (literalCode l) (omega (arith, n, long))
+        ∙ ap (λ k. k ++ (literalCode l ∷ [])) (take-naming m i (l .border) (omega arith)) in
         let f : namedIn m1 ≡ (λ y. namedIn m y || eqb (l .border) y) =
-        λ j y. named-at m i (l .border) (literalCode l) y (S .long) r h j in
-        new (naming-new m i l S h q .spare)
+        λ j y. named-at m i (l .border) (literalCode l) y long hi h j in
+        rw (lt-leb 1984 i hi)
+        (new (length-set (naming m (l .border)) i (literalCode l) ∙ n ∙ long) (rw f (omega arith))
         ∙ ap₂ (λ (a : List ℕ) (g : ℕ → Bool). a ++ map literalCode (onceBy g ls)) t f
-        ∙ append-assoc (take i m) (literalCode l ∷ []) _
+        ∙ append-assoc (take i m) (literalCode l ∷ []) _)
 
--- from working memory that is 0, of a reason that holds on the board whose borders bs spells
-module _ (bs : List ℕ) (long : length bs ≡ 1984) (ls : List Literal) (c : Contains (statesIn bs) ls)
-    {after : List ℕ} {n : ℕ} (W : Wrote (replicate 3968 0) 0 ls after n) where
+-- memory without places for the borders has every literal
+written-all : (m : List ℕ) (i : ℕ) (ls : List Literal) → length m ≡ 1984 → i + length ls ≤ 1984
+    → namedAll (workAt m i) ls ≡ workAt (sets m i (map literalCode ls)) (i + length ls)
+unfolding namedAll namedBy
+written-all m i [] long room = let e : i ≡ i + 0 = omega arith in ap (workAt m) e
+written-all m i (l ∷ ls) long room =
+    let e : i + 1 ≡ suc i = add-one i in
+    let k : suc i + length ls ≡ i + suc (length ls) = omega arith in
+    rw (named-out m (l .border) (omega arith), lt-leb 1984 i (omega arith), naming-out m (l .border) (omega arith), e)
+    (written-all (set m i (literalCode l)) (suc i) ls (length-set m i (literalCode l) ∙ long) (omega arith)
+    ∙ ap (workAt _) k)
+
+-- a reason that holds on the board whose borders bs spells
+module _ (bs : List ℕ) (long : length bs ≡ 1984) (ls : List Literal) (c : Contains (statesIn bs) ls) where
   below : (l : Literal) → l ∈ ls → l .border < 1984
   below l m =
       let h = decided-below bs (l .border) (l .side) (has (statesIn bs) ls c l m) in omega (arith, long)
 
-  once-written : take n after ≡ map literalCode (once ls)
-  unfolding front namedIn
-  once-written =
-      ap front (W .is)
-      ∙ written-once (replicate 3968 0) 0 ls spare-zeros below
-      ∙ ap (map literalCode)
-      (by-border (statesIn bs) (namedIn (replicate 3968 0)) ls c
-      ∙ filter-all _ (once ls)
-      (λ k m.
-      ap (λ (v : ℕ). not (not (eqb v 0)))
-      (getD-replicate {A = ℕ} 3968 (1984 + k .border) 0 0 (omega (arith, below k (once-mem ls m))))))
+  -- from working memory that is 0
+  module _ {after : List ℕ} {n : ℕ} (W : Wrote (replicate 3968 0) 0 ls after n) where
+    by-literal : onceBy (namedIn (replicate 3968 0)) ls ≡ once ls
+    unfolding namedIn
+    by-literal =
+        by-border (statesIn bs) (namedIn (replicate 3968 0)) ls c
+        ∙ filter-all _ (once ls)
+        (λ k m.
+        ap (λ (v : ℕ). not (not (eqb v 0)))
+        (getD-replicate {A = ℕ} 3968 (1984 + k .border) 0 0 (omega (arith, below k (once-mem ls m)))))
 
-  pub once-handed : {m out : List ℕ} {k : ℕ} → WordsWritten m (take n after) out k
-      → WordsWritten m (map literalCode (once ls)) out k
-  once-handed w = rw (← once-written) w
+    once-written : take n after ≡ map literalCode (once ls)
+    unfolding front
+    once-written =
+        let few = named-few 1984 (once ls) (once-borders (statesIn bs) ls c) (λ l m. below l (once-mem ls m)) in
+        ap front (W .is)
+        ∙ written-once (replicate 3968 0) 0 ls (length-replicate {A = ℕ} 3968 0) below (rw by-literal (omega arith))
+        ∙ ap (map literalCode) by-literal
+
+    pub once-handed : {m out : List ℕ} {k : ℕ} → WordsWritten m (take n after) out k
+        → WordsWritten m (map literalCode (once ls)) out k
+    once-handed w = rw (← once-written) w
+
+  -- into the first 1,984 places of lent memory, where no border is named twice
+  pub plain-handed : {m after : List ℕ} {n : ℕ} → 1984 ≤ length m → Distinct (bordersNamed ls)
+      → Wrote (take 1984 m) 0 ls after n → WordsWritten m (map literalCode (once ls)) (after ++ drop 1984 m) n
+  plain-handed {m} {after} h d W =
+      let k = length-take-le 1984 m h in
+      let few = named-few 1984 ls d below in
+      let e = W .is ∙ written-all (take 1984 m) 0 ls k (omega arith) in
+      let fits : length (map literalCode ls) ≤ length (take 1984 m) = omega (arith, length-map ls literalCode) in
+      rw (once-same ls d) (record {
+        memory = ap (λ (p : Work). p .memory ++ drop 1984 m) e
+            ∙ sym (sets-front (take 1984 m) (drop 1984 m) (map literalCode ls) fits)
+            ∙ ap (λ (l : List ℕ). sets l 0 (map literalCode ls)) (take-append-drop 1984 m);
+        count = ap (λ (p : Work). p .next) e ∙ omega (arith, length-map ls literalCode);
+      })

@@ -1,15 +1,16 @@
-// Inside, Edge and Path, written into a reason's working memory, each border once.
+// Inside, Edge and Path, written into a reason's memory, each border once.
 ghost use mathlib.Core.Path.{_≡_};
+ghost use mathlib.Core.Bool.{not, cond};
 ghost use mathlib.Core.List.{[], _∷_};
 ghost use Prim.Native.Nat.{_+_, _*_, _<_, _≤_};
 ghost use lib.ListN.{length};
-ghost use Rattle.lists.specs.Parts.{part};
 ghost use Rattle.rules.specs.Flat.{Sized};
 ghost use Rattle.rules.specs.Codes.{literalCode};
-ghost use Rattle.groups.specs.Grouping.{numbersIn, cellsIn};
-ghost use Rattle.reasons.specs.Memory.{Spare, Wrote, WordsWritten};
-ghost use Rattle.reasons.specs.Arrays.{Arrays, Cells, GroupAt, Stepped, scanOf, insideIn, edgeIn, groupReason};
-use crate::scans::scan_cell;
+ghost use Rattle.groups.specs.Grouping.{numbersIn};
+ghost use Rattle.reasons.specs.Memory.{namedIn, naming, Spare, Wrote, WordsWritten};
+ghost use Rattle.reasons.specs.Arrays.{GroupAt, Stepped, noFlags, insideIn, edgeIn};
+use crate::scans::open_cell;
+use crate::scans::scan_walls;
 use groups::Grouping;
 use groups::cell_at;
 use groups::start_of;
@@ -17,9 +18,10 @@ use rules::Literal;
 use rules::Side;
 
 pub mod paths; // paths.rt: Path, by a search over open borders, and the reason of a wall
-pub mod scans; // scans.rt: what a scan keeps of one cell
+pub mod scans; // scans.rt: what Inside lists for a cell, and the walls of a group that a scan keeps
 
-// The places of working memory: 1,984 for literals, then one for each border.
+// The places of working memory: 1,984 for literals, then one for each border. Memory of 1,984 places will do for a
+// reason that names no border twice.
 pub const WORK_LENGTH: usize = 3968;
 
 // A neighbour of a cell, if there is one: over which border, and which cell.
@@ -51,18 +53,37 @@ fn code(literal: Literal) -> u16
     }
 }
 
-// Writes a literal at the place `at` and names its border, unless that is named; gives the next place.
+// Names a border, where the memory has a place for that; says whether it was not named before.
+fn name(memory: &mut [u16], border: usize) -> bool
+    requires { ⌜ border < 1984 ⌝ }
+    ensures { λ r. ⌜ (r ≡ not (namedIn (now (memory .entry)) border))
+        × (now (memory .exit) ≡ cond r (naming (now (memory .entry)) border) (now (memory .entry))) ⌝ }
+{
+    let place = 1984 + border;
+    if memory.len() <= place {
+        return true;
+    }
+    if memory[place] != 0 {
+        return false;
+    }
+    memory[place] = 1;
+    true
+}
+
+// Writes a literal at the place `at` and names its border, unless that is named; gives the next place. No reason has
+// more literals than there are places for them.
 pub fn append(memory: &mut [u16], at: usize, literal: Literal) -> usize
     requires { ⌜ Spare (now memory) at × (literal .border < 1984) ⌝ }
     ensures { λ r. ⌜ Wrote (now (memory .entry)) at (literal ∷ []) (now (memory .exit)) r ⌝ }
 {
-    let named = 1984 + literal.border;
-    if memory[named] != 0 {
+    if 1984 <= at {
         return at;
     }
-    memory[named] = 1;
-    memory[at] = code(literal);
-    at + 1
+    if name(memory, literal.border) {
+        memory[at] = code(literal);
+        return at + 1;
+    }
+    at
 }
 
 // Writes the words from the start of the lent memory, and nothing beyond; gives how many they are.
@@ -111,92 +132,8 @@ pub fn step(h: usize, w: usize, y: usize, x: usize, d: usize) -> Neighbour
     beside(h, w, y * w + x, y, x, d)
 }
 
-// Writes what a scan of the cells `from` to `to` of the list of cells keeps, from the place `start`; gives the next
-// place. Open borders: below and right, to flagged groups. Walls: above, below, left, right, to neighbours of the same
-// colour (of the other, if `same` is false) in groups that are not flagged.
-// Step 3's last walls are those to the other colour, with the potential units adjacent to P flagged.
-pub fn scan<'a>(
-    memory: &mut [u16],
-    start: usize,
-    h: usize,
-    w: usize,
-    colours: &'a [u8; 1024],
-    borders: &'a [u8; 1984],
-    grouping: &'a Grouping,
-    from: usize,
-    to: usize,
-    side: Side,
-    same: bool,
-    flagged: &'a [u8; 1024],
-) -> usize
-    requires { ⌜ Sized h w × Arrays (now borders) (numbersIn (now grouping)) × (length (now colours) ≡ 1024)
-        × (length (now flagged) ≡ 1024) × Cells h w (cellsIn (now grouping)) from to
-        × Spare (now memory) start ⌝ }
-    ensures { λ r. ⌜ Wrote (now (memory .entry)) start (scanOf h w (now (colours .entry)) (now (borders .entry))
-        (numbersIn (now (grouping .entry))) side same (now (flagged .entry))
-        (part (cellsIn (now (grouping .entry))) from to)) (now (memory .exit)) r ⌝ }
-{
-    let count = to - from;
-    let mut at = start;
-    let mut i = 0;
-    while i < count {
-        let c = cell_at(grouping, from + i);
-        at = scan_cell(
-            memory,
-            at,
-            h,
-            w,
-            colours,
-            borders,
-            grouping,
-            side,
-            same,
-            flagged,
-            c,
-        );
-        i += 1;
-    }
-    at
-}
-
-// Inside (open borders) or Edge (walls) of the group g, from the place `start`; gives the next place.
-fn group_reason<'a>(
-    memory: &mut [u16],
-    start: usize,
-    h: usize,
-    w: usize,
-    colours: &'a [u8; 1024],
-    borders: &'a [u8; 1984],
-    grouping: &'a Grouping,
-    side: Side,
-    g: usize,
-) -> usize
-    requires { ⌜ Sized h w × (length (now borders) ≡ 1984) × (length (now colours) ≡ 1024)
-        × GroupAt h w (now grouping) g × Spare (now memory) start ⌝ }
-    ensures { λ r. ⌜ Wrote (now (memory .entry)) start (groupReason h w (now (colours .entry)) (now (borders .entry))
-        (numbersIn (now (grouping .entry))) side g) (now (memory .exit)) r ⌝ }
-{
-    let mut flagged = [0u8; 1024];
-    flagged[g] = 1;
-    let from = start_of(grouping, g);
-    let to = start_of(grouping, g + 1);
-    scan(
-        memory,
-        start,
-        h,
-        w,
-        colours,
-        borders,
-        grouping,
-        from,
-        to,
-        side,
-        true,
-        &flagged,
-    )
-}
-
-// Edge of the group g, from the place `start`; gives the next place.
+// Edge of the group g, from the place `start`; gives the next place. The flags are lent: all are 0, and so they are
+// again afterwards.
 pub fn edge<'a>(
     memory: &mut [u16],
     start: usize,
@@ -206,13 +143,15 @@ pub fn edge<'a>(
     borders: &'a [u8; 1984],
     grouping: &'a Grouping,
     g: usize,
+    flagged: &mut [u8; 1024],
 ) -> usize
     requires { ⌜ Sized h w × (length (now borders) ≡ 1984) × (length (now colours) ≡ 1024)
-        × GroupAt h w (now grouping) g × Spare (now memory) start ⌝ }
+        × GroupAt h w (now grouping) g × Spare (now memory) start × (now flagged ≡ noFlags) ⌝ }
     ensures { λ r. ⌜ Wrote (now (memory .entry)) start (edgeIn h w (now (colours .entry)) (now (borders .entry))
-        (numbersIn (now (grouping .entry))) g) (now (memory .exit)) r ⌝ }
+        (numbersIn (now (grouping .entry))) g) (now (memory .exit)) r × (now (flagged .exit) ≡ noFlags) ⌝ }
 {
-    group_reason(
+    flagged[g] = 1;
+    let at = scan_walls(
         memory,
         start,
         h,
@@ -220,9 +159,12 @@ pub fn edge<'a>(
         colours,
         borders,
         grouping,
-        Side::Wall,
         g,
-    )
+        true,
+        flagged,
+    );
+    flagged[g] = 0;
+    at
 }
 
 // Inside of the group g, from the place `start`; gives the next place.
@@ -240,17 +182,14 @@ pub fn inside<'a>(
     ensures { λ r. ⌜ Wrote (now (memory .entry)) start (insideIn h w (now (borders .entry))
         (numbersIn (now (grouping .entry))) g) (now (memory .exit)) r ⌝ }
 {
-    // Inside asks no colours
-    let colours = [0u8; 1024];
-    group_reason(
-        memory,
-        start,
-        h,
-        w,
-        &colours,
-        borders,
-        grouping,
-        Side::Open,
-        g,
-    )
+    let from = start_of(grouping, g);
+    let count = start_of(grouping, g + 1) - from;
+    let mut at = start;
+    let mut i = 0;
+    while i < count {
+        let c = cell_at(grouping, from + i);
+        at = open_cell(memory, at, h, w, borders, grouping, g, c);
+        i += 1;
+    }
+    at
 }

@@ -1,23 +1,26 @@
-// What a scan keeps of one cell: open borders to flagged groups, or walls to groups that are not flagged.
+// What Inside lists for a cell, and the walls of a group that a scan keeps: to groups that are not flagged.
 ghost use mathlib.Core.Path.{_≡_};
 ghost use mathlib.Core.Bool.{true, _&&_, Bool·beq};
 ghost use mathlib.Core.List.{[]};
 ghost use Prim.Native.Nat.{_*_, _<_};
 ghost use lib.ListN.{length};
 ghost use Rattle.lists.specs.Lists.{keepIf};
-ghost use Rattle.rules.specs.Flat.{Sized};
+ghost use Rattle.rules.specs.Flat.{Sized, flat};
 ghost use Rattle.rules.specs.Codes.{statesIn, coloursIn};
 ghost use Rattle.rules.specs.Groups.{entry};
-ghost use Rattle.rules.specs.Reasons.{gather};
+ghost use Rattle.rules.specs.Reasons.{gather, insideAt};
 ghost use Rattle.rules.specs.declared.Side.the-variants.{Wall, Open};
-ghost use Rattle.groups.specs.Grouping.{numbersIn};
+ghost use Rattle.groups.specs.Grouping.{numbersIn, groupCells};
 ghost use Rattle.reasons.specs.Memory.{Spare, Wrote};
-ghost use Rattle.reasons.specs.Arrays.{Arrays, InArrays, hopOf, hopsIn, isFlagged, openKept, wallKept, scanAt};
+ghost use Rattle.reasons.specs.Arrays.{Arrays, GroupAt, InArrays, hopOf, hopsIn, isFlagged};
+ghost use Rattle.reasons.specs.Arrays.{openKept, wallKept, scanAt, scanOf};
 use crate::Neighbour;
 use crate::append;
 use crate::beside;
 use groups::Grouping;
+use groups::cell_at;
 use groups::group_of;
+use groups::start_of;
 use rules::Literal;
 use rules::Side;
 
@@ -54,28 +57,21 @@ fn is_flagged(flagged: &[u8; 1024], group: usize) -> bool
     false
 }
 
-// The border to the neighbour n is open, and its group is flagged. False if there is no neighbour.
-fn open_kept<'a>(
-    borders: &'a [u8; 1984],
-    grouping: &'a Grouping,
-    flagged: &'a [u8; 1024],
-    n: Neighbour,
-) -> bool
-    requires { ⌜ Arrays (now borders) (numbersIn (now grouping)) × (length (now flagged) ≡ 1024)
-        × (n .some ≡ true → InArrays n) ⌝ }
+// The border to the neighbour n is open, and n is in the group g. False if there is no neighbour.
+fn open_kept<'a>(borders: &'a [u8; 1984], grouping: &'a Grouping, g: usize, n: Neighbour) -> bool
+    requires { ⌜ Arrays (now borders) (numbersIn (now grouping)) × (n .some ≡ true → InArrays n) ⌝ }
     ensures { λ r. ⌜ r ≡ (n .some && openKept (statesIn (now (borders .entry)))
-        (entry (numbersIn (now (grouping .entry))))
-        (isFlagged (now (flagged .entry))) (hopOf n)) ⌝ }
+        (entry (numbersIn (now (grouping .entry)))) g (hopOf n)) ⌝ }
 {
     if !n.some {
         return false;
     }
     let border = n.border;
     let to = n.to;
-    if borders[border] == 2 {
-        return is_flagged(flagged, group_of(grouping, to));
+    if borders[border] != 2 {
+        return false;
     }
-    false
+    group_of(grouping, to) == g
 }
 
 // The border to the neighbour n of the cell c is wall, n has the colour of c (or, if `same` is false, the other one),
@@ -109,22 +105,21 @@ fn wall_kept<'a>(
     !is_flagged(flagged, group_of(grouping, to))
 }
 
-// Writes the border to the neighbour n, if it is open and the group of n is flagged.
+// Writes the border to the neighbour n, if it is open and n is in the group g.
 fn open_hop<'a>(
     memory: &mut [u16],
     from: usize,
     borders: &'a [u8; 1984],
     grouping: &'a Grouping,
-    flagged: &'a [u8; 1024],
+    g: usize,
     n: Neighbour,
 ) -> usize
-    requires { ⌜ Arrays (now borders) (numbersIn (now grouping)) × (length (now flagged) ≡ 1024)
-        × (n .some ≡ true → InArrays n) × Spare (now memory) from ⌝ }
+    requires { ⌜ Arrays (now borders) (numbersIn (now grouping)) × (n .some ≡ true → InArrays n)
+        × Spare (now memory) from ⌝ }
     ensures { λ r. ⌜ Wrote (now (memory .entry)) from (gather Open (openKept (statesIn (now (borders .entry)))
-        (entry (numbersIn (now (grouping .entry)))) (isFlagged (now (flagged .entry)))) (hopsIn n))
-        (now (memory .exit)) r ⌝ }
+        (entry (numbersIn (now (grouping .entry)))) g) (hopsIn n)) (now (memory .exit)) r ⌝ }
 {
-    let kept = open_kept(borders, grouping, flagged, n);
+    let kept = open_kept(borders, grouping, g, n);
     append_if(
         memory,
         from,
@@ -168,30 +163,28 @@ fn wall_hop<'a>(
     )
 }
 
-// Writes the open borders of the cell c to flagged groups: below, right.
-fn open_cell<'a>(
+// Writes the open borders of the cell c into the group g: below, right.
+pub fn open_cell<'a>(
     memory: &mut [u16],
     from: usize,
     h: usize,
     w: usize,
     borders: &'a [u8; 1984],
     grouping: &'a Grouping,
-    flagged: &'a [u8; 1024],
+    g: usize,
     c: usize,
 ) -> usize
-    requires { ⌜ Sized h w × Arrays (now borders) (numbersIn (now grouping)) × (length (now flagged) ≡ 1024)
-        × (c < h * w) × Spare (now memory) from ⌝ }
-    ensures { λ r. ⌜ Wrote (now (memory .entry)) from (scanAt h w [] (now (borders .entry))
-        (numbersIn (now (grouping .entry))) Open
-        true (now (flagged .entry)) c) (now (memory .exit)) r ⌝ }
+    requires { ⌜ Sized h w × Arrays (now borders) (numbersIn (now grouping)) × (c < h * w) × Spare (now memory) from ⌝ }
+    ensures { λ r. ⌜ Wrote (now (memory .entry)) from (insideAt (flat h w) (statesIn (now (borders .entry)))
+        (entry (numbersIn (now (grouping .entry)))) g c) (now (memory .exit)) r ⌝ }
 {
     // a call for each direction and no loop, so that each is compiled for its direction
     let y = c / w;
     let x = c % w;
     let below = beside(h, w, c, y, x, 1);
     let right = beside(h, w, c, y, x, 3);
-    let at = open_hop(memory, from, borders, grouping, flagged, below);
-    open_hop(memory, at, borders, grouping, flagged, right)
+    let at = open_hop(memory, from, borders, grouping, g, below);
+    open_hop(memory, at, borders, grouping, g, right)
 }
 
 // Writes the walls of the cell c that the scan keeps: above, below, left, right.
@@ -210,7 +203,7 @@ fn wall_cell<'a>(
     requires { ⌜ Sized h w × Arrays (now borders) (numbersIn (now grouping)) × (length (now colours) ≡ 1024)
         × (length (now flagged) ≡ 1024) × (c < h * w) × Spare (now memory) from ⌝ }
     ensures { λ r. ⌜ Wrote (now (memory .entry)) from (scanAt h w (now (colours .entry)) (now (borders .entry))
-        (numbersIn (now (grouping .entry))) Wall same (now (flagged .entry)) c) (now (memory .exit)) r ⌝ }
+        (numbersIn (now (grouping .entry))) same (now (flagged .entry)) c) (now (memory .exit)) r ⌝ }
 {
     let y = c / w;
     let x = c % w;
@@ -224,29 +217,36 @@ fn wall_cell<'a>(
     at
 }
 
-// Writes the borders that the scan keeps of one cell.
-pub fn scan_cell<'a>(
+// Writes the walls of the cells of the group g to cells of the same colour (of the other, if `same` is false) in groups
+// that are not flagged, from the place `start`; gives the next place. Step 3's last walls are those to the other
+// colour, with the potential units adjacent to P flagged.
+pub fn scan_walls<'a>(
     memory: &mut [u16],
-    from: usize,
+    start: usize,
     h: usize,
     w: usize,
     colours: &'a [u8; 1024],
     borders: &'a [u8; 1984],
     grouping: &'a Grouping,
-    side: Side,
+    g: usize,
     same: bool,
     flagged: &'a [u8; 1024],
-    c: usize,
 ) -> usize
-    requires { ⌜ Sized h w × Arrays (now borders) (numbersIn (now grouping)) × (length (now colours) ≡ 1024)
-        × (length (now flagged) ≡ 1024) × (c < h * w) × Spare (now memory) from ⌝ }
-    ensures { λ r. ⌜ Wrote (now (memory .entry)) from (scanAt h w (now (colours .entry)) (now (borders .entry))
-        (numbersIn (now (grouping .entry))) side same (now (flagged .entry)) c) (now (memory .exit)) r ⌝ }
+    requires { ⌜ Sized h w × (length (now borders) ≡ 1984) × (length (now colours) ≡ 1024)
+        × (length (now flagged) ≡ 1024) × GroupAt h w (now grouping) g × Spare (now memory) start ⌝ }
+    ensures { λ r. ⌜ Wrote (now (memory .entry)) start (scanOf h w (now (colours .entry)) (now (borders .entry))
+        (numbersIn (now (grouping .entry))) same (now (flagged .entry)) (groupCells (now (grouping .entry)) g))
+        (now (memory .exit)) r ⌝ }
 {
-    match side {
-        Side::Wall => wall_cell(
+    let from = start_of(grouping, g);
+    let count = start_of(grouping, g + 1) - from;
+    let mut at = start;
+    let mut i = 0;
+    while i < count {
+        let c = cell_at(grouping, from + i);
+        at = wall_cell(
             memory,
-            from,
+            at,
             h,
             w,
             colours,
@@ -255,7 +255,8 @@ pub fn scan_cell<'a>(
             same,
             flagged,
             c,
-        ),
-        Side::Open => open_cell(memory, from, h, w, borders, grouping, flagged, c),
+        );
+        i += 1;
     }
+    at
 }

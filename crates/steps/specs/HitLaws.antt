@@ -1,12 +1,12 @@
 -- What steps 1 and 2 find over the arrays of a board is the hit of the definitions.
 use mathlib.Core.Path.{_≡_, sym, ap, _∙_}
 use mathlib.Core.Bool.{Bool, true, false}
-use mathlib.Core.List.{List}
+use mathlib.Core.List.{List, _++_, map}
 use mathlib.Core.Option.{Option, some, none}
 use Prim.Native.Nat.{ℕ, _*_, _≤_}
 use native.Mathlib.Omega.{arith}
 use lib.IntN.{ℤ}
-use lib.ListN.{length, take, replicate, length-map}
+use lib.ListN.{length, take, drop, replicate, length-map}
 use Rattle.lists.specs.Lists.{orElse}
 use Rattle.rules.specs.Flat.{Sized, flat}
 use Rattle.rules.specs.Page.{Puzzle, Contains}
@@ -17,6 +17,8 @@ use Rattle.laws.specs.FlatReasons.{bordered}
 use Rattle.argument.specs.Hits.{Each, each-some}
 use Rattle.argument.specs.Forms.{Forms, blocks-form, walls-form, units-form}
 use Rattle.argument.specs.Held.{held-forms}
+use Rattle.argument.specs.EarlyOnce.{NoTwice}
+use Rattle.argument.specs.FlatDemand.{flat-blocks-once, flat-walls-once}
 use Rattle.groups.specs.declared.Kind.the-variants.{Blocks, Potential}
 use Rattle.groups.specs.Parts.{groupsOf}
 use Rattle.groups.specs.Grouping.{numbersIn, Filled, Vacant}
@@ -24,7 +26,7 @@ use Rattle.groups.specs.PartLaws.{ids-length, filled-ids, filled-cells, filled-
 use Rattle.groups.specs.Pages.{groupsIn}
 use Rattle.reasons.specs.Arrays.{Arrays, GroupAt}
 use Rattle.reasons.specs.Memory.{Wrote, WordsWritten}
-use Rattle.reasons.specs.MemoryLaws.{once-handed}
+use Rattle.reasons.specs.MemoryLaws.{once-handed, plain-handed}
 use Rattle.blocks.specs.declared.Faulty.{Faulty}
 use Rattle.blocks.specs.Faults.{isFaultless}
 use Rattle.blocks.specs.Written.{faultUnit, faultyLiterals}
@@ -40,16 +42,29 @@ pub answers-none : {o : Option Reason} (m : List ℕ) → o ≡ none → Answers
 unfolding foundOf writtenBy
 answers-none m e = record { found = rw e; memory = rw e }
 
--- what working memory has of a hit's reason is handed out: its literals, each once
+-- a hit's reason, each literal once, was written from the start of the memory
+answers-words : {o : Option Reason} {m after : List ℕ} {r : Reason} {k : ℕ} → o ≡ some r
+    → WordsWritten m (map literalCode (once r)) after k → Answers o m after (Given k)
+unfolding foundOf writtenBy put
+answers-words {r = r} e w =
+    record { found = rw (e, w .count) (ap Given (length-map (once r) literalCode)); memory = rw e (w .memory) }
+
+-- by way of working memory, which has it so
 pub answers-some : {o : Option Reason} (bs : List ℕ) {m work after : List ℕ} {r : Reason} {n k : ℕ} → length bs ≡ 1984
     → Each (Contains (statesIn bs)) o → o ≡ some r → Wrote (replicate 3968 0) 0 r work n
     → WordsWritten m (take n work) after k → Answers o m after (Given k)
-unfolding foundOf writtenBy put
 answers-some bs {r = r} l h e w p =
-    let q = once-handed bs l r (each-some (Contains (statesIn bs)) r (rw e at h)) w p in
-    record { found = rw (e, q .count) (ap Given (length-map (once r) literalCode)); memory = rw e (q .memory) }
+    answers-words e (once-handed bs l r (each-some (Contains (statesIn bs)) r (rw e at h)) w p)
 
--- every reason of a step holds on its board
+-- straight away, where the reason names no border twice
+pub answers-plain : {o : Option Reason} (bs : List ℕ) {m after : List ℕ} {r : Reason} {n : ℕ} → length bs ≡ 1984
+    → 1984 ≤ length m → Each (Contains (statesIn bs)) o → Each NoTwice o → o ≡ some r
+    → Wrote (take 1984 m) 0 r after n → Answers o m (after ++ drop 1984 m) (Given n)
+answers-plain bs {r = r} l room h d e w =
+    answers-words e
+    (plain-handed bs l r (each-some (Contains (statesIn bs)) r (rw e at h)) room (each-some NoTwice r (rw e at d)) w)
+
+-- every reason of a step holds on its board, and those of steps 1 and 2 name no border twice
 module _ {h w : ℕ} (z : Sized h w) (cs : List ℕ) (ks : List ℤ) (bs : List ℕ) where
   abbrev Z : Puzzle
   Z = puzzleIn h w cs ks
@@ -64,6 +79,14 @@ module _ {h w : ℕ} (z : Sized h w) (cs : List ℕ) (ks : List ℤ) (bs : List 
   pub walls-held : Each (Contains (statesIn bs)) (wallsHit Z (statesIn bs))
   unfolding wallsHit
   walls-held = walls-form Z (statesIn bs) _ (forms .early)
+
+  pub blocks-plain : Each NoTwice (blocksHit Z (statesIn bs))
+  unfolding blocksHit
+  blocks-plain = flat-blocks-once h w (z .columns) _ _ (statesIn bs)
+
+  pub walls-plain : Each NoTwice (wallsHit Z (statesIn bs))
+  unfolding wallsHit
+  walls-plain = flat-walls-once h w (z .columns) _ _ (statesIn bs)
 
   pub units-held : Each (Contains (statesIn bs)) (unitsHit Z (statesIn bs))
   unfolding unitsHit

@@ -12,7 +12,7 @@ use lib.ListN.{length, getD, set, replicate, length-set, length-replicate}
 use lib.Seq.{getD-set-same, getD-set-other}
 use Rattle.lists.specs.Lists.{any, filter, range}
 use Rattle.lists.specs.PaddedLaws.{zeros}
-use Rattle.lists.specs.TableLaws.{getD-table, table-is}
+use Rattle.lists.specs.TableLaws.{getD-table, length-table, table-is}
 use Rattle.lists.specs.Parts.{part}
 use Rattle.lists.specs.Arithmetic.{if-same}
 use Rattle.lists.specs.Appends.{any-append}
@@ -26,6 +26,10 @@ use Rattle.stuck.specs.Writing.{flagsOf}
 pub record Flagged (xs F : List ℕ) : Type 0 where
   pub long : length F ≡ 1024
   pub each : (q : ℕ) → getD F q 0 ≡ bit (any (eqb q) xs)
+
+pub flags-long : (xs : List ℕ) → length (flagsOf xs) ≡ 1024
+unfolding flagsOf
+flags-long xs = length-table 1024 _
 
 pub flagged-none : (l : List ℕ) (from : ℕ) → Flagged (part l from from) (replicate 1024 0)
 unfolding any

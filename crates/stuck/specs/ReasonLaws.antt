@@ -17,8 +17,8 @@ use Rattle.rules.specs.Groups.{entry, members, unitOf, potentialOf, potentialCo
 use Rattle.rules.specs.Check.{laid, blockers, placements, transformsOf, insideUnit, edgeOf, mates, farWalls, unitReason}
 use Rattle.rules.specs.Check.{adjacent as isAdjacent}
 use Rattle.laws.specs.FlatReasons.{flat-edge-same, flat-inside-same, flat-members-same}
-use Rattle.groups.specs.Grouping.{numbersIn, cellsIn, startsIn, startIn, groupCells}
-use Rattle.reasons.specs.Arrays.{Cells, GroupAt, insideIn, edgeIn, isFlagged}
+use Rattle.groups.specs.Grouping.{numbersIn, cellsIn, startsIn, groupCells}
+use Rattle.reasons.specs.Arrays.{GroupAt, insideIn, edgeIn, isFlagged}
 use Rattle.reasons.specs.FarLaws.{far-walls}
 use Rattle.reasons.specs.Memory.{Wrote}
 use Rattle.reasons.specs.MemoryLaws.{naming-more}
@@ -100,9 +100,6 @@ module _ {h w : ℕ} {cs bs us ps list : List ℕ} {u p : ℕ} (a : Arranged h w
 
   pub own : GroupAt h w ps p
   own = numbered p (a .one)
-
-  pub own-cells : Cells h w pcells (startIn ps p) (startIn ps (p + 1))
-  own-cells = a .grouped .each p (a .one)
 
   pub beside : Beside h w ps list
   beside = beside-gathered ps (a .grouped) (a .known) p (a .mates)

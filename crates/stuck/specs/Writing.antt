@@ -62,7 +62,7 @@ module _ (h w : ℕ) (cs bs ids : List ℕ) where
 
   -- "walls to other-coloured cells whose potential unit is not adjacent to P": xs are the cells of P, gs its mates
   unfoldable pub farIn : List ℕ → List ℕ → List Literal
-  farIn gs xs = scanOf h w cs bs ids Wall false (flagsOf gs) xs
+  farIn gs xs = scanOf h w cs bs ids false (flagsOf gs) xs
 
   -- "Edge(P), Edge of each adjacent unit, then" those walls
   unfoldable pub wallsIn : ℕ → List ℕ → List ℕ → List Literal

@@ -1,4 +1,4 @@
-// Step 3 of the check: the reason of a unit that fits nowhere, written into working memory.
+// Step 3 of the check: the reason of a unit that fits nowhere, written into a reason's memory.
 ghost use mathlib.Core.Option.{Option};
 ghost use Prim.Native.Nat.{ℕ};
 ghost use Rattle.rules.specs.Codes.{cluedBy, statesIn, unclued};

@@ -1,20 +1,17 @@
 // The walls in the reason of a unit: those of its potential unit, of the adjacent ones, and to the others.
 ghost use mathlib.Core.Path.{_≡_};
-ghost use Prim.Native.Nat.{_+_};
 ghost use lib.ListN.{length};
 ghost use Rattle.rules.specs.Flat.{Sized};
-ghost use Rattle.groups.specs.Grouping.{numbersIn, cellsIn, startIn, groupCells};
-ghost use Rattle.reasons.specs.Arrays.{Cells, GroupAt};
+ghost use Rattle.groups.specs.Grouping.{numbersIn, groupCells};
+ghost use Rattle.reasons.specs.Arrays.{GroupAt, noFlags};
 ghost use Rattle.reasons.specs.Memory.{Spare, Wrote};
 ghost use Rattle.adjacent.specs.Mates.{matesIn};
 ghost use Rattle.stuck.specs.Writing.{Low, Mated, flagsOf, edgesIn, farIn, wallsIn};
 use adjacent::Mates;
 use board::Board;
 use groups::Grouping;
-use groups::start_of;
 use reasons::edge;
-use reasons::scan;
-use rules::Side;
+use reasons::scans::scan_walls;
 use rules::index;
 
 // Writes Edge of each of the groups in the list of mates; gives the next place.
@@ -27,30 +24,30 @@ fn edges_of<'a>(
     borders: &'a [u8; Board::BORDER_LIMIT],
     potential: &'a Grouping,
     mates: &'a Mates,
+    flagged: &mut [u8; Board::CELL_LIMIT],
 ) -> usize
     requires { ⌜ Sized h w × (length (now borders) ≡ 1984) × (length (now colours) ≡ 1024)
-        × Mated h w (now potential) (now mates) × Spare (now memory) start ⌝ }
+        × Mated h w (now potential) (now mates) × Spare (now memory) start × (now flagged ≡ noFlags) ⌝ }
     ensures { λ r. ⌜ Wrote (now (memory .entry)) start
         (edgesIn h w (now (colours .entry)) (now (borders .entry)) (numbersIn (now (potential .entry)))
-        (matesIn (now (mates .entry)))) (now (memory .exit)) r ⌝ }
+        (matesIn (now (mates .entry)))) (now (memory .exit)) r × (now (flagged .exit) ≡ noFlags) ⌝ }
 {
     let count = index(mates[1024]);
     let mut at = start;
     let mut i = 0;
     while i < count {
         let q = index(mates[i]);
-        at = edge(memory, at, h, w, colours, borders, potential, q);
+        at = edge(memory, at, h, w, colours, borders, potential, q, flagged);
         i += 1;
     }
     at
 }
 
-// 1 at the number of each group in the list of mates, 0 elsewhere.
-fn flags_of(mates: &Mates) -> [u8; Board::CELL_LIMIT]
-    requires { ⌜ Low (now mates) ⌝ }
-    ensures { λ r. ⌜ r ≡ flagsOf (matesIn (now (mates .entry))) ⌝ }
+// Flags each group in the list of mates, in flags that are 0.
+fn flag_mates(mates: &Mates, flagged: &mut [u8; Board::CELL_LIMIT])
+    requires { ⌜ Low (now mates) × (now flagged ≡ noFlags) ⌝ }
+    ensures { λ r. ⌜ now (flagged .exit) ≡ flagsOf (matesIn (now (mates .entry))) ⌝ }
 {
-    let mut flagged = [0u8; Board::CELL_LIMIT];
     let count = index(mates[1024]);
     let mut i = 0;
     while i < count {
@@ -58,7 +55,6 @@ fn flags_of(mates: &Mates) -> [u8; Board::CELL_LIMIT]
         flagged[q] = 1;
         i += 1;
     }
-    flagged
 }
 
 // Writes the walls from the cells of the potential unit p to cells of the other colour in groups that are not in the
@@ -73,19 +69,16 @@ fn far_walls<'a>(
     potential: &'a Grouping,
     p: usize,
     mates: &'a Mates,
+    flagged: &mut [u8; Board::CELL_LIMIT],
 ) -> usize
     requires { ⌜ Sized h w × (length (now borders) ≡ 1984) × (length (now colours) ≡ 1024)
-        × GroupAt h w (now potential) p × Cells h w (cellsIn (now potential)) (startIn (now potential) p)
-        (startIn (now potential) (p + 1)) × Low (now mates)
-        × Spare (now memory) start ⌝ }
+        × GroupAt h w (now potential) p × Low (now mates) × Spare (now memory) start × (now flagged ≡ noFlags) ⌝ }
     ensures { λ r. ⌜ Wrote (now (memory .entry)) start
         (farIn h w (now (colours .entry)) (now (borders .entry)) (numbersIn (now (potential .entry)))
         (matesIn (now (mates .entry))) (groupCells (now (potential .entry)) p)) (now (memory .exit)) r ⌝ }
 {
-    let flagged = flags_of(mates);
-    let from = start_of(potential, p);
-    let to = start_of(potential, p + 1);
-    scan(
+    flag_mates(mates, flagged);
+    scan_walls(
         memory,
         start,
         h,
@@ -93,11 +86,9 @@ fn far_walls<'a>(
         colours,
         borders,
         potential,
-        from,
-        to,
-        Side::Wall,
+        p,
         false,
-        &flagged,
+        flagged,
     )
 }
 
@@ -116,13 +107,25 @@ pub fn walls_of<'a>(
 ) -> usize
     requires { ⌜ Sized h w × (length (now borders) ≡ 1984) × (length (now colours) ≡ 1024)
         × Mated h w (now potential) (now mates) × GroupAt h w (now potential) p
-        × Cells h w (cellsIn (now potential)) (startIn (now potential) p) (startIn (now potential) (p + 1))
         × Spare (now memory) start ⌝ }
     ensures { λ r. ⌜ Wrote (now (memory .entry)) start
         (wallsIn h w (now (colours .entry)) (now (borders .entry)) (numbersIn (now (potential .entry))) p
         (matesIn (now (mates .entry))) (groupCells (now (potential .entry)) p)) (now (memory .exit)) r ⌝ }
 {
-    let own = edge(memory, start, h, w, colours, borders, potential, p);
-    let all = edges_of(memory, own, h, w, colours, borders, potential, mates);
-    far_walls(memory, all, h, w, colours, borders, potential, p, mates)
+    let mut flagged = [0u8; Board::CELL_LIMIT];
+    let flags = &mut flagged;
+    let own = edge(memory, start, h, w, colours, borders, potential, p, flags);
+    let all = edges_of(memory, own, h, w, colours, borders, potential, mates, flags);
+    far_walls(
+        memory,
+        all,
+        h,
+        w,
+        colours,
+        borders,
+        potential,
+        p,
+        mates,
+        flags,
+    )
 }

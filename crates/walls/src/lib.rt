@@ -192,7 +192,7 @@ pub fn first_breach<'a>(h: usize, w: usize, borders: &'a [u8; 1984], blocks: &'a
     nothing()
 }
 
-// The reason of a breach, from the start of working memory; gives the number of literals.
+// The reason of a breach, from the start of the memory; gives the number of literals.
 pub fn write_breach(
     memory: &mut [u16],
     h: usize,

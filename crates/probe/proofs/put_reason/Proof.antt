@@ -97,24 +97,25 @@ slice-aggregate-edge c = search needs
 
 edge-requires : tie.Need-edge-requires
 edge-requires c κs =
-    let k = c .before .before .before .before .before .before in (
+    let k = c .before .before .before .before .before .before .before in (
       begin k .pre .0,
       rw (k .borders-in .ensures) (places-length 1984 _),
-      rw (c .before .before .before .before .colours-in .ensures) (places-length 1024 _),
+      rw (c .before .before .before .before .before .colours-in .ensures) (places-length 1024 _),
       group k,
       spare-zeros,
+      refl,
     )
 
 array-share-prefix-work-2 : tie.Need-array-share-prefix-work-2
 array-share-prefix-work-2 c = search needs
 
 slice-aggregate-hand-out-2 : tie.Need-slice-aggregate-hand-out-2
-slice-aggregate-hand-out-2 c = front-length (c .before .before .before .edge .ensures)
+slice-aggregate-hand-out-2 c = front-length (c .before .before .before .edge .ensures .0)
 
 hand-out-requires-2 : tie.Need-hand-out-requires-2
 hand-out-requires-2 c κs =
-    let k = c .before .before .before .before .before .before .before .before .before .before in
-    front-fits (c .before .before .before .edge .ensures) _ (omega (arith, begin k .pre .1))
+    let k = c .before .before .before .before .before .before .before .before .before .before .before in
+    front-fits (c .before .before .before .edge .ensures .0) _ (omega (arith, begin k .pre .1))
 
 same-length-2 : tie.Need-same-length-2
 same-length-2 c = search needs
@@ -123,15 +124,15 @@ returns-3 : tie.Need-returns-3
 unfolding reasonWords
 returns-3 c =
     let e = c .before .before .before .before .before .before in
-    let k = e .before .before .before .before .before .before .before in
-    rw (ne-eqb _ _ (e .before .before .before .before .before .before .if2 .left))
+    let k = e .before .before .before .before .before .before .before .before in
+    rw (ne-eqb _ _ (e .before .before .before .before .before .before .before .if2 .left))
     (literals _ (held k Wall)
     (rw (
       k .borders-in .ensures,
       k .before .before .before .before .grouped .ensures .numbers,
-      e .before .before .before .before .before .colours-in .ensures,
+      e .before .before .before .before .before .before .colours-in .ensures,
     ) at
-    (e .edge .ensures))
+    (e .edge .ensures .0))
     (c .before .before .hand-out2 .ensures))
 
 pub put-reason-spec : {M : Type 1} → statement M

@@ -1,47 +1,43 @@
--- A border that is named writes nothing; another writes its literal and is named.
-use Prim.Native.Nat.{_+_}
+-- Where no place is left, or the border is named, nothing is written; else the literal is, and its border is named.
+use mathlib.Core.Path.{_≡_, sym, ap, _∙_}
+use mathlib.Core.Bool.{Bool, cond}
 use native.Mathlib.Omega.{arith}
 use borrow.Author.Needs.{needs}
-use lib.ListN.{length-set}
-use Rattle.reasons.specs.MemoryLaws.{named-some, named-none, naming-old, naming-new, place-new}
+use borrow.Author.Tests.{not-true, not-false}
+use lib.ListN.{length}
+use Rattle.reasons.specs.Memory.{naming}
+use Rattle.reasons.specs.MemoryLaws.{naming-full, naming-old, naming-new, length-naming}
 use Rattle.reasons.proofs.append.Statement.{statement}
 use Rattle.reasons.proofs.append.Tie as tie
 
-add-named : tie.Need-add-named
-add-named c = search needs
-
-mul-if1 : tie.Need-mul-if1
-mul-if1 c = search needs
-
-slice-read-if1 : tie.Need-slice-read-if1
-slice-read-if1 c = search needs
+-- the memory after `name`, by what that says
+noted : (c : tie.After-name) {r : Bool} → c .name .result ≡ r → let s = c .before .before .before .before in
+    c .name .last .0 ≡ cond r (naming (s .args .memory .now) (s .args .literal .border)) (s .args .memory .now)
+noted c e = rw (← e) (c .name .ensures .1)
 
 returns : tie.Need-returns
-returns c =
-    let s = c .before .before .before .before in
-    naming-old _ _ _ (s .pre .0) (s .pre .1) (named-some _ _ (c .if1 .taken))
+returns c = naming-full _ _ _ (c .before .before .pre .0) (c .if1 .taken)
+
+name-requires : tie.Need-name-requires
+name-requires c κs = search needs
+
+code-requires : tie.Need-code-requires
+code-requires c κs = search needs
 
 mul-memory : tie.Need-mul-memory
 mul-memory c = search needs
 
 slice-write-memory : tie.Need-slice-write-memory
-slice-write-memory c = search needs
-
-code-requires : tie.Need-code-requires
-code-requires c κs = search needs
-
-mul-memory-2 : tie.Need-mul-memory-2
-mul-memory-2 c = search needs
-
-slice-write-memory-2 : tie.Need-slice-write-memory-2
-slice-write-memory-2 c =
-    let s = c .before .before .before .before .before in
-    let q = named-none _ _ (c .before .if1 .left) in
+slice-write-memory c =
+    let n = c .before .before .before .before in
+    let s = n .before .before .before .before in
+    let e = noted n (c .before .if2 .taken) in
     omega (
       arith,
-      length-set (s .args .memory .now) (1984 + s .args .literal .border) 1,
+      ap length e,
+      length-naming (s .args .memory .now) (s .args .literal .border),
       s .pre .0 .long,
-      place-new _ _ (s .args .literal) (s .pre .0) (s .pre .1) q,
+      n .before .before .if1 .left,
     )
 
 add-result : tie.Need-add-result
@@ -52,22 +48,33 @@ same-length c = search needs
 
 returns-2 : tie.Need-returns-2
 returns-2 c =
-    let s = c .before .before .before .before .before in
-    rw (c .code .ensures) (naming-new _ _ _ (s .pre .0) (s .pre .1) (named-none _ _ (c .before .if1 .left)))
+    let n = c .before .before .before .before in
+    let s = n .before .before .before .before in
+    let q = not-true _ (sym (n .name .ensures .0) ∙ c .before .if2 .taken) in
+    rw (c .code .ensures, noted n (c .before .if2 .taken))
+    (naming-new _ _ _ (s .pre .0) (n .before .before .if1 .left) q)
+
+same-length-2 : tie.Need-same-length-2
+same-length-2 c = search needs
+
+returns-3 : tie.Need-returns-3
+returns-3 c =
+    let n = c .before .before .before in
+    let s = n .before .before .before .before in
+    let q = not-false _ (sym (n .name .ensures .0) ∙ c .if2 .left) in
+    rw (noted n (c .if2 .left)) (naming-old _ _ _ (s .pre .0) q)
 
 pub append-spec : {M : Type 1} → statement M
 append-spec =
     tie.close
     (tie.spec
-    add-named
-    mul-if1
-    slice-read-if1
     returns
+    name-requires
+    code-requires
     mul-memory
     slice-write-memory
-    code-requires
-    mul-memory-2
-    slice-write-memory-2
     add-result
     same-length
-    returns-2)
+    returns-2
+    same-length-2
+    returns-3)

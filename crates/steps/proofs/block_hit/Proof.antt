@@ -3,10 +3,11 @@ use mathlib.Core.Path.{_≡_, sym, _∙_}
 use borrow.Author.Needs.{needs}
 use Rattle.groups.specs.declared.Kind.the-variants.{Blocks, Potential}
 use Rattle.groups.specs.Kinds.{joinsIn}
-use Rattle.reasons.specs.MemoryLaws.{spare-zeros, front-length, front-fits}
+use lib.Seq.{length-take-le}
+use Rattle.reasons.specs.MemoryLaws.{spare-front}
 use Rattle.blocks.specs.Bridges.{lists-of, parted-of}
 use Rattle.blocks.specs.BlockHits.{faultyIn}
-use Rattle.steps.specs.HitLaws.{answers-none, answers-some, blocks-held}
+use Rattle.steps.specs.HitLaws.{answers-none, answers-plain, blocks-held, blocks-plain}
 use Rattle.steps.specs.HitLaws.{blocks-clear, blocks-fault, fault-block, fault-unit}
 use Rattle.steps.proofs.block_hit.Statement.{statement}
 use Rattle.steps.proofs.block_hit.Tie as tie
@@ -33,12 +34,18 @@ returns c =
     answers-none _ (blocks-clear (p .0) _ _ _ _ (found (c .before .before))
     (sym (c .before .is-clear .ensures) ∙ c .if1 .taken))
 
+slice-relend-prefix-write-fault : tie.Need-slice-relend-prefix-write-fault
+slice-relend-prefix-write-fault c = c .before .before .before .before .pre .1 .memory
+
 slice-aggregate-write-fault : tie.Need-slice-aggregate-write-fault
-slice-aggregate-write-fault c = search needs
+slice-aggregate-write-fault c =
+    let s = c .before .before .before .before .before in
+    sym (length-take-le 1984 (s .args .memory .now) (s .pre .1 .memory))
 
 write-fault-requires : tie.Need-write-fault-requires
 write-fault-requires c κs =
-    let p = c .before .before .before .before .before .pre in
+    let s = c .before .before .before .before .before in
+    let p = s .pre in
     let f = found (c .before .before .before) in
     let e = sym (c .before .before .is-clear .ensures) ∙ c .before .if1 .left in (
       p .0,
@@ -46,31 +53,20 @@ write-fault-requires c κs =
       p .1 .colours,
       fault-block (p .0) _ _ _ _ f (p .2) e,
       fault-unit (p .0) _ _ _ _ f (p .3),
-      spare-zeros,
+      spare-front (s .args .memory .now) (p .1 .memory),
     )
-
-array-share-prefix-work : tie.Need-array-share-prefix-work
-array-share-prefix-work c = search needs
-
-slice-aggregate-hand-out : tie.Need-slice-aggregate-hand-out
-slice-aggregate-hand-out c = front-length (c .before .before .before .write-fault .ensures)
-
-hand-out-requires : tie.Need-hand-out-requires
-hand-out-requires c κs =
-    let p = c .before .before .before .before .before .before .before .before .before .pre in
-    front-fits (c .before .before .before .write-fault .ensures) _ (p .1 .memory)
 
 same-length : tie.Need-same-length
 same-length c = search needs
 
 returns-2 : tie.Need-returns-2
 returns-2 c =
-    let n = c .before .before .before .before .before .before in
-    let p = c .before .before .before .before .before .before .before .before .before .before .before .before .pre in
+    let n = c .before .before in
+    let p = n .before .before .before .before .before .before .pre in
     let e = sym (n .before .before .before .is-clear .ensures) ∙ n .before .before .if1 .left in
-    answers-some _ (p .1 .borders) (blocks-held (p .0) _ _ _)
+    answers-plain _ (p .1 .borders) (p .1 .memory) (blocks-held (p .0) _ _ _) (blocks-plain (p .0) _ _ _)
     (blocks-fault (p .0) _ _ _ _ (found (n .before .before .before .before)) e)
-    (rw (p .2 .numbers, p .3 .numbers) at (n .write-fault .ensures)) (c .before .before .hand-out .ensures)
+    (rw (p .2 .numbers, p .3 .numbers) at (n .write-fault .ensures))
 
 pub block-hit-spec : {M : Type 1} → statement M
 block-hit-spec =
@@ -79,10 +75,8 @@ block-hit-spec =
     first-faulty-requires
     is-clear-requires
     returns
+    slice-relend-prefix-write-fault
     slice-aggregate-write-fault
     write-fault-requires
-    array-share-prefix-work
-    slice-aggregate-hand-out
-    hand-out-requires
     same-length
     returns-2)

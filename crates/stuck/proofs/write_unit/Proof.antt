@@ -6,7 +6,7 @@ use Rattle.rules.specs.Shapes.{shapeOf}
 use Rattle.groups.specs.Grouping.{numbersIn}
 use Rattle.shapes.specs.ImageLaws.{jointed}
 use Rattle.shapes.specs.ListingLaws.{rows-listed}
-use Rattle.stuck.specs.ReasonLaws.{own, own-cells, beside, mated, reason-written}
+use Rattle.stuck.specs.ReasonLaws.{own, beside, mated, reason-written}
 use Rattle.stuck.proofs.write_unit.Statement.{statement}
 use Rattle.stuck.proofs.write_unit.Tie as tie
 
@@ -42,7 +42,6 @@ walls-of-requires c κs =
       a .colours,
       mated a,
       own a,
-      own-cells a,
       i .inside .ensures .spare,
     )
 

@@ -54,8 +54,8 @@ inside-requires : tie.Need-inside-requires
 inside-requires c κs =
     let s = c .before .before .before .before .before in (s .pre .0, s .pre .1, s .pre .3, s .pre .5)
 
-edge-requires : tie.Need-edge-requires
-edge-requires c κs =
+edge-of-requires : tie.Need-edge-of-requires
+edge-of-requires c κs =
     let s = c .before .before .before .before .before .before .before .before .before in
     let f = c .before .before .before .before .before .before .fault .given .1 in
     (s .pre .0, s .pre .1, s .pre .2, rw f at (s .pre .4), c .before .before .before .inside .ensures .spare)
@@ -70,8 +70,8 @@ inside-requires-2 c κs =
 enum-known-fault-2 : tie.Need-enum-known-fault-2
 enum-known-fault-2 c = search needs
 
-edge-requires-2 : tie.Need-edge-requires-2
-edge-requires-2 c κs =
+edge-of-requires-2 : tie.Need-edge-of-requires-2
+edge-of-requires-2 c κs =
     let s = c .before .before .before .before .before in
     let f = c .before .before .fault2 .given .1 in
     (s .pre .0, s .pre .1, s .pre .2, rw f at (s .pre .4), s .pre .5)
@@ -79,8 +79,8 @@ edge-requires-2 c κs =
 enum-known-fault-3 : tie.Need-enum-known-fault-3
 enum-known-fault-3 c = search needs
 
-edge-requires-3 : tie.Need-edge-requires-3
-edge-requires-3 c κs =
+edge-of-requires-3 : tie.Need-edge-of-requires-3
+edge-of-requires-3 c κs =
     let s = c .before .before .before .before .before in
     let f = c .before .before .fault3 .given .1 in
     (s .pre .0, s .pre .1, s .pre .2, rw f at (s .pre .4), s .pre .5)
@@ -88,7 +88,7 @@ edge-requires-3 c κs =
 inside-requires-3 : tie.Need-inside-requires-3
 inside-requires-3 c κs =
     let s = c .before .before .before .before .before .before .before .before .before in
-    (s .pre .0, s .pre .1, s .pre .3, c .before .before .before .edge3 .ensures .spare)
+    (s .pre .0, s .pre .1, s .pre .3, c .before .before .before .edge-of3 .ensures .spare)
 
 returns : tie.Need-returns
 returns c =
@@ -103,7 +103,7 @@ returns-2 c =
     let s = c .before .before .before .before .before .before .before .before .before .before .before .before in
     rw (inside-edge s (c .before .before .before .before .before .before .before .before .before .fault .given .1))
     (naming-more (c .before .before .before .before .before .before .inside .ensures)
-    (c .before .before .edge .ensures))
+    (c .before .before .edge-of .ensures))
 
 same-length-2 : tie.Need-same-length-2
 same-length-2 c = search needs
@@ -119,7 +119,7 @@ same-length-3 c = search needs
 returns-4 : tie.Need-returns-4
 returns-4 c =
     let s = c .before .before .before .before .before .before .before .before in
-    rw (edge s (c .before .before .before .before .before .fault2 .given .1)) (c .before .before .edge2 .ensures)
+    rw (edge s (c .before .before .before .before .before .fault2 .given .1)) (c .before .before .edge-of2 .ensures)
 
 same-length-4 : tie.Need-same-length-4
 same-length-4 c = search needs
@@ -128,7 +128,7 @@ returns-5 : tie.Need-returns-5
 returns-5 c =
     let s = c .before .before .before .before .before .before .before .before .before .before .before .before in
     rw (edge-inside s (c .before .before .before .before .before .before .before .before .before .fault3 .given .1))
-    (naming-more (c .before .before .before .before .before .before .edge3 .ensures)
+    (naming-more (c .before .before .before .before .before .before .edge-of3 .ensures)
     (c .before .before .inside3 .ensures))
 
 pub write-fault-spec : {M : Type 1} → statement M
@@ -138,13 +138,13 @@ write-fault-spec =
     enum-told
     enum-known-fault
     inside-requires
-    edge-requires
+    edge-of-requires
     enum-told-2
     inside-requires-2
     enum-known-fault-2
-    edge-requires-2
+    edge-of-requires-2
     enum-known-fault-3
-    edge-requires-3
+    edge-of-requires-3
     inside-requires-3
     returns
     same-length

@@ -10,7 +10,7 @@ use Rattle.rules.specs.Codes.{statesIn}
 use Rattle.rules.specs.Groups.{entry}
 use Rattle.rules.specs.Reasons.{gather}
 use Rattle.groups.specs.Grouping.{numbersIn}
-use Rattle.reasons.specs.Arrays.{hopsIn, isFlagged, openKept}
+use Rattle.reasons.specs.Arrays.{hopsIn, openKept}
 use Rattle.reasons.specs.ScanLaws.{gather-hops, kept-some}
 use Rattle.reasons.proofs.scans.open_hop.Statement.{statement}
 use Rattle.reasons.proofs.scans.open_hop.Tie as tie
@@ -18,7 +18,7 @@ use Rattle.reasons.proofs.scans.open_hop.Tie as tie
 abbrev test : tie.Start → Hop → Bool
 test s =
     let a = s .args in
-    openKept (statesIn (a .borders .now)) (entry (numbersIn (a .grouping .now))) (isFlagged (a .flagged .now))
+    openKept (statesIn (a .borders .now)) (entry (numbersIn (a .grouping .now))) (a .g)
 
 kept : (c : tie.After-open-kept) →
     let s = c .before .before in
@@ -33,8 +33,8 @@ append-if-requires : tie.Need-append-if-requires
 append-if-requires c κs =
     let k = c .before in
     let s = k .before .before in (
-      s .pre .3,
-      λ t. s .pre .2 (kept-some Open (test s) (s .args .n) (k .open-kept .ensures) t) .border,
+      s .pre .2,
+      λ t. s .pre .1 (kept-some Open (test s) (s .args .n) (k .open-kept .ensures) t) .border,
     )
 
 same-length : tie.Need-same-length

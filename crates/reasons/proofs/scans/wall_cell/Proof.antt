@@ -4,21 +4,20 @@ use mathlib.Core.List.{List}
 use Prim.Native.Nat.{ℕ, _-_, _<_, _≤_}
 use native.Mathlib.Omega.{arith}
 use Rattle.lists.specs.UpTo.{upTo}
-use Rattle.rules.specs.declared.Side.the-variants.{Wall}
 use Rattle.rules.specs.declared.Literal.{Literal}
 use Rattle.laws.specs.FlatLaws.{counts, OnPage, row-of}
 use Rattle.groups.specs.Grouping.{numbersIn}
 use Rattle.reasons.specs.Memory.{Wrote}
 use Rattle.reasons.specs.Arrays.{scanTo, scanAt}
 use Rattle.reasons.specs.MemoryLaws.{turns-none, turns-more, turns-end}
-use Rattle.reasons.specs.ScanLaws.{scan-walls}
+use Rattle.reasons.specs.ScanLaws.{scan-hops}
 use Rattle.reasons.proofs.scans.wall_cell.Statement.{statement}
 use Rattle.reasons.proofs.scans.wall_cell.Tie as tie
 
 abbrev Inv-loop : tie.InvT-loop
 Inv-loop memory₀ from h w colours borders grouping same flagged c y x at₀ d₀ memory at d =
     (d ≤ 4)
-    × Wrote memory₀ from (upTo (scanTo h w colours borders (numbersIn grouping) Wall same flagged c) d) memory at
+    × Wrote memory₀ from (upTo (scanTo h w colours borders (numbersIn grouping) same flagged c) d) memory at
 
 abbrev μ-loop : tie.MeasureT-loop
 μ-loop memory₀ from h w colours borders grouping same flagged c y x at₀ d₀ memory at d = 4 - d
@@ -29,17 +28,17 @@ row s = row-of _ _ _ (s .pre .4)
 abbrev at : tie.Start Inv-loop μ-loop → ℕ → List Literal
 at s =
     let a = s .args in
-    scanTo (a .h) (a .w) (a .colours .now) (a .borders .now) (numbersIn (a .grouping .now)) Wall (a .same)
+    scanTo (a .h) (a .w) (a .colours .now) (a .borders .now) (numbersIn (a .grouping .now)) (a .same)
     (a .flagged .now) (a .c)
 
 whole : (s : tie.Start Inv-loop μ-loop) →
     let a = s .args in
-    scanAt (a .h) (a .w) (a .colours .now) (a .borders .now) (numbersIn (a .grouping .now)) Wall (a .same)
+    scanAt (a .h) (a .w) (a .colours .now) (a .borders .now) (numbersIn (a .grouping .now)) (a .same)
     (a .flagged .now) (a .c)
     ≡ upTo (at s) 4
 whole s =
     let a = s .args in
-    scan-walls (a .h) (a .w) (a .colours .now) (a .borders .now) (numbersIn (a .grouping .now)) (a .same)
+    scan-hops (a .h) (a .w) (a .colours .now) (a .borders .now) (numbersIn (a .grouping .now)) (a .same)
     (a .flagged .now) (a .c)
 
 div-y : tie.Need-div-y Inv-loop μ-loop

@@ -6,8 +6,8 @@ use borrow.Author.Needs.{needs}
 use Rattle.lists.specs.Parts.{part}
 use Rattle.adjacent.specs.Mates.{mateCount}
 use Rattle.stuck.specs.FlagLaws.{Flagged, flagged-none, flagged-more, flagged-all}
-use Rattle.stuck.proofs.unit_walls.flags_of.Statement.{statement}
-use Rattle.stuck.proofs.unit_walls.flags_of.Tie as tie
+use Rattle.stuck.proofs.unit_walls.flag_mates.Statement.{statement}
+use Rattle.stuck.proofs.unit_walls.flag_mates.Tie as tie
 
 abbrev Inv-loop : tie.InvT-loop
 Inv-loop mates flagged₀ count i₀ flagged i = (i ≤ mateCount mates) × Flagged (part mates 0 i) flagged
@@ -22,7 +22,8 @@ index-requires : tie.Need-index-requires Inv-loop μ-loop
 index-requires c κs = tt
 
 loop-holds : tie.Need-loop-holds Inv-loop μ-loop
-loop-holds c = (omega arith, flagged-none (c .before .before .args .mates .now) 0)
+loop-holds c =
+    let s = c .before .before in (omega arith, rw (s .pre .1) (flagged-none (s .args .mates .now) 0))
 
 -- the next group of the list
 next : (t : tie.In-loop Inv-loop μ-loop) → t .before .loop .i < mateCount
@@ -30,21 +31,21 @@ next : (t : tie.In-loop Inv-loop μ-loop) → t .before .loop .i < mateCount
 next t = omega (arith, t .loop-test .taken, t .before .before .index .ensures)
 
 mul-index : tie.Need-mul-index Inv-loop μ-loop
-mul-index c = omega (arith, next c, c .before .before .before .before .pre .end)
+mul-index c = omega (arith, next c, c .before .before .before .before .pre .0 .end)
 
 element-copy-out-index-2 : tie.Need-element-copy-out-index-2 Inv-loop μ-loop
-element-copy-out-index-2 c = let p = c .before .before .before .before .pre in omega (arith, next c, p .end, p .long)
+element-copy-out-index-2 c = let p = c .before .before .before .before .pre .0 in omega (arith, next c, p .end, p .long)
 
 index-requires-2 : tie.Need-index-requires-2 Inv-loop μ-loop
 index-requires-2 c κs = tt
 
-array-write-flagged : tie.Need-array-write-flagged Inv-loop μ-loop
-array-write-flagged c =
+element-write-flagged : tie.Need-element-write-flagged Inv-loop μ-loop
+element-write-flagged c =
     let t = c .before .before in
-    omega (arith, c .index2 .ensures, t .before .before .before .before .pre .each _ (next t))
+    omega (arith, c .index2 .ensures, t .before .before .before .before .pre .0 .each _ (next t))
 
 add-i : tie.Need-add-i Inv-loop μ-loop
-add-i c = let t = c .before .before in omega (arith, next t, t .before .before .before .before .pre .end)
+add-i c = let t = c .before .before in omega (arith, next t, t .before .before .before .before .pre .0 .end)
 
 loop-less : tie.Need-loop-less Inv-loop μ-loop
 loop-less c = omega (arith, c .before .before .loop-test .taken)
@@ -55,8 +56,8 @@ loop-again c =
     let s = t .before .before .before .before in (
       omega (arith, next t),
       rw (c .index2 .ensures)
-          (flagged-more (s .args .mates .now) 0 _ (omega arith) (omega (arith, next t, s .pre .end, s .pre .long))
-          (s .pre .each _ (next t)) (t .before .loop .inv .1)),
+          (flagged-more (s .args .mates .now) 0 _ (omega arith) (omega (arith, next t, s .pre .0 .end, s .pre .0 .long))
+          (s .pre .0 .each _ (next t)) (t .before .loop .inv .1)),
     )
 
 returns : tie.Need-returns Inv-loop μ-loop
@@ -66,8 +67,8 @@ returns c =
     omega (arith, l .loop .inv .0, c .loop-test .left, l .before .index .ensures) in
     flagged-all (rw e at (l .loop .inv .1))
 
-pub flags-of-spec : {M : Type 1} → statement M
-flags-of-spec =
+pub flag-mates-spec : {M : Type 1} → statement M
+flag-mates-spec =
     tie.close
     (tie.spec
     Inv-loop
@@ -78,7 +79,7 @@ flags-of-spec =
     mul-index
     element-copy-out-index-2
     index-requires-2
-    array-write-flagged
+    element-write-flagged
     add-i
     loop-less
     loop-again
