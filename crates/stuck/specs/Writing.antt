@@ -21,7 +21,6 @@ use Rattle.lists.specs.Lists.{any, flatMap}
 use Rattle.lists.specs.Table.{table}
 use Rattle.lists.specs.UpTo.{upTo}
 use Rattle.lists.specs.Count.{bit}
-use Rattle.rules.specs.declared.Side.the-variants.{Wall}
 use Rattle.rules.specs.declared.Literal.{Literal}
 use Rattle.rules.specs.Page.{Puzzle, Point, State}
 use Rattle.rules.specs.Flat.{flat}

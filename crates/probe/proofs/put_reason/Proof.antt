@@ -1,9 +1,7 @@
 -- No group has the number; or Inside or Edge of the group is written and handed out.
 use mathlib.Core.Path.{refl}
-use Prim.Native.Nat.{_+_, _≤_}
 use native.Mathlib.Omega.{arith}
 use borrow.Author.Tests.{eq-eqb, ne-eqb}
-use lib.ListN.{length}
 use Rattle.rules.specs.declared.Side.{Side}
 use Rattle.rules.specs.declared.Side.the-variants.{Wall, Open}
 use Rattle.rules.specs.Page.{Contains}
