@@ -5,7 +5,7 @@
 use Rattle.std.proofs.Common.{◌∙◌, sym}
 use Rattle.std.specs.Prelude.{ℕ, ◌<◌}
 use Rattle.rules.specs.Page.{Puzzle, State}
-use Rattle.rules.specs.Rules.{joinsBlock, joinsUnit, SameBlock, SameUnit, Congruent, Solution}
+use Rattle.rules.specs.Rules.{joins_block, joins_unit, SameBlock, SameUnit, Congruent, Solution}
 use Rattle.laws.specs.PageLaws.{Bordered}
 use Rattle.laws.specs.RuleLaws.{join-map, join-in}
 use Rattle.argument.specs.Demand.{SameSides}
@@ -16,11 +16,11 @@ sides-sym Z s σ e b h = sym (e b h)
 
 module _ (Z : Puzzle) (K : Bordered Z.page) (s σ : ℕ → State) (e : SameSides Z s σ) where
   block-there : {x y : ℕ} → x < Z.page.cells → SameBlock Z s x y → SameBlock Z σ x y
-  unfolding joinsBlock SameSides
+  unfolding joins_block SameSides
   block-there h j = join-map Z.page _ _ K (λ b k t. rw (e b k) at t) h j
 
   unit-there : {x y : ℕ} → x < Z.page.cells → SameUnit Z s x y → SameUnit Z σ x y
-  unfolding joinsUnit SameSides
+  unfolding joins_unit SameSides
   unit-there h j = join-map Z.page _ _ K (λ b k t. rw (e b k) at t) h j
 
 module _ (Z : Puzzle) (K : Bordered Z.page) (s σ : ℕ → State) (e : SameSides Z s σ) where
@@ -43,7 +43,7 @@ module _ (Z : Puzzle) (K : Bordered Z.page) (s σ : ℕ → State) (e : SameSide
   unfolding SameSides
   solution-agrees sol = record {
     full = λ b h q. sol.full b h (e b h ∙ q);
-    noWall = λ x h hx m j q. sol.noWall x h hx m (block_back hx j) (e h.border (K.hop-border x h hx m) ∙ q);
+    no_wall = λ x h hx m j q. sol.no_wall x h hx m (block_back hx j) (e h.border (K.hop-border x h hx m) ∙ q);
     both = λ x c hx. let r = sol.both x c hx in (r.0, block-there Z K s σ e hx r.1, r.2);
     one = λ x y hx j q. unit-there Z K s σ e hx (sol.one x y hx (block_back hx j) q);
     congruent = λ x y hx j q. let j' = block_back hx j in

@@ -15,14 +15,14 @@ use Rattle.lists.specs.Lists.{◌∈◌, filter, any, head?}
 use Rattle.lists.specs.ListLaws.{filter-mem, filter-test, any-mem, first-find}
 use Rattle.lists.specs.Booleans.{T_and, T-dec, beq-eq, eq-beq}
 use Rattle.rules.specs.Page.{Puzzle, State}
-use Rattle.rules.specs.Groups.{potentialOf}
-use Rattle.rules.specs.Check.{hitIf, clash, blockClue, insideBlock, edge_of, coloured, strayFrom, cellHit, cellHits}
+use Rattle.rules.specs.Groups.{potential_of}
+use Rattle.rules.specs.Check.{hit_if, clash, block_clue, inside_block, edge_of, coloured, stray_from, cell_hit, cell_hits}
 use Rattle.argument.specs.Hits.{hit-misses, else-none}
 
 module _ (Z : Puzzle) (s : ℕ → State) where
   -- cells that step 1 has passed: one potential unit a colour, one clue
   pub record Agree (y x : ℕ) : Type 0 where
-    pub pots : Z.colour y ≡ Z.colour x → potentialOf Z s y ≡ potentialOf Z s x
+    pub pots : Z.colour y ≡ Z.colour x → potential_of Z s y ≡ potential_of Z s x
     pub clues : (i j : ℕ) → Z.clue y ≡ some i → Z.clue x ≡ some j → i ≡ j
 
   differ-T : (a b : Option ℕ) (i j : ℕ) → a ≡ some i → b ≡ some j → (T (clash a b) → ⊥) → i ≡ j
@@ -32,26 +32,26 @@ module _ (Z : Puzzle) (s : ℕ → State) where
       go (inl t) = eqb→eq i j t
       go (inr t) = absurd (d (rw (e, f) t))
 
-  pass-cell : (B x : ℕ) (earlier : List ℕ) → cellHit Z s B earlier x ≡ none → (y : ℕ) → y ∈ earlier → Agree y x
-  unfolding cellHit strayFrom
+  pass-cell : (B x : ℕ) (earlier : List ℕ) → cell_hit Z s B earlier x ≡ none → (y : ℕ) → y ∈ earlier → Agree y x
+  unfolding cell_hit stray_from
   pass-cell B x earlier e y m = let p = else-none _ _ e in record {
-    pots = λ q. go (T-dec (eqb (potentialOf Z s y) (potentialOf Z s x))) q p.0;
+    pots = λ q. go (T-dec (eqb (potential_of Z s y) (potential_of Z s x))) q p.0;
     clues = λ i j a b. differ-T _ _ i j a b
         (λ t. hit-misses _ _ p.1 (any-mem (λ z. clash (Z.clue z) (Z.clue x)) earlier m t));
   }
     where
-      go : T (eqb (potentialOf Z s y) (potentialOf Z s x)) ⊎ T (not (eqb (potentialOf Z s y) (potentialOf Z s x)))
+      go : T (eqb (potential_of Z s y) (potential_of Z s x)) ⊎ T (not (eqb (potential_of Z s y) (potential_of Z s x)))
           → Z.colour y ≡ Z.colour x →
-          hitIf (any (strayFrom Z s x) earlier) (insideBlock Z s B ++ edge_of Z s (potentialOf Z s x)) ≡ none
-          → potentialOf Z s y ≡ potentialOf Z s x
+          hit_if (any (stray_from Z s x) earlier) (inside_block Z s B ++ edge_of Z s (potential_of Z s x)) ≡ none
+          → potential_of Z s y ≡ potential_of Z s x
       go (inl t) q h = eqb→eq _ _ t
       go (inr t) q h = absurd (hit-misses _ _ h
-          (any-mem (strayFrom Z s x) earlier m
+          (any-mem (stray_from Z s x) earlier m
           (let u : T (beq (Z.colour y) (Z.colour x)) = eq-beq (Z.colour y) (Z.colour x) q in search T_and)))
 
-  pass-earlier : (B : ℕ) (earlier xs : List ℕ) → cellHits Z s B earlier xs ≡ none → (y x : ℕ) → y ∈ earlier → x ∈ xs
+  pass-earlier : (B : ℕ) (earlier xs : List ℕ) → cell_hits Z s B earlier xs ≡ none → (y x : ℕ) → y ∈ earlier → x ∈ xs
       → Agree y x
-  unfolding cellHits
+  unfolding cell_hits
   pass-earlier B earlier [] e y x m n = absurd (Memᴰ.not-nil n)
   pass-earlier B earlier (z ∷ xs) e y x m (Memᴰ.head q) =
       subst (λ (k : ℕ). Agree y k) (sym q) (pass-cell B z earlier (else-none _ _ e).0 y m)
@@ -64,9 +64,9 @@ module _ (Z : Puzzle) (s : ℕ → State) where
   agree_refl : (x : ℕ) → Agree x x
   agree_refl x = record { pots = λ q. refl; clues = λ i j p q. cc }
 
-  pub pass-cells : (B : ℕ) (earlier xs : List ℕ) → cellHits Z s B earlier xs ≡ none → (y x : ℕ) → y ∈ xs → x ∈ xs
+  pub pass-cells : (B : ℕ) (earlier xs : List ℕ) → cell_hits Z s B earlier xs ≡ none → (y x : ℕ) → y ∈ xs → x ∈ xs
       → Agree y x
-  unfolding cellHits
+  unfolding cell_hits
   pass-cells B earlier [] e y x m n = absurd (Memᴰ.not-nil n)
   pass-cells B earlier (z ∷ xs) e y x m n =
       go (Memᴰ.cases_cons m) (Memᴰ.cases_cons n)
@@ -93,6 +93,6 @@ module _ (Z : Puzzle) (s : ℕ → State) where
             beq-eq (Z.colour x) c (filter-test (λ y. beq (Z.colour y) c) xs m),
           )
 
-  pub clue-mem : (xs : List ℕ) (n : ℕ) → blockClue Z.clue xs ≡ some n → (z : ℕ) × z ∈ xs × (Z.clue z ≡ some n)
-  unfolding blockClue
+  pub clue-mem : (xs : List ℕ) (n : ℕ) → block_clue Z.clue xs ≡ some n → (z : ℕ) × z ∈ xs × (Z.clue z ≡ some n)
+  unfolding block_clue
   clue-mem xs n e = first-find Z.clue xs n e

@@ -19,8 +19,8 @@ use Rattle.lists.specs.Ranges.{mem-range, range-lt}
 use Rattle.rules.specs.declared.Literal.{Literal}
 use Rattle.rules.specs.Page.{Puzzle, State, Contains}
 use Rattle.rules.specs.Rules.{Solution}
-use Rattle.rules.specs.Check.{Reason, Verdict, pass, conflict, hit, undecidedCount, bordersNamed, once, onceIn}
-use Rattle.rules.specs.Check.{verdictOf, check}
+use Rattle.rules.specs.Check.{Reason, Verdict, pass, conflict, hit, undecided_count, borders_named, once, once_in}
+use Rattle.rules.specs.Check.{verdict_of, check}
 use Rattle.rules.specs.Book.{states}
 use Rattle.laws.specs.PageLaws.{Bordered, CellsPlaced, TurnsListed}
 use Rattle.laws.specs.OnceLaws.{holds-once, contains-once, once-borders}
@@ -35,12 +35,12 @@ use Rattle.argument.specs.Held.{held-forms}
 use Rattle.argument.specs.Complete.{solved}
 
 -- the answer and the hit
-answer-hit : (n : ℕ) (o : Option Reason) (r : Reason) → verdictOf n (onceIn o) ≡ conflict r
+answer-hit : (n : ℕ) (o : Option Reason) (r : Reason) → verdict_of n (once_in o) ≡ conflict r
     → (q : Reason) × (o ≡ some q) × (once q ≡ r)
 answer-hit n none r e = let z : ◌≡◌ {A = ℕ} 0 1 = cc in absurd (omega arith)
 answer-hit n (some q) r e = let u : once q ≡ r = cc in (q, refl, u)
 
-answer-none : (n : ℕ) (o : Option Reason) (k : ℕ) → verdictOf n (onceIn o) ≡ pass k → o ≡ none
+answer-none : (n : ℕ) (o : Option Reason) (k : ℕ) → verdict_of n (once_in o) ≡ pass k → o ≡ none
 answer-none n none k e = refl
 answer-none n (some q) k e = let z : ◌≡◌ {A = ℕ} 0 1 = cc in absurd (omega arith)
 
@@ -52,7 +52,7 @@ pub check-each : (Q : Reason → Type 0) (Z : Puzzle) (s : ℕ → State) → Ea
     → check Z s ≡ conflict r → (q : Reason) × Q q × (once q ≡ r)
 unfolding check
 check-each Q Z s h r e =
-    let a = answer-hit (undecidedCount Z s) (hit Z s) r e in
+    let a = answer-hit (undecided_count Z s) (hit Z s) r e in
     (a.0, each-some Q a.0 (subst (Each Q) a.1 h), a.2)
 
 module _ (Z : Puzzle) (K : Bordered Z.page) (P : CellsPlaced Z.page) (I : TurnsListed Z.page) where
@@ -64,10 +64,10 @@ module _ (Z : Puzzle) (K : Bordered Z.page) (P : CellsPlaced Z.page) (I : TurnsL
   check-holds s r e = let a = hit-holds s r e in subst (Contains s) a.2 (holds-once s a.0 a.1)
 
   -- 02: "no border is named twice"
-  pub check-once : (s : ℕ → State) (r : Reason) → check Z s ≡ conflict r → Distinct (bordersNamed r)
+  pub check-once : (s : ℕ → State) (r : Reason) → check Z s ≡ conflict r → Distinct (borders_named r)
   check-once s r e =
       let a = hit-holds s r e in
-      subst (λ (k : Reason). Distinct (bordersNamed k)) a.2 (once-borders s a.0 a.1)
+      subst (λ (k : Reason). Distinct (borders_named k)) a.2 (once-borders s a.0 a.1)
 
   -- 02: "so a reason has at most as many literals as there are decided borders"
   pub check-few : (ls : List Literal) (r : Reason) → check Z (states ls) ≡ conflict r → length r ≤ length ls
@@ -75,7 +75,7 @@ module _ (Z : Puzzle) (K : Bordered Z.page) (P : CellsPlaced Z.page) (I : TurnsL
   check-few ls r e =
       let border : Literal → ℕ = λ l. l.border in
       let c = check-holds (states ls) r e in
-      let n = subset-le (bordersNamed r) (bordersNamed ls) (check-once (states ls) r e)
+      let n = subset-le (borders_named r) (borders_named ls) (check-once (states ls) r e)
       (map-within border r ls (λ l m. decided-mem ls l (c l m))) in
       omega (arith, n, length-map r border, length-map ls border)
 
@@ -96,7 +96,7 @@ module _ (Z : Puzzle) (K : Bordered Z.page) (P : CellsPlaced Z.page) (I : TurnsL
   check-solved : (s : ℕ → State) → Full Z s → Passes (check Z s) → Solution Z s
   unfolding check hit
   check-solved s full p =
-      let a = else-none _ _ (answer-none (undecidedCount Z s) (hit Z s) p.0 p.1) in
+      let a = else-none _ _ (answer-none (undecided_count Z s) (hit Z s) p.0 p.1) in
       let b = else-none _ _ a.1 in
       solved Z K P I s full
       (λ B h. first-none _ _ a.0 (mem-range _ h))

@@ -9,8 +9,8 @@ use Rattle.std.specs.Bool.{beq}
 use Rattle.std.proofs.Math.Dec.{T}
 use Rattle.lists.specs.Lists.{◌∈◌}
 use Rattle.lists.specs.Booleans.{T_and, T-dec, beq-eq}
-use Rattle.rules.specs.Page.{Hop, Puzzle, State, isOpen}
-use Rattle.rules.specs.Rules.{stay, joinsBlock, joinsUnit, SameBlock, SameUnit, step}
+use Rattle.rules.specs.Page.{Hop, Puzzle, State, is_open}
+use Rattle.rules.specs.Rules.{stay, joins_block, joins_unit, SameBlock, SameUnit, step}
 use Rattle.laws.specs.PageLaws.{Bordered}
 use Rattle.laws.specs.StateLaws.{not-both, not-self}
 use Rattle.laws.specs.RuleLaws.{colour-hop}
@@ -21,12 +21,12 @@ module _ (Z : Puzzle) (K : Bordered Z.page) (σ : ℕ → State) where
     pub over : Hop
     pub same : SameUnit Z σ x out
     pub hop : over ∈ Z.page.around out
-    pub opens : T (isOpen (σ over.border))
+    pub opens : T (is_open (σ over.border))
     pub other : Z.colour over.to ≡ not (Z.colour x)
     pub rest : SameBlock Z σ over.to y
 
   pub cross : {x y : ℕ} → x < Z.page.cells → SameBlock Z σ x y → Z.colour y ≡ not (Z.colour x) → Crossing x y
-  unfolding joinsUnit joinsBlock
+  unfolding joins_unit joins_block
   cross {x} {y} h (stay e) q = absurd (not-self (Z.colour x) (Z.colour y) (ap Z.colour e) q)
   cross {x} {y} h (step j m t r) q =
       go (T-dec (beq (Z.colour x) (Z.colour j.to))) (λ q'. cross (K.hop-in x j h m) r q')

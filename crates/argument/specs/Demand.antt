@@ -14,8 +14,8 @@ use Rattle.lists.specs.Lists.{Distinct}
 use Rattle.rules.specs.declared.Literal.{Literal}
 use Rattle.rules.specs.Page.{Puzzle, State, undecided, Contains}
 use Rattle.rules.specs.Rules.{Solution}
-use Rattle.rules.specs.Check.{Reason, Verdict, pass, conflict, bordersNamed}
-use Rattle.rules.specs.Book.{Asked, answered, states, looked, reply, bookAfter}
+use Rattle.rules.specs.Check.{Reason, Verdict, pass, conflict, borders_named}
+use Rattle.rules.specs.Book.{Asked, answered, states, looked, reply, book_after}
 
 module _ (Z : Puzzle) where
   -- "A full setting makes each border wall or open"
@@ -32,8 +32,8 @@ module _ (Z : Puzzle) where
     pub call : Asked
     pub later : List Asked
     pub split : calls ≡ earlier ++ (call ∷ later)
-    pub standing : looked (bookAfter Z earlier).sequence call.call ≡ ls
-    pub answer : reply Z (bookAfter Z earlier) call ≡ answered r
+    pub standing : looked (book_after Z earlier).sequence call.call ≡ ls
+    pub answer : reply Z (book_after Z earlier) call ≡ answered r
 
   -- "a reason handed out is the literals it wrote"; a preview's "counts as handed out"
   abbrev pub BookHandedOut : List Asked → List Literal → Reason → Type 0
@@ -64,10 +64,10 @@ pub record BookDemand (Z : Puzzle) (calls : List Asked) : Type 0 where
   -- each reason handed out held on the board it was handed out on
   pub held : (ls : List Literal) (r : Reason) → BookHandedOut Z calls ls r → Contains (states ls) r
   -- 02: "no border is named twice, so a reason has at most as many literals as there are decided borders"
-  pub eachOnce : (ls : List Literal) (r : Reason) → BookHandedOut Z calls ls r → Distinct (bordersNamed r)
+  pub each_once : (ls : List Literal) (r : Reason) → BookHandedOut Z calls ls r → Distinct (borders_named r)
   pub few : (ls : List Literal) (r : Reason) → BookHandedOut Z calls ls r → length r ≤ length ls
   -- no solution is ruled out
-  pub noSolution : (σ : ℕ → State) → Solution Z σ → BookRuledOut Z calls σ → ⊥
+  pub no_solution : (σ : ℕ → State) → Solution Z σ → BookRuledOut Z calls σ → ⊥
   -- a full setting that stood at an answered check passed there exactly when it is a solution ..
   pub verdict : (σ : ℕ → State) (r : Verdict) → BookStoodAt Z calls σ r → (Passes r ↔ Solution Z σ)
   -- .. and otherwise is ruled out
@@ -75,8 +75,8 @@ pub record BookDemand (Z : Puzzle) (calls : List Asked) : Type 0 where
   -- a longer list rules out no less
   pub monotone : (more : List Asked) (σ : ℕ → State) → BookRuledOut Z calls σ → BookRuledOut Z (calls ++ more) σ
   -- what passed is ruled out in no longer list, and what is ruled out passes in no longer list
-  pub staysIn : (more : List Asked) (σ : ℕ → State) → BookPassedAt Z calls σ → BookRuledOut Z (calls ++ more) σ → ⊥
-  pub staysOut : (more : List Asked) (σ : ℕ → State) → BookRuledOut Z calls σ → BookPassedAt Z (calls ++ more) σ → ⊥
+  pub stays_in : (more : List Asked) (σ : ℕ → State) → BookPassedAt Z calls σ → BookRuledOut Z (calls ++ more) σ → ⊥
+  pub stays_out : (more : List Asked) (σ : ℕ → State) → BookRuledOut Z calls σ → BookPassedAt Z (calls ++ more) σ → ⊥
   -- no verdict turns: where the same full setting stood twice, it passed both times or neither time
-  pub sameVerdict : (σ : ℕ → State) (q r : Verdict) → BookStoodAt Z calls σ q → BookStoodAt Z calls σ r
+  pub same_verdict : (σ : ℕ → State) (q r : Verdict) → BookStoodAt Z calls σ q → BookStoodAt Z calls σ r
       → (Passes q ↔ Passes r)

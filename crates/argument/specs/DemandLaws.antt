@@ -9,7 +9,7 @@ use Rattle.rules.specs.declared.Literal.{Literal}
 use Rattle.rules.specs.Page.{Puzzle, State, Contains}
 use Rattle.rules.specs.Rules.{Solution}
 use Rattle.rules.specs.Check.{Reason, Verdict, pass, conflict, check}
-use Rattle.rules.specs.Book.{Asked, states, bookAfter}
+use Rattle.rules.specs.Book.{Asked, states, book_after}
 use Rattle.laws.specs.PageLaws.{Bordered, CellsPlaced, TurnsListed}
 use Rattle.laws.specs.BookLaws.{Clean, decided-mem, book-clean, answered-check, looked-clean}
 use Rattle.argument.specs.Demand.{SameSides, BookAnswered, BookRuledOut, BookStoodAt, Passes, BookDemand}
@@ -50,7 +50,7 @@ module _ (Z : Puzzle) where
   checked : (calls : List Asked) (ls : List Literal) (r : Verdict) → BookAnswered Z calls ls r → check Z (states ls) ≡ r
   checked calls ls r a =
       ap (λ (ks : List Literal). check Z (states ks)) (sym a.standing)
-      ∙ answered-check Z (bookAfter Z a.earlier) a.call r a.answer
+      ∙ answered-check Z (book_after Z a.earlier) a.call r a.answer
 
   -- the setting that stood has the literals of a reason that holds there
   stood-contains : (calls : List Asked) (σ : ℕ → State) (r : Verdict) (q : BookStoodAt Z calls σ r) (reason : Reason)
@@ -59,7 +59,7 @@ module _ (Z : Puzzle) where
   stood-contains calls σ r q reason c l m =
       let a = q.check in
       let clean : Clean Z q.sequence = subst (Clean Z) a.standing
-      (looked-clean Z (bookAfter Z a.earlier) a.call r a.answer (book-clean Z a.earlier)) in
+      (looked-clean Z (book_after Z a.earlier) a.call r a.answer (book-clean Z a.earlier)) in
       let h = clean.below l (decided-mem q.sequence l (c l m)) in
       sym (q.sides l.border h) ∙ c l m
 
@@ -98,16 +98,16 @@ module _ (Z : Puzzle) (K : Bordered Z.page) (P : CellsPlaced Z.page) (I : TurnsL
   pub book-demand : (calls : List Asked) → BookDemand Z calls
   book-demand calls = record {
     held = λ ls r a. check-holds Z K P I (states ls) r (checked Z calls ls (conflict r) a);
-    eachOnce = λ ls r a. check-once Z K P I (states ls) r (checked Z calls ls (conflict r) a);
+    each_once = λ ls r a. check-once Z K P I (states ls) r (checked Z calls ls (conflict r) a);
     few = λ ls r a. check-few Z K P I ls r (checked Z calls ls (conflict r) a);
-    noSolution = none-ruled calls;
+    no_solution = none-ruled calls;
     verdict = verdicts calls;
     otherwise = failed calls;
     monotone = ruled-longer Z calls;
-    staysIn = λ more σ p. none-ruled (calls ++ more) σ ((verdicts calls σ (pass p.0) p.1).0 (p.0, refl));
-    staysOut = λ more σ q p.
+    stays_in = λ more σ p. none-ruled (calls ++ more) σ ((verdicts calls σ (pass p.0) p.1).0 (p.0, refl));
+    stays_out = λ more σ q p.
         none-ruled calls σ ((verdicts (calls ++ more) σ (pass p.0) p.1).0 (p.0, refl)) q;
-    sameVerdict = λ σ q r s t.
+    same_verdict = λ σ q r s t.
         let a = verdicts calls σ q s in
         let b = verdicts calls σ r t in
         (λ p. b.1 (a.0 p), λ p. a.1 (b.0 p));

@@ -12,7 +12,7 @@ use Rattle.std.specs.Bool.{beq}
 use mathlib.Core.List.Memᴰ
 use mathlib.Core.List.{List, [], ◌∷◌, ◌++◌, map, map-append, append-nil}
 use Rattle.std.proofs.Math.Dec.{T, eqb_refl, T_not}
-use Rattle.lists.specs.Lists.{◌∈◌, Distinct, filter, flat_map, firstHit, range}
+use Rattle.lists.specs.Lists.{◌∈◌, Distinct, filter, flat_map, first_hit, range}
 use Rattle.lists.specs.ListLaws.{filter-mem, filter-test, map-find, flat-find}
 use Rattle.lists.specs.Booleans.{T-and-l, T-and-r}
 use Rattle.lists.specs.Maps.{map-map}
@@ -21,11 +21,11 @@ use Rattle.lists.specs.Pairs.{distinct_append, distinct-flat, distinct-kept}
 use Rattle.rules.specs.declared.Side.{Side}
 use Rattle.rules.specs.declared.Side.TheVariants.{Wall, Open}
 use Rattle.rules.specs.declared.Literal.{Literal}
-use Rattle.rules.specs.Page.{Hop, Puzzle, State, isWall, isOpen, wallAt, open_at}
-use Rattle.rules.specs.Groups.{members, block_of, blockCount, potentialOf}
-use Rattle.rules.specs.Reasons.{gather, insideAt, inside, edge_at, edge, Found, isFound, trace, hunt, path}
-use Rattle.rules.specs.Check.{Reason, insideBlock, edge_of, blockHit, wallHits, bordersNamed}
-use Rattle.laws.specs.PageLaws.{Bordered, hopBorders, HopsOnce}
+use Rattle.rules.specs.Page.{Hop, Puzzle, State, is_wall, is_open, wall_at, open_at}
+use Rattle.rules.specs.Groups.{members, block_of, block_count, potential_of}
+use Rattle.rules.specs.Reasons.{gather, inside_at, inside, edge_at, edge, Found, is_found, trace, hunt, path}
+use Rattle.rules.specs.Check.{Reason, inside_block, edge_of, block_hit, wall_hits, borders_named}
+use Rattle.laws.specs.PageLaws.{Bordered, hop_borders, HopsOnce}
 use Rattle.laws.specs.GroupLaws.{members-lt, members-number, members-distinct}
 use Rattle.laws.specs.StateLaws.{open-not-wall, wall-is}
 use Rattle.argument.specs.Hits.{Each}
@@ -33,19 +33,19 @@ use Rattle.argument.specs.Forms.{EarlyForms, blocks-form, walls-form}
 use Rattle.argument.specs.Paths.{PathReached, reached-new, reached-old, Chain, found_all, path-traced}
 
 abbrev pub NoTwice : Reason → Type 0
-NoTwice r = Distinct (bordersNamed r)
+NoTwice r = Distinct (borders_named r)
 
 -- ---- what is gathered at a cell
 gather-borders : (side : Side) (p : Hop → Bool) (hs : List Hop)
-    → bordersNamed (gather side p hs) ≡ hopBorders (filter p hs)
+    → borders_named (gather side p hs) ≡ hop_borders (filter p hs)
 unfolding gather
 gather-borders side p hs =
     map-map (λ (l : Literal). l.border) (λ (h : Hop). record { border = h.border; side = side }) (filter p hs)
 
-gather-once : (side : Side) (p : Hop → Bool) (hs : List Hop) → Distinct (hopBorders hs) → NoTwice (gather side p hs)
+gather-once : (side : Side) (p : Hop → Bool) (hs : List Hop) → Distinct (hop_borders hs) → NoTwice (gather side p hs)
 gather-once side p hs d = rw (gather-borders side p hs) (distinct-kept (λ (h : Hop). h.border) p hs d)
 
-gather-find : (side : Side) (p : Hop → Bool) (hs : List Hop) {b : ℕ} → b ∈ bordersNamed (gather side p hs)
+gather-find : (side : Side) (p : Hop → Bool) (hs : List Hop) {b : ℕ} → b ∈ borders_named (gather side p hs)
     → (h : Hop) × h ∈ hs × T (p h) × (b ≡ h.border)
 gather-find side p hs m =
     let r = map-find (λ (h : Hop). h.border) (filter p hs) (rw (gather-borders side p hs) at m) in
@@ -53,21 +53,21 @@ gather-find side p hs m =
 
 -- a list for each cell of a group
 cells-once : (f : ℕ → Reason) (xs : List ℕ) → Distinct xs → ((c : ℕ) → c ∈ xs → NoTwice (f c))
-    → ((c d b : ℕ) → c ∈ xs → d ∈ xs → b ∈ bordersNamed (f c) → b ∈ bordersNamed (f d) → c ≡ d)
+    → ((c d b : ℕ) → c ∈ xs → d ∈ xs → b ∈ borders_named (f c) → b ∈ borders_named (f d) → c ≡ d)
     → NoTwice (flat_map f xs)
 cells-once f xs d e n =
-    rw (map-flat (λ (l : Literal). l.border) f xs) (distinct-flat (λ c. bordersNamed (f c)) xs d e n)
+    rw (map-flat (λ (l : Literal). l.border) f xs) (distinct-flat (λ c. borders_named (f c)) xs d e n)
 
 -- which cell's list names a border
-named-find : (f : ℕ → Reason) (xs : List ℕ) {b : ℕ} → b ∈ bordersNamed (flat_map f xs)
-    → (c : ℕ) × c ∈ xs × b ∈ bordersNamed (f c)
-named-find f xs m = flat-find (λ c. bordersNamed (f c)) xs (rw (map-flat (λ (l : Literal). l.border) f xs) at m)
+named-find : (f : ℕ → Reason) (xs : List ℕ) {b : ℕ} → b ∈ borders_named (flat_map f xs)
+    → (c : ℕ) × c ∈ xs × b ∈ borders_named (f c)
+named-find f xs m = flat-find (λ c. borders_named (f c)) xs (rw (map-flat (λ (l : Literal). l.border) f xs) at m)
 
 module _ (Z : Puzzle) (K : Bordered Z.page) (H : HopsOnce Z.page) (s : ℕ → State) where
   pub inside-once : (number : ℕ → ℕ) (g : ℕ) → NoTwice (inside Z.page s number g)
-  unfolding inside insideAt
+  unfolding inside inside_at
   inside-once number g =
-      cells-once (insideAt Z.page s number g) (members Z.page number g) (members-distinct Z.page number g)
+      cells-once (inside_at Z.page s number g) (members Z.page number g) (members-distinct Z.page number g)
       (λ c m. gather-once Open _ _ (H.ahead-once c (low c m)))
       (λ c d b m n p q.
       let h = gather-find Open _ (Z.page.ahead c) p in
@@ -111,7 +111,7 @@ module _ (Z : Puzzle) (K : Bordered Z.page) (H : HopsOnce Z.page) (s : ℕ → S
 
       -- the cell behind the border is outside the group
       inner : (c d : ℕ) (k : Hop) → c ∈ members Z.page number g
-          → T (beq (Z.colour d) (Z.colour k.to) && not (eqb (number k.to) g) && isWall (s k.border))
+          → T (beq (Z.colour d) (Z.colour k.to) && not (eqb (number k.to) g) && is_wall (s k.border))
           → (c ≡ d) ⊎ (c ≡ k.to) → c ≡ d
       inner c d k m t (inl e) = e
       inner c d k m t (inr e) =
@@ -121,30 +121,30 @@ module _ (Z : Puzzle) (K : Bordered Z.page) (H : HopsOnce Z.page) (s : ℕ → S
           absurd (T_not (eqb (number k.to) g) out (rw in_group (eqb_refl g)))
 
   -- ---- the borders of Inside and Path are open, those of Edge are walls
-  inside-opens : (number : ℕ → ℕ) (g b : ℕ) → b ∈ bordersNamed (inside Z.page s number g) → T (isOpen (s b))
-  unfolding inside insideAt
+  inside-opens : (number : ℕ → ℕ) (g b : ℕ) → b ∈ borders_named (inside Z.page s number g) → T (is_open (s b))
+  unfolding inside inside_at
   inside-opens number g b m =
-      let r = named-find (insideAt Z.page s number g) (members Z.page number g) m in
+      let r = named-find (inside_at Z.page s number g) (members Z.page number g) m in
       let h = gather-find Open _ (Z.page.ahead r.0) r.2 in
-      subst (λ (d : ℕ). T (isOpen (s d))) (sym h.3) (T-and-r (eqb (number h.0.to) g) _ h.2)
+      subst (λ (d : ℕ). T (is_open (s d))) (sym h.3) (T-and-r (eqb (number h.0.to) g) _ h.2)
 
-  edge-walls : (number : ℕ → ℕ) (g b : ℕ) → b ∈ bordersNamed (edge Z.page Z.colour s number g)
-      → T (isWall (s b))
+  edge-walls : (number : ℕ → ℕ) (g b : ℕ) → b ∈ borders_named (edge Z.page Z.colour s number g)
+      → T (is_wall (s b))
   unfolding edge edge_at
   edge-walls number g b m =
       let r = named-find (edge_at Z.page Z.colour s number g) (members Z.page number g) m in
       let h = gather-find Wall _ (Z.page.around r.0) r.2 in
-      subst (λ (d : ℕ). T (isWall (s d))) (sym h.3)
+      subst (λ (d : ℕ). T (is_wall (s d))) (sym h.3)
       (T-and-r (beq (Z.colour r.0) (Z.colour h.0.to) && not (eqb (number h.0.to) g)) _ h.2)
 
-  apart : (b : ℕ) → T (isOpen (s b)) → T (isWall (s b)) → ⊥
+  apart : (b : ℕ) → T (is_open (s b)) → T (is_wall (s b)) → ⊥
   apart b o t = open-not-wall (s b) o (wall-is (s b) t)
 
   -- ---- Path
   module _ (a : ℕ) (ha : a < Z.page.cells) where
     -- an open border whose ends are both reached
     record Crossed (f : List Found) (b : ℕ) : Type 0 where
-      opens : T (isOpen (s b))
+      opens : T (is_open (s b))
       ends : (c : ℕ) (h : Hop) → c < Z.page.cells → h ∈ Z.page.around c → h.border ≡ b → PathReached Z K s a ha f c
 
     -- so is what a found cell was found over
@@ -170,20 +170,20 @@ module _ (Z : Puzzle) (K : Bordered Z.page) (H : HopsOnce Z.page) (s : ℕ → S
             record { opens = (i k).opens; ends = λ c h hc n p. reached-old Z K s a ha f e c ((i k).ends c h hc n p) }
 
     -- the borders of the way back are among them
-    trace-over : (f : List Found) (x b : ℕ) → b ∈ bordersNamed (trace f x) → b ∈ map (λ (e : Found). e.over) f
+    trace-over : (f : List Found) (x b : ℕ) → b ∈ borders_named (trace f x) → b ∈ map (λ (e : Found). e.over) f
     unfolding trace
     trace-over [] x b m = m
     trace-over (e ∷ f) x b m = go (eqb x e.cell) m (trace-over f e.from b) (trace-over f x b)
       where
-        cons : (b ≡ e.over) ⊎ b ∈ bordersNamed (trace f e.from)
-            → (b ∈ bordersNamed (trace f e.from) → b ∈ map (λ (d : Found). d.over) f)
+        cons : (b ≡ e.over) ⊎ b ∈ borders_named (trace f e.from)
+            → (b ∈ borders_named (trace f e.from) → b ∈ map (λ (d : Found). d.over) f)
             → b ∈ map (λ (d : Found). d.over) (e ∷ f)
         cons (inl q) i = Memᴰ.head q
         cons (inr k) i = Memᴰ.tail (i k)
 
-        go : (v : Bool) → b ∈ bordersNamed (cond v (open_at e.over ∷ trace f e.from) (trace f x))
-            → (b ∈ bordersNamed (trace f e.from) → b ∈ map (λ (d : Found). d.over) f)
-            → (b ∈ bordersNamed (trace f x) → b ∈ map (λ (d : Found). d.over) f)
+        go : (v : Bool) → b ∈ borders_named (cond v (open_at e.over ∷ trace f e.from) (trace f x))
+            → (b ∈ borders_named (trace f e.from) → b ∈ map (λ (d : Found). d.over) f)
+            → (b ∈ borders_named (trace f x) → b ∈ map (λ (d : Found). d.over) f)
             → b ∈ map (λ (d : Found). d.over) (e ∷ f)
         go true n i j = cons (Memᴰ.cases_cons n) i
         go false n i j = Memᴰ.tail (j n)
@@ -194,12 +194,12 @@ module _ (Z : Puzzle) (K : Bordered Z.page) (H : HopsOnce Z.page) (s : ℕ → S
     trace-once (e ∷ f) x ch =
         go (eqb x e.cell) (trace-once f e.from ch.1) (trace-once f x ch.1)
       where
-        fresh : e.over ∈ bordersNamed (trace f e.from) → ⊥
+        fresh : e.over ∈ borders_named (trace f e.from) → ⊥
         fresh m =
             let h : Hop = record { border = e.over; to = e.cell } in
             let back = K.hop-back e.from h ch.0.from_in ch.0.hop in
             let on = K.hop-in e.from h ch.0.from_in ch.0.hop in
-            T_not (isFound a f e.cell) ch.0.new
+            T_not (is_found a f e.cell) ch.0.new
             ((crossed f ch.1 e.over (trace-over f e.from e.over m)).ends e.cell _ on back refl)
 
         go : (v : Bool) → NoTwice (trace f e.from) → NoTwice (trace f x)
@@ -210,51 +210,51 @@ module _ (Z : Puzzle) (K : Bordered Z.page) (H : HopsOnce Z.page) (s : ℕ → S
     pub path-once : (b : ℕ) → b < Z.page.cells → NoTwice (path Z.page s a b)
     path-once b hb = rw (path-traced Z K s a ha b hb) (trace-once _ b (found_all Z K s a ha).chain)
 
-    path-opens : (b : ℕ) → b < Z.page.cells → (d : ℕ) → d ∈ bordersNamed (path Z.page s a b)
-        → T (isOpen (s d))
+    path-opens : (b : ℕ) → b < Z.page.cells → (d : ℕ) → d ∈ borders_named (path Z.page s a b)
+        → T (is_open (s d))
     path-opens b hb d m =
         (crossed (hunt Z.page s Z.page.cells a (a ∷ []) []) (found_all Z K s a ha).chain d
-        (trace-over _ b d (subst (λ (r : Reason). d ∈ bordersNamed r) (path-traced Z K s a ha b hb) m))).opens
+        (trace-over _ b d (subst (λ (r : Reason). d ∈ borders_named r) (path-traced Z K s a ha b hb) m))).opens
 
   -- ---- the forms of steps 1 and 2
   both-once : (r q : Reason) → NoTwice r → NoTwice q
-      → ((b : ℕ) → b ∈ bordersNamed r → b ∈ bordersNamed q → ⊥) → NoTwice (r ++ q)
+      → ((b : ℕ) → b ∈ borders_named r → b ∈ borders_named q → ⊥) → NoTwice (r ++ q)
   both-once r q d e n =
-      rw (map-append (λ (l : Literal). l.border) r q) (distinct_append (bordersNamed r) (bordersNamed q) d e n)
+      rw (map-append (λ (l : Literal). l.border) r q) (distinct_append (borders_named r) (borders_named q) d e n)
 
-  inside-edge : (B P b : ℕ) → b ∈ bordersNamed (insideBlock Z s B) → b ∈ bordersNamed (edge_of Z s P) → ⊥
-  unfolding insideBlock edge_of
-  inside-edge B P b m n = apart b (inside-opens (block_of Z s) B b m) (edge-walls (potentialOf Z s) P b n)
+  inside-edge : (B P b : ℕ) → b ∈ borders_named (inside_block Z s B) → b ∈ borders_named (edge_of Z s P) → ⊥
+  unfolding inside_block edge_of
+  inside-edge B P b m n = apart b (inside-opens (block_of Z s) B b m) (edge-walls (potential_of Z s) P b n)
 
-  block-once : (B : ℕ) → NoTwice (insideBlock Z s B)
-  unfolding insideBlock
+  block-once : (B : ℕ) → NoTwice (inside_block Z s B)
+  unfolding inside_block
   block-once B = inside-once (block_of Z s) B
 
   potential-once : (P : ℕ) → NoTwice (edge_of Z s P)
   unfolding edge_of
-  potential-once P = edge-once (potentialOf Z s) P
+  potential-once P = edge-once (potential_of Z s) P
 
   early-forms : EarlyForms Z s NoTwice
   early-forms =
       record {
-        inEdge = λ B P.
-            both-once (insideBlock Z s B) (edge_of Z s P) (block-once B) (potential-once P) (inside-edge B P);
-        inOnly = block-once;
-        edgeOnly = λ P. rw (append-nil (edge_of Z s P)) (potential-once P);
-        edgeIn = λ B P.
-            both-once (edge_of Z s P) (insideBlock Z s B) (potential-once P) (block-once B)
+        in_edge = λ B P.
+            both-once (inside_block Z s B) (edge_of Z s P) (block-once B) (potential-once P) (inside-edge B P);
+        in_only = block-once;
+        edge_only = λ P. rw (append-nil (edge_of Z s P)) (potential-once P);
+        edge_in = λ B P.
+            both-once (edge_of Z s P) (inside_block Z s B) (potential-once P) (block-once B)
             (λ b m n. inside-edge B P b n m);
         wall = λ x h hx m t.
             let on = K.hop-in x h hx (K.ahead-around x h hx m) in
-            both-once (path Z.page s x h.to) (wallAt h.border ∷ []) (path-once x hx h.to on)
+            both-once (path Z.page s x h.to) (wall_at h.border ∷ []) (path-once x hx h.to on)
             (λ n. Memᴰ.not-nil n, tt)
             (λ b p q.
             apart b (path-opens x hx h.to on b p)
-            (subst (λ (d : ℕ). T (isWall (s d))) (sym (Memᴰ.eq_of_singleton q)) t));
+            (subst (λ (d : ℕ). T (is_wall (s d))) (sym (Memᴰ.eq_of_singleton q)) t));
       }
 
-  pub blocks-once : Each NoTwice (firstHit (blockHit Z s) (range (blockCount Z s)))
+  pub blocks-once : Each NoTwice (first_hit (block_hit Z s) (range (block_count Z s)))
   blocks-once = blocks-form Z s NoTwice early-forms
 
-  pub walls-once : Each NoTwice (firstHit (wallHits Z s) (range Z.page.cells))
+  pub walls-once : Each NoTwice (first_hit (wall_hits Z s) (range Z.page.cells))
   walls-once = walls-form Z s NoTwice early-forms

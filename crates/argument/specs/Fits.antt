@@ -18,16 +18,16 @@ use Rattle.lists.specs.ListLaws.{filter-test, any-find, map-find, flat-find}
 use Rattle.lists.specs.Booleans.{T-and-l, T-and-r}
 use Rattle.rules.specs.declared.Placement.{Placement}
 use Rattle.rules.specs.declared.Placement.TheVariants.{Fits, Blocked, Cannot}
-use Rattle.rules.specs.Page.{Hop, Shape, Puzzle, State, isWall, isOpen}
-use Rattle.rules.specs.Rules.{oneColour, joinsUnit, SameUnit}
-use Rattle.rules.specs.Groups.{unit_of, unitCount, potentialOf, potentialCount}
+use Rattle.rules.specs.Page.{Hop, Shape, Puzzle, State, is_wall, is_open}
+use Rattle.rules.specs.Rules.{one_colour, joins_unit, SameUnit}
+use Rattle.rules.specs.Groups.{unit_of, unit_count, potential_of, potential_count}
 use Rattle.rules.specs.Shapes.{shape_of}
-use Rattle.rules.specs.Check.{Reason, hitIf, touches, adjacent, mates, judge, laid, isFit, transformsOf, placements}
-use Rattle.rules.specs.Check.{unitReason, unitHitIn, unitHitOn, unitHit}
+use Rattle.rules.specs.Check.{Reason, hit_if, touches, adjacent, mates, judge, laid, is_fit, transforms_of, placements}
+use Rattle.rules.specs.Check.{unit_reason, unit_hit_in, unit_hit_on, unit_hit}
 use Rattle.laws.specs.PageLaws.{Bordered}
 use Rattle.laws.specs.StateLaws.{not-both}
-use Rattle.laws.specs.GroupLaws.{number_lt, mem-members, members-lt, members-number, unitCells, potentialCells}
-use Rattle.laws.specs.GroupLaws.{ownPotential}
+use Rattle.laws.specs.GroupLaws.{number_lt, mem-members, members-lt, members-number, unit_cells, potential_cells}
+use Rattle.laws.specs.GroupLaws.{own_potential}
 use Rattle.argument.specs.Demand.{Full}
 use Rattle.argument.specs.Hits.{hit-misses}
 use Rattle.argument.specs.Sizes.{mem_unit}
@@ -35,7 +35,7 @@ use Rattle.argument.specs.Mates.{transforms-listed}
 use Rattle.argument.specs.Fulls.{open_of, pot-unit, unit-pot}
 
 module _ (Z : Puzzle) (s : ℕ → State) where
-  fit_is : (q : Placement) → T (isFit Z s q) → q ≡ Fits
+  fit_is : (q : Placement) → T (is_fit Z s q) → q ≡ Fits
   fit_is Fits t = refl
   fit_is Cannot t = absurd t
   fit_is (Blocked b) t = absurd t
@@ -44,8 +44,8 @@ module _ (Z : Puzzle) (s : ℕ → State) where
   pub record Reads (o : Option ℕ) : Type 0 where
     pub border : ℕ
     pub is : o ≡ some border
-    pub same : T (oneColour Z border)
-    pub free : T (not (isWall (s border)))
+    pub same : T (one_colour Z border)
+    pub free : T (not (is_wall (s border)))
 
   pub fits_all : (last : Option ℕ) (os : List (Option ℕ)) → judge Z s last os ≡ Fits
       → (last ≡ none) × ((o : Option ℕ) → o ∈ os → Reads o)
@@ -53,12 +53,12 @@ module _ (Z : Puzzle) (s : ℕ → State) where
   fits_all none [] e = (refl, λ o m. absurd (Memᴰ.not-nil m))
   fits_all (some b) [] e = let z : ◌≡◌ {A = ℕ} 0 1 = cc in absurd (omega arith)
   fits_all last (none ∷ os) e = let z : ◌≡◌ {A = ℕ} 0 1 = cc in absurd (omega arith)
-  fits_all last (some b ∷ os) e = go (oneColour Z b) refl (isWall (s b)) refl e (λ l f. fits_all l os f)
+  fits_all last (some b ∷ os) e = go (one_colour Z b) refl (is_wall (s b)) refl e (λ l f. fits_all l os f)
     where
       J : Option ℕ → List (Option ℕ) → Placement
       J l ps = judge Z s l ps
 
-      go : (c : Bool) → oneColour Z b ≡ c → (w : Bool) → isWall (s b) ≡ w
+      go : (c : Bool) → one_colour Z b ≡ c → (w : Bool) → is_wall (s b) ≡ w
           → cond c (J (cond w (some b) last) os) Cannot ≡ Fits →
           ((l : Option ℕ) → J l os ≡ Fits → (l ≡ none) × ((o : Option ℕ) → o ∈ os → Reads o))
           → (last ≡ none) × ((o : Option ℕ) → o ∈ (some b ∷ os) → Reads o)
@@ -76,7 +76,7 @@ module _ (Z : Puzzle) (s : ℕ → State) where
     pub over : Hop
     pub same : SameUnit Z s x out
     pub hop : over ∈ Z.page.around out
-    pub opens : T (isOpen (s over.border))
+    pub opens : T (is_open (s over.border))
     pub other : Z.colour over.to ≡ not (Z.colour out)
     pub at : ℕ
     pub at_unit : SameUnit Z s over.to at
@@ -84,68 +84,68 @@ module _ (Z : Puzzle) (s : ℕ → State) where
     pub listed : shape ∈ Z.page.transforms (shape_of Z.page (unit_of Z s) (unit_of Z s x))
     pub lies : laid Z s shape at ≡ Fits
 
-  yes-hit : (b : Bool) (r : Reason) → hitIf (not b) r ≡ none → T b
+  yes-hit : (b : Bool) (r : Reason) → hit_if (not b) r ≡ none → T b
   yes-hit true r e = tt
   yes-hit false r e = hit-misses true r e tt
 
 module _ (Z : Puzzle) (K : Bordered Z.page) (s : ℕ → State) (full : Full Z s)
-    (pass3 : (U : ℕ) → U < unitCount Z s → unitHit Z s U ≡ none) where
+    (pass3 : (U : ℕ) → U < unit_count Z s → unit_hit Z s U ≡ none) where
   -- the first listed cell of a unit
-  on_none : (U : ℕ) (xs : List ℕ) (x : ℕ) → x ∈ xs → unitHitOn Z s U xs ≡ none
-      → (e : ℕ) × e ∈ xs × (unitHitIn Z s U (potentialOf Z s e) ≡ none)
-  unfolding unitHitOn
+  on_none : (U : ℕ) (xs : List ℕ) (x : ℕ) → x ∈ xs → unit_hit_on Z s U xs ≡ none
+      → (e : ℕ) × e ∈ xs × (unit_hit_in Z s U (potential_of Z s e) ≡ none)
+  unfolding unit_hit_on
   on_none U [] x m q = absurd (Memᴰ.not-nil m)
   on_none U (e ∷ xs) x m q = (e, Memᴰ.head refl, q)
 
-  unit-none : (x : ℕ) → x < Z.page.cells → unitHitIn Z s (unit_of Z s x) (potentialOf Z s x) ≡ none
-  unfolding unitHit
+  unit-none : (x : ℕ) → x < Z.page.cells → unit_hit_in Z s (unit_of Z s x) (potential_of Z s x) ≡ none
+  unfolding unit_hit
   unit-none x hx =
       let U = unit_of Z s x in
-      let r = on_none U (unitCells Z s U) x (mem-members Z.page (unit_of Z s) U x hx refl)
-      (pass3 U (number_lt Z.page (joinsUnit Z s) (omega arith) x hx)) in
+      let r = on_none U (unit_cells Z s U) x (mem-members Z.page (unit_of Z s) U x hx refl)
+      (pass3 U (number_lt Z.page (joins_unit Z s) (omega arith) x hx)) in
       let e = unit-pot Z K s full x r.0 hx (mem_unit Z K s x r.0 hx r.1) in
       rw e r.2
 
   pub fit : (x : ℕ) → x < Z.page.cells → Fit Z s x
-  unfolding unitHitIn placements mates adjacent touches
+  unfolding unit_hit_in placements mates adjacent touches
   fit x hx =
       let U = unit_of Z s x in
-      let P' = potentialOf Z s x in
-      let t = yes-hit Z s (any (isFit Z s) (placements Z s U P')) (unitReason Z s U P') (unit-none x hx) in
-      let a = any-find (isFit Z s) (placements Z s U P') t in
-      let b = flat-find (λ (v : Shape). flat_map (λ Q. map (laid Z s v) (potentialCells Z s Q)) (mates Z s P'))
-      (transformsOf Z s U) a.1 in
-      let c = flat-find (λ Q. map (laid Z s b.0) (potentialCells Z s Q)) (mates Z s P') b.2 in
-      let d = map-find (laid Z s b.0) (potentialCells Z s c.0) c.2 in
-      let f = any-find (λ w. any (touches Z s c.0 w) (Z.page.around w)) (potentialCells Z s P')
-      (filter-test (adjacent Z s P') (range (potentialCount Z s)) c.1) in
+      let P' = potential_of Z s x in
+      let t = yes-hit Z s (any (is_fit Z s) (placements Z s U P')) (unit_reason Z s U P') (unit-none x hx) in
+      let a = any-find (is_fit Z s) (placements Z s U P') t in
+      let b = flat-find (λ (v : Shape). flat_map (λ Q. map (laid Z s v) (potential_cells Z s Q)) (mates Z s P'))
+      (transforms_of Z s U) a.1 in
+      let c = flat-find (λ Q. map (laid Z s b.0) (potential_cells Z s Q)) (mates Z s P') b.2 in
+      let d = map-find (laid Z s b.0) (potential_cells Z s c.0) c.2 in
+      let f = any-find (λ w. any (touches Z s c.0 w) (Z.page.around w)) (potential_cells Z s P')
+      (filter-test (adjacent Z s P') (range (potential_count Z s)) c.1) in
       let g = any-find (touches Z s c.0 f.0) (Z.page.around f.0) f.2 in
       build b.0 c.0 f.0 g.0 d.0 f.1 g.1 g.2 d.1
       (subst (λ (us : List Shape). b.0 ∈ us)
-      (transforms-listed Z s U (number_lt Z.page (joinsUnit Z s) (omega arith) x hx))
+      (transforms-listed Z s U (number_lt Z.page (joins_unit Z s) (omega arith) x hx))
       b.1) a.0 a.2 d.2
     where
-      build : (u : Shape) (Q c : ℕ) (h : Hop) (o : ℕ) → c ∈ ownPotential Z s x
+      build : (u : Shape) (Q c : ℕ) (h : Hop) (o : ℕ) → c ∈ own_potential Z s x
           → h ∈ Z.page.around c → T (touches Z s Q c h) →
-          o ∈ potentialCells Z s Q → u ∈ Z.page.transforms (shape_of Z.page (unit_of Z s) (unit_of Z s x))
-          → (p : Placement) → T (isFit Z s p) → p ≡ laid Z s u o → Fit Z s x
+          o ∈ potential_cells Z s Q → u ∈ Z.page.transforms (shape_of Z.page (unit_of Z s) (unit_of Z s x))
+          → (p : Placement) → T (is_fit Z s p) → p ≡ laid Z s u o → Fit Z s x
       build u Q c h o mc mh t mo mu p fp q =
           let unlike = not (beq (Z.colour c) (Z.colour h.to)) in
-          let free = not (isWall (s h.border)) in
-          let t1 = T-and-l (unlike && free) (eqb (potentialOf Z s h.to) Q) t in
-          let t2 = T-and-r (unlike && free) (eqb (potentialOf Z s h.to) Q) t in
-          let hc = members-lt Z.page (potentialOf Z s) _ c mc in
-          let ho = members-lt Z.page (potentialOf Z s) Q o mo in
+          let free = not (is_wall (s h.border)) in
+          let t1 = T-and-l (unlike && free) (eqb (potential_of Z s h.to) Q) t in
+          let t2 = T-and-r (unlike && free) (eqb (potential_of Z s h.to) Q) t in
+          let hc = members-lt Z.page (potential_of Z s) _ c mc in
+          let ho = members-lt Z.page (potential_of Z s) Q o mo in
           record {
             out = c;
             over = h;
-            same = pot-unit Z K s full x c hx hc (sym (members-number Z.page (potentialOf Z s) _ c mc));
+            same = pot-unit Z K s full x c hx hc (sym (members-number Z.page (potential_of Z s) _ c mc));
             hop = mh;
             opens = open_of Z K s full h.border (K.hop-border c h hc mh) (T-and-r unlike free t1);
             other = not-both (Z.colour c) (Z.colour h.to) (T-and-l unlike free t1);
             at = o;
             at_unit = pot-unit Z K s full h.to o (K.hop-in c h hc mh) ho
-                (eqb→eq (potentialOf Z s h.to) Q t2 ∙ sym (members-number Z.page (potentialOf Z s) Q o mo));
+                (eqb→eq (potential_of Z s h.to) Q t2 ∙ sym (members-number Z.page (potential_of Z s) Q o mo));
             shape = u;
             listed = mu;
             lies = sym q ∙ fit_is Z s p fp;

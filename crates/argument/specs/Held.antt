@@ -18,12 +18,12 @@ use Rattle.rules.specs.declared.Side.{Side}
 use Rattle.rules.specs.declared.Side.TheVariants.{Wall, Open}
 use Rattle.rules.specs.declared.Placement.{Placement}
 use Rattle.rules.specs.declared.Placement.TheVariants.{Fits, Blocked, Cannot}
-use Rattle.rules.specs.Page.{Hop, Shape, Puzzle, State, decided, Has, Contains, isWall, wallAt, open_at}
-use Rattle.rules.specs.Rules.{oneColour}
-use Rattle.rules.specs.Groups.{members, block_of, unit_of, potentialOf}
-use Rattle.rules.specs.Reasons.{gather, insideAt, inside, edge_at, edge, Found, trace, path}
-use Rattle.rules.specs.Check.{Reason, insideBlock, insideUnit, edge_of, judge, laid, blockers, placements, farWallsAt}
-use Rattle.rules.specs.Check.{farWalls, unitReason}
+use Rattle.rules.specs.Page.{Hop, Shape, Puzzle, State, decided, Has, Contains, is_wall, wall_at, open_at}
+use Rattle.rules.specs.Rules.{one_colour}
+use Rattle.rules.specs.Groups.{members, block_of, unit_of, potential_of}
+use Rattle.rules.specs.Reasons.{gather, inside_at, inside, edge_at, edge, Found, trace, path}
+use Rattle.rules.specs.Check.{Reason, inside_block, inside_unit, edge_of, judge, laid, blockers, placements, far_walls_at}
+use Rattle.rules.specs.Check.{far_walls, unit_reason}
 use Rattle.laws.specs.PageLaws.{Bordered}
 use Rattle.laws.specs.StateLaws.{open_is, wall-is}
 use Rattle.argument.specs.Paths.{Chain, found_all, path-traced}
@@ -51,7 +51,7 @@ module _ (Z : Puzzle) (K : Bordered Z.page) (s : ℕ → State) where
       rw r.2 (f r.0 (filter-test p hs r.1))
 
   pub held-inside : (number : ℕ → ℕ) (g : ℕ) → Contains s (inside Z.page s number g)
-  unfolding inside insideAt
+  unfolding inside inside_at
   held-inside number g =
       held-flat _ _
       (λ c m. held-gather Open _ _ (λ h t. open_is _ (T-and-r (eqb (number h.to) g) _ t)))
@@ -64,17 +64,17 @@ module _ (Z : Puzzle) (K : Bordered Z.page) (s : ℕ → State) where
       (λ h t. wall-is _
       (T-and-r (beq (Z.colour c) (Z.colour h.to) && not (eqb (number h.to) g)) _ t)))
 
-  held-block : (B : ℕ) → Contains s (insideBlock Z s B)
-  unfolding insideBlock
+  held-block : (B : ℕ) → Contains s (inside_block Z s B)
+  unfolding inside_block
   held-block B = held-inside (block_of Z s) B
 
-  held_inner : (U : ℕ) → Contains s (insideUnit Z s U)
-  unfolding insideUnit
+  held_inner : (U : ℕ) → Contains s (inside_unit Z s U)
+  unfolding inside_unit
   held_inner U = held-inside (unit_of Z s) U
 
   held-edge-of : (P : ℕ) → Contains s (edge_of Z s P)
   unfolding edge_of
-  held-edge-of P = held-edge (potentialOf Z s) P
+  held-edge-of P = held-edge (potential_of Z s) P
 
   held-trace : (a : ℕ) (ha : a < Z.page.cells) (f : List Found) (x : ℕ) → Chain Z K s a ha f → Contains s (trace f x)
   unfolding Contains trace
@@ -96,29 +96,29 @@ module _ (Z : Puzzle) (K : Bordered Z.page) (s : ℕ → State) where
   unfolding Contains
   held-nil l m = absurd (Memᴰ.not-nil m)
 
-  held_one : (b : ℕ) → T (isWall (s b)) → Contains s (wallAt b ∷ [])
+  held_one : (b : ℕ) → T (is_wall (s b)) → Contains s (wall_at b ∷ [])
   unfolding Contains
   held_one b t l m = rw (Memᴰ.eq_of_singleton m) (wall-is _ t)
 
-  judge-wall : (last : Option ℕ) (os : List (Option ℕ)) (b : ℕ) → ((d : ℕ) → last ≡ some d → T (isWall (s d)))
-      → judge Z s last os ≡ Blocked b → T (isWall (s b))
+  judge-wall : (last : Option ℕ) (os : List (Option ℕ)) (b : ℕ) → ((d : ℕ) → last ≡ some d → T (is_wall (s d)))
+      → judge Z s last os ≡ Blocked b → T (is_wall (s b))
   unfolding judge
   judge-wall none [] b f e = let z : ◌≡◌ {A = ℕ} 0 1 = cc in absurd (omega arith)
   judge-wall (some d) [] b f e = f b (ap some (let u : d ≡ b = cc in u))
   judge-wall last (none ∷ os) b f e = let z : ◌≡◌ {A = ℕ} 0 1 = cc in absurd (omega arith)
-  judge-wall last (some d ∷ os) b f e = go (oneColour Z d) (isWall (s d)) refl e (λ l g k. judge-wall l os b g k)
+  judge-wall last (some d ∷ os) b f e = go (one_colour Z d) (is_wall (s d)) refl e (λ l g k. judge-wall l os b g k)
     where
       J : Option ℕ → Placement
       J l = judge Z s l os
 
-      go : (c w : Bool) → isWall (s d) ≡ w → cond c (J (cond w (some d) last)) Cannot ≡ Blocked b
-          → ((l : Option ℕ) → ((i : ℕ) → l ≡ some i → T (isWall (s i))) → J l ≡ Blocked b → T (isWall (s b)))
-          → T (isWall (s b))
+      go : (c w : Bool) → is_wall (s d) ≡ w → cond c (J (cond w (some d) last)) Cannot ≡ Blocked b
+          → ((l : Option ℕ) → ((i : ℕ) → l ≡ some i → T (is_wall (s i))) → J l ≡ Blocked b → T (is_wall (s b)))
+          → T (is_wall (s b))
       go false w q k ih = let z : ◌≡◌ {A = ℕ} 0 1 = cc in absurd (omega arith)
       go true true q k ih = ih (some d) (λ i p. let u : d ≡ i = cc in rw (← u) (rw q tt)) k
       go true false q k ih = ih last f k
 
-  held-blockers : (p : Placement) → ((b : ℕ) → p ≡ Blocked b → T (isWall (s b))) → Contains s (blockers Z s p)
+  held-blockers : (p : Placement) → ((b : ℕ) → p ≡ Blocked b → T (is_wall (s b))) → Contains s (blockers Z s p)
   held-blockers Fits f = held-nil
   held-blockers Cannot f = held-nil
   held-blockers (Blocked b) f = held_one b (f b refl)
@@ -131,20 +131,20 @@ module _ (Z : Puzzle) (K : Bordered Z.page) (s : ℕ → State) where
   held-placement : (U P : ℕ) (p : Placement) → p ∈ placements Z s U P → Contains s (blockers Z s p)
   unfolding placements
   held-placement U P p m = let a = flat-find _ _ m in let b = flat-find _ _ a.2 in
-      let c = map-find (laid Z s a.0) (members Z.page (potentialOf Z s) b.0) b.2 in
+      let c = map-find (laid Z s a.0) (members Z.page (potential_of Z s) b.0) b.2 in
       subst (λ (q : Placement). Contains s (blockers Z s q)) (sym c.2) (held-laid a.0 c.0)
 
-  held-far : (P : ℕ) → Contains s (farWalls Z s P)
-  unfolding farWalls farWallsAt
+  held-far : (P : ℕ) → Contains s (far_walls Z s P)
+  unfolding far_walls far_walls_at
   held-far P =
       held-flat _ _
       (λ c m. held-gather Wall _ _
       (λ h t. wall-is _
-      (T-and-l (isWall (s h.border)) _
-      (T-and-l (isWall (s h.border) && not (beq (Z.colour c) (Z.colour h.to))) _ t))))
+      (T-and-l (is_wall (s h.border)) _
+      (T-and-l (is_wall (s h.border) && not (beq (Z.colour c) (Z.colour h.to))) _ t))))
 
-  held-unit : (U P : ℕ) → Contains s (unitReason Z s U P)
-  unfolding unitReason
+  held-unit : (U P : ℕ) → Contains s (unit_reason Z s U P)
+  unfolding unit_reason
   held-unit U P = held-append _ _ (held-flat _ _ (λ p m. held-placement U P p m))
       (held-append _ _ (held_inner U)
       (held-append _ _ (held-edge-of P) (held-append _ _ (held-flat _ _ (λ Q m. held-edge-of Q)) (held-far P))))
@@ -153,10 +153,10 @@ module _ (Z : Puzzle) (K : Bordered Z.page) (s : ℕ → State) where
   held-forms = record {
     early =
         record {
-          inEdge = λ B P. held-append _ _ (held-block B) (held-edge-of P);
-          inOnly = held-block;
-          edgeOnly = λ P. held-append _ _ (held-edge-of P) held-nil;
-          edgeIn = λ B P. held-append _ _ (held-edge-of P) (held-block B);
+          in_edge = λ B P. held-append _ _ (held-block B) (held-edge-of P);
+          in_only = held-block;
+          edge_only = λ P. held-append _ _ (held-edge-of P) held-nil;
+          edge_in = λ B P. held-append _ _ (held-edge-of P) (held-block B);
           wall = λ x h hx m t.
               held-append _ _ (held-path x h.to hx (K.hop-in x h hx (K.ahead-around x h hx m)))
               (held_one h.border t);

@@ -1,7 +1,7 @@
 -- A claim about every reason that a hit can give: none is given, or the claim holds of it.
 --
 --   Each Q o                        there is no hit, or the claim Q holds of its reason
---   each-hit, each-else, each_or, each_first, each_none   Each for hitIf, or_else, firstHit, none
+--   each-hit, each-else, each_or, each_first, each_none Each for hit_if, or_else, first_hit, none
 --   each-some                       what it says of a reason that was given
 --   hit-misses, else-none           what a search that gives none has passed
 use Rattle.std.specs.Prelude.{◌≡◌, Bool, ℕ, T}
@@ -11,8 +11,8 @@ use mathlib.Core.List.Memᴰ
 use mathlib.Core.List.{List, [], ◌∷◌}
 use Rattle.std.proofs.Math.Option.{Option, some, none}
 use Rattle.std.proofs.Common.{arith}
-use Rattle.lists.specs.Lists.{◌∈◌, or_else, firstHit}
-use Rattle.rules.specs.Check.{Reason, hitIf}
+use Rattle.lists.specs.Lists.{◌∈◌, or_else, first_hit}
+use Rattle.rules.specs.Check.{Reason, hit_if}
 
 module _ (Q : Reason → Type 0) where
   unfoldable pub Each : Option Reason → Type 0
@@ -27,8 +27,8 @@ module _ (Q : Reason → Type 0) where
   unfolding Each
   each-some r q = q
 
-  pub each-hit : (b : Bool) (r : Reason) → (T b → Q r) → Each (hitIf b r)
-  unfolding Each hitIf
+  pub each-hit : (b : Bool) (r : Reason) → (T b → Q r) → Each (hit_if b r)
+  unfolding Each hit_if
   each-hit true r f = f tt
   each-hit false r f = tt
 
@@ -42,14 +42,14 @@ module _ (Q : Reason → Type 0) where
   each_or a b p q = each-else a b p (λ e. q)
 
   pub each_first : {A : Type 0} (f : A → Option Reason) (xs : List A) → ((x : A) → x ∈ xs → Each (f x))
-      → Each (firstHit f xs)
-  unfolding Each firstHit
+      → Each (first_hit f xs)
+  unfolding Each first_hit
   each_first f [] p = tt
   each_first f (x ∷ xs) p =
-      each-else (f x) (firstHit f xs) (p x (Memᴰ.head refl)) (λ e. each_first f xs (λ y m. p y (Memᴰ.tail m)))
+      each-else (f x) (first_hit f xs) (p x (Memᴰ.head refl)) (λ e. each_first f xs (λ y m. p y (Memᴰ.tail m)))
 
-pub hit-misses : (b : Bool) (r : Reason) → hitIf b r ≡ none → T b → ⊥
-unfolding hitIf
+pub hit-misses : (b : Bool) (r : Reason) → hit_if b r ≡ none → T b → ⊥
+unfolding hit_if
 hit-misses true r e t = let z : ◌≡◌ {A = ℕ} 0 1 = cc in omega arith
 hit-misses false r e t = t
 

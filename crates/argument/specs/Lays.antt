@@ -11,8 +11,8 @@ use Rattle.lists.specs.Lists.{◌∈◌}
 use Rattle.lists.specs.ListLaws.{mem-map}
 use Rattle.lists.specs.Booleans.{T_and}
 use Rattle.lists.specs.Lengths.{inject-onto}
-use Rattle.rules.specs.Page.{Hop, Point, ◌⊕◌, opposite, Puzzle, State, isOpen}
-use Rattle.rules.specs.Rules.{stay, oneColour, joinsUnit, SameUnit, Congruent, step}
+use Rattle.rules.specs.Page.{Hop, Point, ◌⊕◌, opposite, Puzzle, State, is_open}
+use Rattle.rules.specs.Rules.{stay, one_colour, joins_unit, SameUnit, Congruent, step}
 use Rattle.rules.specs.Groups.{unit_of}
 use Rattle.rules.specs.Check.{laid}
 use Rattle.laws.specs.PageLaws.{Bordered, OneStep, CellsPlaced, near-turn, near-right, near-left, near-eq}
@@ -20,9 +20,9 @@ use Rattle.laws.specs.PointLaws.{add_assoc, add_comm, add-origin, add-opposite, 
 use Rattle.laws.specs.Copies.{Copy}
 use Rattle.laws.specs.RuleLaws.{join-trans, join-in}
 use Rattle.laws.specs.GroupLaws.{number-joined, hop-number, mem-members, members-lt, members-number, members-distinct}
-use Rattle.laws.specs.GroupLaws.{unitCells, ownUnit}
+use Rattle.laws.specs.GroupLaws.{unit_cells, own_unit}
 use Rattle.argument.specs.Demand.{Full}
-use Rattle.argument.specs.Sizes.{unitSize, unit_mem, mem_unit}
+use Rattle.argument.specs.Sizes.{unit_size, unit_mem, mem_unit}
 use Rattle.argument.specs.Fulls.{open_of}
 use Rattle.argument.specs.Fits.{Reads, fits_all, Fit}
 
@@ -42,7 +42,7 @@ module _ (Z : Puzzle) (K : Bordered Z.page) (P : CellsPlaced Z.page) (s : ℕ �
   abbrev copied : ℕ → Point
   copied y = g (place y) ⊕ opposite (g (place E.from))
 
-  reads-ahead : (c : ℕ) (h : Hop) → c ∈ unitCells Z s U → h ∈ Z.page.ahead c → unit_of Z s h.to ≡ U
+  reads-ahead : (c : ℕ) (h : Hop) → c ∈ unit_cells Z s U → h ∈ Z.page.ahead c → unit_of Z s h.to ≡ U
       → Reads Z s (Z.page.reads (o ⊕ o ⊕ (copied c ⊕ copied h.to)))
   unfolding laid
   reads-ahead c h m n e = (fits_all Z s none _ F.lies).1 _
@@ -65,7 +65,7 @@ module _ (Z : Puzzle) (K : Bordered Z.page) (P : CellsPlaced Z.page) (s : ℕ �
           (mem-members Z.page (unit_of Z s) U j.to (K.hop-in y j hy m) f) n e)
 
   walk : {y z : ℕ} → y < Z.page.cells → unit_of Z s y ≡ U → Landed y → SameUnit Z s y z → Landed z
-  unfolding joinsUnit
+  unfolding joins_unit
   walk hy e L (stay f) = subst Landed f L
   walk {y} {z} hy e L (step j m t r) = walk ht f (next (reads-across y j hy m e f)) r
     where
@@ -73,10 +73,10 @@ module _ (Z : Puzzle) (K : Bordered Z.page) (P : CellsPlaced Z.page) (s : ℕ �
       ht = K.hop-in y j hy m
 
       f : unit_of Z s j.to ≡ U
-      f = sym (hop-number Z.page K (joinsUnit Z s) y j hy m t) ∙ e
+      f = sym (hop-number Z.page K (joins_unit Z s) y j hy m t) ∙ e
 
       hq : L.q < Z.page.cells
-      hq = join-in Z.page K (joinsUnit Z s) ho L.unit
+      hq = join-in Z.page K (joins_unit Z s) ho L.unit
 
       near : OneStep (place L.q) (o ⊕ copied j.to)
       near = near-eq L.spot refl (near-left o
@@ -90,10 +90,10 @@ module _ (Z : Puzzle) (K : Bordered Z.page) (P : CellsPlaced Z.page) (s : ℕ �
           let hb : R.border < Z.page.borders = rw (← h.2) (K.hop-border L.q h.0 hq h.1) in
           let u = open_of Z K s full R.border hb R.free in
           let v = R.same in
-          let w : T (isOpen (s R.border) && oneColour Z R.border) = search T_and in
+          let w : T (is_open (s R.border) && one_colour Z R.border) = search T_and in
           record {
             q = h.0.to;
-            unit = join-trans Z.page (joinsUnit Z s) L.unit (step h.0 h.1 (rw h.2 w) (stay refl));
+            unit = join-trans Z.page (joins_unit Z s) L.unit (step h.0 h.1 (rw h.2 w) (stay refl));
             spot = h.3;
           }
 
@@ -108,8 +108,8 @@ module _ (Z : Puzzle) (K : Bordered Z.page) (P : CellsPlaced Z.page) (s : ℕ �
   landed : (y : ℕ) → SameUnit Z s x y → Landed y
   landed y j = let hf = members-lt Z.page (unit_of Z s) U E.from E.from_in in
       let ef = members-number Z.page (unit_of Z s) U E.from E.from_in in
-      walk hf ef start (join-trans Z.page (joinsUnit Z s)
-      (number-joined Z.page K (joinsUnit Z s) E.from x hf hx ef) j)
+      walk hf ef start (join-trans Z.page (joins_unit Z s)
+      (number-joined Z.page K (joins_unit Z s) E.from x hf hx ef) j)
 
   shift : Point
   shift = o ⊕ opposite (g (place E.from))
@@ -119,16 +119,16 @@ module _ (Z : Puzzle) (K : Bordered Z.page) (P : CellsPlaced Z.page) (s : ℕ �
   shifted y = sym (add_assoc o (g (place y)) _)
       ∙ (ap (λ w. w ⊕ opposite (g (place E.from))) (add_comm o (g (place y))) ∙ add_assoc (g (place y)) o _)
 
-  pub congruent-to : (y : ℕ) → y < Z.page.cells → SameUnit Z s y F.at → unitSize Z s y ≤ unitSize Z s x
+  pub congruent-to : (y : ℕ) → y < Z.page.cells → SameUnit Z s y F.at → unit_size Z s y ≤ unit_size Z s x
       → Congruent Z s x y
-  unfolding unitSize
+  unfolding unit_size
   congruent-to y hy ya le = record {
     turn = g;
     listed = gm;
     shift = shift;
     onto = onto;
     from = λ q k.
-        let r = inject-onto (λ p q. place q ≡ g (place p) ⊕ shift) (ownUnit Z s y) (unitCells Z s U)
+        let r = inject-onto (λ p q. place q ≡ g (place p) ⊕ shift) (own_unit Z s y) (unit_cells Z s U)
         (members-distinct Z.page (unit_of Z s) U)
         (λ p m. let n = onto p (mem_unit Z K s x p hx m) in (n.0, unit_mem Z K s y n.0 hy n.1, n.2))
         (λ p r z m n e f.
@@ -139,4 +139,4 @@ module _ (Z : Puzzle) (K : Bordered Z.page) (P : CellsPlaced Z.page) (s : ℕ �
   }
     where
       onto : (p : ℕ) → SameUnit Z s x p → (q : ℕ) × SameUnit Z s y q × (place q ≡ g (place p) ⊕ shift)
-      onto p j = let L = landed p j in (L.q, join-trans Z.page (joinsUnit Z s) ya L.unit, L.spot ∙ shifted p)
+      onto p j = let L = landed p j in (L.q, join-trans Z.page (joins_unit Z s) ya L.unit, L.spot ∙ shifted p)

@@ -27,29 +27,29 @@ use Rattle.lists.specs.Ranges.{mem-range}
 use Rattle.rules.specs.declared.Side.TheVariants.{Wall}
 use Rattle.rules.specs.declared.Placement.{Placement}
 use Rattle.rules.specs.declared.Placement.TheVariants.{Fits, Blocked, Cannot}
-use Rattle.rules.specs.Page.{Hop, Point, ◌⊕◌, opposite, Shape, Puzzle, State, decided, Contains, isWall, isOpen, wallAt}
-use Rattle.rules.specs.Rules.{stay, oneColour, joinsBlock, joinsUnit, SameBlock, SameUnit, Congruent, Solution, step}
-use Rattle.rules.specs.Groups.{joinsPotential, unit_of, unitCount, potentialOf, potentialCount}
+use Rattle.rules.specs.Page.{Hop, Point, ◌⊕◌, opposite, Shape, Puzzle, State, decided, Contains, is_wall, is_open, wall_at}
+use Rattle.rules.specs.Rules.{stay, one_colour, joins_block, joins_unit, SameBlock, SameUnit, Congruent, Solution, step}
+use Rattle.rules.specs.Groups.{joins_potential, unit_of, unit_count, potential_of, potential_count}
 use Rattle.rules.specs.Shapes.{shape_of}
-use Rattle.rules.specs.Check.{Reason, insideUnit, edge_of, touches, adjacent, mates, judge, laid, isFit, blockers}
-use Rattle.rules.specs.Check.{transformsOf, placements, farWallsAt, farWalls, unitReason, unitHitIn, unitHitOn, unitHit}
+use Rattle.rules.specs.Check.{Reason, inside_unit, edge_of, touches, adjacent, mates, judge, laid, is_fit, blockers}
+use Rattle.rules.specs.Check.{transforms_of, placements, far_walls_at, far_walls, unit_reason, unit_hit_in, unit_hit_on, unit_hit}
 use Rattle.laws.specs.PageLaws.{Bordered, OneStep, CellsPlaced, TurnsListed, near-turn, near-right, near-left, near-eq}
 use Rattle.laws.specs.PointLaws.{swap4, lands}
 use Rattle.laws.specs.StateLaws.{contains-l, contains-r, has, open-not-wall, unlike-T}
 use Rattle.laws.specs.Copies.{CopyCells, Copy, shape-based, copy-cells, copy}
 use Rattle.laws.specs.RuleLaws.{join-trans, join-in, join-sym, colour-hop, unit-colour, unit-block}
-use Rattle.laws.specs.GroupLaws.{number-joined, number_lt, mem-members, members-lt, members-number, unitCells}
-use Rattle.laws.specs.GroupLaws.{potentialCells}
+use Rattle.laws.specs.GroupLaws.{number-joined, number_lt, mem-members, members-lt, members-number, unit_cells}
+use Rattle.laws.specs.GroupLaws.{potential_cells}
 use Rattle.laws.specs.ReasonLaws.{mem-gather}
 use Rattle.argument.specs.Keeps.{unit-keeps, edge_stays}
 use Rattle.argument.specs.Hits.{Each, each_none, each-hit}
 use Rattle.argument.specs.Sound.{Sound}
 use Rattle.argument.specs.Crossings.{cross}
 
-pub transforms-listed : (Z : Puzzle) (s : ℕ → State) (U : ℕ) → U < unitCount Z s
-    → transformsOf Z s U ≡ Z.page.transforms (shape_of Z.page (unit_of Z s) U)
-unfolding transformsOf
-transforms-listed Z s U h = rw (lt-ltb U (unitCount Z s) h)
+pub transforms-listed : (Z : Puzzle) (s : ℕ → State) (U : ℕ) → U < unit_count Z s
+    → transforms_of Z s U ≡ Z.page.transforms (shape_of Z.page (unit_of Z s) U)
+unfolding transforms_of
+transforms-listed Z s U h = rw (lt-ltb U (unit_count Z s) h)
 
 module _ (Z : Puzzle) (K : Bordered Z.page) (P : CellsPlaced Z.page) (I : TurnsListed Z.page)
     (s : ℕ → State) where
@@ -57,7 +57,7 @@ module _ (Z : Puzzle) (K : Bordered Z.page) (P : CellsPlaced Z.page) (I : TurnsL
   record BorderFine (σ : ℕ → State) (o : Option ℕ) : Type 0 where
     border : ℕ
     is : o ≡ some border
-    same : T (oneColour Z border)
+    same : T (one_colour Z border)
     free : σ border ≡ decided Wall → ⊥
 
   judged : (σ : ℕ → State) (last : Option ℕ) (os : List (Option ℕ)) → ((o : Option ℕ) → o ∈ os → BorderFine σ o)
@@ -69,13 +69,13 @@ module _ (Z : Puzzle) (K : Bordered Z.page) (P : CellsPlaced Z.page) (I : TurnsL
   judged σ last (none ∷ os) f g = let r = f none (Memᴰ.head refl) in let e = r.is in
       let z : ◌≡◌ {A = ℕ} 0 1 = cc in absurd (omega arith)
   judged σ last (some b ∷ os) f g =
-      go (oneColour Z b) refl (isWall (s b)) refl (f (some b) (Memᴰ.head refl))
+      go (one_colour Z b) refl (is_wall (s b)) refl (f (some b) (Memᴰ.head refl))
       (λ l g'. judged σ l os (λ o m. f o (Memᴰ.tail m)) g')
     where
       J : Option ℕ → List (Option ℕ) → Placement
       J l ps = judge Z s l ps
 
-      go : (c : Bool) → oneColour Z b ≡ c → (w : Bool) → isWall (s b) ≡ w → BorderFine σ (some b) →
+      go : (c : Bool) → one_colour Z b ≡ c → (w : Bool) → is_wall (s b) ≡ w → BorderFine σ (some b) →
           ((l : Option ℕ) → ((d : ℕ) → l ≡ some d → σ d ≡ decided Wall → ⊥)
           → (J l os ≡ Fits) ⊎ ((d : ℕ) × (J l os ≡ Blocked d) × (σ d ≡ decided Wall → ⊥))) →
           (cond c (J (cond w (some b) last) os) Cannot ≡ Fits) ⊎
@@ -89,10 +89,10 @@ module _ (Z : Puzzle) (K : Bordered Z.page) (P : CellsPlaced Z.page) (I : TurnsL
     U = unit_of Z s cell
 
     abbrev Pot : ℕ
-    Pot = potentialOf Z s cell
+    Pot = potential_of Z s cell
 
     abbrev reason : Reason
-    reason = unitReason Z s U Pot
+    reason = unit_reason Z s U Pot
 
     abbrev Laid : List Placement
     Laid = placements Z s U Pot
@@ -103,62 +103,62 @@ module _ (Z : Puzzle) (K : Bordered Z.page) (P : CellsPlaced Z.page) (I : TurnsL
     -- the parts of the reason
     record Parts : Type 0 where
       blocks : (p : Placement) → p ∈ Laid → (b : ℕ) → p ≡ Blocked b → σ b ≡ decided Wall
-      ins : Contains σ (insideUnit Z s U)
+      ins : Contains σ (inside_unit Z s U)
       edg : Contains σ (edge_of Z s Pot)
       edges : (Q : ℕ) → Q ∈ Mates → Contains σ (edge_of Z s Q)
-      far : Contains σ (farWalls Z s Pot)
+      far : Contains σ (far_walls Z s Pot)
 
     parts : Contains σ reason → Parts
-    unfolding unitReason Contains
+    unfolding unit_reason Contains
     parts c =
         let c1 = contains-r σ (flat_map (blockers Z s) Laid) _ c in
-        let c2 = contains-r σ (insideUnit Z s U) _ c1 in
+        let c2 = contains-r σ (inside_unit Z s U) _ c1 in
         let c3 = contains-r σ (edge_of Z s Pot) _ c2 in record {
           blocks = λ p m b e.
-              c (wallAt b) (Memᴰ.append_left _ (mem-flat (blockers Z s) m (rw e (Memᴰ.head refl))));
-          ins = contains-l σ (insideUnit Z s U) _ c1;
+              c (wall_at b) (Memᴰ.append_left _ (mem-flat (blockers Z s) m (rw e (Memᴰ.head refl))));
+          ins = contains-l σ (inside_unit Z s U) _ c1;
           edg = contains-l σ (edge_of Z s Pot) _ c2;
           edges = λ Q m l k. c3 l (Memᴰ.append_left _ (mem-flat (edge_of Z s) m k));
           far = contains-r σ (flat_map (edge_of Z s) Mates) _ c3;
         }
 
     -- the crossing's other side is in an adjacent potential unit
-    adjacent-mem : (w : ℕ) (h : Hop) → w < Z.page.cells → h ∈ Z.page.around w → potentialOf Z s w ≡ Pot
-        → Z.colour h.to ≡ not (Z.colour w) → Parts → T (isOpen (σ h.border)) → potentialOf Z s h.to ∈ Mates
-    unfolding mates adjacent touches farWalls farWallsAt
-    adjacent-mem w h hw m e q p o = go (T-dec (adjacent Z s Pot (potentialOf Z s h.to)))
+    adjacent-mem : (w : ℕ) (h : Hop) → w < Z.page.cells → h ∈ Z.page.around w → potential_of Z s w ≡ Pot
+        → Z.colour h.to ≡ not (Z.colour w) → Parts → T (is_open (σ h.border)) → potential_of Z s h.to ∈ Mates
+    unfolding mates adjacent touches far_walls far_walls_at
+    adjacent-mem w h hw m e q p o = go (T-dec (adjacent Z s Pot (potential_of Z s h.to)))
       where
         Q : ℕ
-        Q = potentialOf Z s h.to
+        Q = potential_of Z s h.to
 
         ht : h.to < Z.page.cells
         ht = K.hop-in w h hw m
 
-        low : Q ∈ range (potentialCount Z s)
-        low = mem-range (potentialCount Z s) (number_lt Z.page (joinsPotential Z s) (omega arith) h.to ht)
+        low : Q ∈ range (potential_count Z s)
+        low = mem-range (potential_count Z s) (number_lt Z.page (joins_potential Z s) (omega arith) h.to ht)
 
         unlike : T (not (beq (Z.colour w) (Z.colour h.to)))
         unlike = unlike-T (Z.colour w) (Z.colour h.to) q
 
         go : T (adjacent Z s Pot Q) ⊎ T (not (adjacent Z s Pot Q))
-            → Q ∈ filter (adjacent Z s Pot) (range (potentialCount Z s))
+            → Q ∈ filter (adjacent Z s Pot) (range (potential_count Z s))
         go (inl t) = mem-filter (adjacent Z s Pot) _ low t
-        go (inr t) = absurd (blocks (T-dec (isWall (s h.border))))
+        go (inr t) = absurd (blocks (T-dec (is_wall (s h.border))))
           where
-            mw : w ∈ potentialCells Z s Pot
-            mw = mem-members Z.page (potentialOf Z s) Pot w hw e
+            mw : w ∈ potential_cells Z s Pot
+            mw = mem-members Z.page (potential_of Z s) Pot w hw e
 
-            blocks : T (isWall (s h.border)) ⊎ T (not (isWall (s h.border))) → ⊥
+            blocks : T (is_wall (s h.border)) ⊎ T (not (is_wall (s h.border))) → ⊥
             blocks (inl u) =
                 let v = unlike in
                 open-not-wall (σ h.border) o
-                (has σ _ p.far (wallAt h.border)
-                (mem-flat (farWallsAt Z s Pot) mw
+                (has σ _ p.far (wall_at h.border)
+                (mem-flat (far_walls_at Z s Pot) mw
                 (mem-gather Wall
                 (λ (j : Hop).
-                isWall (s j.border)
+                is_wall (s j.border)
                 && not (beq (Z.colour w) (Z.colour j.to))
-                && not (adjacent Z s Pot (potentialOf Z s j.to)))
+                && not (adjacent Z s Pot (potential_of Z s j.to)))
                 _ h m (search T_and))))
             blocks (inr u) = T_not (adjacent Z s Pot Q) t (any-mem (λ c. any (touches Z s Q c) (Z.page.around c)) _ mw
                 (any-mem (touches Z s Q w) _ m (let v = unlike in let z = eqb_refl Q in search T_and)))
@@ -167,16 +167,16 @@ module _ (Z : Puzzle) (K : Bordered Z.page) (P : CellsPlaced Z.page) (I : TurnsL
     record Mate : Type 0 where
       y : ℕ
       hy : y < Z.page.cells
-      pot : potentialOf Z s y ∈ Mates
+      pot : potential_of Z s y ∈ Mates
       block : SameBlock Z σ cell y
       other : Z.colour y ≡ not (Z.colour cell)
 
     find-mate : Parts → Mate
-    unfolding joinsBlock
+    unfolding joins_block
     find-mate p =
         let b = sol.both cell (not (Z.colour cell)) on in
         let c = cross Z K σ on b.1 b.2 in
-        let hw = join-in Z.page K (joinsUnit Z σ) on c.same in
+        let hw = join-in Z.page K (joins_unit Z σ) on c.same in
         let q = c.other ∙ ap not (unit-colour Z K σ on c.same) in
         record {
           y = c.over.to;
@@ -188,10 +188,10 @@ module _ (Z : Puzzle) (K : Bordered Z.page) (P : CellsPlaced Z.page) (I : TurnsL
         }
 
     -- a cell of U goes to a cell of the mate
-    in-unit : Parts → (x : ℕ) → x ∈ unitCells Z s U → SameUnit Z σ cell x
+    in-unit : Parts → (x : ℕ) → x ∈ unit_cells Z s U → SameUnit Z σ cell x
     in-unit p x m =
         unit-keeps Z K s σ U p.ins on refl
-        (number-joined Z.page K (joinsUnit Z s) cell x on (members-lt Z.page (unit_of Z s) U x m)
+        (number-joined Z.page K (joins_unit Z s) cell x on (members-lt Z.page (unit_of Z s) U x m)
         (sym (members-number Z.page (unit_of Z s) U x m)))
 
     module _ (p : Parts) (M : Mate) (C : Congruent Z σ cell M.y) where
@@ -226,7 +226,7 @@ module _ (Z : Puzzle) (K : Bordered Z.page) (P : CellsPlaced Z.page) (I : TurnsL
             copied : ℕ → Point
             copied x = g (place x) ⊕ opposite (g (place E.from))
 
-            go : (c : ℕ) × (h : Hop) × c ∈ unitCells Z s U × h ∈ Z.page.ahead c × (unit_of Z s h.to ≡ U) ×
+            go : (c : ℕ) × (h : Hop) × c ∈ unit_cells Z s U × h ∈ Z.page.ahead c × (unit_of Z s h.to ≡ U) ×
                 (d ≡ copied c ⊕ copied h.to) → BorderFine σ (Z.page.reads (place o ⊕ place o ⊕ d))
             go r = read (landed (copied r.0) (E.is-cell r.0 r.2))
                 (landed (copied r.1.to) (E.is-cell r.1.to mt))
@@ -237,7 +237,7 @@ module _ (Z : Puzzle) (K : Bordered Z.page) (P : CellsPlaced Z.page) (I : TurnsL
                 am : r.1 ∈ Z.page.around r.0
                 am = K.ahead-around r.0 r.1 hc r.3
 
-                mt : r.1.to ∈ unitCells Z s U
+                mt : r.1.to ∈ unit_cells Z s U
                 mt = mem-members Z.page (unit_of Z s) U r.1.to (K.hop-in r.0 r.1 hc am) r.4
 
                 near : OneStep (copied r.0) (copied r.1.to)
@@ -247,9 +247,9 @@ module _ (Z : Puzzle) (K : Bordered Z.page) (P : CellsPlaced Z.page) (I : TurnsL
                     → (q : ℕ) × SameUnit Z σ M.y q × (place q ≡ place o ⊕ copied r.1.to)
                     → BorderFine σ (Z.page.reads (place o ⊕ place o ⊕ d))
                 read a b =
-                    let ha = join-in Z.page K (joinsUnit Z σ) M.hy a.1 in
-                    let hb = join-in Z.page K (joinsUnit Z σ) M.hy b.1 in
-                    let ab = join-trans Z.page (joinsUnit Z σ) (join-sym Z.page K (joinsUnit Z σ) M.hy a.1)
+                    let ha = join-in Z.page K (joins_unit Z σ) M.hy a.1 in
+                    let hb = join-in Z.page K (joins_unit Z σ) M.hy b.1 in
+                    let ab = join-trans Z.page (joins_unit Z σ) (join-sym Z.page K (joins_unit Z σ) M.hy a.1)
                     b.1 in
                     let h = P.near-hop a.0 b.0 ha hb (near-eq a.2 b.2 (near-left (place o) near))
                     in
@@ -263,13 +263,13 @@ module _ (Z : Puzzle) (K : Bordered Z.page) (P : CellsPlaced Z.page) (I : TurnsL
                       is = ap Z.page.reads e ∙ P.hop-reads a.0 h.0 ha h.1;
                       same = colour-hop Z K a.0 h.0 ha h.1
                           (unit-colour Z K σ ha ab ∙ ap Z.colour (sym h.2));
-                      free = sol.noWall a.0 h.0 ha h.1 (rw h.2 (unit-block Z K σ ab));
+                      free = sol.no_wall a.0 h.0 ha h.1 (rw h.2 (unit-block Z K σ ab));
                     }
 
-        tried : laid Z s u o ∈ map (laid Z s u) (potentialCells Z s (potentialOf Z s M.y))
-        tried = mem-map (laid Z s u) (mem-members Z.page (potentialOf Z s) _ o
-            (join-in Z.page K (joinsUnit Z σ) M.hy seat.1)
-            (edge_stays Z K s σ (potentialOf Z s M.y) (p.edges _ M.pot) M.hy refl seat.1))
+        tried : laid Z s u o ∈ map (laid Z s u) (potential_cells Z s (potential_of Z s M.y))
+        tried = mem-map (laid Z s u) (mem-members Z.page (potential_of Z s) _ o
+            (join-in Z.page K (joins_unit Z σ) M.hy seat.1)
+            (edge_stays Z K s σ (potential_of Z s M.y) (p.edges _ M.pot) M.hy refl seat.1))
 
         outcome : (laid Z s u o ≡ Fits) ⊎
             ((b : ℕ) × (laid Z s u o ≡ Blocked b) × (σ b ≡ decided Wall → ⊥))
@@ -279,39 +279,39 @@ module _ (Z : Puzzle) (K : Bordered Z.page) (P : CellsPlaced Z.page) (I : TurnsL
             subst (BorderFine σ) (sym r.2) (fine r.0 r.1))
             (λ b e. let z : ◌≡◌ {A = ℕ} 0 1 = cc in absurd (omega arith))
 
-        no_place : u ∈ transformsOf Z s U → T (not (any (isFit Z s) Laid)) → ⊥
+        no_place : u ∈ transforms_of Z s U → T (not (any (is_fit Z s) Laid)) → ⊥
         unfolding placements
         no_place um t = go outcome
           where
             mem : laid Z s u o ∈ Laid
-            mem = mem-flat (λ (v : Shape). flat_map (λ Q. map (laid Z s v) (potentialCells Z s Q)) Mates) um
-                (mem-flat (λ Q. map (laid Z s u) (potentialCells Z s Q)) M.pot tried)
+            mem = mem-flat (λ (v : Shape). flat_map (λ Q. map (laid Z s v) (potential_cells Z s Q)) Mates) um
+                (mem-flat (λ Q. map (laid Z s u) (potential_cells Z s Q)) M.pot tried)
 
             go : (laid Z s u o ≡ Fits) ⊎
                 ((b : ℕ) × (laid Z s u o ≡ Blocked b) × (σ b ≡ decided Wall → ⊥)) → ⊥
-            go (inl e) = T_not (any (isFit Z s) Laid) t (any-mem (isFit Z s) Laid mem (rw e tt))
+            go (inl e) = T_not (any (is_fit Z s) Laid) t (any-mem (is_fit Z s) Laid mem (rw e tt))
             go (inr r) = r.2 (p.blocks _ mem r.0 r.1)
 
-    no-fit : T (not (any (isFit Z s) Laid)) → Contains σ reason → ⊥
+    no-fit : T (not (any (is_fit Z s) Laid)) → Contains σ reason → ⊥
     no-fit t c =
         let p = parts c in
         let M = find-mate p in
         let C = sol.congruent cell M.y on M.block M.other in
-        let mU = mem-members Z.page (unit_of Z s) U cell on refl in
+        let m_u = mem-members Z.page (unit_of Z s) U cell on refl in
         let S = shape_of Z.page (unit_of Z s) U in
-        let so = shape-based Z.page (unit_of Z s) U cell mU in
+        let so = shape-based Z.page (unit_of Z s) U cell m_u in
         let h = I.has-turned S C.turn so C.listed in
         let i = I.is_turned S h.0 so h.2 in
         let uo = I.is-based S h.0 so h.2 in
-        no_place p M C h.0 (copy-cells Z.page (unit_of Z s) U cell mU Z.page.turns P.turns-ok C.turn
+        no_place p M C h.0 (copy-cells Z.page (unit_of Z s) U cell m_u Z.page.turns P.turns-ok C.turn
         C.listed h.0 h.1 h.3 uo) i.0 i.2
-        (copy Z.page (unit_of Z s) U cell mU Z.page.turns P.turns-ok i.0 i.2 h.0 i.1 i.3 uo
+        (copy Z.page (unit_of Z s) U cell m_u Z.page.turns P.turns-ok i.0 i.2 h.0 i.1 i.3 uo
         i.4)
         (subst (λ (us : List Shape). h.0 ∈ us)
-        (sym (transforms-listed Z s U (number_lt Z.page (joinsUnit Z s) (omega arith) cell on))) h.2) t
+        (sym (transforms-listed Z s U (number_lt Z.page (joins_unit Z s) (omega arith) cell on))) h.2) t
 
-  sound-on : (U : ℕ) (xs : List ℕ) → ((x : ℕ) → x ∈ xs → x ∈ unitCells Z s U) → Each (Sound Z) (unitHitOn Z s U xs)
-  unfolding unitHitOn unitHitIn Sound
+  sound-on : (U : ℕ) (xs : List ℕ) → ((x : ℕ) → x ∈ xs → x ∈ unit_cells Z s U) → Each (Sound Z) (unit_hit_on Z s U xs)
+  unfolding unit_hit_on unit_hit_in Sound
   sound-on U [] m = each_none (Sound Z)
   sound-on U (x ∷ xs) m =
       let k = m x (Memᴰ.head refl) in
@@ -319,6 +319,6 @@ module _ (Z : Puzzle) (K : Bordered Z.page) (P : CellsPlaced Z.page) (I : TurnsL
       let q = members-number Z.page (unit_of Z s) U x k in
       each-hit (Sound Z) _ _ (λ t σ sol c. no-fit x hx σ sol (rw (← q) at t) (rw (← q) at c))
 
-  pub sound-unit : (U : ℕ) → Each (Sound Z) (unitHit Z s U)
-  unfolding unitHit
-  sound-unit U = sound-on U (unitCells Z s U) (λ x m. m)
+  pub sound-unit : (U : ℕ) → Each (Sound Z) (unit_hit Z s U)
+  unfolding unit_hit
+  sound-unit U = sound-on U (unit_cells Z s U) (λ x m. m)

@@ -19,29 +19,29 @@ use native.Mathlib.Omega.{arith}
 use Rattle.std.proofs.Math.Dec.{eqb, T, eqb→eq, eqb_refl}
 use borrow.Author.Tests.{ne_eqb, lt-ltb}
 use Rattle.lists.specs.Lists.{◌∈◌, any}
-use Rattle.lists.specs.Count.{countBelow}
+use Rattle.lists.specs.Count.{count_below}
 use Rattle.lists.specs.Booleans.{T-and-l, T-and-r, T_and, T-or, T-or-l, T-or-r, T-dec, T_true}
 use Rattle.lists.specs.CountLaws.{count-cong, count-lt, count-more}
-use Rattle.rules.specs.Page.{Hop, Puzzle, State, Contains, isOpen, open_at}
-use Rattle.rules.specs.Rules.{Joined, stay, joinsBlock, SameBlock, step}
-use Rattle.rules.specs.Reasons.{Found, Search, isFound, visitIf, trace, look, hunt, path}
+use Rattle.rules.specs.Page.{Hop, Puzzle, State, Contains, is_open, open_at}
+use Rattle.rules.specs.Rules.{Joined, stay, joins_block, SameBlock, step}
+use Rattle.rules.specs.Reasons.{Found, Search, is_found, visit_if, trace, look, hunt, path}
 use Rattle.laws.specs.PageLaws.{Bordered}
 use Rattle.laws.specs.RuleLaws.{join-in}
 
 module _ (Z : Puzzle) (K : Bordered Z.page) (s : ℕ → State) (a : ℕ) (ha : a < Z.page.cells) where
   abbrev pub PathReached : List Found → ℕ → Type 0
-  PathReached f x = T (isFound a f x)
+  PathReached f x = T (is_found a f x)
 
   reached-start : (f : List Found) → PathReached f a
-  unfolding isFound
+  unfolding is_found
   reached-start f = T-or-l (eqb a a) _ (eqb_refl a)
 
   pub reached-new : (f : List Found) (e : Found) → PathReached (e ∷ f) e.cell
-  unfolding isFound any
+  unfolding is_found any
   reached-new f e = T-or-r (eqb e.cell a) _ (T-or-l (eqb e.cell e.cell) _ (eqb_refl e.cell))
 
   pub reached-old : (f : List Found) (e : Found) (x : ℕ) → PathReached f x → PathReached (e ∷ f) x
-  unfolding isFound any
+  unfolding is_found any
   reached-old f e x t = go (T-or (eqb x a) _ t)
     where
       go : T (eqb x a) ⊎ T (any (λ (d : Found). eqb x d.cell) f)
@@ -50,7 +50,7 @@ module _ (Z : Puzzle) (K : Bordered Z.page) (s : ℕ → State) (a : ℕ) (ha : 
       go (inr u) = T-or-r (eqb x a) _ (T-or-r (eqb x e.cell) _ u)
 
   reached-cases : (f : List Found) (e : Found) (x : ℕ) → PathReached (e ∷ f) x → (x ≡ e.cell) ⊎ PathReached f x
-  unfolding isFound any
+  unfolding is_found any
   reached-cases f e x t = go (T-or (eqb x a) _ t)
     where
       next : T (eqb x e.cell) ⊎ T (any (λ (d : Found). eqb x d.cell) f)
@@ -64,7 +64,7 @@ module _ (Z : Puzzle) (K : Bordered Z.page) (s : ℕ → State) (a : ℕ) (ha : 
       go (inr u) = next (T-or (eqb x e.cell) _ u)
 
   reached-nil : (x : ℕ) → PathReached [] x → x ≡ a
-  unfolding isFound any
+  unfolding is_found any
   reached-nil x t = go (T-or (eqb x a) false t)
     where
       go : T (eqb x a) ⊎ ⊥ → x ≡ a
@@ -74,20 +74,20 @@ module _ (Z : Puzzle) (K : Bordered Z.page) (s : ℕ → State) (a : ℕ) (ha : 
   pub record FoundLinked (e : Found) (f : List Found) : Type 0 where
     pub from_in : e.from < Z.page.cells
     pub hop : record { border = e.over; to = e.cell } ∈ Z.page.around e.from
-    pub opens : T (isOpen (s e.over))
+    pub opens : T (is_open (s e.over))
     pub known : PathReached f e.from
-    pub new : T (not (isFound a f e.cell))
+    pub new : T (not (is_found a f e.cell))
 
   abbrev pub Chain : List Found → Type 0
   Chain [] = Unit {0}
   Chain (e ∷ f) = FoundLinked e f × Chain f
 
   abbrev pub Shut : List Found → ℕ → Type 0
-  Shut f y = (h : Hop) → h ∈ Z.page.around y → T (isOpen (s h.border)) → PathReached f h.to
+  Shut f y = (h : Hop) → h ∈ Z.page.around y → T (is_open (s h.border)) → PathReached f h.to
 
   -- how many cells are still to be found
   unfound : List Found → ℕ
-  unfound f = countBelow Z.page.cells (λ x. not (isFound a f x))
+  unfound f = count_below Z.page.cells (λ x. not (is_found a f x))
 
   -- while the cell x is looked at
   record Inv (x n : ℕ) (t : Search) : Type 0 where
@@ -98,37 +98,37 @@ module _ (Z : Puzzle) (K : Bordered Z.page) (s : ℕ → State) (a : ℕ) (ha : 
 
   record FoundLooked (x n : ℕ) (hs : List Hop) (t u : Search) : Type 0 where
     inv : Inv x n u
-    all : (h : Hop) → h ∈ hs → T (isOpen (s h.border)) → PathReached u.found h.to
+    all : (h : Hop) → h ∈ hs → T (is_open (s h.border)) → PathReached u.found h.to
     more : (y : ℕ) → PathReached t.found y → PathReached u.found y
 
   -- one cell more is found
-  one_found : (f : List Found) (e : Found) (x : ℕ) → T (not (isFound a f e.cell))
-      → not (isFound a f x) ≡ not (isFound a (e ∷ f) x) || eqb e.cell x
-  unfolding isFound any
+  one_found : (f : List Found) (e : Found) (x : ℕ) → T (not (is_found a f e.cell))
+      → not (is_found a f x) ≡ not (is_found a (e ∷ f) x) || eqb e.cell x
+  unfolding is_found any
   one_found f e x t = go (eqb e.cell x) refl
     where
-      go : (b : Bool) → eqb e.cell x ≡ b → not (isFound a f x) ≡ not (isFound a (e ∷ f) x) || b
+      go : (b : Bool) → eqb e.cell x ≡ b → not (is_found a f x) ≡ not (is_found a (e ∷ f) x) || b
       go true q =
           let p : e.cell ≡ x = eqb→eq e.cell x (rw q tt) in
-          T_true (not (isFound a f x)) (rw p at t) ∙ sym (or-true (not (isFound a (e ∷ f) x)))
+          T_true (not (is_found a f x)) (rw p at t) ∙ sym (or-true (not (is_found a (e ∷ f) x)))
       go false q =
           let r : eqb x e.cell ≡ false =
           ne_eqb x e.cell (λ p. let u : T (eqb e.cell x) = rw p (eqb_refl e.cell) in rw q at u) in
-          rw r (sym (or-false (not (isFound a f x))))
+          rw r (sym (or-false (not (is_found a f x))))
 
-  unfound-lt : (f : List Found) (e : Found) → e.cell < Z.page.cells → T (not (isFound a f e.cell))
+  unfound-lt : (f : List Found) (e : Found) → e.cell < Z.page.cells → T (not (is_found a f e.cell))
       → unfound (e ∷ f) < unfound f
   unfolding unfound
   unfound-lt f e h t =
-      let c = count-cong Z.page.cells (λ x. not (isFound a f x))
-      (λ x. not (isFound a (e ∷ f) x) || eqb e.cell x) (λ x k. one_found f e x t) in
-      let m = count-more Z.page.cells (λ x. not (isFound a (e ∷ f) x)) e.cell h
-      (ap not (T_true (isFound a (e ∷ f) e.cell) (reached-new f e))) in
+      let c = count-cong Z.page.cells (λ x. not (is_found a f x))
+      (λ x. not (is_found a (e ∷ f) x) || eqb e.cell x) (λ x k. one_found f e x t) in
+      let m = count-more Z.page.cells (λ x. not (is_found a (e ∷ f) x)) e.cell h
+      (ap not (T_true (is_found a (e ∷ f) e.cell) (reached-new f e))) in
       omega arith
 
   visit : (x n : ℕ) (h : Hop) (t : Search) → x < Z.page.cells → PathReached t.found x → h ∈ Z.page.around x
-      → Inv x n t → (b : Bool) → isOpen (s h.border) && not (isFound a t.found h.to) ≡ b →
-      Inv x n (visitIf b x h t)
+      → Inv x n t → (b : Bool) → is_open (s h.border) && not (is_found a t.found h.to) ≡ b →
+      Inv x n (visit_if b x h t)
   visit x n h t hx fx m i false e = i
   visit x n h t hx fx m i true e = record {
     chain = (
@@ -136,16 +136,16 @@ module _ (Z : Puzzle) (K : Bordered Z.page) (s : ℕ → State) (a : ℕ) (ha : 
         from_in = hx;
         hop = m;
         opens =
-            T-and-l (isOpen (s h.border)) (not (isFound a t.found h.to)) (rw e tt);
+            T-and-l (is_open (s h.border)) (not (is_found a t.found h.to)) (rw e tt);
         known = fx;
-        new = T-and-r (isOpen (s h.border)) (not (isFound a t.found h.to)) (rw e tt);
+        new = T-and-r (is_open (s h.border)) (not (is_found a t.found h.to)) (rw e tt);
       },
       i.chain,
     );
     inq = λ y k. into y (Memᴰ.append_cases t.queue k);
     shut = λ y k. cases y (reached-cases t.found d y k);
     count = let u = unfound-lt t.found d (K.hop-in x h hx m)
-        (T-and-r (isOpen (s h.border)) (not (isFound a t.found h.to)) (rw e tt)) in let v = i.count in
+        (T-and-r (is_open (s h.border)) (not (is_found a t.found h.to)) (rw e tt)) in let v = i.count in
         let w = length-append t.queue (h.to ∷ []) in omega arith;
   }
     where
@@ -168,40 +168,40 @@ module _ (Z : Puzzle) (K : Bordered Z.page) (s : ℕ → State) (a : ℕ) (ha : 
       cases y (inr k) = old y (i.shut y k)
 
   visit-more : (x : ℕ) (h : Hop) (t : Search) (b : Bool) (y : ℕ) → PathReached t.found y
-      → PathReached (visitIf b x h t).found y
+      → PathReached (visit_if b x h t).found y
   visit-more x h t true y k = reached-old t.found (record { cell = h.to; over = h.border; from = x }) y k
   visit-more x h t false y k = k
 
   visit-all : (x : ℕ) (h : Hop) (t : Search) (b : Bool)
-      → isOpen (s h.border) && not (isFound a t.found h.to) ≡ b → T (isOpen (s h.border))
-      → PathReached (visitIf b x h t).found h.to
+      → is_open (s h.border) && not (is_found a t.found h.to) ≡ b → T (is_open (s h.border))
+      → PathReached (visit_if b x h t).found h.to
   visit-all x h t true e o = reached-new t.found (record { cell = h.to; over = h.border; from = x })
-  visit-all x h t false e o = go (T-dec (isFound a t.found h.to))
+  visit-all x h t false e o = go (T-dec (is_found a t.found h.to))
     where
-      go : PathReached t.found h.to ⊎ T (not (isFound a t.found h.to)) → PathReached t.found h.to
+      go : PathReached t.found h.to ⊎ T (not (is_found a t.found h.to)) → PathReached t.found h.to
       go (inl u) = u
-      go (inr u) = absurd (rw e at (T_and (isOpen (s h.border)) (not (isFound a t.found h.to)) o u))
+      go (inr u) = absurd (rw e at (T_and (is_open (s h.border)) (not (is_found a t.found h.to)) o u))
 
   looked : (x n : ℕ) (hs : List Hop) (t : Search) → x < Z.page.cells → PathReached t.found x
       → ((h : Hop) → h ∈ hs → h ∈ Z.page.around x) → Inv x n t → FoundLooked x n hs t (look Z.page s a x hs t)
   unfolding look
   looked x n [] t hx fx m i = record { inv = i; all = λ h k. absurd (Memᴰ.not-nil k); more = λ y k. k }
-  looked x n (h ∷ hs) t hx fx m i = go (isOpen (s h.border) && not (isFound a t.found h.to)) refl
+  looked x n (h ∷ hs) t hx fx m i = go (is_open (s h.border) && not (is_found a t.found h.to)) refl
       (λ u fu iu. looked x n hs u hx fu (λ j k. m j (Memᴰ.tail k)) iu)
     where
-      go : (b : Bool) → isOpen (s h.border) && not (isFound a t.found h.to) ≡ b →
+      go : (b : Bool) → is_open (s h.border) && not (is_found a t.found h.to) ≡ b →
           ((u : Search) → PathReached u.found x → Inv x n u → FoundLooked x n hs u (look Z.page s a x hs u))
-          → FoundLooked x n (h ∷ hs) t (look Z.page s a x hs (visitIf b x h t))
-      go b e ih = let r = ih (visitIf b x h t) (visit-more x h t b x fx)
+          → FoundLooked x n (h ∷ hs) t (look Z.page s a x hs (visit_if b x h t))
+      go b e ih = let r = ih (visit_if b x h t) (visit-more x h t b x fx)
           (visit x n h t hx fx (m h (Memᴰ.head refl)) i b e) in record {
             inv = r.inv;
             all = λ j k o. every r j o (Memᴰ.cases_cons k);
             more = λ y k. r.more y (visit-more x h t b y k);
           }
         where
-          every : FoundLooked x n hs (visitIf b x h t) (look Z.page s a x hs (visitIf b x h t)) → (j : Hop)
-              → T (isOpen (s j.border)) → (j ≡ h) ⊎ j ∈ hs
-              → PathReached (look Z.page s a x hs (visitIf b x h t)).found j.to
+          every : FoundLooked x n hs (visit_if b x h t) (look Z.page s a x hs (visit_if b x h t)) → (j : Hop)
+              → T (is_open (s j.border)) → (j ≡ h) ⊎ j ∈ hs
+              → PathReached (look Z.page s a x hs (visit_if b x h t)).found j.to
           every r j o (inl q) = r.more j.to (rw q (visit-all x h t b e (rw q at o)))
           every r j o (inr k) = r.all j k o
 
@@ -261,20 +261,20 @@ module _ (Z : Puzzle) (K : Bordered Z.page) (s : ℕ → State) (a : ℕ) (ha : 
       (λ y k. inl (Memᴰ.head (reached-nil y k))) (let u = few in omega arith)
     where
       few : unfound [] < Z.page.cells
-      few = count-lt Z.page.cells (λ x. not (isFound a [] x)) a ha
-          (ap not (T_true (isFound a [] a) (reached-start [])))
+      few = count-lt Z.page.cells (λ x. not (is_found a [] x)) a ha
+          (ap not (T_true (is_found a [] a) (reached-start [])))
 
   -- every joined cell is found
   joined-found : {x y : ℕ} → PathReached (hunt Z.page s Z.page.cells a (a ∷ []) []) x
-      → Joined Z.page (joinsBlock Z s) y x → PathReached (hunt Z.page s Z.page.cells a (a ∷ []) []) y
-  unfolding joinsBlock
+      → Joined Z.page (joins_block Z s) y x → PathReached (hunt Z.page s Z.page.cells a (a ∷ []) []) y
+  unfolding joins_block
   joined-found k (stay e) = rw (← e) k
   joined-found {x} k (step h m t r) = joined-found (found_all.shut x k h m t) r
 
   -- a setting that contains the path joins its ends
   traced : (σ : ℕ → State) (f : List Found) (x : ℕ) → Chain f → PathReached f x → Contains σ (trace f x)
       → SameBlock Z σ x a
-  unfolding trace Contains joinsBlock
+  unfolding trace Contains joins_block
   traced σ [] x c k q = stay (reached-nil x k)
   traced σ (e ∷ f) x c k q = go (eqb x e.cell) refl q (reached-cases f e x k) (λ k' q'. traced σ f x c.1 k' q')
       (λ q'. traced σ f e.from c.1 c.0.known q')

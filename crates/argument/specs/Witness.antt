@@ -9,31 +9,31 @@ use Rattle.rules.specs.declared.Side.{Side}
 use Rattle.rules.specs.declared.Side.TheVariants.{Wall, Open}
 use Rattle.rules.specs.declared.Literal.{Literal}
 use Rattle.rules.specs.declared.Call.TheVariants.{Decide, Check, Preview}
-use Rattle.rules.specs.Page.{Puzzle, State, undecided, decided, Point, ◌⊕◌, opposite, open_at, wallAt}
-use Rattle.rules.specs.Rules.{Joined, stay, oneColour, joinsBlock, joinsUnit, SameBlock, SameUnit, UnitHas, Congruent}
+use Rattle.rules.specs.Page.{Puzzle, State, undecided, decided, Point, ◌⊕◌, opposite, open_at, wall_at}
+use Rattle.rules.specs.Rules.{Joined, stay, one_colour, joins_block, joins_unit, SameBlock, SameUnit, UnitHas, Congruent}
 use Rattle.rules.specs.Rules.{Solution, step}
 use Rattle.rules.specs.Turns.{apply, keep}
-use Rattle.rules.specs.Codes.{coloursIn, cluesIn}
-use Rattle.rules.specs.Flat.{flat, cell_at, rightOf, borderCount, hopIf, hopAbove, hopBelow, hopLeft, hopRight, aroundAt}
-use Rattle.rules.specs.Flat.{flatFirst, flatSecond}
-use Rattle.rules.specs.Book.{Asked, ask, done, answered, freshBook, stateIf, states, names, looked, doneBook}
-use Rattle.rules.specs.Book.{decideReply, checkReply, replyTo, after, bookFrom, repliesFrom, bookAfter, replies}
+use Rattle.rules.specs.Codes.{colours_in, clues_in}
+use Rattle.rules.specs.Flat.{flat, cell_at, right_of, border_count, hop_if, hop_above, hop_below, hop_left, hop_right, around_at}
+use Rattle.rules.specs.Flat.{flat_first, flat_second}
+use Rattle.rules.specs.Book.{Asked, ask, done, answered, fresh_book, state_if, states, names, looked, done_book}
+use Rattle.rules.specs.Book.{decide_reply, check_reply, reply_to, after, book_from, replies_from, book_after, replies}
 use Rattle.rules.specs.Check.{check}
 use Rattle.laws.specs.PageLaws.{Bordered}
 use Rattle.laws.specs.PointLaws.{add_assoc, add_comm, add-opposite, add-origin, origin}
 use Rattle.laws.specs.TurnLaws.{apply-keep}
 use Rattle.laws.specs.FlatPage.{flat-bordered}
-use Rattle.argument.specs.Boards.{pairPuzzle}
+use Rattle.argument.specs.Boards.{pair_puzzle}
 
 -- 1×2, 01, the clue 1 at (0,0)
 abbrev pub small : Puzzle
-small = pairPuzzle (pos 1 ∷ negsuc 0 ∷ [])
+small = pair_puzzle (pos 1 ∷ negsuc 0 ∷ [])
 
 abbrev pub opened : ℕ → State
 opened = states (open_at 0 ∷ [])
 
 abbrev pub walled : ℕ → State
-walled = states (wallAt 0 ∷ [])
+walled = states (wall_at 0 ∷ [])
 
 -- what holds of both cells
 two : (P : ℕ → Type 0) → P 0 → P 1 → (x : ℕ) → x < 2 → P x
@@ -44,8 +44,8 @@ two P a b (suc (suc x)) l = absurd (omega arith)
 bordered : Bordered (flat 1 2)
 bordered = flat-bordered 1 2 (omega arith)
 
-first-only : (b : ℕ) → b < borderCount 1 2 → b ≡ 0
-unfolding borderCount
+first-only : (b : ℕ) → b < border_count 1 2 → b ≡ 0
+unfolding border_count
 first-only b l = omega arith
 
 -- a cell is joined to none but itself over borders that do not link
@@ -57,7 +57,7 @@ single link shut x p l (step h m t j) =
 
 -- the two cells are joined over a border that links
 over : (link : ℕ → Bool) → T (link 0) → Joined (flat 1 2) link 1 0 × Joined (flat 1 2) link 0 1
-unfolding flat aroundAt hopAbove hopBelow hopLeft hopRight hopIf rightOf cell_at
+unfolding flat around_at hop_above hop_below hop_left hop_right hop_if right_of cell_at
 over link t = (
   step {x = 0} (record { border = 0; to = 1 }) (Memᴰ.head refl) t (stay refl),
   step {x = 1} (record { border = 0; to = 0 }) (Memᴰ.head refl) t (stay refl),
@@ -70,48 +70,48 @@ block_in x y l (step h m t j) = block_in h.to y (bordered.hop-in x h l m) j
 
 -- the two cells differ in colour, so each is a unit
 alone : (x p : ℕ) → x < 2 → SameUnit small opened x p → x ≡ p
-unfolding joinsUnit oneColour flat flatFirst flatSecond coloursIn states cell_at
-alone x p l j = single (joinsUnit small opened) (λ t. t) x p l j
+unfolding joins_unit one_colour flat flat_first flat_second colours_in states cell_at
+alone x p l j = single (joins_unit small opened) (λ t. t) x p l j
 
-open-joins : T (joinsBlock small opened 0)
-unfolding joinsBlock states
+open-joins : T (joins_block small opened 0)
+unfolding joins_block states
 open-joins = tt
 
-walls-joins : T (joinsBlock small walled 0) → ⊥
-unfolding joinsBlock states
+walls-joins : T (joins_block small walled 0) → ⊥
+unfolding joins_block states
 walls-joins t = t
 
 never : (b : ℕ) → opened b ≡ decided Wall → ⊥
 unfolding states
 never b e = go (eqb 0 b) e
   where
-    go : (t : Bool) → stateIf t (decided Open) undecided ≡ decided Wall → ⊥
+    go : (t : Bool) → state_if t (decided Open) undecided ≡ decided Wall → ⊥
     go true q = let z : ◌≡◌ {A = ℕ} 0 1 = cc in omega arith
     go false q = let z : ◌≡◌ {A = ℕ} 0 1 = cc in omega arith
 
 decides : (m : State) (side : Side) → m ≡ decided side → m ≡ undecided → ⊥
 decides m side p q = let z : ◌≡◌ {A = ℕ} 0 1 = cc in omega arith
 
-open_full : (b : ℕ) → b < borderCount 1 2 → opened b ≡ undecided → ⊥
+open_full : (b : ℕ) → b < border_count 1 2 → opened b ≡ undecided → ⊥
 unfolding states
 open_full b l = subst (λ (b : ℕ). opened b ≡ undecided → ⊥) (sym (first-only b l)) (decides (opened 0) Open refl)
 
-wall-full : (b : ℕ) → b < borderCount 1 2 → walled b ≡ undecided → ⊥
+wall-full : (b : ℕ) → b < border_count 1 2 → walled b ≡ undecided → ⊥
 unfolding states
 wall-full b l = subst (λ (b : ℕ). walled b ≡ undecided → ⊥) (sym (first-only b l)) (decides (walled 0) Wall refl)
 
 both-colours : (x : ℕ) (c : Bool) → x < 2 → (y : ℕ) × SameBlock small opened x y × (small.colour y ≡ c)
-unfolding coloursIn
+unfolding colours_in
 both-colours x false l =
     two (λ x. (y : ℕ) × SameBlock small opened x y × (small.colour y ≡ false)) (0, stay refl, refl)
-    (0, (over (joinsBlock small opened) open-joins).1, refl) x l
+    (0, (over (joins_block small opened) open-joins).1, refl) x l
 both-colours x true l =
     two (λ x. (y : ℕ) × SameBlock small opened x y × (small.colour y ≡ true))
-    (1, (over (joinsBlock small opened) open-joins).0, refl) (1, stay refl, refl) x l
+    (1, (over (joins_block small opened) open-joins).0, refl) (1, stay refl, refl) x l
 
 -- two cells of one colour are one cell
 one_cell : (x : ℕ) → x < 2 → (y : ℕ) → y < 2 → small.colour x ≡ small.colour y → x ≡ y
-unfolding coloursIn
+unfolding colours_in
 one_cell =
     two (λ x. (y : ℕ) → y < 2 → small.colour x ≡ small.colour y → x ≡ y)
     (two (λ y. small.colour 0 ≡ small.colour y → 0 ≡ y) (λ e. refl) (λ e. let z : ◌≡◌ {A = ℕ} 0 1 = cc in z))
@@ -135,7 +135,7 @@ units-congruent x y l k =
     }
 
 sizes : (x n : ℕ) → x < 2 → small.clue x ≡ some n → UnitHas small opened x n
-unfolding cluesIn
+unfolding clues_in
 sizes x n l =
     two (λ x. small.clue x ≡ some n → UnitHas small opened x n)
     (λ e. record {
@@ -157,7 +157,7 @@ unfolding flat
 open-solves =
     record {
       full = open_full;
-      noWall = λ x h l m j. never h.border;
+      no_wall = λ x h l m j. never h.border;
       both = both-colours;
       one = λ x y l j e. stay (one_cell x l y (block_in x y l j) e);
       congruent = λ x y l j e. units-congruent x y l (block_in x y l j);
@@ -165,10 +165,10 @@ open-solves =
     }
 
 pub wall-fails : Solution small walled → ⊥
-unfolding flat coloursIn
+unfolding flat colours_in
 wall-fails S =
     let r = S.both 0 true (omega arith) in
-    let e = single (joinsBlock small walled) walls-joins 0 r.0 (omega arith) r.1 in
+    let e = single (joins_block small walled) walls-joins 0 r.0 (omega arith) r.1 in
     let f = ap small.colour e ∙ r.2 in
     let z : ◌≡◌ {A = ℕ} 0 1 = cc in
     omega arith
@@ -178,8 +178,8 @@ abbrev pub calls : Literal → List Asked
 calls l = ask 0 (Decide l) ∷ ask 1984 Check ∷ []
 
 -- a preview, with memory enough
-abbrev pub previewOnly : Literal → List Asked
-previewOnly l = ask 1984 (Preview l) ∷ []
+abbrev pub preview_only : Literal → List Asked
+preview_only l = ask 1984 (Preview l) ∷ []
 
 pub record Witness : Type 0 where
   -- a solution, and a full setting that is none
@@ -187,20 +187,20 @@ pub record Witness : Type 0 where
   pub fails : Solution small walled → ⊥
   pub full : (b : ℕ) → b < small.page.borders → walled b ≡ undecided → ⊥
   -- each stood at a check that was answered
-  pub open-stood : (bookAfter small (calls (open_at 0))).sequence ≡ open_at 0 ∷ []
+  pub open-stood : (book_after small (calls (open_at 0))).sequence ≡ open_at 0 ∷ []
   pub open-answered : replies small (calls (open_at 0)) ≡ done ∷ answered (check small opened) ∷ []
-  pub wall-stood : (bookAfter small (calls (wallAt 0))).sequence ≡ wallAt 0 ∷ []
-  pub wall-answered : replies small (calls (wallAt 0)) ≡ done ∷ answered (check small walled) ∷ []
+  pub wall-stood : (book_after small (calls (wall_at 0))).sequence ≡ wall_at 0 ∷ []
+  pub wall-answered : replies small (calls (wall_at 0)) ≡ done ∷ answered (check small walled) ∷ []
   -- each stood at a preview that was answered alike, and the book's sequence is still empty
   pub open-looked : looked [] (Preview (open_at 0)) ≡ open_at 0 ∷ []
-  pub open-previewed : replies small (previewOnly (open_at 0)) ≡ answered (check small opened) ∷ []
-  pub open-left : bookAfter small (previewOnly (open_at 0)) ≡ freshBook
-  pub wall-looked : looked [] (Preview (wallAt 0)) ≡ wallAt 0 ∷ []
-  pub wall-previewed : replies small (previewOnly (wallAt 0)) ≡ answered (check small walled) ∷ []
-  pub wall-left : bookAfter small (previewOnly (wallAt 0)) ≡ freshBook
+  pub open-previewed : replies small (preview_only (open_at 0)) ≡ answered (check small opened) ∷ []
+  pub open-left : book_after small (preview_only (open_at 0)) ≡ fresh_book
+  pub wall-looked : looked [] (Preview (wall_at 0)) ≡ wall_at 0 ∷ []
+  pub wall-previewed : replies small (preview_only (wall_at 0)) ≡ answered (check small walled) ∷ []
+  pub wall-left : book_after small (preview_only (wall_at 0)) ≡ fresh_book
 
 pub witness : Witness
-unfolding flat borderCount bookFrom repliesFrom after doneBook replyTo decideReply checkReply names any
+unfolding flat border_count book_from replies_from after done_book reply_to decide_reply check_reply names any
 witness =
     record {
       solves = open-solves;

@@ -3,7 +3,7 @@
 --
 --   PartListed from to cs   such a part of an array of cell numbers
 --   GroupLists cs offs n    a list of the cells of n groups
---   sizeIn offs g           how many cells group g has, from the places where the groups start
+--   size_in offs g          how many cells group g has, from the places where the groups start
 --   Parted ids offs         numbers of groups, and places where they start
 use Rattle.std.specs.Prelude.{◌≡◌, List, ℕ, ◌+◌, ◌-◌, ◌<◌, ◌≤◌, length, get_or}
 
@@ -17,8 +17,8 @@ pub record GroupLists (cs offs : List ℕ) (n : ℕ) : Type 0 where
   pub few : n ≤ 1024
   pub parts : (g : ℕ) → g < n → PartListed (get_or offs g 0) (get_or offs (g + 1) 0) cs
 
-unfoldable pub sizeIn : List ℕ → ℕ → ℕ
-sizeIn offs g = get_or offs (g + 1) 0 - get_or offs g 0
+unfoldable pub size_in : List ℕ → ℕ → ℕ
+size_in offs g = get_or offs (g + 1) 0 - get_or offs g 0
 
 pub record Parted (ids offs : List ℕ) : Type 0 where
   pub few : (c : ℕ) → get_or ids c 0 < 1024

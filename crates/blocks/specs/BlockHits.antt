@@ -1,75 +1,75 @@
 -- Step 1 for a caller: with the arrays of crate groups, what is found meets what is asked for writing it, and what is
 -- written is the step's hit.
 --
---   faultyIn                 what `first_faulty` finds
+--   faulty_in                what `first_faulty` finds
 use Rattle.std.specs.Prelude.{◌≡◌, true, false, List, ℕ, ◌<◌, ℤ}
 use Rattle.std.proofs.Common.{sym, ap, ◌∙◌, arith}
 use Rattle.std.proofs.Math.Option.{some, none}
-use Rattle.lists.specs.Lists.{firstHit, range}
+use Rattle.lists.specs.Lists.{first_hit, range}
 use Rattle.rules.specs.Flat.{Sized}
-use Rattle.rules.specs.Codes.{statesIn, coloursIn, cluesIn, puzzleIn}
-use Rattle.rules.specs.Groups.{entry, blockCount}
-use Rattle.rules.specs.Check.{insideBlock, edge_of, blockHit}
+use Rattle.rules.specs.Codes.{states_in, colours_in, clues_in, puzzle_in}
+use Rattle.rules.specs.Groups.{entry, block_count}
+use Rattle.rules.specs.Check.{inside_block, edge_of, block_hit}
 use Rattle.groups.specs.declared.Kind.TheVariants.{Blocks, Potential}
 use Rattle.groups.specs.Grouping.{Filled}
-use Rattle.groups.specs.Kinds.{joinsIn}
-use Rattle.groups.specs.Pages.{groupsIn}
+use Rattle.groups.specs.Kinds.{joins_in}
+use Rattle.groups.specs.Pages.{groups_in}
 use Rattle.groups.specs.PageLaws.{id-under}
 use Rattle.reasons.specs.Arrays.{GroupAt}
 use Rattle.reasons.specs.GroupReasons.{group_at, inside_is, edge-is}
 use Rattle.blocks.specs.declared.Faulty.{Faulty}
-use Rattle.blocks.specs.Faults.{isFaultless, faultReason}
-use Rattle.blocks.specs.Faulty.{firstFaulty, faulty-hits, faultless-none}
-use Rattle.blocks.specs.Written.{faultLiterals, faultUnit, faultyLiterals, fault-some}
-use Rattle.blocks.specs.Bridges.{faultIn, faulty-is}
+use Rattle.blocks.specs.Faults.{is_faultless, fault_reason}
+use Rattle.blocks.specs.Faulty.{first_faulty, faulty-hits, faultless-none}
+use Rattle.blocks.specs.Written.{fault_literals, fault_unit, faulty_literals, fault-some}
+use Rattle.blocks.specs.Bridges.{fault_in, faulty-is}
 use Rattle.blocks.specs.Bounds.{fault-under, first-wrong, first-under-all}
 
 module _ {h w : ℕ} (z : Sized h w) (cs : List ℕ) (ks : List ℤ) (bs : List ℕ) where
-  abbrev pub faultyIn : Faulty
-  faultyIn = firstFaulty (faultIn z cs ks bs) (groupsIn Blocks h w cs bs).count
+  abbrev pub faulty_in : Faulty
+  faulty_in = first_faulty (fault_in z cs ks bs) (groups_in Blocks h w cs bs).count
 
-  pub block_at : {blocks : List ℕ} → Filled (groupsIn Blocks h w cs bs) blocks → isFaultless faultyIn.fault ≡ false
-      → GroupAt h w blocks faultyIn.block
+  pub block_at : {blocks : List ℕ} → Filled (groups_in Blocks h w cs bs) blocks → is_faultless faulty_in.fault ≡ false
+      → GroupAt h w blocks faulty_in.block
   block_at f e =
-      group_at z (joinsIn Blocks h w cs bs) f faultyIn.block
-      (first-wrong (faultIn z cs ks bs) (groupsIn Blocks h w cs bs).count e).block
+      group_at z (joins_in Blocks h w cs bs) f faulty_in.block
+      (first-wrong (fault_in z cs ks bs) (groups_in Blocks h w cs bs).count e).block
 
-  pub fault-unit-at : {potential : List ℕ} → Filled (groupsIn Potential h w cs bs) potential
-      → GroupAt h w potential (faultUnit faultyIn.fault)
+  pub fault-unit-at : {potential : List ℕ} → Filled (groups_in Potential h w cs bs) potential
+      → GroupAt h w potential (fault_unit faulty_in.fault)
   unfolding entry
   fault-unit-at f =
-      let link = joinsIn Potential h w cs bs in
-      let some : 0 < (groupsIn Potential h w cs bs).count = omega (arith, id-under z link 0) in
-      group_at z link f (faultUnit faultyIn.fault)
-      (first-under-all (faultIn z cs ks bs) (groupsIn Potential h w cs bs).count (groupsIn Blocks h w cs bs).count
+      let link = joins_in Potential h w cs bs in
+      let some : 0 < (groups_in Potential h w cs bs).count = omega (arith, id-under z link 0) in
+      group_at z link f (fault_unit faulty_in.fault)
+      (first-under-all (fault_in z cs ks bs) (groups_in Potential h w cs bs).count (groups_in Blocks h w cs bs).count
       some
       (λ B.
-      fault-under (groupsIn Potential h w cs bs).count some (coloursIn cs) (cluesIn ks)
-      (entry (groupsIn Potential h w cs bs).ids) (id-under z link) _ _))
+      fault-under (groups_in Potential h w cs bs).count some (colours_in cs) (clues_in ks)
+      (entry (groups_in Potential h w cs bs).ids) (id-under z link) _ _))
 
-  step-one : firstHit (blockHit (puzzleIn h w cs ks) (statesIn bs))
-      (range (blockCount (puzzleIn h w cs ks) (statesIn bs)))
-      ≡ faultReason (puzzleIn h w cs ks) (statesIn bs) faultyIn.block faultyIn.fault
+  step-one : first_hit (block_hit (puzzle_in h w cs ks) (states_in bs))
+      (range (block_count (puzzle_in h w cs ks) (states_in bs)))
+      ≡ fault_reason (puzzle_in h w cs ks) (states_in bs) faulty_in.block faulty_in.fault
   step-one =
-      faulty-hits (puzzleIn h w cs ks) (statesIn bs)
-      ∙ ap (λ (f : Faulty). faultReason (puzzleIn h w cs ks) (statesIn bs) f.block f.fault)
+      faulty-hits (puzzle_in h w cs ks) (states_in bs)
+      ∙ ap (λ (f : Faulty). fault_reason (puzzle_in h w cs ks) (states_in bs) f.block f.fault)
       (sym (faulty-is z cs ks bs))
 
   reason-is : (f : Faulty)
-      → faultyLiterals h w cs bs (groupsIn Blocks h w cs bs).ids (groupsIn Potential h w cs bs).ids f
-      ≡ faultLiterals (insideBlock (puzzleIn h w cs ks) (statesIn bs) f.block)
-      (edge_of (puzzleIn h w cs ks) (statesIn bs)) f.fault
-  unfolding faultyLiterals
+      → faulty_literals h w cs bs (groups_in Blocks h w cs bs).ids (groups_in Potential h w cs bs).ids f
+      ≡ fault_literals (inside_block (puzzle_in h w cs ks) (states_in bs) f.block)
+      (edge_of (puzzle_in h w cs ks) (states_in bs)) f.fault
+  unfolding faulty_literals
   reason-is f = rw (inside_is z cs ks bs f.block, edge-is z cs ks bs)
 
-  pub one_hit : isFaultless faultyIn.fault ≡ false
-      → firstHit (blockHit (puzzleIn h w cs ks) (statesIn bs)) (range (blockCount (puzzleIn h w cs ks) (statesIn bs)))
-      ≡ some (faultyLiterals h w cs bs (groupsIn Blocks h w cs bs).ids (groupsIn Potential h w cs bs).ids faultyIn)
+  pub one_hit : is_faultless faulty_in.fault ≡ false
+      → first_hit (block_hit (puzzle_in h w cs ks) (states_in bs)) (range (block_count (puzzle_in h w cs ks) (states_in bs)))
+      ≡ some (faulty_literals h w cs bs (groups_in Blocks h w cs bs).ids (groups_in Potential h w cs bs).ids faulty_in)
   one_hit e =
-      step-one ∙ fault-some (puzzleIn h w cs ks) (statesIn bs) faultyIn.block faultyIn.fault e
-      ∙ ap some (sym (reason-is faultyIn))
+      step-one ∙ fault-some (puzzle_in h w cs ks) (states_in bs) faulty_in.block faulty_in.fault e
+      ∙ ap some (sym (reason-is faulty_in))
 
-  pub one_none : isFaultless faultyIn.fault ≡ true
-      → firstHit (blockHit (puzzleIn h w cs ks) (statesIn bs)) (range (blockCount (puzzleIn h w cs ks) (statesIn bs)))
+  pub one_none : is_faultless faulty_in.fault ≡ true
+      → first_hit (block_hit (puzzle_in h w cs ks) (states_in bs)) (range (block_count (puzzle_in h w cs ks) (states_in bs)))
       ≡ none
-  one_none e = step-one ∙ faultless-none (puzzleIn h w cs ks) (statesIn bs) faultyIn.block faultyIn.fault e
+  one_none e = step-one ∙ faultless-none (puzzle_in h w cs ks) (states_in bs) faulty_in.block faulty_in.fault e

@@ -1,6 +1,6 @@
 -- Bridges: the arrays of crate groups are what step 1's functions ask for, and hold what the rules mean.
 --
---   faultIn B     the fault of block B, by these arrays
+--   fault_in B    the fault of block B, by these arrays
 use Rattle.std.specs.Prelude.{◌≡◌, Bool, ℤ, get_or}
 use Rattle.std.proofs.Math.Path.{ap, fun_ext}
 use Rattle.std.proofs.Common.{◌∙◌}
@@ -11,23 +11,23 @@ use native.Mathlib.Omega.{arith}
 use Rattle.std.proofs.Math.ListN.{length}
 use Rattle.rules.specs.Page.{Puzzle, State}
 use Rattle.rules.specs.Flat.{Sized, flat}
-use Rattle.rules.specs.Codes.{statesIn, coloursIn, cluesIn, puzzleIn}
-use Rattle.rules.specs.Groups.{entry, numbers, groupCount, members, blockCount, potentialOf}
+use Rattle.rules.specs.Codes.{states_in, colours_in, clues_in, puzzle_in}
+use Rattle.rules.specs.Groups.{entry, numbers, group_count, members, block_count, potential_of}
 use Rattle.rules.specs.Check.{size_of}
 use Rattle.laws.specs.GroupLaws.{members-none}
 use Rattle.groups.specs.declared.Kind.{Kind}
 use Rattle.groups.specs.declared.Kind.TheVariants.{Blocks, Potential}
 use Rattle.groups.specs.Parts.{Groups, groups_of, part_of}
-use Rattle.groups.specs.Kinds.{joinsIn}
+use Rattle.groups.specs.Kinds.{joins_in}
 use Rattle.groups.specs.NumberLaws.{starts-past}
 use Rattle.groups.specs.PartLaws.{groups-le, cells-long, cells-lt}
-use Rattle.groups.specs.Pages.{groupsIn, kindNumber}
+use Rattle.groups.specs.Pages.{groups_in, kind_number}
 use Rattle.groups.specs.PageLaws.{cells-some, cells-few, id-under, count_same, count-some, starts-step, starts-few}
 use Rattle.groups.specs.PageLaws.{kind-number, kind-ids, kind-count, kind-cells}
-use Rattle.blocks.specs.Arrays.{GroupLists, Parted, sizeIn}
+use Rattle.blocks.specs.Arrays.{GroupLists, Parted, size_in}
 use Rattle.blocks.specs.declared.Fault.{Fault}
-use Rattle.blocks.specs.Faults.{faultOn, blockFault}
-use Rattle.blocks.specs.Faulty.{firstFaulty}
+use Rattle.blocks.specs.Faults.{fault_on, block_fault}
+use Rattle.blocks.specs.Faulty.{first_faulty}
 
 -- what the functions ask for, for any borders that link
 module _ {h w : ℕ} (z : Sized h w) (link : ℕ → Bool) where
@@ -75,10 +75,10 @@ module _ {h w : ℕ} (z : Sized h w) (link : ℕ → Bool) where
   -- how many cells, of every number
   past : (k : ℕ) → groups.count < k → get_or groups.offs k 0 ≡ 0
   unfolding groups_of
-  past k l = starts-past (flat h w).cells number (groupCount (flat h w) link) k l
+  past k l = starts-past (flat h w).cells number (group_count (flat h w) link) k l
 
-  sizes-of : sizeIn groups.offs ≡ (λ g. length (members (flat h w) number g))
-  unfolding sizeIn
+  sizes-of : size_in groups.offs ≡ (λ g. length (members (flat h w) number g))
+  unfolding size_in
   sizes-of = fun_ext (λ g. elim (dec_lt g groups.count) [
     | yes l ↦ omega (arith, starts-step z link g l)
     | no l ↦
@@ -92,36 +92,36 @@ module _ {h w : ℕ} (z : Sized h w) (link : ℕ → Bool) where
 -- what they mean
 module _ {h w : ℕ} (z : Sized h w) (cs : List ℕ) (ks : List ℤ) (bs : List ℕ) where
   abbrev Z : Puzzle
-  Z = puzzleIn h w cs ks
+  Z = puzzle_in h w cs ks
 
   abbrev s : ℕ → State
-  s = statesIn bs
+  s = states_in bs
 
   pub sizes-are : (kind : Kind)
-      → sizeIn (groupsIn kind h w cs bs).offs ≡ (λ g. length (members (flat h w) (kindNumber kind Z s) g))
+      → size_in (groups_in kind h w cs bs).offs ≡ (λ g. length (members (flat h w) (kind_number kind Z s) g))
   sizes-are kind =
-      sizes-of z (joinsIn kind h w cs bs)
-      ∙ ap (λ (f : ℕ → ℕ). λ (g : ℕ). length (members (flat h w) f g)) (kind-number z cs (cluesIn ks) bs kind)
+      sizes-of z (joins_in kind h w cs bs)
+      ∙ ap (λ (f : ℕ → ℕ). λ (g : ℕ). length (members (flat h w) f g)) (kind-number z cs (clues_in ks) bs kind)
 
   -- step 1: what `first_faulty` finds with these arrays is the first faulty block
-  abbrev pub faultIn : ℕ → Fault
-  faultIn B =
-      faultOn (coloursIn cs) (cluesIn ks) (entry (groupsIn Potential h w cs bs).ids)
-      (sizeIn (groupsIn Potential h w cs bs).offs)
-      (part_of (groupsIn Blocks h w cs bs).cells (groupsIn Blocks h w cs bs).offs B)
+  abbrev pub fault_in : ℕ → Fault
+  fault_in B =
+      fault_on (colours_in cs) (clues_in ks) (entry (groups_in Potential h w cs bs).ids)
+      (size_in (groups_in Potential h w cs bs).offs)
+      (part_of (groups_in Blocks h w cs bs).cells (groups_in Blocks h w cs bs).offs B)
 
-  fault-is : faultIn ≡ blockFault Z s
-  unfolding blockFault size_of
+  fault-is : fault_in ≡ block_fault Z s
+  unfolding block_fault size_of
   fault-is =
-      ap (λ (f : ℕ → ℕ). λ (B : ℕ). faultOn (coloursIn cs) (cluesIn ks) f
-      (sizeIn (groupsIn Potential h w cs bs).offs)
-      (part_of (groupsIn Blocks h w cs bs).cells (groupsIn Blocks h w cs bs).offs B))
-      (kind-ids z cs (cluesIn ks) bs Potential)
-      ∙ ap (λ (f : ℕ → ℕ). λ (B : ℕ). faultOn (coloursIn cs) (cluesIn ks) (potentialOf Z s) f
-      (part_of (groupsIn Blocks h w cs bs).cells (groupsIn Blocks h w cs bs).offs B))
+      ap (λ (f : ℕ → ℕ). λ (B : ℕ). fault_on (colours_in cs) (clues_in ks) f
+      (size_in (groups_in Potential h w cs bs).offs)
+      (part_of (groups_in Blocks h w cs bs).cells (groups_in Blocks h w cs bs).offs B))
+      (kind-ids z cs (clues_in ks) bs Potential)
+      ∙ ap (λ (f : ℕ → ℕ). λ (B : ℕ). fault_on (colours_in cs) (clues_in ks) (potential_of Z s) f
+      (part_of (groups_in Blocks h w cs bs).cells (groups_in Blocks h w cs bs).offs B))
       (sizes-are Potential)
-      ∙ ap (λ (f : ℕ → List ℕ). λ (B : ℕ). faultOn (coloursIn cs) (cluesIn ks) (potentialOf Z s) (size_of Z s) (f B))
-      (kind-cells z cs (cluesIn ks) bs Blocks)
+      ∙ ap (λ (f : ℕ → List ℕ). λ (B : ℕ). fault_on (colours_in cs) (clues_in ks) (potential_of Z s) (size_of Z s) (f B))
+      (kind-cells z cs (clues_in ks) bs Blocks)
 
-  pub faulty-is : firstFaulty faultIn (groupsIn Blocks h w cs bs).count ≡ firstFaulty (blockFault Z s) (blockCount Z s)
-  faulty-is = rw (fault-is, kind-count z cs (cluesIn ks) bs Blocks)
+  pub faulty-is : first_faulty fault_in (groups_in Blocks h w cs bs).count ≡ first_faulty (block_fault Z s) (block_count Z s)
+  faulty-is = rw (fault-is, kind-count z cs (clues_in ks) bs Blocks)

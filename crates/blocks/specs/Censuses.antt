@@ -1,86 +1,86 @@
 -- Censuses: what step 1 counts of a block's cells, and that it may be counted cell by cell.
 --
---   firstIn f xs        what f gives for the first of xs, 0 if there is none
---   optionOf k          a clue as the rules have it
---   clueIn o            a clue of the rules as the code has it
---   nextPart p u k      the part p with one cell more, of potential unit u; k says whether it has a clue
---   firstClue j k       the clue j, or k where j is none
---   nextCensus t c u k  the census t with one cell more, of colour c, potential unit u and clue k
---   no_part, noCensus    the part and the census of no cell
---   ofColour c xs       the cells of colour c among xs
---   colourUnit xs c     the potential unit of the first of them, 0 if there is none
---   hasClue xs          one of the cells xs has a clue
---   colourPart c xs     what step 1 asks of the cells of colour c among xs
---   censusOf xs         what step 1 asks of the cells xs
+--   first_in f xs       what f gives for the first of xs, 0 if there is none
+--   option_of k         a clue as the rules have it
+--   clue_in o           a clue of the rules as the code has it
+--   next_part p u k     the part p with one cell more, of potential unit u; k says whether it has a clue
+--   first_clue j k      the clue j, or k where j is none
+--   next_census t c u k the census t with one cell more, of colour c, potential unit u and clue k
+--   no_part, no_census   the part and the census of no cell
+--   of_colour c xs      the cells of colour c among xs
+--   colour_unit xs c    the potential unit of the first of them, 0 if there is none
+--   has_clue xs         one of the cells xs has a clue
+--   colour_part c xs    what step 1 asks of the cells of colour c among xs
+--   census_of xs        what step 1 asks of the cells xs
 use Rattle.std.specs.Prelude.{◌≡◌, Bool, ◌||◌, List, [], ◌∷◌, ◌++◌, ℕ, ◌+◌, eqb}
 use Rattle.std.proofs.Math.Path.{refl, ap}
 use Rattle.std.proofs.Common.{sym, ◌∙◌, append-nil, arith, ne_eqb}
 use Rattle.std.proofs.Math.Bool.{true, false, cond, beq, or-false}
 use Rattle.std.proofs.Math.Option.{Option, some, none}
 use Rattle.std.proofs.Math.ListN.{length, length-append}
-use Rattle.lists.specs.Lists.{keepIf, filter, any, firstHit, or_else}
+use Rattle.lists.specs.Lists.{keep_if, filter, any, first_hit, or_else}
 use Rattle.lists.specs.Appends.{filter-append, any_append, first-append}
-use Rattle.rules.specs.Check.{is_some, blockClue}
+use Rattle.rules.specs.Check.{is_some, block_clue}
 use Rattle.blocks.specs.declared.Clue.{Clue}
 use Rattle.blocks.specs.declared.Clue.TheVariants.{Free, Is}
 use Rattle.blocks.specs.declared.Part.{Part}
 use Rattle.blocks.specs.declared.Census.{Census}
 
-abbrev pub firstIn : (ℕ → ℕ) → List ℕ → ℕ
-firstIn f [] = 0
-firstIn f (x ∷ xs) = f x
+abbrev pub first_in : (ℕ → ℕ) → List ℕ → ℕ
+first_in f [] = 0
+first_in f (x ∷ xs) = f x
 
-abbrev pub optionOf : Clue → Option ℕ
-optionOf Free = none
-optionOf (Is n) = some n
+abbrev pub option_of : Clue → Option ℕ
+option_of Free = none
+option_of (Is n) = some n
 
-abbrev pub clueIn : Option ℕ → Clue
-clueIn none = Free
-clueIn (some n) = Is n
+abbrev pub clue_in : Option ℕ → Clue
+clue_in none = Free
+clue_in (some n) = Is n
 
-pub option-clue : (o : Option ℕ) → optionOf (clueIn o) ≡ o
+pub option-clue : (o : Option ℕ) → option_of (clue_in o) ≡ o
 option-clue none = refl
 option-clue (some n) = refl
 
 -- a part with one cell more, of potential unit u
-unfoldable pub nextPart : Part → ℕ → Bool → Part
-nextPart p u k =
+unfoldable pub next_part : Part → ℕ → Bool → Part
+next_part p u k =
     record { size = p.size + 1; unit = cond (eqb p.size 0) u p.unit; clued = p.clued || k }
 
-abbrev pub firstClue : Clue → Clue → Clue
-firstClue Free k = k
-firstClue (Is n) k = Is n
+abbrev pub first_clue : Clue → Clue → Clue
+first_clue Free k = k
+first_clue (Is n) k = Is n
 
 -- a census with one cell more, of colour c
-unfoldable pub nextCensus : Census → Bool → ℕ → Clue → Census
-nextCensus t true u k =
-    record { zero = t.zero; one = nextPart t.one u (is_some (optionOf k)); clue = firstClue t.clue k }
-nextCensus t false u k =
-    record { zero = nextPart t.zero u (is_some (optionOf k)); one = t.one; clue = firstClue t.clue k }
+unfoldable pub next_census : Census → Bool → ℕ → Clue → Census
+next_census t true u k =
+    record { zero = t.zero; one = next_part t.one u (is_some (option_of k)); clue = first_clue t.clue k }
+next_census t false u k =
+    record { zero = next_part t.zero u (is_some (option_of k)); one = t.one; clue = first_clue t.clue k }
 
 abbrev pub no_part : Part
 no_part = record { size = 0; unit = 0; clued = false }
 
-abbrev pub noCensus : Census
-noCensus = record { zero = no_part; one = no_part; clue = Free }
+abbrev pub no_census : Census
+no_census = record { zero = no_part; one = no_part; clue = Free }
 
-module _ (colourAt : ℕ → Bool) (clueAt : ℕ → Option ℕ) (unit_at : ℕ → ℕ) where
-  unfoldable pub ofColour : Bool → List ℕ → List ℕ
-  ofColour c xs = filter (λ x. beq (colourAt x) c) xs
+module _ (colour_at : ℕ → Bool) (clue_at : ℕ → Option ℕ) (unit_at : ℕ → ℕ) where
+  unfoldable pub of_colour : Bool → List ℕ → List ℕ
+  of_colour c xs = filter (λ x. beq (colour_at x) c) xs
 
-  unfoldable pub colourUnit : List ℕ → Bool → ℕ
-  colourUnit xs c = firstIn unit_at (ofColour c xs)
+  unfoldable pub colour_unit : List ℕ → Bool → ℕ
+  colour_unit xs c = first_in unit_at (of_colour c xs)
 
-  unfoldable pub hasClue : List ℕ → Bool
-  hasClue xs = any (λ y. is_some (clueAt y)) xs
+  unfoldable pub has_clue : List ℕ → Bool
+  has_clue xs = any (λ y. is_some (clue_at y)) xs
 
-  unfoldable pub colourPart : Bool → List ℕ → Part
-  colourPart c xs =
-      record { size = length (ofColour c xs); unit = colourUnit xs c; clued = hasClue (ofColour c xs) }
+  unfoldable pub colour_part : Bool → List ℕ → Part
+  colour_part c xs =
+      record { size = length (of_colour c xs); unit = colour_unit xs c; clued = has_clue (of_colour c xs) }
 
-  unfoldable pub censusOf : List ℕ → Census
-  censusOf xs =
-      record { zero = colourPart false xs; one = colourPart true xs; clue = clueIn (blockClue clueAt xs) }
+  unfoldable pub census_of : List ℕ → Census
+  census_of xs =
+      record { zero = colour_part false xs; one = colour_part true xs; clue = clue_in (block_clue clue_at xs) }
 
   -- ---- laws
 
@@ -88,17 +88,17 @@ module _ (colourAt : ℕ → Bool) (clueAt : ℕ → Option ℕ) (unit_at : ℕ 
   snoc xs x = xs ++ (x ∷ [])
 
   pub coloured-more : (c : Bool) (xs : List ℕ) (x : ℕ)
-      → ofColour c (snoc xs x) ≡ ofColour c xs ++ keepIf (beq (colourAt x) c) x []
-  unfolding ofColour filter
-  coloured-more c xs x = filter-append (λ y. beq (colourAt y) c) xs (x ∷ [])
+      → of_colour c (snoc xs x) ≡ of_colour c xs ++ keep_if (beq (colour_at x) c) x []
+  unfolding of_colour filter
+  coloured-more c xs x = filter-append (λ y. beq (colour_at y) c) xs (x ∷ [])
 
   -- the cells ys of a part, with x put last
-  abbrev partFrom : List ℕ → Part
-  partFrom ys = record { size = length ys; unit = firstIn unit_at ys; clued = hasClue ys }
+  abbrev part_from : List ℕ → Part
+  part_from ys = record { size = length ys; unit = first_in unit_at ys; clued = has_clue ys }
 
   part-put : (ys : List ℕ) (x : ℕ)
-      → partFrom (snoc ys x) ≡ nextPart (partFrom ys) (unit_at x) (is_some (clueAt x))
-  unfolding hasClue any nextPart
+      → part_from (snoc ys x) ≡ next_part (part_from ys) (unit_at x) (is_some (clue_at x))
+  unfolding has_clue any next_part
   part-put ys x =
       λ i. record {
         size = size i;
@@ -110,60 +110,60 @@ module _ (colourAt : ℕ → Bool) (clueAt : ℕ → Option ℕ) (unit_at : ℕ 
       size = length-append ys (x ∷ [])
 
       unit : (zs : List ℕ)
-          → firstIn unit_at (snoc zs x)
-          ≡ cond (eqb (length zs) 0) (unit_at x) (firstIn unit_at zs)
+          → first_in unit_at (snoc zs x)
+          ≡ cond (eqb (length zs) 0) (unit_at x) (first_in unit_at zs)
       unit [] = refl
       unit (z ∷ zs) = rw (ne_eqb (length (z ∷ zs)) 0 (λ e. let q : length (z ∷ zs) ≡ 0 = e in omega arith))
 
-      clued : hasClue (snoc ys x) ≡ (hasClue ys || is_some (clueAt x))
-      clued = any_append (λ y. is_some (clueAt y)) ys (x ∷ []) ∙ ap (λ b. hasClue ys || b) (or-false (is_some (clueAt x)))
+      clued : has_clue (snoc ys x) ≡ (has_clue ys || is_some (clue_at x))
+      clued = any_append (λ y. is_some (clue_at y)) ys (x ∷ []) ∙ ap (λ b. has_clue ys || b) (or-false (is_some (clue_at x)))
 
-  part-more : (c : Bool) (xs : List ℕ) (x : ℕ) (b : Bool) → beq (colourAt x) c ≡ b
-      → colourPart c (snoc xs x) ≡ cond b (nextPart (colourPart c xs) (unit_at x) (is_some (clueAt x))) (colourPart c xs)
-  unfolding colourPart colourUnit
+  part-more : (c : Bool) (xs : List ℕ) (x : ℕ) (b : Bool) → beq (colour_at x) c ≡ b
+      → colour_part c (snoc xs x) ≡ cond b (next_part (colour_part c xs) (unit_at x) (is_some (clue_at x))) (colour_part c xs)
+  unfolding colour_part colour_unit
   part-more c xs x b e =
-      ap partFrom (coloured-more c xs x ∙ ap (λ (d : Bool). ofColour c xs ++ keepIf d x []) e) ∙ go b
+      ap part_from (coloured-more c xs x ∙ ap (λ (d : Bool). of_colour c xs ++ keep_if d x []) e) ∙ go b
     where
       go : (d : Bool)
-          → partFrom (ofColour c xs ++ keepIf d x [])
-          ≡ cond d (nextPart (partFrom (ofColour c xs)) (unit_at x) (is_some (clueAt x))) (partFrom (ofColour c xs))
-      go true = part-put (ofColour c xs) x
-      go false = ap partFrom (append-nil (ofColour c xs))
+          → part_from (of_colour c xs ++ keep_if d x [])
+          ≡ cond d (next_part (part_from (of_colour c xs)) (unit_at x) (is_some (clue_at x))) (part_from (of_colour c xs))
+      go true = part-put (of_colour c xs) x
+      go false = ap part_from (append-nil (of_colour c xs))
 
   pub clue-more : (xs : List ℕ) (x : ℕ)
-      → clueIn (blockClue clueAt (snoc xs x)) ≡ firstClue (clueIn (blockClue clueAt xs)) (clueIn (clueAt x))
-  unfolding blockClue firstHit or_else
-  clue-more xs x = ap clueIn (first-append clueAt xs (x ∷ [])) ∙ go (firstHit clueAt xs) (clueAt x)
+      → clue_in (block_clue clue_at (snoc xs x)) ≡ first_clue (clue_in (block_clue clue_at xs)) (clue_in (clue_at x))
+  unfolding block_clue first_hit or_else
+  clue-more xs x = ap clue_in (first-append clue_at xs (x ∷ [])) ∙ go (first_hit clue_at xs) (clue_at x)
     where
-      go : (o k : Option ℕ) → clueIn (or_else o (or_else k none)) ≡ firstClue (clueIn o) (clueIn k)
+      go : (o k : Option ℕ) → clue_in (or_else o (or_else k none)) ≡ first_clue (clue_in o) (clue_in k)
       go none none = refl
       go none (some k) = refl
       go (some n) k = refl
 
-  pub census-none : censusOf [] ≡ noCensus
-  unfolding censusOf colourPart colourUnit ofColour filter blockClue firstHit hasClue any
+  pub census-none : census_of [] ≡ no_census
+  unfolding census_of colour_part colour_unit of_colour filter block_clue first_hit has_clue any
   census-none = refl
 
   -- one cell more is counted
   pub census-more : (xs : List ℕ) (x : ℕ)
-      → censusOf (snoc xs x) ≡ nextCensus (censusOf xs) (colourAt x) (unit_at x) (clueIn (clueAt x))
-  unfolding censusOf nextCensus
-  census-more xs x = go (colourAt x) refl
+      → census_of (snoc xs x) ≡ next_census (census_of xs) (colour_at x) (unit_at x) (clue_in (clue_at x))
+  unfolding census_of next_census
+  census-more xs x = go (colour_at x) refl
     where
-      k : is_some (clueAt x) ≡ is_some (optionOf (clueIn (clueAt x)))
-      k = ap is_some (sym (option-clue (clueAt x)))
+      k : is_some (clue_at x) ≡ is_some (option_of (clue_in (clue_at x)))
+      k = ap is_some (sym (option-clue (clue_at x)))
 
-      go : (c : Bool) → colourAt x ≡ c
-          → censusOf (snoc xs x) ≡ nextCensus (censusOf xs) c (unit_at x) (clueIn (clueAt x))
+      go : (c : Bool) → colour_at x ≡ c
+          → census_of (snoc xs x) ≡ next_census (census_of xs) c (unit_at x) (clue_in (clue_at x))
       go true e = λ i. record {
         zero = part-more false xs x false (ap (λ d. beq d false) e) i;
-        one = (part-more true xs x true (ap (λ d. beq d true) e) ∙ ap (nextPart (colourPart true xs) (unit_at x)) k)
+        one = (part-more true xs x true (ap (λ d. beq d true) e) ∙ ap (next_part (colour_part true xs) (unit_at x)) k)
             i;
         clue = clue-more xs x i;
       }
       go false e = λ i. record {
         zero = (part-more false xs x true (ap (λ d. beq d false) e)
-            ∙ ap (nextPart (colourPart false xs) (unit_at x)) k) i;
+            ∙ ap (next_part (colour_part false xs) (unit_at x)) k) i;
         one = part-more true xs x false (ap (λ d. beq d true) e) i;
         clue = clue-more xs x i;
       }

@@ -1,7 +1,7 @@
 -- A block of one cell: what is wrong with it is told by the cell's clue and the size of its potential unit.
 --
---   onlyFault k u n     the fault of a cell with clue k, potential unit u and its size n
---   loneFault x         that of the cell x
+--   only_fault k u n    the fault of a cell with clue k, potential unit u and its size n
+--   lone_fault x        that of the cell x
 --   lone-fault          it is the fault of the list of the one cell x
 use Rattle.std.specs.Prelude.{◌≡◌, Bool, false, ◌||◌, cond, [], ◌∷◌, ℕ, ◌<◌, ◌≤◌, ltb}
 use Rattle.std.proofs.Math.Path.{refl}
@@ -10,45 +10,45 @@ use Rattle.std.proofs.Math.Option.{Option, some, none}
 use Rattle.std.proofs.Common.{arith}
 use borrow.Author.Tests.{eq-eqb, lt-ltb, le-ltb}
 use Rattle.std.proofs.Math.Dec.{eqb}
-use Rattle.lists.specs.Lists.{filter, any, firstHit, or_else}
-use Rattle.rules.specs.Check.{blockClue}
+use Rattle.lists.specs.Lists.{filter, any, first_hit, or_else}
+use Rattle.rules.specs.Check.{block_clue}
 use Rattle.blocks.specs.declared.Fault.{Fault}
 use Rattle.blocks.specs.declared.Fault.TheVariants.{Clear, Inside, Edge}
-use Rattle.blocks.specs.Censuses.{ofColour, colourUnit, hasClue, colourPart, censusOf}
-use Rattle.blocks.specs.Faults.{orFault, firstFault, scanFault, smallFault, bigFault, clueFault, cellFault}
-use Rattle.blocks.specs.Faults.{censusFault, scanOn, faultOn}
+use Rattle.blocks.specs.Censuses.{of_colour, colour_unit, has_clue, colour_part, census_of}
+use Rattle.blocks.specs.Faults.{or_fault, first_fault, scan_fault, small_fault, big_fault, clue_fault, cell_fault}
+use Rattle.blocks.specs.Faults.{census_fault, scan_on, fault_on}
 
-unfoldable pub onlyFault : Option ℕ → ℕ → ℕ → Fault
-onlyFault none u size = Clear
-onlyFault (some n) u size = cond (ltb n 1) Inside (cond (ltb size n) (Edge u) Clear)
+unfoldable pub only_fault : Option ℕ → ℕ → ℕ → Fault
+only_fault none u size = Clear
+only_fault (some n) u size = cond (ltb n 1) Inside (cond (ltb size n) (Edge u) Clear)
 
-module _ (clueAt : ℕ → Option ℕ) (unit_at size_at : ℕ → ℕ) where
-  unfoldable pub loneFault : ℕ → Fault
-  loneFault x = onlyFault (clueAt x) (unit_at x) (size_at (unit_at x))
+module _ (clue_at : ℕ → Option ℕ) (unit_at size_at : ℕ → ℕ) where
+  unfoldable pub lone_fault : ℕ → Fault
+  lone_fault x = only_fault (clue_at x) (unit_at x) (size_at (unit_at x))
 
   -- one for each way that lone_fault returns
-  pub lone-free : (x : ℕ) → clueAt x ≡ none → Clear ≡ loneFault x
-  unfolding loneFault onlyFault
+  pub lone-free : (x : ℕ) → clue_at x ≡ none → Clear ≡ lone_fault x
+  unfolding lone_fault only_fault
   lone-free x e = rw e
 
-  pub lone-none : (x n : ℕ) → clueAt x ≡ some n → n ≡ 0 → Inside ≡ loneFault x
-  unfolding loneFault onlyFault
+  pub lone-none : (x n : ℕ) → clue_at x ≡ some n → n ≡ 0 → Inside ≡ lone_fault x
+  unfolding lone_fault only_fault
   lone-none x n e h = rw (e, lt-ltb n 1 (omega arith))
 
-  pub lone-fits : (x n : ℕ) → clueAt x ≡ some n → (n ≡ 0 → ⊥) → n ≤ size_at (unit_at x) → Clear ≡ loneFault x
-  unfolding loneFault onlyFault
+  pub lone-fits : (x n : ℕ) → clue_at x ≡ some n → (n ≡ 0 → ⊥) → n ≤ size_at (unit_at x) → Clear ≡ lone_fault x
+  unfolding lone_fault only_fault
   lone-fits x n e h k = rw (e, le-ltb n 1 (omega arith), le-ltb (size_at (unit_at x)) n k)
 
-  pub lone-big : (x n : ℕ) → clueAt x ≡ some n → (n ≡ 0 → ⊥) → size_at (unit_at x) < n → Edge (unit_at x) ≡ loneFault x
-  unfolding loneFault onlyFault
+  pub lone-big : (x n : ℕ) → clue_at x ≡ some n → (n ≡ 0 → ⊥) → size_at (unit_at x) < n → Edge (unit_at x) ≡ lone_fault x
+  unfolding lone_fault only_fault
   lone-big x n e h k = rw (e, le-ltb n 1 (omega arith), lt-ltb (size_at (unit_at x)) n k)
 
-  pub lone-fault : (colourAt : ℕ → Bool) (x : ℕ) → loneFault x ≡ faultOn colourAt clueAt unit_at size_at (x ∷ [])
-  unfolding loneFault onlyFault faultOn scanOn censusOf colourPart colourUnit ofColour filter hasClue any blockClue
-      firstHit
+  pub lone-fault : (colour_at : ℕ → Bool) (x : ℕ) → lone_fault x ≡ fault_on colour_at clue_at unit_at size_at (x ∷ [])
+  unfolding lone_fault only_fault fault_on scan_on census_of colour_part colour_unit of_colour filter has_clue any block_clue
+      first_hit
       or_else
-      firstFault cellFault scanFault censusFault smallFault clueFault bigFault orFault
-  lone-fault colourAt x = go (colourAt x)
+      first_fault cell_fault scan_fault census_fault small_fault clue_fault big_fault or_fault
+  lone-fault colour_at x = go (colour_at x)
     where
       same : eqb (unit_at x) (unit_at x) ≡ true
       same = eq-eqb (unit_at x) (unit_at x) refl
@@ -58,24 +58,24 @@ module _ (clueAt : ℕ → Option ℕ) (unit_at size_at : ℕ → ℕ) where
 
       ends : (b d : Bool)
           → cond b Inside (cond d (Edge (unit_at x)) Clear)
-          ≡ cond (b || false) Inside (orFault (cond d (Edge (unit_at x)) Clear) Clear)
+          ≡ cond (b || false) Inside (or_fault (cond d (Edge (unit_at x)) Clear) Clear)
       ends true d = refl
       ends false true = refl
       ends false false = refl
 
       one : (k : Option ℕ)
-          → onlyFault k (unit_at x) (size_at (unit_at x)) ≡ faultOn (λ _. true) (λ _. k) unit_at size_at (x ∷ [])
-      one none = rw (same, censusFault, none-less (size_at (unit_at x)))
+          → only_fault k (unit_at x) (size_at (unit_at x)) ≡ fault_on (λ _. true) (λ _. k) unit_at size_at (x ∷ [])
+      one none = rw (same, census_fault, none-less (size_at (unit_at x)))
       one (some n) =
-          rw (same, eq-eqb n n refl, censusFault, none-less (size_at (unit_at x)), none-less n, bigFault)
+          rw (same, eq-eqb n n refl, census_fault, none-less (size_at (unit_at x)), none-less n, big_fault)
 
       zero : (k : Option ℕ)
-          → onlyFault k (unit_at x) (size_at (unit_at x)) ≡ faultOn (λ _. false) (λ _. k) unit_at size_at (x ∷ [])
-      zero none = rw (same, censusFault, none-less (size_at (unit_at x)))
+          → only_fault k (unit_at x) (size_at (unit_at x)) ≡ fault_on (λ _. false) (λ _. k) unit_at size_at (x ∷ [])
+      zero none = rw (same, census_fault, none-less (size_at (unit_at x)))
       zero (some n) =
-          rw (same, eq-eqb n n refl, censusFault, none-less (size_at (unit_at x)), none-less n, bigFault)
+          rw (same, eq-eqb n n refl, census_fault, none-less (size_at (unit_at x)), none-less n, big_fault)
           (ends (ltb n 1) (ltb (size_at (unit_at x)) n))
 
-      go : (c : Bool) → loneFault x ≡ faultOn (λ _. c) clueAt unit_at size_at (x ∷ [])
-      go true = one (clueAt x)
-      go false = zero (clueAt x)
+      go : (c : Bool) → lone_fault x ≡ fault_on (λ _. c) clue_at unit_at size_at (x ∷ [])
+      go true = one (clue_at x)
+      go false = zero (clue_at x)

@@ -1,11 +1,11 @@
 // What step 1 asks of a block's cells: how many there are of each colour, their potential units, and the first clue.
 ghost use Rattle.std.specs.Prelude.{◌≡◌, true, ◌||◌, ◌+◌, ◌-◌, ◌<◌};
 ghost use Rattle.lists.specs.Parts.{part};
-ghost use Rattle.rules.specs.Codes.{clueOf, coloursIn, cluesIn};
+ghost use Rattle.rules.specs.Codes.{clue_of, colours_in, clues_in};
 ghost use Rattle.rules.specs.Groups.{entry};
 ghost use Rattle.rules.specs.Check.{is_some};
-ghost use Rattle.groups.specs.Grouping.{numbersIn, cells_in};
-ghost use Rattle.blocks.specs.Censuses.{clueIn, optionOf, firstClue, nextPart, censusOf};
+ghost use Rattle.groups.specs.Grouping.{numbers_in, cells_in};
+ghost use Rattle.blocks.specs.Censuses.{clue_in, option_of, first_clue, next_part, census_of};
 ghost use Rattle.blocks.specs.Arrays.{PartListed};
 
 use crate::{Census, Clue, Part};
@@ -13,7 +13,7 @@ use groups::{Grouping, cell_at, group_of};
 
 // The clue that a place of a board spells.
 pub fn clue_at(k: i32) -> Clue
-    ensures { result ≡ clueIn (clueOf k) }
+    ensures { result ≡ clue_in (clue_of k) }
 {
     if 0 <= k {
         Clue::Is(k as usize)
@@ -35,7 +35,7 @@ fn either(a: bool, b: bool) -> bool
 // A part with one cell more.
 fn next_part(p: Part, unit: usize, clued: bool) -> Part
     requires { p.size < 1024 }
-    ensures { result ≡ nextPart p unit clued }
+    ensures { result ≡ next_part p unit clued }
 {
     let clued = either(p.clued, clued);
     if p.size == 0 {
@@ -54,7 +54,7 @@ fn next_part(p: Part, unit: usize, clued: bool) -> Part
 
 // Whether a cell has a clue.
 fn is_clue(k: Clue) -> bool
-    ensures { result ≡ is_some (optionOf k) }
+    ensures { result ≡ is_some (option_of k) }
 {
     match k {
         Clue::Free => false,
@@ -64,7 +64,7 @@ fn is_clue(k: Clue) -> bool
 
 // The first of two clues.
 pub fn first_clue(a: Clue, b: Clue) -> Clue
-    ensures { result ≡ firstClue a b }
+    ensures { result ≡ first_clue a b }
 {
     match a {
         Clue::Free => b,
@@ -82,8 +82,8 @@ pub fn census<'a>(
     to: usize,
 ) -> Census
     requires { PartListed from to (cells_in blocks.now) }
-    ensures { result ≡ censusOf (coloursIn colours.now) (cluesIn clues.now)
-        (entry (numbersIn potential.now))
+    ensures { result ≡ census_of (colours_in colours.now) (clues_in clues.now)
+        (entry (numbers_in potential.now))
         (part (cells_in blocks.now) from to) }
 {
     let mut zero = Part {

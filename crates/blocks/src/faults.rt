@@ -2,17 +2,17 @@
 ghost use Rattle.std.specs.Prelude.{◌≡◌, true, false, ◌+◌, ◌-◌, ◌<◌, ◌≤◌, eqb, get_or};
 ghost use Rattle.lists.specs.Parts.{part};
 ghost use Rattle.lists.specs.Count.{bit};
-ghost use Rattle.rules.specs.Codes.{coloursIn, cluesIn};
+ghost use Rattle.rules.specs.Codes.{colours_in, clues_in};
 ghost use Rattle.rules.specs.Groups.{entry};
 ghost use Rattle.rules.specs.Check.{clash};
-ghost use Rattle.groups.specs.Grouping.{numbersIn, cells_in, startsIn, countIn};
+ghost use Rattle.groups.specs.Grouping.{numbers_in, cells_in, starts_in, count_in};
 ghost use Rattle.groups.specs.Parts.{part_of};
-ghost use Rattle.blocks.specs.Censuses.{optionOf};
-ghost use Rattle.blocks.specs.Arrays.{PartListed, GroupLists, Parted, sizeIn};
-ghost use Rattle.blocks.specs.Faults.{orFault, isFaultless, smallFault, bigFault, clueFault, censusFault, scanOn};
-ghost use Rattle.blocks.specs.Faults.{faultOn};
-ghost use Rattle.blocks.specs.Faulty.{firstFaulty};
-ghost use Rattle.blocks.specs.LoneCases.{loneFault};
+ghost use Rattle.blocks.specs.Censuses.{option_of};
+ghost use Rattle.blocks.specs.Arrays.{PartListed, GroupLists, Parted, size_in};
+ghost use Rattle.blocks.specs.Faults.{or_fault, is_faultless, small_fault, big_fault, clue_fault, census_fault, scan_on};
+ghost use Rattle.blocks.specs.Faults.{fault_on};
+ghost use Rattle.blocks.specs.Faulty.{first_faulty};
+ghost use Rattle.blocks.specs.LoneCases.{lone_fault};
 ghost use Rattle.blocks.specs.Looks.{ColourRoom};
 
 use crate::censuses::{census, clue_at, first_clue};
@@ -21,7 +21,7 @@ use groups::{Grouping, cell_at, count_of, group_of, start_of};
 
 // Whether two cells have clues that differ.
 fn clash(a: Clue, b: Clue) -> bool
-    ensures { result ≡ clash (optionOf a) (optionOf b) }
+    ensures { result ≡ clash (option_of a) (option_of b) }
 {
     let Clue::Is(m) = a else {
         return false;
@@ -34,7 +34,7 @@ fn clash(a: Clue, b: Clue) -> bool
 
 // Whether nothing is wrong.
 pub fn is_clear(f: Fault) -> bool
-    ensures { result ≡ isFaultless f }
+    ensures { result ≡ is_faultless f }
 {
     match f {
         Fault::Clear => true,
@@ -47,7 +47,7 @@ pub fn is_clear(f: Fault) -> bool
 
 // The first of two faults.
 fn or_fault(f: Fault, g: Fault) -> Fault
-    ensures { result ≡ orFault f g }
+    ensures { result ≡ or_fault f g }
 {
     if is_clear(f) {
         return g;
@@ -57,7 +57,7 @@ fn or_fault(f: Fault, g: Fault) -> Fault
 
 // What is wrong where one colour's potential unit of that size is too small for the cells of the other.
 fn small_fault(mine: Part, other: Part, size: usize) -> Fault
-    ensures { result ≡ smallFault mine other size }
+    ensures { result ≡ small_fault mine other size }
 {
     if mine.size == 0 {
         return Fault::Clear;
@@ -70,7 +70,7 @@ fn small_fault(mine: Part, other: Part, size: usize) -> Fault
 
 // What is wrong where a clue n is above the size of one colour's potential unit.
 fn big_fault(n: usize, p: Part, size: usize) -> Fault
-    ensures { result ≡ bigFault n p size }
+    ensures { result ≡ big_fault n p size }
 {
     if p.size == 0 {
         return Fault::Clear;
@@ -86,7 +86,7 @@ fn big_fault(n: usize, p: Part, size: usize) -> Fault
 
 // What is wrong with a block's clue.
 fn clue_fault(clue: Clue, p: Part, q: Part, a: usize, b: usize) -> Fault
-    ensures { result ≡ clueFault clue p q a b }
+    ensures { result ≡ clue_fault clue p q a b }
 {
     let Clue::Is(n) = clue else {
         return Fault::Clear;
@@ -102,7 +102,7 @@ fn clue_fault(clue: Clue, p: Part, q: Part, a: usize, b: usize) -> Fault
 
 // What a census shows; a and b are the sizes of the two potential units.
 fn census_fault(t: Census, a: usize, b: usize) -> Fault
-    ensures { result ≡ censusFault t a b }
+    ensures { result ≡ census_fault t a b }
 {
     let zero = t.zero;
     let one = t.one;
@@ -113,17 +113,17 @@ fn census_fault(t: Census, a: usize, b: usize) -> Fault
 
 // How many cells a group has, from the places where the groups start.
 fn size_of(potential: &Grouping, g: usize) -> usize
-    requires { (g < 1024) × (get_or (startsIn potential.now) g 0 ≤ get_or (startsIn potential.now) (g + 1) 0) }
-    ensures { result ≡ sizeIn (startsIn potential.now) g }
+    requires { (g < 1024) × (get_or (starts_in potential.now) g 0 ≤ get_or (starts_in potential.now) (g + 1) 0) }
+    ensures { result ≡ size_in (starts_in potential.now) g }
 {
     start_of(potential, g + 1) - start_of(potential, g)
 }
 
 // What is wrong with a block of the one cell c.
 fn lone_fault<'a>(clues: &'a [i32; 1024], potential: &'a Grouping, c: usize) -> Fault
-    requires { (c < 1024) × Parted (numbersIn potential.now) (startsIn potential.now) }
-    ensures { result ≡ loneFault (cluesIn clues.now) (entry (numbersIn potential.now))
-        (sizeIn (startsIn potential.now)) c }
+    requires { (c < 1024) × Parted (numbers_in potential.now) (starts_in potential.now) }
+    ensures { result ≡ lone_fault (clues_in clues.now) (entry (numbers_in potential.now))
+        (size_in (starts_in potential.now)) c }
 {
     let clue = clue_at(clues[c]);
     let Clue::Is(n) = clue else {
@@ -152,9 +152,9 @@ fn bit(colour: u8) -> usize
 // Whether nothing is wrong with `size` cells of one colour and their potential unit, beside `other` cells of the other
 // colour and the block's clue.
 fn has_room(potential: &Grouping, size: usize, unit: usize, other: usize, clue: Clue) -> bool
-    requires { (size ≡ 0 → ⊥) → (unit < 1024) × (get_or (startsIn potential.now) unit 0 ≤ get_or
-        (startsIn potential.now) (unit + 1) 0) }
-    ensures { result ≡ true → ColourRoom size other clue (sizeIn (startsIn potential.now) unit) }
+    requires { (size ≡ 0 → ⊥) → (unit < 1024) × (get_or (starts_in potential.now) unit 0 ≤ get_or
+        (starts_in potential.now) (unit + 1) 0) }
+    ensures { result ≡ true → ColourRoom size other clue (size_in (starts_in potential.now) unit) }
 {
     if size == 0 {
         return true;
@@ -194,13 +194,13 @@ fn look<'a>(
     to: usize,
 ) -> Look
     requires { PartListed from to (cells_in blocks.now)
-        × Parted (numbersIn potential.now) (startsIn potential.now) }
-    ensures { (result.settled ≡ true → result.fault ≡ faultOn (coloursIn colours.now)
-        (cluesIn clues.now) (entry (numbersIn potential.now))
-        (sizeIn (startsIn potential.now))
+        × Parted (numbers_in potential.now) (starts_in potential.now) }
+    ensures { (result.settled ≡ true → result.fault ≡ fault_on (colours_in colours.now)
+        (clues_in clues.now) (entry (numbers_in potential.now))
+        (size_in (starts_in potential.now))
         (part (cells_in blocks.now) from to))
-        × (result.settled ≡ false → scanOn (coloursIn colours.now) (cluesIn clues.now)
-        (entry (numbersIn potential.now)) (part (cells_in blocks.now) from to) ≡ Fault.Clear) }
+        × (result.settled ≡ false → scan_on (colours_in colours.now) (clues_in clues.now)
+        (entry (numbers_in potential.now)) (part (cells_in blocks.now) from to) ≡ Fault.Clear) }
 {
     let mut own = [1024usize; 2];
     let mut first = Clue::Free;
@@ -248,10 +248,10 @@ pub fn block_fault<'a>(
     to: usize,
 ) -> Fault
     requires { PartListed from to (cells_in blocks.now)
-        × Parted (numbersIn potential.now) (startsIn potential.now) }
-    ensures { result ≡ faultOn (coloursIn colours.now) (cluesIn clues.now)
-        (entry (numbersIn potential.now))
-        (sizeIn (startsIn potential.now))
+        × Parted (numbers_in potential.now) (starts_in potential.now) }
+    ensures { result ≡ fault_on (colours_in colours.now) (clues_in clues.now)
+        (entry (numbers_in potential.now))
+        (size_in (starts_in potential.now))
         (part (cells_in blocks.now) from to) }
 {
     if to == from + 1 {
@@ -278,14 +278,14 @@ pub fn first_faulty<'a>(
     potential: &'a Grouping,
     blocks: &'a Grouping,
 ) -> Faulty
-    requires { GroupLists (cells_in blocks.now) (startsIn blocks.now) (countIn blocks.now)
-        × Parted (numbersIn potential.now) (startsIn potential.now) }
-    ensures { result ≡ firstFaulty
-        (λ B. faultOn (coloursIn colours.now) (cluesIn clues.now)
-        (entry (numbersIn potential.now))
-        (sizeIn (startsIn potential.now))
-        (part_of (cells_in blocks.now) (startsIn blocks.now) B))
-        (countIn blocks.now) }
+    requires { GroupLists (cells_in blocks.now) (starts_in blocks.now) (count_in blocks.now)
+        × Parted (numbers_in potential.now) (starts_in potential.now) }
+    ensures { result ≡ first_faulty
+        (λ B. fault_on (colours_in colours.now) (clues_in clues.now)
+        (entry (numbers_in potential.now))
+        (size_in (starts_in potential.now))
+        (part_of (cells_in blocks.now) (starts_in blocks.now) B))
+        (count_in blocks.now) }
 {
     let count = count_of(blocks);
     let mut b = 0;

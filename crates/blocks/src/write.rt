@@ -1,10 +1,10 @@
 // Step 1's reason, written from the start of a reason's memory.
 ghost use Rattle.std.specs.Prelude.{◌≡◌, length};
 ghost use Rattle.rules.specs.Flat.{Sized};
-ghost use Rattle.groups.specs.Grouping.{numbersIn};
+ghost use Rattle.groups.specs.Grouping.{numbers_in};
 ghost use Rattle.reasons.specs.Memory.{Spare, Wrote};
-ghost use Rattle.reasons.specs.Arrays.{GroupAt, edgeIn};
-ghost use Rattle.blocks.specs.Written.{faultUnit, faultyLiterals};
+ghost use Rattle.reasons.specs.Arrays.{GroupAt, edge_in};
+ghost use Rattle.blocks.specs.Written.{fault_unit, faulty_literals};
 
 use crate::{Fault, Faulty};
 use groups::Grouping;
@@ -23,8 +23,8 @@ fn edge_of<'a>(
 ) -> usize
     requires { Sized h w × (length borders.now ≡ 1984) × (length colours.now ≡ 1024)
         × GroupAt h w potential.now p × Spare memory.old start }
-    ensures { Wrote memory.old start (edgeIn h w colours.now borders.now
-        (numbersIn potential.now) p) memory.new result }
+    ensures { Wrote memory.old start (edge_in h w colours.now borders.now
+        (numbers_in potential.now) p) memory.new result }
 {
     let mut flagged = [0u8; 1024];
     edge(
@@ -52,10 +52,10 @@ pub fn write_fault<'a>(
     faulty: Faulty,
 ) -> usize
     requires { Sized h w × (length borders.now ≡ 1984) × (length colours.now ≡ 1024)
-        × GroupAt h w blocks.now faulty.block × GroupAt h w potential.now (faultUnit faulty.fault)
+        × GroupAt h w blocks.now faulty.block × GroupAt h w potential.now (fault_unit faulty.fault)
         × Spare memory.old 0 }
-    ensures { Wrote memory.old 0 (faultyLiterals h w colours.now borders.now
-        (numbersIn blocks.now) (numbersIn potential.now) faulty) memory.new result }
+    ensures { Wrote memory.old 0 (faulty_literals h w colours.now borders.now
+        (numbers_in blocks.now) (numbers_in potential.now) faulty) memory.new result }
 {
     let b = faulty.block;
     let fault = faulty.fault;

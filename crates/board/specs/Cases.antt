@@ -1,4 +1,4 @@
--- The definitions by cases: what `isAlien`, `fresh_of`, `decideOf` and `undoOf` give where their tests are known. And
+-- The definitions by cases: what `is_alien`, `fresh_of`, `decide_of` and `undo_of` give where their tests are known. And
 -- the number that no outcome has.
 use Rattle.std.specs.Prelude.{◌≡◌, Bool, not, cond, List, ℕ, ◌*◌, ◌<◌, ◌≤◌, ℤ, length, get_or}
 use Rattle.std.proofs.Math.Path.{refl, ap}
@@ -11,124 +11,124 @@ use Rattle.lists.specs.TestLaws.{all-cong}
 use Rattle.rules.specs.declared.Literal.{Literal}
 use Rattle.rules.specs.declared.Tally.{Tally}
 use Rattle.rules.specs.Codes.{code_of}
-use Rattle.rules.specs.Book.{sameTally}
+use Rattle.rules.specs.Book.{same_tally}
 use Rattle.board.specs.declared.Board.{Board}
 use Rattle.board.specs.declared.Outcome.{Outcome}
 use Rattle.board.specs.declared.Outcome.TheVariants.{Done, Size, Ragged, Colour, Clue}
 use Rattle.board.specs.declared.Outcome.TheVariants.{Alien, Border, Taken, Bare, Short}
-use Rattle.board.specs.Alien.{sizeRight, coloursRight, cluesRight, entriesRight, onceEach, borderRight}
-use Rattle.board.specs.Alien.{bordersRight, bordersBy, Flags, zerosFrom, zeroCluesFrom, puzzleRight}
-use Rattle.board.specs.Alien.{decisionsIn, tallyIn, decidedIn, unusedIn, cellCountOf, borderCountOf, isAlien}
-use Rattle.board.specs.Board.{number_of, zeroBoard, freshBoard, returned, puzzleRefusal, fresh_of, pushed, popped}
-use Rattle.board.specs.Board.{decideRefusal, decideOf, undoRefusal, undoOf}
+use Rattle.board.specs.Alien.{size_right, colours_right, clues_right, entries_right, once_each, border_right}
+use Rattle.board.specs.Alien.{borders_right, borders_by, Flags, zeros_from, zero_clues_from, puzzle_right}
+use Rattle.board.specs.Alien.{decisions_in, tally_in, decided_in, unused_in, cell_count_of, border_count_of, is_alien}
+use Rattle.board.specs.Board.{number_of, zero_board, fresh_board, returned, puzzle_refusal, fresh_of, pushed, popped}
+use Rattle.board.specs.Board.{decide_refusal, decide_of, undo_refusal, undo_of}
 
 -- a puzzle whose board can be made, where the page has n cells
 pub record PuzzleFit (n : ℕ) (cs : List ℕ) (ks : List ℤ) : Type 0 where
   pub colours : length cs ≡ n
   pub clues : length ks ≡ n
-  pub colour : coloursRight cs n ≡ true
-  pub clue : cluesRight ks n ≡ true
+  pub colour : colours_right cs n ≡ true
+  pub clue : clues_right ks n ≡ true
 
 -- ---- the alien test
 module _ (n : ℕ) (cs : List ℕ) (ks : List ℤ) where
-  pub cells-colours : coloursRight cs n ≡ false → false ≡ puzzleRight n cs ks
-  unfolding puzzleRight
+  pub cells-colours : colours_right cs n ≡ false → false ≡ puzzle_right n cs ks
+  unfolding puzzle_right
   cells-colours r = rw r
 
-  pub cells-clues : (a : Bool) → coloursRight cs n ≡ true → a ≡ cluesRight ks n → a ≡ puzzleRight n cs ks
-  unfolding puzzleRight
+  pub cells-clues : (a : Bool) → colours_right cs n ≡ true → a ≡ clues_right ks n → a ≡ puzzle_right n cs ks
+  unfolding puzzle_right
   cells-clues a r s = rw r s
 
 module _ (m : ℕ) (bs st : List ℕ) (count : ℕ) where
   module _ (n : ℕ) (cs : List ℕ) (ks : List ℤ) where
-    pub unused-colours : zerosFrom cs n ≡ false → false ≡ unusedIn n m cs ks bs st count
-    unfolding unusedIn
+    pub unused-colours : zeros_from cs n ≡ false → false ≡ unused_in n m cs ks bs st count
+    unfolding unused_in
     unused-colours r = rw r
 
-    pub unused-clues : zerosFrom cs n ≡ true → zeroCluesFrom ks n ≡ false → false ≡ unusedIn n m cs ks bs st count
-    unfolding unusedIn
+    pub unused-clues : zeros_from cs n ≡ true → zero_clues_from ks n ≡ false → false ≡ unused_in n m cs ks bs st count
+    unfolding unused_in
     unused-clues r s = rw (r, s)
 
-    pub unused-borders : zerosFrom cs n ≡ true → zeroCluesFrom ks n ≡ true → zerosFrom bs m ≡ false
-        → false ≡ unusedIn n m cs ks bs st count
-    unfolding unusedIn
+    pub unused-borders : zeros_from cs n ≡ true → zero_clues_from ks n ≡ true → zeros_from bs m ≡ false
+        → false ≡ unused_in n m cs ks bs st count
+    unfolding unused_in
     unused-borders r s t = rw (r, s, t)
 
-    pub unused-stack : (a : Bool) → zerosFrom cs n ≡ true → zeroCluesFrom ks n ≡ true → zerosFrom bs m ≡ true
-        → a ≡ zerosFrom st count → a ≡ unusedIn n m cs ks bs st count
-    unfolding unusedIn
+    pub unused-stack : (a : Bool) → zeros_from cs n ≡ true → zero_clues_from ks n ≡ true → zeros_from bs m ≡ true
+        → a ≡ zeros_from st count → a ≡ unused_in n m cs ks bs st count
+    unfolding unused_in
     unused-stack a r s t u = rw (r, s, t) u
 
   module _ (y : Tally) where
-    pub decisions-many : m < count → false ≡ decidedIn m bs st count y
-    unfolding decidedIn decisionsIn
+    pub decisions-many : m < count → false ≡ decided_in m bs st count y
+    unfolding decided_in decisions_in
     decisions-many t = rw (lt-leb count m t)
 
-    pub decisions-entries : count ≤ m → entriesRight st m count ≡ false → false ≡ decidedIn m bs st count y
-    unfolding decidedIn decisionsIn
+    pub decisions-entries : count ≤ m → entries_right st m count ≡ false → false ≡ decided_in m bs st count y
+    unfolding decided_in decisions_in
     decisions-entries t u = rw (le-leb count m t, u)
 
-    pub decisions-twice : count ≤ m → entriesRight st m count ≡ true → onceEach st count ≡ false
-        → false ≡ decidedIn m bs st count y
-    unfolding decidedIn decisionsIn
+    pub decisions-twice : count ≤ m → entries_right st m count ≡ true → once_each st count ≡ false
+        → false ≡ decided_in m bs st count y
+    unfolding decided_in decisions_in
     decisions-twice t u v = rw (le-leb count m t, u, v)
 
-    pub decisions-wrong : decisionsIn m bs st count ≡ false → false ≡ decidedIn m bs st count y
-    unfolding decidedIn
+    pub decisions-wrong : decisions_in m bs st count ≡ false → false ≡ decided_in m bs st count y
+    unfolding decided_in
     decisions-wrong e = rw e
 
-    pub decisions-tally : (a : Bool) → decisionsIn m bs st count ≡ true → a ≡ sameTally y (tallyIn bs m)
-        → a ≡ decidedIn m bs st count y
-    unfolding decidedIn
+    pub decisions-tally : (a : Bool) → decisions_in m bs st count ≡ true → a ≡ same_tally y (tally_in bs m)
+        → a ≡ decided_in m bs st count y
+    unfolding decided_in
     decisions-tally a e f = rw e f
 
-  pub decisions-borders : (vs : List Bool) (a : Bool) → count ≤ m → m ≤ 1984 → entriesRight st m count ≡ true
-      → Flags st count true vs → a ≡ bordersBy bs vs m → a ≡ decisionsIn m bs st count
-  unfolding decisionsIn bordersBy bordersRight
+  pub decisions-borders : (vs : List Bool) (a : Bool) → count ≤ m → m ≤ 1984 → entries_right st m count ≡ true
+      → Flags st count true vs → a ≡ borders_by bs vs m → a ≡ decisions_in m bs st count
+  unfolding decisions_in borders_by borders_right
   decisions-borders vs a t l r u e =
       e
-      ∙ all-cong m _ _ (λ x k. ap (λ (v : Bool). borderRight (get_or bs x 0) v) (u.flagged x (omega arith)))
+      ∙ all-cong m _ _ (λ x k. ap (λ (v : Bool). border_right (get_or bs x 0) v) (u.flagged x (omega arith)))
       ∙ rw (le-leb count m t, r, ← u.tells)
 
 module _ (b : Board) where
-  pub alien-size : sizeRight b.height b.width ≡ false → true ≡ isAlien b
-  unfolding isAlien
+  pub alien-size : size_right b.height b.width ≡ false → true ≡ is_alien b
+  unfolding is_alien
   alien-size p = rw p
 
   -- where its page has n cells and m borders
-  module _ (p : sizeRight b.height b.width ≡ true) (n m : ℕ) (q : n ≡ cellCountOf b)
-      (r : m ≡ borderCountOf b) where
-    pub alien-cells : puzzleRight n b.colours b.clues ≡ false → true ≡ isAlien b
-    unfolding isAlien
+  module _ (p : size_right b.height b.width ≡ true) (n m : ℕ) (q : n ≡ cell_count_of b)
+      (r : m ≡ border_count_of b) where
+    pub alien-cells : puzzle_right n b.colours b.clues ≡ false → true ≡ is_alien b
+    unfolding is_alien
     alien-cells s = rw (p, ← q, s)
 
-    module _ (s : puzzleRight n b.colours b.clues ≡ true) where
-      pub alien-decisions : decidedIn m b.borders b.stack b.count b.tally ≡ false → true ≡ isAlien b
-      unfolding isAlien
+    module _ (s : puzzle_right n b.colours b.clues ≡ true) where
+      pub alien-decisions : decided_in m b.borders b.stack b.count b.tally ≡ false → true ≡ is_alien b
+      unfolding is_alien
       alien-decisions t = rw (p, ← q, s, ← r, t)
 
-      pub alien-unused : (a : Bool) → decidedIn m b.borders b.stack b.count b.tally ≡ true
-          → a ≡ unusedIn n m b.colours b.clues b.borders b.stack b.count → not a ≡ isAlien b
-      unfolding isAlien
+      pub alien-unused : (a : Bool) → decided_in m b.borders b.stack b.count b.tally ≡ true
+          → a ≡ unused_in n m b.colours b.clues b.borders b.stack b.count → not a ≡ is_alien b
+      unfolding is_alien
       alien-unused a t u = rw (p, ← q, s, ← r, t, u)
 
 -- ---- decide
 module _ (m : ℕ) (bs : List ℕ) (n : ℕ) where
-  pub refusal-border : m ≤ n → Border ≡ decideRefusal m bs n
-  unfolding decideRefusal
+  pub refusal-border : m ≤ n → Border ≡ decide_refusal m bs n
+  unfolding decide_refusal
   refusal-border h = rw (le-ltb n m h)
 
-  pub refusal-taken : n < m → (get_or bs n 0 ≡ 0 → ⊥) → Taken ≡ decideRefusal m bs n
-  unfolding decideRefusal
+  pub refusal-taken : n < m → (get_or bs n 0 ≡ 0 → ⊥) → Taken ≡ decide_refusal m bs n
+  unfolding decide_refusal
   refusal-taken h f = rw (lt-ltb n m h, ne_eqb (get_or bs n 0) 0 f)
 
-  pub refusal-none : n < m → get_or bs n 0 ≡ 0 → Done ≡ decideRefusal m bs n
-  unfolding decideRefusal
+  pub refusal-none : n < m → get_or bs n 0 ≡ 0 → Done ≡ decide_refusal m bs n
+  unfolding decide_refusal
   refusal-none h f = rw (lt-ltb n m h, eq-eqb (get_or bs n 0) 0 f)
 
   -- a decide that is not refused
-  pub refusal-free : number_of (decideRefusal m bs n) ≡ 0 → (n < m) × (get_or bs n 0 ≡ 0)
-  unfolding decideRefusal
+  pub refusal-free : number_of (decide_refusal m bs n) ≡ 0 → (n < m) × (get_or bs n 0 ≡ 0)
+  unfolding decide_refusal
   refusal-free = go (ltb n m) (eqb (get_or bs n 0) 0) refl refl
     where
       go : (x y : Bool) → ltb n m ≡ x → eqb (get_or bs n 0) 0 ≡ y
@@ -138,93 +138,93 @@ module _ (m : ℕ) (bs : List ℕ) (n : ℕ) where
       go false y p q e = absurd (let z : 6 ≡ 0 = e in omega arith)
 
 module _ (b : Board) (l : Literal) where
-  pub decide-alien : isAlien b ≡ true → returned Alien b ≡ decideOf b l
-  unfolding decideOf
+  pub decide-alien : is_alien b ≡ true → returned Alien b ≡ decide_of b l
+  unfolding decide_of
   decide-alien p = rw p
 
-  module _ (p : isAlien b ≡ false) where
-    pub decide-ends : decideRefusal (borderCountOf b) b.borders l.border ≡ (decideOf b l).outcome
-    unfolding decideOf
+  module _ (p : is_alien b ≡ false) where
+    pub decide-ends : decide_refusal (border_count_of b) b.borders l.border ≡ (decide_of b l).outcome
+    unfolding decide_of
     decide-ends = rw p
 
     -- by how its tests end
-    module _ (o : Outcome) (q : o ≡ decideRefusal (borderCountOf b) b.borders l.border) where
-      pub decide-refused : (number_of o ≡ 0 → ⊥) → returned o b ≡ decideOf b l
-      unfolding decideOf
+    module _ (o : Outcome) (q : o ≡ decide_refusal (border_count_of b) b.borders l.border) where
+      pub decide-refused : (number_of o ≡ 0 → ⊥) → returned o b ≡ decide_of b l
+      unfolding decide_of
       decide-refused f = rw (p, ← q, ne_eqb (number_of o) 0 f)
 
-      pub decide-free : number_of o ≡ 0 → returned o (pushed b l.border (code_of l.side)) ≡ decideOf b l
-      unfolding decideOf
+      pub decide-free : number_of o ≡ 0 → returned o (pushed b l.border (code_of l.side)) ≡ decide_of b l
+      unfolding decide_of
       decide-free z = rw (p, ← q, eq-eqb (number_of o) 0 z)
 
-    pub decide-done : l.border < borderCountOf b → get_or b.borders l.border 0 ≡ 0
-        → returned Done (pushed b l.border (code_of l.side)) ≡ decideOf b l
-    decide-done r s = decide-free Done (refusal-none (borderCountOf b) b.borders l.border r s) refl
+    pub decide-done : l.border < border_count_of b → get_or b.borders l.border 0 ≡ 0
+        → returned Done (pushed b l.border (code_of l.side)) ≡ decide_of b l
+    decide-done r s = decide-free Done (refusal-none (border_count_of b) b.borders l.border r s) refl
 
 -- ---- undo
 module _ (b : Board) where
-  pub undo-alien : isAlien b ≡ true → returned Alien b ≡ undoOf b
-  unfolding undoOf
+  pub undo-alien : is_alien b ≡ true → returned Alien b ≡ undo_of b
+  unfolding undo_of
   undo-alien p = rw p
 
-  pub undo-ends : isAlien b ≡ false → undoRefusal b.count ≡ (undoOf b).outcome
-  unfolding undoOf
+  pub undo-ends : is_alien b ≡ false → undo_refusal b.count ≡ (undo_of b).outcome
+  unfolding undo_of
   undo-ends p = rw p
 
-  module _ (p : isAlien b ≡ false) (o : Outcome) (q : o ≡ undoRefusal b.count) where
-    pub undo-refused : (number_of o ≡ 0 → ⊥) → returned o b ≡ undoOf b
-    unfolding undoOf
+  module _ (p : is_alien b ≡ false) (o : Outcome) (q : o ≡ undo_refusal b.count) where
+    pub undo-refused : (number_of o ≡ 0 → ⊥) → returned o b ≡ undo_of b
+    unfolding undo_of
     undo-refused f = rw (p, ← q, ne_eqb (number_of o) 0 f)
 
-    pub undo-free : number_of o ≡ 0 → returned o (popped b) ≡ undoOf b
-    unfolding undoOf
+    pub undo-free : number_of o ≡ 0 → returned o (popped b) ≡ undo_of b
+    unfolding undo_of
     undo-free z = rw (p, ← q, eq-eqb (number_of o) 0 z)
 
-  pub undo-bare : isAlien b ≡ false → b.count ≡ 0 → returned Bare b ≡ undoOf b
-  unfolding undoOf undoRefusal
+  pub undo-bare : is_alien b ≡ false → b.count ≡ 0 → returned Bare b ≡ undo_of b
+  unfolding undo_of undo_refusal
   undo-bare p q = rw (p, eq-eqb b.count 0 q)
 
-  pub undo-done : isAlien b ≡ false → (b.count ≡ 0 → ⊥) → returned Done (popped b) ≡ undoOf b
-  unfolding undoOf undoRefusal
+  pub undo-done : is_alien b ≡ false → (b.count ≡ 0 → ⊥) → returned Done (popped b) ≡ undo_of b
+  unfolding undo_of undo_refusal
   undo-done p q = rw (p, ne_eqb b.count 0 q)
 
 -- an undo that is not refused
-pub refusal-some : (n : ℕ) → number_of (undoRefusal n) ≡ 0 → n ≡ 0 → ⊥
-unfolding undoRefusal
+pub refusal-some : (n : ℕ) → number_of (undo_refusal n) ≡ 0 → n ≡ 0 → ⊥
+unfolding undo_refusal
 refusal-some n e z = let x : ◌≡◌ {A = ℕ} 8 0 = rw (eq-eqb n 0 z) at e in omega arith
 
 -- ---- making a board
 module _ (n : ℕ) (cs : List ℕ) (ks : List ℤ) where
-  pub puzzle-colours : (length cs ≡ n → ⊥) → Ragged ≡ puzzleRefusal n cs ks
-  unfolding puzzleRefusal
+  pub puzzle-colours : (length cs ≡ n → ⊥) → Ragged ≡ puzzle_refusal n cs ks
+  unfolding puzzle_refusal
   puzzle-colours r = rw (ne_eqb (length cs) n r)
 
   module _ (r : length cs ≡ n) where
-    pub puzzle-clues : (length ks ≡ n → ⊥) → Ragged ≡ puzzleRefusal n cs ks
-    unfolding puzzleRefusal
+    pub puzzle-clues : (length ks ≡ n → ⊥) → Ragged ≡ puzzle_refusal n cs ks
+    unfolding puzzle_refusal
     puzzle-clues s = rw (eq-eqb (length cs) n r, ne_eqb (length ks) n s)
 
     module _ (s : length ks ≡ n) where
-      pub puzzle-colour : coloursRight cs n ≡ false → Colour ≡ puzzleRefusal n cs ks
-      unfolding puzzleRefusal
+      pub puzzle-colour : colours_right cs n ≡ false → Colour ≡ puzzle_refusal n cs ks
+      unfolding puzzle_refusal
       puzzle-colour t = rw (eq-eqb (length cs) n r, eq-eqb (length ks) n s, t)
 
-      module _ (t : coloursRight cs n ≡ true) where
-        pub puzzle-clue : cluesRight ks n ≡ false → Clue ≡ puzzleRefusal n cs ks
-        unfolding puzzleRefusal
+      module _ (t : colours_right cs n ≡ true) where
+        pub puzzle-clue : clues_right ks n ≡ false → Clue ≡ puzzle_refusal n cs ks
+        unfolding puzzle_refusal
         puzzle-clue u = rw (eq-eqb (length cs) n r, eq-eqb (length ks) n s, t, u)
 
-        pub puzzle-none : cluesRight ks n ≡ true → Done ≡ puzzleRefusal n cs ks
-        unfolding puzzleRefusal
+        pub puzzle-none : clues_right ks n ≡ true → Done ≡ puzzle_refusal n cs ks
+        unfolding puzzle_refusal
         puzzle-none u = rw (eq-eqb (length cs) n r, eq-eqb (length ks) n s, t, u)
 
   -- a puzzle that is not refused
-  pub puzzle-free : number_of (puzzleRefusal n cs ks) ≡ 0 → PuzzleFit n cs ks
-  unfolding puzzleRefusal
-  puzzle-free = go (ℕ_discrete (length cs) n) (ℕ_discrete (length ks) n) (coloursRight cs n) (cluesRight ks n) refl refl
+  pub puzzle-free : number_of (puzzle_refusal n cs ks) ≡ 0 → PuzzleFit n cs ks
+  unfolding puzzle_refusal
+  puzzle-free = go (ℕ_discrete (length cs) n) (ℕ_discrete (length ks) n) (colours_right cs n) (clues_right ks n) refl refl
     where
-      go : Dec (length cs ≡ n) → Dec (length ks ≡ n) → (c k : Bool) → coloursRight cs n ≡ c → cluesRight ks n ≡ k
-          → number_of (puzzleRefusal n cs ks) ≡ 0 → PuzzleFit n cs ks
+      go : Dec (length cs ≡ n) → Dec (length ks ≡ n) → (c k : Bool) → colours_right cs n ≡ c → clues_right ks n ≡ k
+          → number_of (puzzle_refusal n cs ks) ≡ 0 → PuzzleFit n cs ks
       go (no y) z c k p q e = absurd (let v : 2 ≡ 0 = ap number_of (puzzle-colours y) ∙ e in omega arith)
       go (yes y) (no z) c k p q e = absurd (let v : 2 ≡ 0 = ap number_of (puzzle-clues y z) ∙ e in omega arith)
       go (yes y) (yes z) false k p q e =
@@ -234,21 +234,21 @@ module _ (n : ℕ) (cs : List ℕ) (ks : List ℤ) where
       go (yes y) (yes z) true true p q e = record { colours = y; clues = z; colour = p; clue = q }
 
 module _ (h w : ℕ) (cs : List ℕ) (ks : List ℤ) where
-  pub fresh-size : sizeRight h w ≡ false → returned Size zeroBoard ≡ fresh_of h w cs ks
+  pub fresh-size : size_right h w ≡ false → returned Size zero_board ≡ fresh_of h w cs ks
   unfolding fresh_of
   fresh-size p = rw p
 
-  module _ (p : sizeRight h w ≡ true) (o : Outcome) (q : o ≡ puzzleRefusal (h * w) cs ks) where
-    pub fresh-refused : (number_of o ≡ 0 → ⊥) → returned o zeroBoard ≡ fresh_of h w cs ks
+  module _ (p : size_right h w ≡ true) (o : Outcome) (q : o ≡ puzzle_refusal (h * w) cs ks) where
+    pub fresh-refused : (number_of o ≡ 0 → ⊥) → returned o zero_board ≡ fresh_of h w cs ks
     unfolding fresh_of
     fresh-refused f = rw (p, ← q, ne_eqb (number_of o) 0 f)
 
-    pub fresh-free : number_of o ≡ 0 → returned o (freshBoard h w cs ks) ≡ fresh_of h w cs ks
+    pub fresh-free : number_of o ≡ 0 → returned o (fresh_board h w cs ks) ≡ fresh_of h w cs ks
     unfolding fresh_of
     fresh-free z = rw (p, ← q, eq-eqb (number_of o) 0 z)
 
-  pub fresh-done : sizeRight h w ≡ true → length cs ≡ h * w → length ks ≡ h * w → coloursRight cs (h * w) ≡ true
-      → cluesRight ks (h * w) ≡ true → returned Done (freshBoard h w cs ks) ≡ fresh_of h w cs ks
+  pub fresh-done : size_right h w ≡ true → length cs ≡ h * w → length ks ≡ h * w → colours_right cs (h * w) ≡ true
+      → clues_right ks (h * w) ≡ true → returned Done (fresh_board h w cs ks) ≡ fresh_of h w cs ks
   fresh-done p r s t u = fresh-free p Done (puzzle-none (h * w) cs ks r s t u) refl
 
 -- ---- "Number 11 is retired and not used again"

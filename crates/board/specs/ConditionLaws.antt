@@ -6,12 +6,12 @@ use Rattle.std.proofs.Math.Decide.{ℕ_discrete}
 use Rattle.std.proofs.lemmas.Bool.{lt-leb}
 use Rattle.lists.specs.Booleans.{and_left, and_right}
 use Rattle.lists.specs.TestLaws.{any_none, any-more, all-at}
-use Rattle.rules.specs.Flat.{Sized, borderCount}
+use Rattle.rules.specs.Flat.{Sized, border_count}
 use Rattle.laws.specs.FlatLaws.{counts, borders-le}
-use Rattle.board.specs.Alien.{sizeRight, cells_of, bordersOf, stacked, entriesRight, borderRight}
+use Rattle.board.specs.Alien.{size_right, cells_of, borders_of, stacked, entries_right, border_right}
 
-pub sized : {h w : ℕ} → sizeRight h w ≡ true → Sized h w
-unfolding sizeRight
+pub sized : {h w : ℕ} → size_right h w ≡ true → Sized h w
+unfolding size_right
 sized {h} {w} e =
     let a = and_left (leb 1 h && leb h 32 && leb 1 w) (leb w 32) e in
     let b = and_left (leb 1 h && leb h 32) (leb 1 w) a in
@@ -22,31 +22,31 @@ sized {h} {w} e =
       broad = leb-true w 32 (and_right (leb 1 h && leb h 32 && leb 1 w) (leb w 32) e);
     }
 
-pub size_is : {h w : ℕ} → Sized h w → sizeRight h w ≡ true
-unfolding sizeRight
+pub size_is : {h w : ℕ} → Sized h w → size_right h w ≡ true
+unfolding size_right
 size_is {h} {w} s = rw (le-leb 1 h s.rows, le-leb h 32 s.tall, le-leb 1 w s.columns, le-leb w 32 s.broad)
 
 pub cells-of : {h w : ℕ} → Sized h w → cells_of h w ≡ h * w
 unfolding cells_of
 cells-of s = rw (size_is s)
 
-pub borders-of : {h w : ℕ} → Sized h w → bordersOf h w ≡ borderCount h w
-unfolding bordersOf
+pub borders-of : {h w : ℕ} → Sized h w → borders_of h w ≡ border_count h w
+unfolding borders_of
 borders-of s = rw (size_is s)
 
 pub cells-of-le : (h w : ℕ) → cells_of h w ≤ 1024
 unfolding cells_of
-cells-of-le h w = go (sizeRight h w) refl
+cells-of-le h w = go (size_right h w) refl
   where
-    go : (b : Bool) → sizeRight h w ≡ b → cond b (h * w) 0 ≤ 1024
+    go : (b : Bool) → size_right h w ≡ b → cond b (h * w) 0 ≤ 1024
     go true e = (counts (sized e)).cells
     go false e = omega arith
 
-pub borders-of-le : (h w : ℕ) → bordersOf h w ≤ 1984
-unfolding bordersOf
-borders-of-le h w = go (sizeRight h w) refl
+pub borders-of-le : (h w : ℕ) → borders_of h w ≤ 1984
+unfolding borders_of
+borders-of-le h w = go (size_right h w) refl
   where
-    go : (b : Bool) → sizeRight h w ≡ b → cond b (borderCount h w) 0 ≤ 1984
+    go : (b : Bool) → size_right h w ≡ b → cond b (border_count h w) 0 ≤ 1984
     go true e = borders-le (sized e)
     go false e = omega arith
 
@@ -78,18 +78,18 @@ flags-more s vs i e p k l v x h = go (ℕ_discrete x e) ∙ sym (stacked-more s 
         ∙ or-false (stacked s i x))
 
 -- entries that are right are places of the flags
-pub entries-low : (s : List ℕ) (m n : ℕ) → entriesRight s m n ≡ true → m ≤ 1984 → (i : ℕ) → i < n → get_or s i 0 < 1984
-unfolding entriesRight
+pub entries-low : (s : List ℕ) (m n : ℕ) → entries_right s m n ≡ true → m ≤ 1984 → (i : ℕ) → i < n → get_or s i 0 < 1984
+unfolding entries_right
 entries-low s m n e h i l = omega (arith, ltb-true (get_or s i 0) m (all-at n (λ j. ltb (get_or s j 0) m) i e l))
 
 -- ---- a border place
-pub border-undecided : (v : ℕ) (on : Bool) → v ≡ 0 → not on ≡ borderRight v on
+pub border-undecided : (v : ℕ) (on : Bool) → v ≡ 0 → not on ≡ border_right v on
 border-undecided v true p = rw p
 border-undecided v false p = rw p
 
-pub border-decided : (v : ℕ) (on : Bool) → (v ≡ 0 → ⊥) → v ≤ 2 → on ≡ borderRight v on
+pub border-decided : (v : ℕ) (on : Bool) → (v ≡ 0 → ⊥) → v ≤ 2 → on ≡ border_right v on
 border-decided v true p q = rw (ne_eqb v 0 p, le-leb v 2 q)
 border-decided v false p q = rw (ne_eqb v 0 p, le-leb v 2 q)
 
-pub border-far : (v : ℕ) (on : Bool) → 2 < v → false ≡ borderRight v on
+pub border-far : (v : ℕ) (on : Bool) → 2 < v → false ≡ border_right v on
 border-far v on p = rw (lt-leb v 2 p)

@@ -21,9 +21,9 @@ use Rattle.board.specs.declared.Outcome.{Outcome}
 use Rattle.board.specs.declared.Outcome.TheVariants.{Done, Size, Ragged, Colour, Clue}
 use Rattle.board.specs.declared.Outcome.TheVariants.{Alien, Border, Taken, Bare, Short}
 use Rattle.board.specs.declared.Returned.{Returned}
-use Rattle.board.specs.Alien.{stacked, tallyIn, borderCountOf, boardWith, isAlien}
-use Rattle.board.specs.Board.{number_of, returned, sideCount, tallyMore, tallyLess, pushed, popped, decideRefusal}
-use Rattle.board.specs.Board.{decideOf, undoOf, Typed}
+use Rattle.board.specs.Alien.{stacked, tally_in, border_count_of, board_with, is_alien}
+use Rattle.board.specs.Board.{number_of, returned, side_count, tally_more, tally_less, pushed, popped, decide_refusal}
+use Rattle.board.specs.Board.{decide_of, undo_of, Typed}
 use Rattle.board.specs.ConditionLaws.{stacked-more}
 use Rattle.board.specs.Cases.{refusal-free, decide-alien, decide-refused, decide-done}
 use Rattle.board.specs.Cases.{undo-alien, undo-bare, undo-done}
@@ -38,14 +38,14 @@ side-code Open = (omega arith, omega arith)
 -- ---- what a call that is done says
 -- a decide of l took b to d
 pub record Decided (b : Board) (l : Literal) (d : Board) : Type 0 where
-  pub known : isAlien b ≡ false
-  pub below : l.border < borderCountOf b
+  pub known : is_alien b ≡ false
+  pub below : l.border < border_count_of b
   pub free : get_or b.borders l.border 0 ≡ 0
   pub is : d ≡ pushed b l.border (code_of l.side)
 
 -- an undo took b to d
 pub record Undone (b d : Board) : Type 0 where
-  pub known : isAlien b ≡ false
+  pub known : is_alien b ≡ false
   pub some : 0 < b.count
   pub is : d ≡ popped b
 
@@ -69,17 +69,17 @@ done-returned r e = let p = done-is r.outcome e in λ i. record { outcome = p i;
 pub one_number : {o p : Outcome} {b d : Board} → returned o b ≡ returned p d → number_of o ≡ number_of p
 one_number e = ap (λ (r : Returned). number_of r.outcome) e
 
-pub decided-is : {b : Board} {l : Literal} {d : Board} → decideOf b l ≡ returned Done d → Decided b l d
-decided-is {b} {l} {d} e = go (isAlien b) refl (ℕ_discrete (number_of o) 0)
+pub decided-is : {b : Board} {l : Literal} {d : Board} → decide_of b l ≡ returned Done d → Decided b l d
+decided-is {b} {l} {d} e = go (is_alien b) refl (ℕ_discrete (number_of o) 0)
   where
     o : Outcome
-    o = decideRefusal (borderCountOf b) b.borders l.border
+    o = decide_refusal (border_count_of b) b.borders l.border
 
-    go : (x : Bool) → isAlien b ≡ x → Dec (number_of o ≡ 0) → Decided b l d
+    go : (x : Bool) → is_alien b ≡ x → Dec (number_of o ≡ 0) → Decided b l d
     go true p y = absurd (let h : 5 ≡ 0 = one_number (decide-alien b l p ∙ e) in omega arith)
     go false p (no y) = absurd (y (one_number (decide-refused b l p o refl y ∙ e)))
     go false p (yes y) =
-        let f = refusal-free (borderCountOf b) b.borders l.border y in
+        let f = refusal-free (border_count_of b) b.borders l.border y in
         record {
           known = p;
           below = f.0;
@@ -87,10 +87,10 @@ decided-is {b} {l} {d} e = go (isAlien b) refl (ℕ_discrete (number_of o) 0)
           is = ap (λ (r : Returned). r.board) (sym e ∙ sym (decide-done b l p f.0 f.1));
         }
 
-pub undone-is : {b d : Board} → undoOf b ≡ returned Done d → Undone b d
-undone-is {b} {d} e = go (isAlien b) (ℕ_discrete b.count 0) refl
+pub undone-is : {b d : Board} → undo_of b ≡ returned Done d → Undone b d
+undone-is {b} {d} e = go (is_alien b) (ℕ_discrete b.count 0) refl
   where
-    go : (x : Bool) → Dec (b.count ≡ 0) → isAlien b ≡ x → Undone b d
+    go : (x : Bool) → Dec (b.count ≡ 0) → is_alien b ≡ x → Undone b d
     go true z p = absurd (let h : 5 ≡ 0 = one_number (undo-alien b p ∙ e) in omega arith)
     go false (yes z) p = absurd (let h : 8 ≡ 0 = one_number (undo-bare b p z ∙ e) in omega arith)
     go false (no z) p =
@@ -116,7 +116,7 @@ stacked-set s c n x h =
 
 -- ---- a decide
 module _ (b : Board) (N : Native b) (B : length b.borders ≡ 1984) (S : length b.stack ≡ 1984) (n v : ℕ)
-    (k : n < borderCountOf b) (p : get_or b.borders n 0 ≡ 0) where
+    (k : n < border_count_of b) (p : get_or b.borders n 0 ≡ 0) where
   abbrev s : List ℕ
   s = set b.stack b.count n
 
@@ -147,16 +147,16 @@ module _ (b : Board) (N : Native b) (B : length b.borders ≡ 1984) (S : length 
         code = λ x h. code x h (ℕ_discrete x n);
         held = λ x h. held x h (ℕ_discrete x n);
         tally =
-            ap (λ (t : Tally). tallyMore t (side_in v)) N.tally
-            ∙ sym (tally-set b.borders (borderCountOf b) n v k index p w z);
-        noColour = N.noColour;
-        noClue = N.noClue;
-        noBorder = λ x h. get_or-set_other b.borders n x v 0 (λ q. let e : x ≡ n = q in omega arith) ∙ N.noBorder x h;
-        noEntry = λ i h. old-entry i (λ q. let e : i ≡ b.count = q in omega arith) ∙ N.noEntry i (omega arith);
+            ap (λ (t : Tally). tally_more t (side_in v)) N.tally
+            ∙ sym (tally-set b.borders (border_count_of b) n v k index p w z);
+        no_colour = N.no_colour;
+        no_clue = N.no_clue;
+        no_border = λ x h. get_or-set_other b.borders n x v 0 (λ q. let e : x ≡ n = q in omega arith) ∙ N.no_border x h;
+        no_entry = λ i h. old-entry i (λ q. let e : i ≡ b.count = q in omega arith) ∙ N.no_entry i (omega arith);
       }
     where
       m : ℕ
-      m = borderCountOf b
+      m = border_count_of b
 
       entry : (i : ℕ) → i < b.count + 1 → Dec (i ≡ b.count) → get_or s i 0 < m
       entry i h (yes d) = let e : get_or s i 0 ≡ n = ap (λ j. get_or s j 0) d ∙ new-entry in omega arith
@@ -218,29 +218,29 @@ module _ (b : Board) (N : Native b) (B : length b.borders ≡ 1984) (S : length 
       let es : set s (b.count + 1 - 1) 0 ≡ b.stack =
       ap (λ y. set s y 0) ec
       ∙ set-set b.stack b.count n 0
-      ∙ ap (λ y. set b.stack b.count y) (sym (N.noEntry b.count (omega arith)))
+      ∙ ap (λ y. set b.stack b.count y) (sym (N.no_entry b.count (omega arith)))
       ∙ set-get_or b.stack b.count 0 in
-      let et : tallyLess (tallyMore b.tally (side_in v))
+      let et : tally_less (tally_more b.tally (side_in v))
       (side_in (get_or (set b.borders n v) (get_or s (b.count + 1 - 1) 0) 0)) ≡ b.tally =
-      ap (λ y. tallyLess (tallyMore b.tally (side_in v)) (side_in (get_or (set b.borders n v) y 0)))
+      ap (λ y. tally_less (tally_more b.tally (side_in v)) (side_in (get_or (set b.borders n v) y 0)))
       (ap (λ q. get_or s q 0) ec ∙ new-entry)
-      ∙ ap (λ y. tallyLess (tallyMore b.tally (side_in v)) (side_in y)) (get_or-set_same b.borders n v 0 index)
+      ∙ ap (λ y. tally_less (tally_more b.tally (side_in v)) (side_in y)) (get_or-set_same b.borders n v 0 index)
       ∙ less-more b.tally (side_in v) (free-left b N n k p) in
-      λ i. boardWith b (eb i) (es i) (ec i) (et i)
+      λ i. board_with b (eb i) (es i) (ec i) (et i)
 
 -- ---- an undo
 -- the board with its entry k taken off
-abbrev pub poppedAt : Board → ℕ → Board
-poppedAt b k =
+abbrev pub popped_at : Board → ℕ → Board
+popped_at b k =
     let n = get_or b.stack k 0 in
-    boardWith b (set b.borders n 0) (set b.stack k 0) k (tallyLess b.tally (side_in (get_or b.borders n 0)))
+    board_with b (set b.borders n 0) (set b.stack k 0) k (tally_less b.tally (side_in (get_or b.borders n 0)))
 
 module _ (b : Board) (N : Native b) (B : length b.borders ≡ 1984) (S : length b.stack ≡ 1984) (k : ℕ)
     (e : b.count ≡ k + 1) where
   last : ℕ
   last = get_or b.stack k 0
 
-  last-below : last < borderCountOf b
+  last-below : last < border_count_of b
   unfolding last
   last-below = N.entry k (omega arith)
 
@@ -266,46 +266,46 @@ module _ (b : Board) (N : Native b) (B : length b.borders ≡ 1984) (S : length 
   side = side_in (get_or b.borders last 0)
 
   abbrev rest : Tally
-  rest = tallyIn (set b.borders last 0) (borderCountOf b)
+  rest = tally_in (set b.borders last 0) (border_count_of b)
 
   rest_some : 0 < rest.undecided
   rest_some =
-      codes-some (set b.borders last 0) (borderCountOf b) last 0 last-below
+      codes-some (set b.borders last 0) (border_count_of b) last 0 last-below
       (get_or-set_same b.borders last 0 0 last-index)
 
-  rest_more : b.tally ≡ tallyMore rest side
+  rest_more : b.tally ≡ tally_more rest side
   rest_more =
       let v = get_or b.borders last 0 in
       let c = N.code last last-below in
       N.tally
-      ∙ ap (λ (bs : List ℕ). tallyIn bs (borderCountOf b))
+      ∙ ap (λ (bs : List ℕ). tally_in bs (border_count_of b))
       (sym (set-set b.borders last 0 v ∙ set-get_or b.borders last 0))
-      ∙ tally-set (set b.borders last 0) (borderCountOf b) last v last-below
+      ∙ tally-set (set b.borders last 0) (border_count_of b) last v last-below
       (let q = length-set b.borders last 0 in let r = last-index in omega arith)
       (get_or-set_same b.borders last 0 0 last-index) (one_up v last-held) c
     where
       one_up : (v : ℕ) → (v ≡ 0 → ⊥) → 1 ≤ v
       one_up v f = omega arith
 
-  rest-is : tallyLess b.tally side ≡ rest
-  rest-is = ap (λ (t : Tally). tallyLess t side) rest_more ∙ less-more rest side rest_some
+  rest-is : tally_less b.tally side ≡ rest
+  rest-is = ap (λ (t : Tally). tally_less t side) rest_more ∙ less-more rest side rest_some
 
   -- the last decision made again
-  pub tally-again : tallyMore (tallyLess b.tally (side_in (get_or b.borders (get_or b.stack k 0) 0)))
+  pub tally-again : tally_more (tally_less b.tally (side_in (get_or b.borders (get_or b.stack k 0) 0)))
       (side_in (get_or b.borders (get_or b.stack k 0) 0)) ≡ b.tally
   unfolding last
-  tally-again = ap (λ (t : Tally). tallyMore t side) rest-is ∙ sym rest_more
+  tally-again = ap (λ (t : Tally). tally_more t side) rest-is ∙ sym rest_more
 
   -- its side is counted
-  pub side-counted : 0 < sideCount b.tally (side_in (get_or b.borders (get_or b.stack k 0) 0))
+  pub side-counted : 0 < side_count b.tally (side_in (get_or b.borders (get_or b.stack k 0) 0))
   unfolding last
   side-counted = rw rest_more (more-some rest side)
     where
-      more-some : (t : Tally) (d : Side) → 0 < sideCount (tallyMore t d) d
+      more-some : (t : Tally) (d : Side) → 0 < side_count (tally_more t d) d
       more-some t Wall = omega arith
       more-some t Open = omega arith
 
-  pub popped-native : Native (poppedAt b k)
+  pub popped-native : Native (popped_at b k)
   unfolding last
   popped-native =
       record {
@@ -322,17 +322,17 @@ module _ (b : Board) (N : Native b) (B : length b.borders ≡ 1984) (S : length 
         code = λ x h. code x h (ℕ_discrete x last);
         held = λ x h. held x h (ℕ_discrete x last);
         tally = rest-is;
-        noColour = N.noColour;
-        noClue = N.noClue;
-        noBorder =
+        no_colour = N.no_colour;
+        no_clue = N.no_clue;
+        no_border =
             λ x h.
             let l = last-below in
-            get_or-set_other b.borders last x 0 0 (λ q. let r : x ≡ last = q in omega arith) ∙ N.noBorder x h;
-        noEntry = λ i h. noEntry i h (ℕ_discrete i k);
+            get_or-set_other b.borders last x 0 0 (λ q. let r : x ≡ last = q in omega arith) ∙ N.no_border x h;
+        no_entry = λ i h. no_entry i h (ℕ_discrete i k);
       }
     where
       m : ℕ
-      m = borderCountOf b
+      m = border_count_of b
 
       old : (i : ℕ) → (i ≡ k → ⊥) → get_or (set b.stack k 0) i 0 ≡ get_or b.stack i 0
       old i d = get_or-set_other b.stack k i 0 0 d
@@ -359,13 +359,13 @@ module _ (b : Board) (N : Native b) (B : length b.borders ≡ 1984) (S : length 
           ∙ ap (λ (t : Bool). stacked b.stack k x || t) (ne_eqb last x (λ q. d (sym q)))
           ∙ or-false (stacked b.stack k x)))
 
-      noEntry : (i : ℕ) → k ≤ i → Dec (i ≡ k) → get_or (set b.stack k 0) i 0 ≡ 0
-      noEntry i h (yes d) =
+      no_entry : (i : ℕ) → k ≤ i → Dec (i ≡ k) → get_or (set b.stack k 0) i 0 ≡ 0
+      no_entry i h (yes d) =
           let g = S in
           rw d (get_or-set_same b.stack k 0 0 (omega (arith, borders-fit b N, N.few)))
-      noEntry i h (no d) = old i d ∙ N.noEntry i (omega arith)
+      no_entry i h (no d) = old i d ∙ N.no_entry i (omega arith)
 
-  pub popped-typed : Typed b → Typed (poppedAt b k)
+  pub popped-typed : Typed b → Typed (popped_at b k)
   popped-typed T =
       record {
         colours = T.colours;
@@ -377,34 +377,34 @@ module _ (b : Board) (N : Native b) (B : length b.borders ≡ 1984) (S : length 
 
 -- ---- the calls
 pub decide-keeps : (b : Board) (l : Literal) {d : Board} → length b.borders ≡ 1984 → length b.stack ≡ 1984
-    → decideOf b l ≡ returned Done d → isAlien d ≡ false
+    → decide_of b l ≡ returned Done d → is_alien d ≡ false
 decide-keeps b l B S e =
     let f = decided-is e in
     let c = side-code l.side in
-    ap isAlien f.is
+    ap is_alien f.is
     ∙ native-of _ (pushed-native b (native-has b f.known) B S _ _ f.below f.free c.0 c.1)
 
-pub decided-typed : (b : Board) (l : Literal) {d : Board} → Typed b → decideOf b l ≡ returned Done d → Typed d
+pub decided-typed : (b : Board) (l : Literal) {d : Board} → Typed b → decide_of b l ≡ returned Done d → Typed d
 decided-typed b l T e =
     let f = decided-is e in
     rw f.is (pushed-typed b (native-has b f.known) T.borders T.stack _ _ f.below f.free T)
 
-pub undone-typed : (b : Board) {d : Board} → Typed b → undoOf b ≡ returned Done d → Typed d
+pub undone-typed : (b : Board) {d : Board} → Typed b → undo_of b ≡ returned Done d → Typed d
 undone-typed b T e =
     let f = undone-is e in
     let c : b.count ≡ b.count - 1 + 1 = omega arith in
     rw f.is (popped-typed b (native-has b f.known) T.borders T.stack (b.count - 1) c T)
 
-pub undo-keeps : (b : Board) {d : Board} → Typed b → undoOf b ≡ returned Done d → isAlien d ≡ false
+pub undo-keeps : (b : Board) {d : Board} → Typed b → undo_of b ≡ returned Done d → is_alien d ≡ false
 undo-keeps b T e =
     let f = undone-is e in
     let N = native-has b f.known in
     let c : b.count ≡ b.count - 1 + 1 = omega arith in
-    ap isAlien f.is ∙ native-of _ (popped-native b N T.borders T.stack (b.count - 1) c)
+    ap is_alien f.is ∙ native-of _ (popped-native b N T.borders T.stack (b.count - 1) c)
 
 -- after a decide that was done, an undo is done and gives back the board that the decide was given
-pub undo-decide : (b : Board) (l : Literal) {d : Board} → Typed b → decideOf b l ≡ returned Done d
-    → undoOf d ≡ returned Done b
+pub undo-decide : (b : Board) (l : Literal) {d : Board} → Typed b → decide_of b l ≡ returned Done d
+    → undo_of d ≡ returned Done b
 undo-decide b l {d} T e =
     let f = decided-is e in
     let N = native-has b f.known in

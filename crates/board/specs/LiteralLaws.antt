@@ -12,20 +12,20 @@ use Rattle.rules.specs.Book.{with_last}
 use Rattle.laws.specs.CodeLaws.{side-in}
 use Rattle.board.specs.declared.Board.{Board}
 use Rattle.board.specs.declared.Outcome.TheVariants.{Done}
-use Rattle.board.specs.Alien.{stacked, borderCountOf}
-use Rattle.board.specs.Board.{returned, pushed, decideOf, Typed}
-use Rattle.board.specs.View.{literalIn, literalsOf}
+use Rattle.board.specs.Alien.{stacked, border_count_of}
+use Rattle.board.specs.Board.{returned, pushed, decide_of, Typed}
+use Rattle.board.specs.View.{literal_in, literals_of}
 use Rattle.board.specs.NativeLaws.{Native, native-has, borders-fit, free-unstacked}
 use Rattle.board.specs.DecideLaws.{decided-is, new-entry, old-entry}
 use Rattle.board.specs.ViewLaws.{stacked-at}
 
 -- a literal is the same where its border and its code are
-literal-same : (bs cs : List ℕ) (m n : ℕ) → m ≡ n → get_or bs n 0 ≡ get_or cs n 0 → literalIn bs m ≡ literalIn cs n
+literal-same : (bs cs : List ℕ) (m n : ℕ) → m ≡ n → get_or bs n 0 ≡ get_or cs n 0 → literal_in bs m ≡ literal_in cs n
 literal-same bs cs m n e p =
-    ap (literalIn bs) e ∙ (λ i. record { border = n; side = ap side_in p i })
+    ap (literal_in bs) e ∙ (λ i. record { border = n; side = ap side_in p i })
 
 -- the board after a decide
-module _ (b : Board) (N : Native b) (T : Typed b) (l : Literal) (k : l.border < borderCountOf b)
+module _ (b : Board) (N : Native b) (T : Typed b) (l : Literal) (k : l.border < border_count_of b)
     (p : get_or b.borders l.border 0 ≡ 0) where
   abbrev pub v : ℕ
   v = code_of l.side
@@ -37,8 +37,8 @@ module _ (b : Board) (N : Native b) (T : Typed b) (l : Literal) (k : l.border < 
       (sym (ap (λ x. stacked b.stack b.count x) e ∙ free-unstacked b N l.border k p)
       ∙ stacked-at b.stack b.count i h)
 
-  pub pushed-literals : literalsOf (pushed b l.border v) ≡ with_last (literalsOf b) l
-  unfolding literalsOf
+  pub pushed-literals : literals_of (pushed b l.border v) ≡ with_last (literals_of b) l
+  unfolding literals_of
   pushed-literals =
       table_more b.count _
       ∙ ap₂ (λ (ls : List Literal) (r : Literal). ls ++ (r ∷ []))
@@ -52,17 +52,17 @@ module _ (b : Board) (N : Native b) (T : Typed b) (l : Literal) (k : l.border < 
       index : l.border < length b.borders
       index = omega (arith, borders-fit b N, T.borders)
 
-      last : literalIn (set b.borders l.border v) (get_or (set b.stack b.count l.border) b.count 0) ≡ l
+      last : literal_in (set b.borders l.border v) (get_or (set b.stack b.count l.border) b.count 0) ≡ l
       last =
-          ap (literalIn (set b.borders l.border v)) (new-entry b N T.borders T.stack l.border v k p)
+          ap (literal_in (set b.borders l.border v)) (new-entry b N T.borders T.stack l.border v k p)
           ∙ (λ i.
           record {
             border = l.border;
             side = (ap side_in (get_or-set_same b.borders l.border v 0 index) ∙ side-in l.side) i;
           })
 
-pub literals-decided : (b : Board) (l : Literal) {d : Board} → Typed b → decideOf b l ≡ returned Done d
-    → literalsOf d ≡ with_last (literalsOf b) l
+pub literals-decided : (b : Board) (l : Literal) {d : Board} → Typed b → decide_of b l ≡ returned Done d
+    → literals_of d ≡ with_last (literals_of b) l
 literals-decided b l T e =
     let f = decided-is e in
-    ap literalsOf f.is ∙ pushed-literals b (native-has b f.known) T l f.below f.free
+    ap literals_of f.is ∙ pushed-literals b (native-has b f.known) T l f.below f.free

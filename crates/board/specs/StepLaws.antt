@@ -12,20 +12,20 @@ use Rattle.lists.specs.TableLaws.{table_more}
 use Rattle.rules.specs.declared.Literal.{Literal}
 use Rattle.rules.specs.Flat.{flat}
 use Rattle.rules.specs.Codes.{code_of}
-use Rattle.rules.specs.Book.{Reply, refused, done, bareOr, with_last, decideReply}
+use Rattle.rules.specs.Book.{Reply, refused, done, bare_or, with_last, decide_reply}
 use Rattle.board.specs.declared.Board.{Board}
 use Rattle.board.specs.declared.Outcome.{Outcome}
 use Rattle.board.specs.declared.Outcome.TheVariants.{Done, Border, Taken}
-use Rattle.board.specs.Alien.{borderCountOf, isAlien}
-use Rattle.board.specs.Board.{number_of, pushed, decideRefusal, endedBy, decideOf, undoOf, Typed}
-use Rattle.board.specs.View.{puzzleOf, literalIn, literalsOf, replyOf}
+use Rattle.board.specs.Alien.{border_count_of, is_alien}
+use Rattle.board.specs.Board.{number_of, pushed, decide_refusal, ended_by, decide_of, undo_of, Typed}
+use Rattle.board.specs.View.{puzzle_of, literal_in, literals_of, reply_of}
 use Rattle.board.specs.Cases.{undo-bare, undo-done, decide-done}
 use Rattle.board.specs.NativeLaws.{native-has}
 use Rattle.board.specs.DecideLaws.{decide-keeps, decided-typed, undo-keeps, undone-typed}
 use Rattle.board.specs.ViewLaws.{names-decided, decided-puzzle, undone-puzzle}
 
 -- a reply that is done comes of an outcome that is
-pub reply-done : (o : Outcome) → replyOf o ≡ done → number_of o ≡ 0
+pub reply-done : (o : Outcome) → reply_of o ≡ done → number_of o ≡ 0
 reply-done o e = go (eqb (number_of o) 0) refl e
   where
     go : (x : Bool) → eqb (number_of o) 0 ≡ x → cond x done (refused (number_of o)) ≡ done → number_of o ≡ 0
@@ -34,21 +34,21 @@ reply-done o e = go (eqb (number_of o) 0) refl e
 
 -- the board d keeps what the next call needs
 pub record BoardKept (b d : Board) : Type 0 where
-  pub known : isAlien d ≡ false
+  pub known : is_alien d ≡ false
   pub typed : Typed d
-  pub puzzle : puzzleOf d ≡ puzzleOf b
+  pub puzzle : puzzle_of d ≡ puzzle_of b
 
-module _ (b : Board) (t : isAlien b ≡ false) where
+module _ (b : Board) (t : is_alien b ≡ false) where
   -- ---- decide
   module _ (l : Literal) where
-    pub decide-reply : replyOf (decideOf b l).outcome ≡ decideReply (puzzleOf b) (literalsOf b) l
-    unfolding decideOf decideRefusal decideReply puzzleOf flat
+    pub decide-reply : reply_of (decide_of b l).outcome ≡ decide_reply (puzzle_of b) (literals_of b) l
+    unfolding decide_of decide_refusal decide_reply puzzle_of flat
     decide-reply =
         rw (t, names-decided b (native-has b t) l.border)
-        (go (ltb l.border (borderCountOf b)) (eqb (get_or b.borders l.border 0) 0))
+        (go (ltb l.border (border_count_of b)) (eqb (get_or b.borders l.border 0) 0))
       where
         go : (x y : Bool)
-            → replyOf (cond x (cond y Done Taken) Border)
+            → reply_of (cond x (cond y Done Taken) Border)
             ≡ cond x (cond (not y) (refused 7) done) (refused 6)
         go true true = refl
         go true false = refl
@@ -56,19 +56,19 @@ module _ (b : Board) (t : isAlien b ≡ false) where
         go false false = refl
 
     module _ (T : Typed b) where
-      pub decide-kept : BoardKept b (decideOf b l).board
-      unfolding decideOf decideRefusal
+      pub decide-kept : BoardKept b (decide_of b l).board
+      unfolding decide_of decide_refusal
       decide-kept =
           rw t (go (ltb l.border m) (eqb (get_or b.borders l.border 0) 0) refl refl)
         where
           m : ℕ
-          m = borderCountOf b
+          m = border_count_of b
 
           same : BoardKept b b
           same = record { known = t; typed = T; puzzle = refl }
 
           go : (x y : Bool) → ltb l.border m ≡ x → eqb (get_or b.borders l.border 0) 0 ≡ y
-              → BoardKept b (endedBy b (pushed b l.border (code_of l.side)) (cond x (cond y Done Taken) Border)
+              → BoardKept b (ended_by b (pushed b l.border (code_of l.side)) (cond x (cond y Done Taken) Border)
               ).board
           go true true p q =
               let e =
@@ -83,32 +83,32 @@ module _ (b : Board) (t : isAlien b ≡ false) where
           go false false p q = same
 
   -- ---- undo
-  bare-or : (ls : List Literal) (l : Literal) (r : Reply) → bareOr (with_last ls l) r ≡ r
+  bare-or : (ls : List Literal) (l : Literal) (r : Reply) → bare_or (with_last ls l) r ≡ r
   bare-or [] l r = refl
   bare-or (k ∷ ls) l r = refl
 
-  none : b.count ≡ 0 → literalsOf b ≡ []
-  unfolding literalsOf table
-  none e = ap (λ j. table j (λ i. literalIn b.borders (get_or b.stack i 0))) e
+  none : b.count ≡ 0 → literals_of b ≡ []
+  unfolding literals_of table
+  none e = ap (λ j. table j (λ i. literal_in b.borders (get_or b.stack i 0))) e
 
-  more : (b.count ≡ 0 → ⊥) → (ls : List Literal) × (l : Literal) × (literalsOf b ≡ with_last ls l)
-  unfolding literalsOf
+  more : (b.count ≡ 0 → ⊥) → (ls : List Literal) × (l : Literal) × (literals_of b ≡ with_last ls l)
+  unfolding literals_of
   more h =
       let k : b.count ≡ b.count - 1 + 1 = omega arith in
-      let f : ℕ → Literal = λ i. literalIn b.borders (get_or b.stack i 0) in
+      let f : ℕ → Literal = λ i. literal_in b.borders (get_or b.stack i 0) in
       (table (b.count - 1) f, f (b.count - 1), ap (λ j. table j f) k ∙ table_more (b.count - 1) f)
 
-  pub undo-reply : replyOf (undoOf b).outcome ≡ bareOr (literalsOf b) done
+  pub undo-reply : reply_of (undo_of b).outcome ≡ bare_or (literals_of b) done
   undo-reply = go (ℕ_discrete b.count 0)
     where
-      go : Dec (b.count ≡ 0) → replyOf (undoOf b).outcome ≡ bareOr (literalsOf b) done
+      go : Dec (b.count ≡ 0) → reply_of (undo_of b).outcome ≡ bare_or (literals_of b) done
       go (yes h) = rw (← (undo-bare b t h), none h)
       go (no h) = let r = more h in rw (← (undo-done b t h), r.2) (sym (bare-or r.0 r.1 done))
 
-  pub undo-kept : Typed b → BoardKept b (undoOf b).board
+  pub undo-kept : Typed b → BoardKept b (undo_of b).board
   undo-kept T = go (ℕ_discrete b.count 0)
     where
-      go : Dec (b.count ≡ 0) → BoardKept b (undoOf b).board
+      go : Dec (b.count ≡ 0) → BoardKept b (undo_of b).board
       go (yes h) = rw (← (undo-bare b t h)) (record { known = t; typed = T; puzzle = refl })
       go (no h) =
           let e = sym (undo-done b t h) in

@@ -1,7 +1,7 @@
 // The conditions that a board's places are tested by.
 ghost use Rattle.std.specs.Prelude.{◌≡◌, false, ℕ, ◌<◌, ◌≤◌, eqb, length, get_or, replicate};
-ghost use Rattle.board.specs.Alien.{coloursRight, clueRight, cluesRight, entriesRight, Flags};
-ghost use Rattle.board.specs.Alien.{borderRight, bordersBy, zerosFrom, clueZero, zeroCluesFrom};
+ghost use Rattle.board.specs.Alien.{colours_right, clue_right, clues_right, entries_right, Flags};
+ghost use Rattle.board.specs.Alien.{border_right, borders_by, zeros_from, clue_zero, zero_clues_from};
 
 use crate::Board;
 use rules::index;
@@ -10,7 +10,7 @@ use rules::index;
 // many at a time.
 pub fn colours_right(colours: &[u8], n: usize) -> bool
     requires { n ≤ length colours.now }
-    ensures { result ≡ coloursRight colours.now n }
+    ensures { result ≡ colours_right colours.now n }
 {
     let mut right = true;
     let mut i: usize = 0;
@@ -23,7 +23,7 @@ pub fn colours_right(colours: &[u8], n: usize) -> bool
 
 // Whether k is a clue, or -1 for none.
 fn clue_right(k: i32) -> bool
-    ensures { result ≡ clueRight k }
+    ensures { result ≡ clue_right k }
 {
     -1 <= k
 }
@@ -31,7 +31,7 @@ fn clue_right(k: i32) -> bool
 // Whether the first n clues are right.
 pub fn clues_right(clues: &[i32], n: usize) -> bool
     requires { n ≤ length clues.now }
-    ensures { result ≡ cluesRight clues.now n }
+    ensures { result ≡ clues_right clues.now n }
 {
     let mut right = true;
     let mut i: usize = 0;
@@ -46,7 +46,7 @@ pub fn clues_right(clues: &[i32], n: usize) -> bool
 // loop takes many at a time.
 pub fn entries_right(stack: &[u16; Board::BORDER_LIMIT], borders: usize, count: usize) -> bool
     requires { (borders ≤ 1984) × (count ≤ 1984) }
-    ensures { result ≡ entriesRight stack.now borders count }
+    ensures { result ≡ entries_right stack.now borders count }
 {
     let end = borders as u16;
     let mut right = true;
@@ -81,7 +81,7 @@ pub fn flag_stack(
 
 // Whether v is undecided, wall or open, and decided exactly if on the stack.
 fn border_right(v: u8, on: bool) -> bool
-    ensures { result ≡ borderRight v on }
+    ensures { result ≡ border_right v on }
 {
     if v == 0 {
         return !on;
@@ -91,7 +91,7 @@ fn border_right(v: u8, on: bool) -> bool
 
 // 1 for a border that is not right, else 0.
 fn fault(v: u8, on: bool) -> u8
-    ensures { eqb result 0 ≡ borderRight v on }
+    ensures { eqb result 0 ≡ border_right v on }
 {
     if border_right(v, on) { 0 } else { 1 }
 }
@@ -104,7 +104,7 @@ pub fn borders_right<'a>(
     n: usize,
 ) -> bool
     requires { n ≤ 1984 }
-    ensures { result ≡ bordersBy borders.now seen.now n }
+    ensures { result ≡ borders_by borders.now seen.now n }
 {
     let mut wrong: u8 = 0;
     let mut i: usize = 0;
@@ -117,7 +117,7 @@ pub fn borders_right<'a>(
 
 // Whether the bytes from a place on are 0.
 pub fn zeros_from(places: &[u8], from: usize) -> bool
-    ensures { result ≡ zerosFrom places.now from }
+    ensures { result ≡ zeros_from places.now from }
 {
     let mut any: u8 = 0;
     let mut i = from;
@@ -130,7 +130,7 @@ pub fn zeros_from(places: &[u8], from: usize) -> bool
 
 // Whether the stack entries from a place on are 0.
 pub fn zero_entries_from(places: &[u16], from: usize) -> bool
-    ensures { result ≡ zerosFrom places.now from }
+    ensures { result ≡ zeros_from places.now from }
 {
     let mut any: u16 = 0;
     let mut i = from;
@@ -143,14 +143,14 @@ pub fn zero_entries_from(places: &[u16], from: usize) -> bool
 
 // Whether k is 0.
 fn clue_zero(k: i32) -> bool
-    ensures { result ≡ clueZero k }
+    ensures { result ≡ clue_zero k }
 {
     if 0 <= k { k <= 0 } else { false }
 }
 
 // Whether the clues from a place on are 0.
 pub fn zero_clues_from(places: &[i32], from: usize) -> bool
-    ensures { result ≡ zeroCluesFrom places.now from }
+    ensures { result ≡ zero_clues_from places.now from }
 {
     let mut zero = true;
     let mut i = from;

@@ -1,10 +1,10 @@
 // A board by value: its limits, fresh, decide, undo and the alien test; decide on a board's lent arrays.
 ghost use Rattle.std.specs.Prelude.{◌≡◌, ◌-◌, ◌<◌, ◌≤◌, get_or};
 ghost use Rattle.rules.specs.Codes.{code_of, side_in};
-ghost use Rattle.board.specs.Board.{number_of, zeroBoard, returned, fresh_of};
-ghost use Rattle.board.specs.Board.{sideCount, pushed, popped, decideOf, countAfter, talliedBy, undoOf};
-ghost use Rattle.board.specs.Alien.{sizeRight, cells_of, bordersOf, puzzleRight, decidedIn, unusedIn, boardOf};
-ghost use Rattle.board.specs.Alien.{isAlien};
+ghost use Rattle.board.specs.Board.{number_of, zero_board, returned, fresh_of};
+ghost use Rattle.board.specs.Board.{side_count, pushed, popped, decide_of, count_after, tallied_by, undo_of};
+ghost use Rattle.board.specs.Alien.{size_right, cells_of, borders_of, puzzle_right, decided_in, unused_in, board_of};
+ghost use Rattle.board.specs.Alien.{is_alien};
 
 use rules::{Literal, Side, Tally, index};
 
@@ -77,7 +77,7 @@ pub fn code(s: Side) -> u8
 
 // Whether height and width are 1 to 32.
 pub fn size_right(h: usize, w: usize) -> bool
-    ensures { result ≡ sizeRight h w }
+    ensures { result ≡ size_right h w }
 {
     if h < 1 {
         return false;
@@ -100,7 +100,7 @@ pub fn cell_count(h: usize, w: usize) -> usize
 
 // How many borders a page of that size has; 0 where it is no page's.
 pub fn border_count(h: usize, w: usize) -> usize
-    ensures { result ≡ bordersOf h w }
+    ensures { result ≡ borders_of h w }
 {
     if size_right(h, w) {
         h * (w - 1) + (h - 1) * w
@@ -110,7 +110,7 @@ pub fn border_count(h: usize, w: usize) -> usize
 }
 
 fn refused(outcome: Outcome) -> Returned
-    ensures { result ≡ returned outcome zeroBoard }
+    ensures { result ≡ returned outcome zero_board }
 {
     Returned {
         outcome,
@@ -125,7 +125,7 @@ fn cells_right<'a>(
     clues: &'a [i32; Board::CELL_LIMIT],
 ) -> bool
     requires { cells ≤ 1024 }
-    ensures { result ≡ puzzleRight cells colours.now clues.now }
+    ensures { result ≡ puzzle_right cells colours.now clues.now }
 {
     if conditions::colours_right(colours, cells) {
         conditions::clues_right(clues, cells)
@@ -144,7 +144,7 @@ fn decisions_right<'a>(
     tally: Tally,
 ) -> bool
     requires { total ≤ 1984 }
-    ensures { result ≡ decidedIn total borders.now stack.now count tally }
+    ensures { result ≡ decided_in total borders.now stack.now count tally }
 {
     if total < count {
         return false;
@@ -170,7 +170,7 @@ fn unused_zero<'a>(
     stack: &'a [u16; Board::BORDER_LIMIT],
     count: usize,
 ) -> bool
-    ensures { result ≡ unusedIn cells total colours.now clues.now borders.now
+    ensures { result ≡ unused_in cells total colours.now clues.now borders.now
         stack.now count }
 {
     if conditions::zeros_from(colours, cells) {
@@ -199,7 +199,7 @@ pub fn is_alien<'a>(
     count: usize,
     tally: Tally,
 ) -> bool
-    ensures { result ≡ isAlien (boardOf h w colours.now clues.now borders.now
+    ensures { result ≡ is_alien (board_of h w colours.now clues.now borders.now
         stack.now count tally) }
 {
     if size_right(h, w) {
@@ -232,9 +232,9 @@ pub fn decide_lent<'a>(
     tally: Tally,
     l: Literal,
 ) -> Outcome
-    ensures { returned result (boardOf h w colours.now clues.now borders.new
-        stack.new (countAfter result count) (talliedBy result tally (code_of l.side)))
-        ≡ decideOf (boardOf h w colours.now clues.now borders.old
+    ensures { returned result (board_of h w colours.now clues.now borders.new
+        stack.new (count_after result count) (tallied_by result tally (code_of l.side)))
+        ≡ decide_of (board_of h w colours.now clues.now borders.old
         stack.old count tally) l }
 {
     if is_alien(h, w, colours, clues, borders, stack, count, tally) {
@@ -260,7 +260,7 @@ impl Board {
 
     // The all-zero board, which making a board returns when refused.
     pub fn zero() -> Self
-        ensures { result ≡ zeroBoard }
+        ensures { result ≡ zero_board }
     {
         Board {
             height: 0,
@@ -309,7 +309,7 @@ impl Board {
 
     // Whether decides and undos cannot produce the board from a fresh one.
     pub fn alien(self) -> bool
-        ensures { result ≡ isAlien self }
+        ensures { result ≡ is_alien self }
     {
         let tally = self.tally;
         is_alien(
@@ -344,7 +344,7 @@ impl Board {
     // The last border of the stack taken off, and made undecided.
     fn pop(self) -> Self
         requires { (0 < self.count) × (self.count ≤ 1984) × (get_or self.stack (self.count - 1) 0 < 1984)
-            × (self.tally.undecided ≤ 1984) × (0 < sideCount self.tally
+            × (self.tally.undecided ≤ 1984) × (0 < side_count self.tally
             (side_in (get_or self.borders (get_or self.stack (self.count - 1) 0) 0))) }
         ensures { result ≡ popped self }
     {
@@ -363,7 +363,7 @@ impl Board {
 
     // The board with the literal's border decided, or the refusal and the board given.
     pub fn decide(self, l: Literal) -> Returned
-        ensures { result ≡ decideOf self l }
+        ensures { result ≡ decide_of self l }
     {
         if self.alien() {
             return Returned {
@@ -389,7 +389,7 @@ impl Board {
 
     // The board with its last decision taken back, or the refusal and the board given.
     pub fn undo(self) -> Returned
-        ensures { result ≡ undoOf self }
+        ensures { result ≡ undo_of self }
     {
         if self.alien() {
             return Returned {

@@ -1,13 +1,13 @@
 // How making a board, a decide and an undo end after the tests of the size and of alien boards: done, or refused.
 ghost use Rattle.std.specs.Prelude.{◌≡◌, ◌≤◌, length};
-ghost use Rattle.board.specs.Board.{puzzleRefusal, decideRefusal, undoRefusal};
+ghost use Rattle.board.specs.Board.{puzzle_refusal, decide_refusal, undo_refusal};
 
 use crate::Outcome;
 use crate::conditions::{clues_right, colours_right};
 
 // How making a board of so many cells ends, after the test of its size.
 pub fn puzzle_refusal(cells: usize, colours: &[u8], clues: &[i32]) -> Outcome
-    ensures { result ≡ puzzleRefusal cells colours.now clues.now }
+    ensures { result ≡ puzzle_refusal cells colours.now clues.now }
 {
     if colours.len() != cells {
         return Outcome::Ragged;
@@ -29,7 +29,7 @@ pub fn puzzle_refusal(cells: usize, colours: &[u8], clues: &[i32]) -> Outcome
 // How a decide of border n ends on a board that is not alien, from its border count and its borders.
 pub fn decide_refusal(total: usize, borders: &[u8], n: usize) -> Outcome
     requires { total ≤ length borders.now }
-    ensures { result ≡ decideRefusal total borders.now n }
+    ensures { result ≡ decide_refusal total borders.now n }
 {
     if total <= n {
         return Outcome::Border;
@@ -42,7 +42,7 @@ pub fn decide_refusal(total: usize, borders: &[u8], n: usize) -> Outcome
 
 // How an undo ends on a board that is not alien, from the count of its stack.
 pub fn undo_refusal(count: usize) -> Outcome
-    ensures { result ≡ undoRefusal count }
+    ensures { result ≡ undo_refusal count }
 {
     if count == 0 {
         return Outcome::Bare;

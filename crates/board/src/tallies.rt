@@ -2,9 +2,9 @@
 ghost use Rattle.std.specs.Prelude.{◌≡◌, ◌-◌, ◌<◌, ◌≤◌, eqb};
 ghost use Rattle.lists.specs.Count.{bit};
 ghost use Rattle.rules.specs.Codes.{side_in};
-ghost use Rattle.rules.specs.Book.{tally_of, sameTally};
-ghost use Rattle.board.specs.Alien.{codeCount};
-ghost use Rattle.board.specs.Board.{sideCount, tallyMore, tallyLess};
+ghost use Rattle.rules.specs.Book.{tally_of, same_tally};
+ghost use Rattle.board.specs.Alien.{code_count};
+ghost use Rattle.board.specs.Board.{side_count, tally_more, tally_less};
 
 use crate::Board;
 use rules::{Tally, index};
@@ -12,7 +12,7 @@ use rules::{Tally, index};
 // The tally with one border more decided, to the code v.
 pub fn more(t: Tally, v: u8) -> Tally
     requires { (0 < t.undecided) × (t.walls ≤ 1984) × (t.opens ≤ 1984) }
-    ensures { result ≡ tallyMore t (side_in v) }
+    ensures { result ≡ tally_more t (side_in v) }
 {
     let left = t.undecided - 1;
     if v == 1 {
@@ -32,8 +32,8 @@ pub fn more(t: Tally, v: u8) -> Tally
 
 // The tally with one border less decided, which had the code v.
 pub fn less(t: Tally, v: u8) -> Tally
-    requires { (t.undecided ≤ 1984) × (0 < sideCount t (side_in v)) }
-    ensures { result ≡ tallyLess t (side_in v) }
+    requires { (t.undecided ≤ 1984) × (0 < side_count t (side_in v)) }
+    ensures { result ≡ tally_less t (side_in v) }
 {
     let left = t.undecided + 1;
     if v == 1 {
@@ -53,7 +53,7 @@ pub fn less(t: Tally, v: u8) -> Tally
 
 // Whether two tallies have the same counts.
 pub fn same(t: Tally, u: Tally) -> bool
-    ensures { result ≡ sameTally t u }
+    ensures { result ≡ same_tally t u }
 {
     if t.undecided != u.undecided {
         return false;
@@ -75,7 +75,7 @@ fn wall(v: u8) -> u16
 // time.
 fn walls(borders: &[u8; Board::BORDER_LIMIT], n: usize) -> usize
     requires { n ≤ 1984 }
-    ensures { result ≡ codeCount borders.now n 1 }
+    ensures { result ≡ code_count borders.now n 1 }
 {
     let mut found: u16 = 0;
     let mut i: usize = 0;
@@ -93,9 +93,9 @@ pub fn tally_right(
     count: usize,
     t: Tally,
 ) -> bool
-    requires { (total ≤ 1984) × (count ≤ total) × (codeCount borders.now total 1 ≤ count) }
-    ensures { result ≡ sameTally t (tally_of (total - count) (codeCount borders.now total 1)
-        (count - codeCount borders.now total 1)) }
+    requires { (total ≤ 1984) × (count ≤ total) × (code_count borders.now total 1 ≤ count) }
+    ensures { result ≡ same_tally t (tally_of (total - count) (code_count borders.now total 1)
+        (count - code_count borders.now total 1)) }
 {
     let found = walls(borders, total);
     let right = Tally {

@@ -19,39 +19,39 @@ use Rattle.rules.specs.declared.Literal.{Literal}
 use Rattle.rules.specs.declared.Call.{Call}
 use Rattle.rules.specs.declared.Call.TheVariants.{Decide, Undo, Check, Preview}
 use Rattle.rules.specs.Page.{Puzzle}
-use Rattle.rules.specs.Codes.{literalCode}
-use Rattle.rules.specs.Check.{Reason, Verdict, pass, conflict, bordersNamed, check}
-use Rattle.rules.specs.Book.{Reply, refused, done, answered, states, with_last, thenReply, checkReply, replyTo}
+use Rattle.rules.specs.Codes.{literal_code}
+use Rattle.rules.specs.Check.{Reason, Verdict, pass, conflict, borders_named, check}
+use Rattle.rules.specs.Book.{Reply, refused, done, answered, states, with_last, then_reply, check_reply, reply_to}
 use Rattle.laws.specs.FlatLaws.{borders-le}
 use Rattle.argument.specs.FlatDemand.{flat-once, flat-few}
 use Rattle.board.specs.declared.Board.{Board}
 use Rattle.board.specs.declared.Outcome.{Outcome}
 use Rattle.board.specs.declared.Outcome.TheVariants.{Short}
-use Rattle.board.specs.Alien.{isAlien}
-use Rattle.board.specs.Board.{number_of, isDone, decideOf, undoOf, Typed}
-use Rattle.board.specs.View.{puzzleOf, statesOf, literalsOf, replyOf}
+use Rattle.board.specs.Alien.{is_alien}
+use Rattle.board.specs.Board.{number_of, is_done, decide_of, undo_of, Typed}
+use Rattle.board.specs.View.{puzzle_of, states_of, literals_of, reply_of}
 use Rattle.board.specs.NativeLaws.{native-has}
 use Rattle.board.specs.DecideLaws.{done-returned, decide-keeps}
 use Rattle.board.specs.ViewLaws.{states-literals, literals-length, decided-puzzle}
 use Rattle.board.specs.LiteralLaws.{literals-decided}
 use Rattle.board.specs.StepLaws.{decide-reply, undo-reply}
 use Rattle.calls.specs.declared.Answer.TheVariants.{Done, Refused}
-use Rattle.calls.specs.Answers.{reasonIn, told, memoryAs, asAnswer, written, checkAnswer, checkMemory, ended}
-use Rattle.calls.specs.Answers.{previewAnswer, previewMemory, call_of, callMemory}
+use Rattle.calls.specs.Answers.{reason_in, told, memory_as, as_answer, written, check_answer, check_memory, ended}
+use Rattle.calls.specs.Answers.{preview_answer, preview_memory, call_of, call_memory}
 use Rattle.calls.specs.AnswerLaws.{reason-in, put-start, found-long, check-known}
 
 -- how a decide or an undo ended
-told-ended : (o : Outcome) (m : List ℕ) → told (ended o) m ≡ replyOf o
+told-ended : (o : Outcome) (m : List ℕ) → told (ended o) m ≡ reply_of o
 told-ended o m = go (eqb (number_of o) 0)
   where
     go : (x : Bool) → told (cond x Done (Refused o)) m ≡ cond x done (refused (number_of o))
     go true = refl
     go false = refl
 
-kept-ended : (o : Outcome) (m : List ℕ) → m ≡ memoryAs m (replyOf o)
+kept-ended : (o : Outcome) (m : List ℕ) → m ≡ memory_as m (reply_of o)
 kept-ended o m = go (eqb (number_of o) 0)
   where
-    go : (x : Bool) → m ≡ memoryAs m (cond x done (refused (number_of o)))
+    go : (x : Bool) → m ≡ memory_as m (cond x done (refused (number_of o)))
     go true = refl
     go false = refl
 
@@ -59,93 +59,93 @@ kept-ended o m = go (eqb (number_of o) 0)
 Fits : List ℕ → Verdict → Type 0
 Fits m f = (r : Reason) → f ≡ conflict r → length r ≤ length m
 
-found-written : (m : List ℕ) (f : Verdict) → Fits m f → written m f ≡ memoryAs m (answered f)
+found-written : (m : List ℕ) (f : Verdict) → Fits m f → written m f ≡ memory_as m (answered f)
 unfolding Fits
 found-written m (pass n) h = refl
 found-written m (conflict r) h = put-start m r (h r refl)
 
 -- a reason that was written is read back
-pub reason-read : (m : List ℕ) (r : Reason) → length r ≤ length m → reasonIn (written m (conflict r)) (length r) ≡ r
-reason-read m r h = ap (λ k. reasonIn k (length r)) (put-start m r h) ∙ reason-in r (drop (length r) m)
+pub reason-read : (m : List ℕ) (r : Reason) → length r ≤ length m → reason_in (written m (conflict r)) (length r) ≡ r
+reason-read m r h = ap (λ k. reason_in k (length r)) (put-start m r h) ∙ reason-in r (drop (length r) m)
 
-found-told : (m : List ℕ) (f : Verdict) → Fits m f → told (asAnswer f) (written m f) ≡ answered f
+found-told : (m : List ℕ) (f : Verdict) → Fits m f → told (as_answer f) (written m f) ≡ answered f
 unfolding Fits
 found-told m (pass n) h = refl
 found-told m (conflict r) h = ap (λ (k : Reason). answered (conflict k)) (reason-read m r (h r refl))
 
-module _ (b : Board) (t : isAlien b ≡ false) where
+module _ (b : Board) (t : is_alien b ≡ false) where
   columns : 0 < b.width
   columns = omega (arith, (native-has b t).size.columns)
 
   -- "no border is named twice"
-  pub reason-once : (r : Reason) → check (puzzleOf b) (statesOf b) ≡ conflict r → Distinct (bordersNamed r)
-  unfolding puzzleOf
-  reason-once = flat-once b.height b.width columns _ _ (statesOf b)
+  pub reason-once : (r : Reason) → check (puzzle_of b) (states_of b) ≡ conflict r → Distinct (borders_named r)
+  unfolding puzzle_of
+  reason-once = flat-once b.height b.width columns _ _ (states_of b)
 
   -- "so a reason has at most as many literals as there are decided borders"
-  pub reason-few : (r : Reason) → check (puzzleOf b) (statesOf b) ≡ conflict r → length r ≤ b.count
-  unfolding puzzleOf
+  pub reason-few : (r : Reason) → check (puzzle_of b) (states_of b) ≡ conflict r → length r ≤ b.count
+  unfolding puzzle_of
   reason-few r e =
-      let n = flat-few b.height b.width columns _ _ (literalsOf b) r
-      (ap (check (puzzleOf b)) (sym (states-literals b (native-has b t))) ∙ e) in
+      let n = flat-few b.height b.width columns _ _ (literals_of b) r
+      (ap (check (puzzle_of b)) (sym (states-literals b (native-has b t))) ∙ e) in
       omega (arith, n, literals-length b)
 
-  pub reason-short : (r : Reason) → check (puzzleOf b) (statesOf b) ≡ conflict r → length r ≤ 1984
+  pub reason-short : (r : Reason) → check (puzzle_of b) (states_of b) ≡ conflict r → length r ≤ 1984
   reason-short r e =
       let n = native-has b t in
       omega (arith, reason-few r e, n.few, borders-le n.size)
 
   module _ (m : List ℕ) where
     found : Verdict
-    found = check (puzzleOf b) (statesOf b)
+    found = check (puzzle_of b) (states_of b)
 
-    found-states : check (puzzleOf b) (states (literalsOf b)) ≡ found
+    found-states : check (puzzle_of b) (states (literals_of b)) ≡ found
     unfolding found
-    found-states = ap (check (puzzleOf b)) (sym (states-literals b (native-has b t)))
+    found-states = ap (check (puzzle_of b)) (sym (states-literals b (native-has b t)))
 
     fits : ltb (length m) 1984 ≡ false → Fits m found
     unfolding Fits found
     fits q r e = let k = reason-short r e in let h = ltb-false (length m) 1984 q in omega arith
 
-    check-told : told (checkAnswer b (length m)) (checkMemory b m)
-        ≡ checkReply (puzzleOf b) (literalsOf b) (length m)
-    unfolding checkAnswer checkMemory checkReply found
+    check-told : told (check_answer b (length m)) (check_memory b m)
+        ≡ check_reply (puzzle_of b) (literals_of b) (length m)
+    unfolding check_answer check_memory check_reply found
     check-told = rw (t, found-states) (go (ltb (length m) 1984) refl)
       where
         go : (x : Bool) → ltb (length m) 1984 ≡ x
-            → told (cond x (Refused Short) (asAnswer found)) (cond x m (written m found))
+            → told (cond x (Refused Short) (as_answer found)) (cond x m (written m found))
             ≡ cond x (refused 9) (answered found)
         go true q = refl
         go false q = found-told m found (fits q)
 
-    check-memory : checkMemory b m ≡ memoryAs m (checkReply (puzzleOf b) (literalsOf b) (length m))
-    unfolding checkMemory checkReply found
+    check-memory : check_memory b m ≡ memory_as m (check_reply (puzzle_of b) (literals_of b) (length m))
+    unfolding check_memory check_reply found
     check-memory = rw (t, found-states) (go (ltb (length m) 1984) refl)
       where
         go : (x : Bool) → ltb (length m) 1984 ≡ x
-            → cond x m (written m found) ≡ memoryAs m (cond x (refused 9) (answered found))
+            → cond x m (written m found) ≡ memory_as m (cond x (refused 9) (answered found))
         go true q = refl
         go false q = found-written m found (fits q)
 
-  pub check-written : (m : List ℕ) (r : Reason) → 1984 ≤ length m → check (puzzleOf b) (statesOf b) ≡ conflict r
-      → checkMemory b m ≡ map literalCode r ++ drop (length r) m
+  pub check-written : (m : List ℕ) (r : Reason) → 1984 ≤ length m → check (puzzle_of b) (states_of b) ≡ conflict r
+      → check_memory b m ≡ map literal_code r ++ drop (length r) m
   check-written m r h e =
       let k = reason-short r e in
-      sym (check-known b m t).1 ∙ sym (found-long (check (puzzleOf b) (statesOf b)) m h).1
+      sym (check-known b m t).1 ∙ sym (found-long (check (puzzle_of b) (states_of b)) m h).1
       ∙ ap (written m) e
       ∙ put-start m r (omega arith)
 
 -- ---- a preview
 -- what a decide on the copy leads to, where it is done
 record Copied (b : Board) (l : Literal) (d : Board) : Type 0 where
-  known : isAlien d ≡ false
-  puzzle : puzzleOf d ≡ puzzleOf b
-  stack : literalsOf d ≡ with_last (literalsOf b) l
+  known : is_alien d ≡ false
+  puzzle : puzzle_of d ≡ puzzle_of b
+  stack : literals_of d ≡ with_last (literals_of b) l
 
-module _ (b : Board) (t : isAlien b ≡ false) (T : Typed b) where
-  copied : (l : Literal) → isDone (decideOf b l).outcome ≡ true → Copied b l (decideOf b l).board
+module _ (b : Board) (t : is_alien b ≡ false) (T : Typed b) where
+  copied : (l : Literal) → is_done (decide_of b l).outcome ≡ true → Copied b l (decide_of b l).board
   copied l e =
-      let r = done-returned (decideOf b l) (eqb-true (number_of (decideOf b l).outcome) 0 e) in
+      let r = done-returned (decide_of b l) (eqb-true (number_of (decide_of b l).outcome) 0 e) in
       record {
         known = decide-keeps b l T.borders T.stack r;
         puzzle = decided-puzzle b l r;
@@ -154,69 +154,69 @@ module _ (b : Board) (t : isAlien b ≡ false) (T : Typed b) where
 
   module _ (l : Literal) (m : List ℕ) where
     -- the check's reply on the copy is that of the sequence with the literal put last
-    copy-reply : isDone (decideOf b l).outcome ≡ true
-        → checkReply (puzzleOf (decideOf b l).board) (literalsOf (decideOf b l).board) (length m)
-        ≡ checkReply (puzzleOf b) (with_last (literalsOf b) l) (length m)
+    copy-reply : is_done (decide_of b l).outcome ≡ true
+        → check_reply (puzzle_of (decide_of b l).board) (literals_of (decide_of b l).board) (length m)
+        ≡ check_reply (puzzle_of b) (with_last (literals_of b) l) (length m)
     copy-reply e =
         let c = copied l e in
-        ap₂ (λ (Z : Puzzle) (ls : List Literal). checkReply Z ls (length m)) c.puzzle c.stack
+        ap₂ (λ (Z : Puzzle) (ls : List Literal). check_reply Z ls (length m)) c.puzzle c.stack
 
-    preview-told : told (previewAnswer b l (length m)) (previewMemory b l m)
-        ≡ replyTo (puzzleOf b) (literalsOf b) (length m) (Preview l)
-    unfolding previewAnswer previewMemory replyTo
+    preview-told : told (preview_answer b l (length m)) (preview_memory b l m)
+        ≡ reply_to (puzzle_of b) (literals_of b) (length m) (Preview l)
+    unfolding preview_answer preview_memory reply_to
     preview-told =
-        go (isDone (decideOf b l).outcome) refl
-        ∙ ap (λ (r : Reply). thenReply r (checkReply (puzzleOf b) (with_last (literalsOf b) l) (length m)))
+        go (is_done (decide_of b l).outcome) refl
+        ∙ ap (λ (r : Reply). then_reply r (check_reply (puzzle_of b) (with_last (literals_of b) l) (length m)))
         (decide-reply b t l)
       where
         o : Outcome
-        o = (decideOf b l).outcome
+        o = (decide_of b l).outcome
 
         d : Board
-        d = (decideOf b l).board
+        d = (decide_of b l).board
 
-        go : (x : Bool) → isDone o ≡ x
-            → told (cond x (checkAnswer d (length m)) (Refused o)) (cond x (checkMemory d m) m)
-            ≡ thenReply (cond x done (refused (number_of o)))
-            (checkReply (puzzleOf b) (with_last (literalsOf b) l) (length m))
+        go : (x : Bool) → is_done o ≡ x
+            → told (cond x (check_answer d (length m)) (Refused o)) (cond x (check_memory d m) m)
+            ≡ then_reply (cond x done (refused (number_of o)))
+            (check_reply (puzzle_of b) (with_last (literals_of b) l) (length m))
         go true e = check-told d (copied l e).known m ∙ copy-reply e
         go false e = refl
 
-    preview-written : previewMemory b l m
-        ≡ memoryAs m (replyTo (puzzleOf b) (literalsOf b) (length m) (Preview l))
-    unfolding previewMemory replyTo
+    preview-written : preview_memory b l m
+        ≡ memory_as m (reply_to (puzzle_of b) (literals_of b) (length m) (Preview l))
+    unfolding preview_memory reply_to
     preview-written =
-        go (isDone (decideOf b l).outcome) refl
-        ∙ ap (λ (r : Reply). memoryAs m (thenReply r (checkReply (puzzleOf b) (with_last (literalsOf b) l) (length m))))
+        go (is_done (decide_of b l).outcome) refl
+        ∙ ap (λ (r : Reply). memory_as m (then_reply r (check_reply (puzzle_of b) (with_last (literals_of b) l) (length m))))
         (decide-reply b t l)
       where
         o : Outcome
-        o = (decideOf b l).outcome
+        o = (decide_of b l).outcome
 
         d : Board
-        d = (decideOf b l).board
+        d = (decide_of b l).board
 
-        go : (x : Bool) → isDone o ≡ x
-            → cond x (checkMemory d m) m
-            ≡ memoryAs m (thenReply (cond x done (refused (number_of o)))
-            (checkReply (puzzleOf b) (with_last (literalsOf b) l) (length m)))
-        go true e = check-memory d (copied l e).known m ∙ ap (memoryAs m) (copy-reply e)
+        go : (x : Bool) → is_done o ≡ x
+            → cond x (check_memory d m) m
+            ≡ memory_as m (then_reply (cond x done (refused (number_of o)))
+            (check_reply (puzzle_of b) (with_last (literals_of b) l) (length m)))
+        go true e = check-memory d (copied l e).known m ∙ ap (memory_as m) (copy-reply e)
         go false e = refl
 
   -- ---- any call
   pub call-told : (c : Call) (m : List ℕ)
-      → told (call_of b c m).answer (callMemory b c m) ≡ replyTo (puzzleOf b) (literalsOf b) (length m) c
-  unfolding call_of callMemory replyTo
-  call-told (Decide l) m = told-ended (decideOf b l).outcome m ∙ decide-reply b t l
-  call-told Undo m = told-ended (undoOf b).outcome m ∙ undo-reply b t
+      → told (call_of b c m).answer (call_memory b c m) ≡ reply_to (puzzle_of b) (literals_of b) (length m) c
+  unfolding call_of call_memory reply_to
+  call-told (Decide l) m = told-ended (decide_of b l).outcome m ∙ decide-reply b t l
+  call-told Undo m = told-ended (undo_of b).outcome m ∙ undo-reply b t
   call-told Check m = check-told b t m
   call-told (Preview l) m = preview-told l m
 
   pub call-written : (c : Call) (m : List ℕ)
-      → callMemory b c m ≡ memoryAs m (replyTo (puzzleOf b) (literalsOf b) (length m) c)
-  unfolding callMemory replyTo
+      → call_memory b c m ≡ memory_as m (reply_to (puzzle_of b) (literals_of b) (length m) c)
+  unfolding call_memory reply_to
   call-written (Decide l) m =
-      kept-ended (decideOf b l).outcome m ∙ ap (memoryAs m) (decide-reply b t l)
-  call-written Undo m = kept-ended (undoOf b).outcome m ∙ ap (memoryAs m) (undo-reply b t)
+      kept-ended (decide_of b l).outcome m ∙ ap (memory_as m) (decide-reply b t l)
+  call-written Undo m = kept-ended (undo_of b).outcome m ∙ ap (memory_as m) (undo-reply b t)
   call-written Check m = check-memory b t m
   call-written (Preview l) m = preview-written l m

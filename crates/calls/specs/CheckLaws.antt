@@ -9,33 +9,33 @@ use Rattle.std.specs.Prelude.{false, List, ℕ, ◌*◌}
 use Rattle.std.proofs.Math.Option.{Option, some, none}
 use Rattle.std.proofs.Math.Decide.{dec_lt}
 use Rattle.std.proofs.Math.ListN.{length}
-use Rattle.rules.specs.Codes.{statesIn, puzzleIn}
-use Rattle.rules.specs.Check.{Reason, Verdict, hit, check, once, onceIn, verdictOf, undecidedCount}
+use Rattle.rules.specs.Codes.{states_in, puzzle_in}
+use Rattle.rules.specs.Check.{Reason, Verdict, hit, check, once, once_in, verdict_of, undecided_count}
 use Rattle.board.specs.declared.Board.{Board}
-use Rattle.board.specs.Alien.{isAlien}
-use Rattle.board.specs.View.{puzzleOf, statesOf}
+use Rattle.board.specs.Alien.{is_alien}
+use Rattle.board.specs.View.{puzzle_of, states_of}
 use Rattle.board.specs.NativeLaws.{native-has}
 use Rattle.board.specs.ViewLaws.{pass-stored}
 use Rattle.groups.specs.Pages.{Drawn}
 use Rattle.steps.specs.declared.Found.TheVariants.{Nothing, Reason as Given}
-use Rattle.steps.specs.Found.{foundOf, written_by, Answers}
+use Rattle.steps.specs.Found.{found_of, written_by, Answers}
 use Rattle.calls.specs.declared.Answer.TheVariants.{Pass, Conflict}
-use Rattle.calls.specs.Answers.{asAnswer, written}
-use Rattle.calls.specs.Known.{foundIn}
+use Rattle.calls.specs.Answers.{as_answer, written}
+use Rattle.calls.specs.Known.{found_in}
 
 -- what Check gives of a board's arrays
-abbrev foundOn : Board → Verdict
-foundOn b = foundIn b.height b.width b.colours b.clues b.borders
+abbrev found_on : Board → Verdict
+found_on b = found_in b.height b.width b.colours b.clues b.borders
 
 -- the count of a pass
-abbrev freeOn : Board → ℕ
-freeOn b = undecidedCount (puzzleOf b) (statesOf b)
+abbrev free_on : Board → ℕ
+free_on b = undecided_count (puzzle_of b) (states_of b)
 
-pub same-found : (b : Board) → foundOn b ≡ check (puzzleOf b) (statesOf b)
-unfolding puzzleOf statesOf
+pub same-found : (b : Board) → found_on b ≡ check (puzzle_of b) (states_of b)
+unfolding puzzle_of states_of
 same-found b = refl
 
-module _ (b : Board) (t : isAlien b ≡ false) where
+module _ (b : Board) (t : is_alien b ≡ false) where
   -- the colours are 0 or 1, those of unused places too
   pub drawn-of : Drawn b.height b.width b.colours
   drawn-of =
@@ -45,41 +45,41 @@ module _ (b : Board) (t : isAlien b ≡ false) where
         two =
             λ c. elim (dec_lt c (b.height * b.width)) [
               | yes l ↦ n.colour c l
-              | no l ↦ omega (arith, n.noColour c (omega arith))
+              | no l ↦ omega (arith, n.no_colour c (omega arith))
             ];
       }
 
-  abbrev hitOf : Option Reason
-  hitOf = hit (puzzleIn b.height b.width b.colours b.clues) (statesIn b.borders)
+  abbrev hit_of : Option Reason
+  hit_of = hit (puzzle_in b.height b.width b.colours b.clues) (states_in b.borders)
 
-  checked : (o : Option Reason) → hitOf ≡ o → foundOn b ≡ verdictOf (freeOn b) (onceIn o)
-  unfolding check puzzleOf statesOf
-  checked o e = ap (λ (k : Option Reason). verdictOf (freeOn b) (onceIn k)) e
+  checked : (o : Option Reason) → hit_of ≡ o → found_on b ≡ verdict_of (free_on b) (once_in o)
+  unfolding check puzzle_of states_of
+  checked o e = ap (λ (k : Option Reason). verdict_of (free_on b) (once_in k)) e
 
   module _ (m after : List ℕ) where
-    pub nothing-found : Answers hitOf m after Nothing
-        → (Pass b.tally.undecided ≡ asAnswer (foundOn b)) × (after ≡ written m (foundOn b))
-    unfolding foundOf written_by
-    nothing-found a = go hitOf refl a.found a.memory
+    pub nothing-found : Answers hit_of m after Nothing
+        → (Pass b.tally.undecided ≡ as_answer (found_on b)) × (after ≡ written m (found_on b))
+    unfolding found_of written_by
+    nothing-found a = go hit_of refl a.found a.memory
       where
-        go : (o : Option Reason) → hitOf ≡ o → Nothing ≡ foundOf o → after ≡ written_by o m
-            → (Pass b.tally.undecided ≡ asAnswer (foundOn b)) × (after ≡ written m (foundOn b))
+        go : (o : Option Reason) → hit_of ≡ o → Nothing ≡ found_of o → after ≡ written_by o m
+            → (Pass b.tally.undecided ≡ as_answer (found_on b)) × (after ≡ written m (found_on b))
         go none e f g = (
-          ap Pass (sym (pass-stored b (native-has b t))) ∙ sym (ap asAnswer (checked none e)),
+          ap Pass (sym (pass-stored b (native-has b t))) ∙ sym (ap as_answer (checked none e)),
           g ∙ sym (ap (written m) (checked none e)),
         )
         go (some r) e f g = let z : ◌≡◌ {A = ℕ} 0 1 = cc in absurd (omega arith)
 
-    pub reason-found : (n : ℕ) → Answers hitOf m after (Given n)
-        → (Conflict n ≡ asAnswer (foundOn b)) × (after ≡ written m (foundOn b))
-    unfolding foundOf written_by
-    reason-found n a = go hitOf refl a.found a.memory
+    pub reason-found : (n : ℕ) → Answers hit_of m after (Given n)
+        → (Conflict n ≡ as_answer (found_on b)) × (after ≡ written m (found_on b))
+    unfolding found_of written_by
+    reason-found n a = go hit_of refl a.found a.memory
       where
-        go : (o : Option Reason) → hitOf ≡ o → Given n ≡ foundOf o → after ≡ written_by o m
-            → (Conflict n ≡ asAnswer (foundOn b)) × (after ≡ written m (foundOn b))
+        go : (o : Option Reason) → hit_of ≡ o → Given n ≡ found_of o → after ≡ written_by o m
+            → (Conflict n ≡ as_answer (found_on b)) × (after ≡ written m (found_on b))
         go none e f g = let z : ◌≡◌ {A = ℕ} 0 1 = cc in absurd (omega arith)
         go (some r) e f g =
             let q : n ≡ length (once r) = cc in (
-              ap Conflict q ∙ sym (ap asAnswer (checked (some r) e)),
+              ap Conflict q ∙ sym (ap as_answer (checked (some r) e)),
               g ∙ sym (ap (written m) (checked (some r) e)),
             )

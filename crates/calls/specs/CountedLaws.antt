@@ -10,40 +10,40 @@ use Rattle.std.proofs.Common.{ap, sym, ◌∙◌}
 use Rattle.rules.specs.declared.Call.{Call}
 use Rattle.rules.specs.declared.Call.TheVariants.{Decide, Undo, Check, Preview}
 use Rattle.rules.specs.declared.Tally.{Tally}
-use Rattle.rules.specs.Book.{sameTally}
+use Rattle.rules.specs.Book.{same_tally}
 use Rattle.rules.specs.Codes.{code_of}
 use Rattle.board.specs.declared.Board.{Board}
 use Rattle.board.specs.declared.Outcome.{Outcome}
 use Rattle.board.specs.declared.Outcome.TheVariants.{Alien}
-use Rattle.board.specs.Alien.{tallyIn, borderCountOf, isAlien}
-use Rattle.board.specs.Board.{isDone, returned, endedBy, pushed, popped, decideRefusal, decideOf, undoRefusal, undoOf}
+use Rattle.board.specs.Alien.{tally_in, border_count_of, is_alien}
+use Rattle.board.specs.Board.{is_done, returned, ended_by, pushed, popped, decide_refusal, decide_of, undo_refusal, undo_of}
 use Rattle.board.specs.Board.{Typed}
 use Rattle.board.specs.TallyLaws.{same-is}
 use Rattle.board.specs.NativeLaws.{native-has}
 use Rattle.board.specs.StepLaws.{decide-kept, undo-kept}
 use Rattle.calls.specs.declared.Answer.TheVariants.{Done, Refused}
 use Rattle.calls.specs.declared.Counted.{Counted}
-use Rattle.calls.specs.Answers.{ended, stepped, call_of, callMemory}
-use Rattle.calls.specs.Counted.{countedBy, countedOf, countedMemory}
+use Rattle.calls.specs.Answers.{ended, stepped, call_of, call_memory}
+use Rattle.calls.specs.Counted.{counted_by, counted_of, counted_memory}
 
 module _ (b : Board) (c : Call) (t : Tally) (m : List ℕ) where
-  pub counted_same : sameTally t b.tally ≡ true
-      → (countedOf b c t m ≡ countedBy (call_of b c m) (call_of b c m).board.tally)
-      × (countedMemory b c t m ≡ callMemory b c m)
-  unfolding countedOf countedMemory
+  pub counted_same : same_tally t b.tally ≡ true
+      → (counted_of b c t m ≡ counted_by (call_of b c m) (call_of b c m).board.tally)
+      × (counted_memory b c t m ≡ call_memory b c m)
+  unfolding counted_of counted_memory
   counted_same e = (rw e, rw e)
 
-  pub counted-other : sameTally t b.tally ≡ false
-      → (countedOf b c t m ≡ countedBy (stepped b (Refused Alien)) t) × (countedMemory b c t m ≡ m)
-  unfolding countedOf countedMemory
+  pub counted-other : same_tally t b.tally ≡ false
+      → (counted_of b c t m ≡ counted_by (stepped b (Refused Alien)) t) × (counted_memory b c t m ≡ m)
+  unfolding counted_of counted_memory
   counted-other e = (rw e, rw e)
 
 -- ---- a call that is not done
 -- what a decide or an undo returned, where it is not done
-kept_by : (b d : Board) (x : Bool) (o : Outcome) → let r = cond x (returned Alien b) (endedBy b d o) in
+kept_by : (b d : Board) (x : Bool) (o : Outcome) → let r = cond x (returned Alien b) (ended_by b d o) in
     (ended r.outcome ≡ Done → ⊥) → r.board ≡ b
 kept_by b d true o f = refl
-kept_by b d false o f = go (isDone o) f
+kept_by b d false o f = go (is_done o) f
   where
     go : (y : Bool) → (cond y Done (Refused o) ≡ Done → ⊥) → cond y d b ≡ b
     go true f = absurd (f refl)
@@ -51,15 +51,15 @@ kept_by b d false o f = go (isDone o) f
 
 module _ (b : Board) (m : List ℕ) where
   board-kept : (c : Call) → ((call_of b c m).answer ≡ Done → ⊥) → (call_of b c m).board ≡ b
-  unfolding call_of decideOf undoOf
+  unfolding call_of decide_of undo_of
   board-kept (Decide l) f =
-      kept_by b (pushed b l.border (code_of l.side)) (isAlien b)
-      (decideRefusal (borderCountOf b) b.borders l.border) f
-  board-kept Undo f = kept_by b (popped b) (isAlien b) (undoRefusal b.count) f
+      kept_by b (pushed b l.border (code_of l.side)) (is_alien b)
+      (decide_refusal (border_count_of b) b.borders l.border) f
+  board-kept Undo f = kept_by b (popped b) (is_alien b) (undo_refusal b.count) f
   board-kept Check f = refl
   board-kept (Preview l) f = refl
 
-  board-known : (c : Call) → isAlien b ≡ false → Typed b → isAlien (call_of b c m).board ≡ false
+  board-known : (c : Call) → is_alien b ≡ false → Typed b → is_alien (call_of b c m).board ≡ false
   unfolding call_of
   board-known (Decide l) t T = (decide-kept b t l T).known
   board-known Undo t T = (undo-kept b t T).known
@@ -68,10 +68,10 @@ module _ (b : Board) (m : List ℕ) where
 
 module _ (b : Board) (c : Call) (t : Tally) (m : List ℕ) where
   -- "a check or preview changes nothing in it", nor does a refused call; one that disagrees "keeps its contents"
-  pub record-kept : ((countedOf b c t m).stepped.answer ≡ Done → ⊥) → (countedOf b c t m).tally ≡ t
-  record-kept f = go (sameTally t b.tally) refl
+  pub record-kept : ((counted_of b c t m).stepped.answer ≡ Done → ⊥) → (counted_of b c t m).tally ≡ t
+  record-kept f = go (same_tally t b.tally) refl
     where
-      go : (x : Bool) → sameTally t b.tally ≡ x → (countedOf b c t m).tally ≡ t
+      go : (x : Bool) → same_tally t b.tally ≡ x → (counted_of b c t m).tally ≡ t
       go true e =
           let r = (counted_same b c t m e).0 in
           ap (λ (k : Counted). k.tally) r
@@ -80,8 +80,8 @@ module _ (b : Board) (c : Call) (t : Tally) (m : List ℕ) where
       go false e = ap (λ (k : Counted). k.tally) (counted-other b c t m e).0
 
   -- "the host lends the tally record and each call updates that one": it is then the borders counted
-  pub record-true : isAlien b ≡ false → Typed b → sameTally t b.tally ≡ true
-      → let r = countedOf b c t m in
-      r.tally ≡ tallyIn r.stepped.board.borders (borderCountOf r.stepped.board)
+  pub record-true : is_alien b ≡ false → Typed b → same_tally t b.tally ≡ true
+      → let r = counted_of b c t m in
+      r.tally ≡ tally_in r.stepped.board.borders (border_count_of r.stepped.board)
   record-true a T e =
       rw (counted_same b c t m e).0 (native-has (call_of b c m).board (board-known b m c a T)).tally

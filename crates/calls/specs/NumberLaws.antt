@@ -1,7 +1,7 @@
 -- The number of an answer tells the answer.
 --
---   outcomeOf v       the refusal with the number v; done where none has it
---   answerFrom v      the answer with the number v
+--   outcome_of v      the refusal with the number v; done where none has it
+--   answer_from v     the answer with the number v
 --   InRange a         the counts that a call can give, and a refusal that is one
 --   check-count       a pass gives the count of undecided borders
 --   found-range       what Check gives of a board that is not alien is in range
@@ -17,27 +17,27 @@ use Rattle.lists.specs.CountLaws.{count-le}
 use Rattle.rules.specs.declared.Literal.{Literal}
 use Rattle.rules.specs.declared.Call.{Call}
 use Rattle.rules.specs.declared.Call.TheVariants.{Decide, Undo, Check, Preview}
-use Rattle.rules.specs.Page.{Puzzle, State, isUndecided}
+use Rattle.rules.specs.Page.{Puzzle, State, is_undecided}
 use Rattle.rules.specs.Flat.{flat}
-use Rattle.rules.specs.Check.{Reason, Verdict as Found, pass, conflict, hit, undecidedCount}
-use Rattle.rules.specs.Check.{onceIn, verdictOf, check}
+use Rattle.rules.specs.Check.{Reason, Verdict as Found, pass, conflict, hit, undecided_count}
+use Rattle.rules.specs.Check.{once_in, verdict_of, check}
 use Rattle.laws.specs.FlatLaws.{borders-le}
 use Rattle.board.specs.declared.Board.{Board}
 use Rattle.board.specs.declared.Outcome.{Outcome}
 use Rattle.board.specs.declared.Outcome.TheVariants.{Done as Fine, Size, Ragged, Colour, Clue}
 use Rattle.board.specs.declared.Outcome.TheVariants.{Alien, Border, Taken, Bare, Short}
-use Rattle.board.specs.Alien.{isAlien}
-use Rattle.board.specs.Board.{number_of, isDone, decideOf, undoOf}
-use Rattle.board.specs.View.{puzzleOf, statesOf}
+use Rattle.board.specs.Alien.{is_alien}
+use Rattle.board.specs.Board.{number_of, is_done, decide_of, undo_of}
+use Rattle.board.specs.View.{puzzle_of, states_of}
 use Rattle.board.specs.Cases.{outcome-never-eleven}
 use Rattle.board.specs.NativeLaws.{native-has}
 use Rattle.calls.specs.declared.Answer.{Answer}
 use Rattle.calls.specs.declared.Answer.TheVariants.{Done, Pass, Conflict, Refused}
-use Rattle.calls.specs.Answers.{answerNumber, asAnswer, checkAnswer, previewAnswer, ended, call_of}
+use Rattle.calls.specs.Answers.{answer_number, as_answer, check_answer, preview_answer, ended, call_of}
 use Rattle.calls.specs.CallLaws.{reason-short}
 
-unfoldable pub outcomeOf : ℕ → Outcome
-outcomeOf v =
+unfoldable pub outcome_of : ℕ → Outcome
+outcome_of v =
     cond (eqb v 1) Size
     (cond (eqb v 2) Ragged
     (cond (eqb v 3) Colour
@@ -48,10 +48,10 @@ outcomeOf v =
     (cond (eqb v 8) Bare
     (cond (eqb v 9) Short Fine))))))))
 
-unfoldable pub answerFrom : ℕ → Answer
-answerFrom v =
+unfoldable pub answer_from : ℕ → Answer
+answer_from v =
     cond (eqb v 0) Done
-    (cond (ltb v 32) (Refused (outcomeOf v))
+    (cond (ltb v 32) (Refused (outcome_of v))
     (cond (ltb v 65536) (Pass (v - 32))
     (Conflict (v - 65536))))
 
@@ -62,66 +62,66 @@ InRange (Conflict n) = n ≤ 1984
 InRange (Refused o) = 0 < number_of o
 
 -- ---- what a call answers is in range
-pub check-count : (Z : Puzzle) (s : ℕ → State) (n : ℕ) → check Z s ≡ pass n → n ≡ undecidedCount Z s
+pub check-count : (Z : Puzzle) (s : ℕ → State) (n : ℕ) → check Z s ≡ pass n → n ≡ undecided_count Z s
 unfolding check
 check-count Z s n e = go (hit Z s) e
   where
-    go : (o : Option Reason) → verdictOf (undecidedCount Z s) (onceIn o) ≡ pass n → n ≡ undecidedCount Z s
+    go : (o : Option Reason) → verdict_of (undecided_count Z s) (once_in o) ≡ pass n → n ≡ undecided_count Z s
     go none f = cc
     go (some r) f = let z : ◌≡◌ {A = ℕ} 0 1 = cc in absurd (omega arith)
 
 -- the answer a where the outcome is done, otherwise the refusal
-ended_by : (o : Outcome) (a : Answer) → InRange a → InRange (cond (isDone o) a (Refused o))
-ended_by o a h = go (isDone o) refl
+ended_by : (o : Outcome) (a : Answer) → InRange a → InRange (cond (is_done o) a (Refused o))
+ended_by o a h = go (is_done o) refl
   where
-    go : (x : Bool) → isDone o ≡ x → InRange (cond x a (Refused o))
+    go : (x : Bool) → is_done o ≡ x → InRange (cond x a (Refused o))
     go true e = h
     go false e = let k = eqb-false (number_of o) 0 e in omega arith
 
 ended-range : (o : Outcome) → InRange (ended o)
 ended-range o = ended_by o Done tt
 
-pass-range : (b : Board) → isAlien b ≡ false → (n : ℕ) → check (puzzleOf b) (statesOf b) ≡ pass n → n ≤ 1984
-unfolding puzzleOf undecidedCount flat
+pass-range : (b : Board) → is_alien b ≡ false → (n : ℕ) → check (puzzle_of b) (states_of b) ≡ pass n → n ≤ 1984
+unfolding puzzle_of undecided_count flat
 pass-range b t n e =
-    let c = check-count (puzzleOf b) (statesOf b) n e in
+    let c = check-count (puzzle_of b) (states_of b) n e in
     omega (
       arith,
       c,
-      count-le (puzzleOf b).page.borders (λ x. isUndecided (statesOf b x)),
+      count-le (puzzle_of b).page.borders (λ x. is_undecided (states_of b x)),
       borders-le (native-has b t).size,
     )
 
-pub found-range : (b : Board) → isAlien b ≡ false → (f : Found) → check (puzzleOf b) (statesOf b) ≡ f
-    → InRange (asAnswer f)
+pub found-range : (b : Board) → is_alien b ≡ false → (f : Found) → check (puzzle_of b) (states_of b) ≡ f
+    → InRange (as_answer f)
 found-range b t (pass n) e = pass-range b t n e
 found-range b t (conflict r) e = reason-short b t r e
 
-check-range : (b : Board) (n : ℕ) → InRange (checkAnswer b n)
-unfolding checkAnswer
-check-range b n = go (isAlien b) (ltb n 1984) refl
+check-range : (b : Board) (n : ℕ) → InRange (check_answer b n)
+unfolding check_answer
+check-range b n = go (is_alien b) (ltb n 1984) refl
   where
-    go : (x y : Bool) → isAlien b ≡ x
-        → InRange (cond x (Refused Alien) (cond y (Refused Short) (asAnswer (check (puzzleOf b) (statesOf b)))))
+    go : (x y : Bool) → is_alien b ≡ x
+        → InRange (cond x (Refused Alien) (cond y (Refused Short) (as_answer (check (puzzle_of b) (states_of b)))))
     go true y e = omega arith
     go false true e = omega arith
-    go false false e = found-range b e (check (puzzleOf b) (statesOf b)) refl
+    go false false e = found-range b e (check (puzzle_of b) (states_of b)) refl
 
-preview-range : (b : Board) (l : Literal) (n : ℕ) → InRange (previewAnswer b l n)
-unfolding previewAnswer
+preview-range : (b : Board) (l : Literal) (n : ℕ) → InRange (preview_answer b l n)
+unfolding preview_answer
 preview-range b l n =
-    ended_by (decideOf b l).outcome (checkAnswer (decideOf b l).board n) (check-range (decideOf b l).board n)
+    ended_by (decide_of b l).outcome (check_answer (decide_of b l).board n) (check-range (decide_of b l).board n)
 
 pub call-range : (b : Board) (c : Call) (m : List ℕ) → InRange (call_of b c m).answer
 unfolding call_of
-call-range b (Decide l) m = ended-range (decideOf b l).outcome
-call-range b Undo m = ended-range (undoOf b).outcome
+call-range b (Decide l) m = ended-range (decide_of b l).outcome
+call-range b Undo m = ended-range (undo_of b).outcome
 call-range b Check m = check-range b (length m)
 call-range b (Preview l) m = preview-range b l (length m)
 
 -- ---- read back
-outcome-of : (o : Outcome) → (outcomeOf (number_of o) ≡ o) × (number_of o < 32)
-unfolding outcomeOf
+outcome-of : (o : Outcome) → (outcome_of (number_of o) ≡ o) × (number_of o < 32)
+unfolding outcome_of
 outcome-of Fine = (refl, omega arith)
 outcome-of Size = (refl, omega arith)
 outcome-of Ragged = (refl, omega arith)
@@ -133,8 +133,8 @@ outcome-of Taken = (refl, omega arith)
 outcome-of Bare = (refl, omega arith)
 outcome-of Short = (refl, omega arith)
 
-pub answer-from : (a : Answer) → InRange a → answerFrom (answerNumber a) ≡ a
-unfolding answerFrom
+pub answer-from : (a : Answer) → InRange a → answer_from (answer_number a) ≡ a
+unfolding answer_from
 answer-from Done h = refl
 answer-from (Pass n) h =
     let e : 32 + n - 32 ≡ n = omega arith in
@@ -160,11 +160,11 @@ answer-from (Refused o) h =
       r.0,
     )
 
-pub number-once : (a c : Answer) → InRange a → InRange c → answerNumber a ≡ answerNumber c → a ≡ c
-number-once a c h k e = sym (answer-from a h) ∙ ap answerFrom e ∙ answer-from c k
+pub number-once : (a c : Answer) → InRange a → InRange c → answer_number a ≡ answer_number c → a ≡ c
+number-once a c h k e = sym (answer-from a h) ∙ ap answer_from e ∙ answer-from c k
 
 -- "Number 11 is retired and not used again"
-pub answer-never-eleven : (a : Answer) → answerNumber a ≡ 11 → ⊥
+pub answer-never-eleven : (a : Answer) → answer_number a ≡ 11 → ⊥
 answer-never-eleven Done e = omega arith
 answer-never-eleven (Pass n) e = omega arith
 answer-never-eleven (Conflict n) e = omega arith

@@ -8,56 +8,56 @@ use Rattle.std.proofs.Math.Path.{refl}
 use Rattle.std.proofs.Common.{arith, ltb-false}
 use Rattle.lists.specs.Lists.{Distinct}
 use Rattle.rules.specs.declared.Literal.{Literal}
-use Rattle.rules.specs.Check.{Verdict, pass, conflict, bordersNamed, check}
+use Rattle.rules.specs.Check.{Verdict, pass, conflict, borders_named, check}
 use Rattle.board.specs.declared.Board.{Board}
 use Rattle.board.specs.declared.Outcome.TheVariants.{Alien, Short}
-use Rattle.board.specs.Alien.{isAlien}
-use Rattle.board.specs.Board.{isDone, decideOf}
-use Rattle.board.specs.View.{puzzleOf, statesOf}
+use Rattle.board.specs.Alien.{is_alien}
+use Rattle.board.specs.Board.{is_done, decide_of}
+use Rattle.board.specs.View.{puzzle_of, states_of}
 use Rattle.calls.specs.declared.Answer.TheVariants.{Conflict, Refused}
-use Rattle.calls.specs.Answers.{reasonIn, asAnswer, written, checkAnswer, checkMemory}
-use Rattle.calls.specs.Answers.{previewAnswer, previewMemory}
+use Rattle.calls.specs.Answers.{reason_in, as_answer, written, check_answer, check_memory}
+use Rattle.calls.specs.Answers.{preview_answer, preview_memory}
 use Rattle.calls.specs.CallLaws.{reason-once, reason-few, reason-short, reason-read}
 
 -- "no border is named twice, so a reason has at most as many literals as there are decided borders"
 pub record NamesOnce (m : List ℕ) (k n : ℕ) : Type 0 where
-  pub once : Distinct (bordersNamed (reasonIn m k))
+  pub once : Distinct (borders_named (reason_in m k))
   pub few : k ≤ n
 
 module _ (b : Board) (m : List ℕ) (k : ℕ) where
-  found-names : isAlien b ≡ false → 1984 ≤ length m → (f : Verdict) → check (puzzleOf b) (statesOf b) ≡ f
-      → asAnswer f ≡ Conflict k → NamesOnce (written m f) k b.count
+  found-names : is_alien b ≡ false → 1984 ≤ length m → (f : Verdict) → check (puzzle_of b) (states_of b) ≡ f
+      → as_answer f ≡ Conflict k → NamesOnce (written m f) k b.count
   found-names t l (pass n) e q = let z : ◌≡◌ {A = ℕ} 0 1 = cc in absurd (omega arith)
   found-names t l (conflict r) e q =
       let n : length r ≡ k = cc in
-      let is : reasonIn (written m (conflict r)) k ≡ r =
+      let is : reason_in (written m (conflict r)) k ≡ r =
       rw (← n) (reason-read m r (omega (arith, reason-short b t r e))) in
       record { once = rw is (reason-once b t r e); few = omega (arith, reason-few b t r e) }
 
-  pub check-names-once : checkAnswer b (length m) ≡ Conflict k → NamesOnce (checkMemory b m) k b.count
-  unfolding checkAnswer checkMemory
-  check-names-once e = go (isAlien b) (ltb (length m) 1984) refl refl e
+  pub check-names-once : check_answer b (length m) ≡ Conflict k → NamesOnce (check_memory b m) k b.count
+  unfolding check_answer check_memory
+  check-names-once e = go (is_alien b) (ltb (length m) 1984) refl refl e
     where
       f : Verdict
-      f = check (puzzleOf b) (statesOf b)
+      f = check (puzzle_of b) (states_of b)
 
-      go : (x y : Bool) → isAlien b ≡ x → ltb (length m) 1984 ≡ y
-          → cond x (Refused Alien) (cond y (Refused Short) (asAnswer f)) ≡ Conflict k
+      go : (x y : Bool) → is_alien b ≡ x → ltb (length m) 1984 ≡ y
+          → cond x (Refused Alien) (cond y (Refused Short) (as_answer f)) ≡ Conflict k
           → NamesOnce (cond x m (cond y m (written m f))) k b.count
       go true y p q a = let z : ◌≡◌ {A = ℕ} 0 1 = cc in absurd (omega arith)
       go false true p q a = let z : ◌≡◌ {A = ℕ} 0 1 = cc in absurd (omega arith)
       go false false p q a =
           found-names p (let h = ltb-false (length m) 1984 q in omega arith) f refl a
 
-pub preview-names-once : (b : Board) (l : Literal) (m : List ℕ) (k : ℕ) → previewAnswer b l (length m) ≡ Conflict k
-    → NamesOnce (previewMemory b l m) k (decideOf b l).board.count
-unfolding previewAnswer previewMemory
-preview-names-once b l m k e = go (isDone (decideOf b l).outcome) e
+pub preview-names-once : (b : Board) (l : Literal) (m : List ℕ) (k : ℕ) → preview_answer b l (length m) ≡ Conflict k
+    → NamesOnce (preview_memory b l m) k (decide_of b l).board.count
+unfolding preview_answer preview_memory
+preview-names-once b l m k e = go (is_done (decide_of b l).outcome) e
   where
     d : Board
-    d = (decideOf b l).board
+    d = (decide_of b l).board
 
-    go : (x : Bool) → cond x (checkAnswer d (length m)) (Refused (decideOf b l).outcome) ≡ Conflict k
-        → NamesOnce (cond x (checkMemory d m) m) k d.count
+    go : (x : Bool) → cond x (check_answer d (length m)) (Refused (decide_of b l).outcome) ≡ Conflict k
+        → NamesOnce (cond x (check_memory d m) m) k d.count
     go true a = check-names-once d m k a
     go false a = let z : ◌≡◌ {A = ℕ} 0 1 = cc in absurd (omega arith)

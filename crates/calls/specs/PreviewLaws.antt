@@ -16,34 +16,34 @@ use borrow.Author.Tests.{eq-eqb, ne_eqb, eqb-true, ltb-true}
 use Rattle.rules.specs.declared.Literal.{Literal}
 use Rattle.rules.specs.declared.Call.TheVariants.{Decide, Check, Preview}
 use Rattle.rules.specs.Codes.{code_of}
-use Rattle.rules.specs.Check.{Reason, check, hit, onceIn, verdictOf, undecidedCount}
+use Rattle.rules.specs.Check.{Reason, check, hit, once_in, verdict_of, undecided_count}
 use Rattle.board.specs.declared.Board.{Board}
 use Rattle.board.specs.declared.Outcome.{Outcome}
 use Rattle.board.specs.declared.Outcome.TheVariants.{Done as Fine, Alien, Border, Taken, Short}
-use Rattle.board.specs.Alien.{borderCountOf, isAlien}
-use Rattle.board.specs.Board.{number_of, isDone, returned, endedBy, pushed, decideRefusal, decideOf}
-use Rattle.board.specs.View.{puzzleOf, statesOf}
+use Rattle.board.specs.Alien.{border_count_of, is_alien}
+use Rattle.board.specs.Board.{number_of, is_done, returned, ended_by, pushed, decide_refusal, decide_of}
+use Rattle.board.specs.View.{puzzle_of, states_of}
 use Rattle.board.specs.Cases.{decide-done}
 use Rattle.board.specs.NativeLaws.{native-has, free-left}
 use Rattle.board.specs.DecideLaws.{done-returned, decided-is, decide-keeps}
 use Rattle.board.specs.ViewLaws.{pass-stored}
 use Rattle.calls.specs.declared.Answer.TheVariants.{Done, Pass, Refused}
-use Rattle.calls.specs.Answers.{asAnswer, foundAnswer, checkAnswer, checkMemory, previewAnswer}
-use Rattle.calls.specs.Answers.{previewMemory, ended, call_of, callMemory}
+use Rattle.calls.specs.Answers.{as_answer, found_answer, check_answer, check_memory, preview_answer}
+use Rattle.calls.specs.Answers.{preview_memory, ended, call_of, call_memory}
 
-module _ (b : Board) (l : Literal) {o : Outcome} {d : Board} (e : returned o d ≡ decideOf b l) where
+module _ (b : Board) (l : Literal) {o : Outcome} {d : Board} (e : returned o d ≡ decide_of b l) where
   module _ (m : List ℕ) where
     pub preview-stopped : (number_of o ≡ 0 → ⊥)
-        → (Refused o ≡ previewAnswer b l (length m)) × (m ≡ previewMemory b l m)
-    unfolding previewAnswer previewMemory
+        → (Refused o ≡ preview_answer b l (length m)) × (m ≡ preview_memory b l m)
+    unfolding preview_answer preview_memory
     preview-stopped z = let f = ne_eqb (number_of o) 0 z in (rw (← e, f), rw (← e, f))
 
     pub preview-goes : number_of o ≡ 0
-        → (checkAnswer d (length m) ≡ previewAnswer b l (length m)) × (checkMemory d m ≡ previewMemory b l m)
-    unfolding previewAnswer previewMemory
+        → (check_answer d (length m) ≡ preview_answer b l (length m)) × (check_memory d m ≡ preview_memory b l m)
+    unfolding preview_answer preview_memory
     preview-goes z = let f = eq-eqb (number_of o) 0 z in (rw (← e, f), rw (← e, f))
 
-  pub preview-known : length b.borders ≡ 1984 → length b.stack ≡ 1984 → number_of o ≡ 0 → isAlien d ≡ false
+  pub preview-known : length b.borders ≡ 1984 → length b.stack ≡ 1984 → number_of o ≡ 0 → is_alien d ≡ false
   preview-known B S z = decide-keeps b l B S (sym e ∙ done-returned (returned o d) z)
 
   pub preview-left : number_of o ≡ 0 → 0 < b.tally.undecided
@@ -53,41 +53,41 @@ module _ (b : Board) (l : Literal) {o : Outcome} {d : Board} (e : returned o d �
 
 -- ---- the number after a pass
 -- "The number after pass is the stored one"
-pub check-stored : (b : Board) (n k : ℕ) → checkAnswer b n ≡ Pass k → k ≡ b.tally.undecided
-unfolding checkAnswer check
-check-stored b n k e = go (isAlien b) (ltb n 1984) (hit (puzzleOf b) (statesOf b)) refl e
+pub check-stored : (b : Board) (n k : ℕ) → check_answer b n ≡ Pass k → k ≡ b.tally.undecided
+unfolding check_answer check
+check-stored b n k e = go (is_alien b) (ltb n 1984) (hit (puzzle_of b) (states_of b)) refl e
   where
     free : ℕ
-    free = undecidedCount (puzzleOf b) (statesOf b)
+    free = undecided_count (puzzle_of b) (states_of b)
 
-    go : (a s : Bool) (o : Option Reason) → isAlien b ≡ a
-        → cond a (Refused Alien) (cond s (Refused Short) (asAnswer (verdictOf free (onceIn o)))) ≡ Pass k
+    go : (a s : Bool) (o : Option Reason) → is_alien b ≡ a
+        → cond a (Refused Alien) (cond s (Refused Short) (as_answer (verdict_of free (once_in o)))) ≡ Pass k
         → k ≡ b.tally.undecided
     go true s o t f = let z : ◌≡◌ {A = ℕ} 0 1 = cc in absurd (omega arith)
     go false true o t f = let z : ◌≡◌ {A = ℕ} 0 1 = cc in absurd (omega arith)
     go false false none t f = let q : k ≡ free = cc in q ∙ pass-stored b (native-has b t)
     go false false (some r) t f = let z : ◌≡◌ {A = ℕ} 0 1 = cc in absurd (omega arith)
 
-pub preview-stored : (b : Board) (l : Literal) (n k : ℕ) → previewAnswer b l n ≡ Pass k
-    → k ≡ (decideOf b l).board.tally.undecided
-unfolding previewAnswer
-preview-stored b l n k e = go (isDone (decideOf b l).outcome) e
+pub preview-stored : (b : Board) (l : Literal) (n k : ℕ) → preview_answer b l n ≡ Pass k
+    → k ≡ (decide_of b l).board.tally.undecided
+unfolding preview_answer
+preview-stored b l n k e = go (is_done (decide_of b l).outcome) e
   where
-    go : (x : Bool) → cond x (checkAnswer (decideOf b l).board n) (Refused (decideOf b l).outcome) ≡ Pass k
-        → k ≡ (decideOf b l).board.tally.undecided
-    go true f = check-stored (decideOf b l).board n k f
+    go : (x : Bool) → cond x (check_answer (decide_of b l).board n) (Refused (decide_of b l).outcome) ≡ Pass k
+        → k ≡ (decide_of b l).board.tally.undecided
+    go true f = check-stored (decide_of b l).board n k f
     go false f = let z : ◌≡◌ {A = ℕ} 0 1 = cc in absurd (omega arith)
 
 -- ---- what a preview is, by the calls that it stands for
-ended-done : (o : Outcome) → ended o ≡ Done → isDone o ≡ true
-ended-done o e = go (isDone o) e
+ended-done : (o : Outcome) → ended o ≡ Done → is_done o ≡ true
+ended-done o e = go (is_done o) e
   where
     go : (x : Bool) → cond x Done (Refused o) ≡ Done → x ≡ true
     go true f = refl
     go false f = let z : ◌≡◌ {A = ℕ} 0 1 = cc in absurd (omega arith)
 
-ended-refused : (o p : Outcome) → ended o ≡ Refused p → (isDone o ≡ false) × (o ≡ p)
-ended-refused o p e = go (isDone o) e
+ended-refused : (o p : Outcome) → ended o ≡ Refused p → (is_done o ≡ false) × (o ≡ p)
+ended-refused o p e = go (is_done o) e
   where
     go : (x : Bool) → cond x Done (Refused o) ≡ Refused p → (x ≡ false) × (o ≡ p)
     go true f = let z : ◌≡◌ {A = ℕ} 0 1 = cc in absurd (omega arith)
@@ -97,15 +97,15 @@ module _ (b : Board) (l : Literal) (m : List ℕ) where
   -- "It returns and writes what decide followed by check would on a copy of the board"
   pub preview-checks : (call_of b (Decide l) m).answer ≡ Done
       → ((call_of b (Preview l) m).answer ≡ (call_of (call_of b (Decide l) m).board Check m).answer)
-      × (callMemory b (Preview l) m ≡ callMemory (call_of b (Decide l) m).board Check m)
-  unfolding call_of callMemory previewAnswer previewMemory
-  preview-checks e = let z = ended-done (decideOf b l).outcome e in (rw z, rw z)
+      × (call_memory b (Preview l) m ≡ call_memory (call_of b (Decide l) m).board Check m)
+  unfolding call_of call_memory preview_answer preview_memory
+  preview-checks e = let z = ended-done (decide_of b l).outcome e in (rw z, rw z)
 
   pub preview-stops : (o : Outcome) → (call_of b (Decide l) m).answer ≡ Refused o
-      → ((call_of b (Preview l) m).answer ≡ Refused o) × (callMemory b (Preview l) m ≡ m)
-  unfolding call_of callMemory previewAnswer previewMemory
+      → ((call_of b (Preview l) m).answer ≡ Refused o) × (call_memory b (Preview l) m ≡ m)
+  unfolding call_of call_memory preview_answer preview_memory
   preview-stops o e =
-      let z = ended-refused (decideOf b l).outcome o e in (rw z.0 (ap Refused z.1), rw z.0)
+      let z = ended-refused (decide_of b l).outcome o e in (rw z.0 (ap Refused z.1), rw z.0)
 
   -- "The board given is unaltered"
   pub preview-keeps : (call_of b (Preview l) m).board ≡ b
@@ -115,38 +115,38 @@ module _ (b : Board) (l : Literal) (m : List ℕ) where
 -- "Numbers 5, 6, 7 and 9 apply in that order"
 module _ (b : Board) (l : Literal) (n : ℕ) (B : length b.borders ≡ 1984) (S : length b.stack ≡ 1984) where
   -- the copy with the literal decided
-  abbrev pushedCopy : Board
-  pushedCopy = pushed b l.border (code_of l.side)
+  abbrev pushed_copy : Board
+  pushed_copy = pushed b l.border (code_of l.side)
 
-  known : isAlien b ≡ false → ltb l.border (borderCountOf b) ≡ true → eqb (get_or b.borders l.border 0) 0 ≡ true
-      → isAlien pushedCopy ≡ false
+  known : is_alien b ≡ false → ltb l.border (border_count_of b) ≡ true → eqb (get_or b.borders l.border 0) 0 ≡ true
+      → is_alien pushed_copy ≡ false
   known t x y =
       decide-keeps b l B S
-      (sym (decide-done b l t (ltb-true l.border (borderCountOf b) x)
+      (sym (decide-done b l t (ltb-true l.border (border_count_of b) x)
       (eqb-true (get_or b.borders l.border 0) 0 y)))
 
-  pub preview-order : previewAnswer b l n
-      ≡ cond (isAlien b) (Refused Alien)
-      (cond (ltb l.border (borderCountOf b))
+  pub preview-order : preview_answer b l n
+      ≡ cond (is_alien b) (Refused Alien)
+      (cond (ltb l.border (border_count_of b))
       (cond (eqb (get_or b.borders l.border 0) 0)
       (cond (ltb n 1984) (Refused Short)
-      (asAnswer (check (puzzleOf pushedCopy) (statesOf pushedCopy))))
+      (as_answer (check (puzzle_of pushed_copy) (states_of pushed_copy))))
       (Refused Taken))
       (Refused Border))
-  unfolding previewAnswer decideOf decideRefusal checkAnswer
+  unfolding preview_answer decide_of decide_refusal check_answer
   preview-order =
-      go (isAlien b) (ltb l.border (borderCountOf b)) (eqb (get_or b.borders l.border 0) 0) refl refl refl
+      go (is_alien b) (ltb l.border (border_count_of b)) (eqb (get_or b.borders l.border 0) 0) refl refl refl
     where
       o : Bool → Bool → Outcome
       o x y = cond x (cond y Fine Taken) Border
 
-      go : (t x y : Bool) → isAlien b ≡ t → ltb l.border (borderCountOf b) ≡ x
+      go : (t x y : Bool) → is_alien b ≡ t → ltb l.border (border_count_of b) ≡ x
           → eqb (get_or b.borders l.border 0) 0 ≡ y
-          → (let r = cond t (returned Alien b) (endedBy b pushedCopy (o x y)) in
-          cond (isDone r.outcome) (checkAnswer r.board n) (Refused r.outcome))
+          → (let r = cond t (returned Alien b) (ended_by b pushed_copy (o x y)) in
+          cond (is_done r.outcome) (check_answer r.board n) (Refused r.outcome))
           ≡ cond t (Refused Alien)
           (cond x
-          (cond y (foundAnswer (check (puzzleOf pushedCopy) (statesOf pushedCopy)) n) (Refused Taken))
+          (cond y (found_answer (check (puzzle_of pushed_copy) (states_of pushed_copy)) n) (Refused Taken))
           (Refused Border))
       go true x y p q r = refl
       go false true true p q r = rw (known p q r)

@@ -1,10 +1,10 @@
 // `check`, `preview`, `call`, check and preview on a board's lent arrays, and a call with a tally record.
 ghost use Rattle.std.specs.Prelude.{◌≡◌, ◌≤◌, length};
-ghost use Rattle.board.specs.Alien.{boardOf};
-ghost use Rattle.calls.specs.Answers.{asAnswer, written, foundAnswer, foundMemory, ended, steppedBy};
-ghost use Rattle.calls.specs.Answers.{checkAnswer, checkMemory, previewAnswer, previewMemory, call_of, callMemory};
-ghost use Rattle.calls.specs.Known.{KnownBoard, foundIn};
-ghost use Rattle.calls.specs.Counted.{countedOf, countedMemory};
+ghost use Rattle.board.specs.Alien.{board_of};
+ghost use Rattle.calls.specs.Answers.{as_answer, written, found_answer, found_memory, ended, stepped_by};
+ghost use Rattle.calls.specs.Answers.{check_answer, check_memory, preview_answer, preview_memory, call_of, call_memory};
+ghost use Rattle.calls.specs.Known.{KnownBoard, found_in};
+ghost use Rattle.calls.specs.Counted.{counted_of, counted_memory};
 
 use board::{Board, Outcome, Returned};
 use rules::{Call, Literal, Tally};
@@ -49,7 +49,7 @@ fn ending(o: Outcome) -> Answer
 
 // What a decide or an undo returned, as what a call returns.
 fn step(r: Returned) -> Stepped
-    ensures { result ≡ steppedBy r }
+    ensures { result ≡ stepped_by r }
 {
     let b = r.board;
     let o = r.outcome;
@@ -72,9 +72,9 @@ pub fn answer_known<'a>(
 ) -> Answer
     requires { KnownBoard h w colours.now clues.now borders.now undecided
         × (1984 ≤ length memory.old) }
-    ensures { (result ≡ asAnswer (foundIn h w colours.now clues.now borders.now))
+    ensures { (result ≡ as_answer (found_in h w colours.now clues.now borders.now))
         × (memory.new ≡ written memory.old
-        (foundIn h w colours.now clues.now borders.now)) }
+        (found_in h w colours.now clues.now borders.now)) }
 {
     // as slices, so that the proof knows their lengths
     let cells: &[u8] = colours;
@@ -97,9 +97,9 @@ fn answer_tested<'a>(
     memory: &mut [u16],
 ) -> Answer
     requires { KnownBoard h w colours.now clues.now borders.now undecided }
-    ensures { (result ≡ foundAnswer (foundIn h w colours.now clues.now borders.now)
+    ensures { (result ≡ found_answer (found_in h w colours.now clues.now borders.now)
         (length memory.old))
-        × (memory.new ≡ foundMemory (foundIn h w colours.now clues.now
+        × (memory.new ≡ found_memory (found_in h w colours.now clues.now
         borders.now) memory.old) }
 {
     if memory.len() < 1984 {
@@ -121,9 +121,9 @@ pub fn check_lent<'a>(
     tally: Tally,
     memory: &mut [u16],
 ) -> Answer
-    ensures { (result ≡ checkAnswer (boardOf h w colours.now clues.now borders.now
+    ensures { (result ≡ check_answer (board_of h w colours.now clues.now borders.now
         stack.now count tally) (length memory.old))
-        × (memory.new ≡ checkMemory (boardOf h w colours.now clues.now
+        × (memory.new ≡ check_memory (board_of h w colours.now clues.now
         borders.now stack.now count tally) memory.old) }
 {
     if board::is_alien(h, w, colours, clues, borders, stack, count, tally) {
@@ -134,8 +134,8 @@ pub fn check_lent<'a>(
 
 // What a check of a board answers.
 pub fn check(board: Board, memory: &mut [u16]) -> Answer
-    ensures { (result ≡ checkAnswer board (length memory.old))
-        × (memory.new ≡ checkMemory board memory.old) }
+    ensures { (result ≡ check_answer board (length memory.old))
+        × (memory.new ≡ check_memory board memory.old) }
 {
     let tally = board.tally;
     check_lent(
@@ -165,9 +165,9 @@ pub fn preview_lent<'a>(
     l: Literal,
     memory: &mut [u16],
 ) -> Answer
-    ensures { (result ≡ previewAnswer (boardOf h w colours.now clues.now borders.now
+    ensures { (result ≡ preview_answer (board_of h w colours.now clues.now borders.now
         stack.now count tally) l (length memory.old))
-        × (memory.new ≡ previewMemory (boardOf h w colours.now clues.now
+        × (memory.new ≡ preview_memory (board_of h w colours.now clues.now
         borders.now stack.now count tally) l memory.old) }
 {
     // as slices, so that the proof knows their lengths
@@ -194,8 +194,8 @@ pub fn preview_lent<'a>(
 
 // What a check would answer after a decide of the literal; the board given stays as it is.
 pub fn preview(board: Board, l: Literal, memory: &mut [u16]) -> Answer
-    ensures { (result ≡ previewAnswer board l (length memory.old))
-        × (memory.new ≡ previewMemory board l memory.old) }
+    ensures { (result ≡ preview_answer board l (length memory.old))
+        × (memory.new ≡ preview_memory board l memory.old) }
 {
     let tally = board.tally;
     preview_lent(
@@ -215,7 +215,7 @@ pub fn preview(board: Board, l: Literal, memory: &mut [u16]) -> Answer
 // One call on a board: the board afterwards, and the answer.
 pub fn call(board: Board, call: Call, memory: &mut [u16]) -> Stepped
     ensures { (result ≡ call_of board call memory.old)
-        × (memory.new ≡ callMemory board call memory.old) }
+        × (memory.new ≡ call_memory board call memory.old) }
 {
     match call {
         Call::Decide(l) => step(board.decide(l)),
@@ -233,8 +233,8 @@ pub fn call(board: Board, call: Call, memory: &mut [u16]) -> Stepped
 
 // One call on a board with a tally record by value: refused where the record disagrees with the board.
 pub fn call_by_value(board: Board, asked: Call, given: Tally, memory: &mut [u16]) -> Counted
-    ensures { (result ≡ countedOf board asked given memory.old)
-        × (memory.new ≡ countedMemory board asked given memory.old) }
+    ensures { (result ≡ counted_of board asked given memory.old)
+        × (memory.new ≡ counted_memory board asked given memory.old) }
 {
     let own = board.tally;
     if board::tallies::same(given, own) {

@@ -14,21 +14,21 @@ use Rattle.rules.specs.declared.Literal.{Literal}
 use Rattle.rules.specs.declared.Call.TheVariants.{Preview}
 use Rattle.rules.specs.Page.{State, Contains}
 use Rattle.rules.specs.Rules.{Solution}
-use Rattle.rules.specs.Codes.{coloursIn, cluesIn, puzzleIn}
+use Rattle.rules.specs.Codes.{colours_in, clues_in, puzzle_in}
 use Rattle.rules.specs.Check.{Reason, Verdict, pass, conflict}
-use Rattle.rules.specs.Book.{Asked, answered, freshBook, states, looked, reply, bookAfter}
+use Rattle.rules.specs.Book.{Asked, answered, fresh_book, states, looked, reply, book_after}
 use Rattle.laws.specs.BookLaws.{plain-answered}
 use Rattle.argument.specs.Demand.{Full, SameSides, BookAnswered, BookRuledOut, BookStoodAt, Passes, BookDemand}
 use Rattle.argument.specs.FlatDemand.{flat-demand}
 use Rattle.board.specs.declared.Board.{Board}
 use Rattle.board.specs.declared.Outcome.{Outcome}
-use Rattle.board.specs.Board.{returned, decideOf}
-use Rattle.board.specs.Accepted.{Accepted, madeBoard}
-use Rattle.board.specs.View.{puzzleOf, statesOf, literalsOf}
+use Rattle.board.specs.Board.{returned, decide_of}
+use Rattle.board.specs.Accepted.{Accepted, made_board}
+use Rattle.board.specs.View.{puzzle_of, states_of, literals_of}
 use Rattle.board.specs.NativeLaws.{native-has}
 use Rattle.board.specs.FreshLaws.{Made, made-is, made-keeps, made-typed}
 use Rattle.board.specs.ViewLaws.{fresh-puzzle, literals-fresh, literals-length, states-literals}
-use Rattle.demand3.specs.Runs.{Lent, lend, askedBy, givenBy, toldBy, lookedOn, boardAfter}
+use Rattle.demand3.specs.Runs.{Lent, lend, asked_by, given_by, told_by, looked_on, board_after}
 use Rattle.demand3.specs.Demand3.{Standing, Answered, HandedOut, RuledOut, StoodAt, Demand3}
 use Rattle.demand3.specs.RunLaws.{Built, none, Facts, Bare, built-facts, built-looked, built-after, step-told}
 use Rattle.demand3.specs.RunLaws.{run-told, run-written, run-tallies}
@@ -39,10 +39,10 @@ record Split (calls : List Lent) (earlier : List Asked) (a : Asked) : Type 0 whe
   call : Lent
   later : List Lent
   split : calls ≡ before ++ (call ∷ later)
-  same : map askedBy before ≡ earlier
-  at : askedBy call ≡ a
+  same : map asked_by before ≡ earlier
+  at : asked_by call ≡ a
 
-split-more : {calls : List Lent} {earlier : List Asked} {a k : Asked} (c : Lent) → askedBy c ≡ k
+split-more : {calls : List Lent} {earlier : List Asked} {a k : Asked} (c : Lent) → asked_by c ≡ k
     → Split calls earlier a → Split (c ∷ calls) (k ∷ earlier) a
 split-more c q s =
     record {
@@ -55,76 +55,76 @@ split-more c q s =
     }
 
 split-asked : (calls : List Lent) (earlier : List Asked) (a : Asked) (later : List Asked)
-    → map askedBy calls ≡ earlier ++ (a ∷ later) → Split calls earlier a
+    → map asked_by calls ≡ earlier ++ (a ∷ later) → Split calls earlier a
 split-asked [] [] a later e = let z : ◌≡◌ {A = ℕ} 0 1 = cc in absurd (omega arith)
 split-asked [] (k ∷ earlier) a later e = let z : ◌≡◌ {A = ℕ} 0 1 = cc in absurd (omega arith)
 split-asked (c ∷ calls) [] a later e =
-    let q : askedBy c ≡ a = cc in
+    let q : asked_by c ≡ a = cc in
     record { before = []; call = c; later = calls; split = refl; same = refl; at = q }
 split-asked (c ∷ calls) (k ∷ earlier) a later e =
-    let q : askedBy c ≡ k = cc in
-    let p : map askedBy calls ≡ earlier ++ (a ∷ later) = cc in
+    let q : asked_by c ≡ k = cc in
+    let p : map asked_by calls ≡ earlier ++ (a ∷ later) = cc in
     split-more c q (split-asked calls earlier a later p)
 
 module _ (start : Board) (S : Bare start) where
   -- the board after some calls
   after-built : (calls : List Lent)
-      → Built start (bookAfter (puzzleOf start) (map askedBy calls)).sequence (boardAfter start calls)
-  after-built calls = built-after start S freshBook none calls
+      → Built start (book_after (puzzle_of start) (map asked_by calls)).sequence (board_after start calls)
+  after-built calls = built-after start S fresh_book none calls
 
   after-facts : (calls : List Lent)
-      → Facts start (bookAfter (puzzleOf start) (map askedBy calls)).sequence (boardAfter start calls)
+      → Facts start (book_after (puzzle_of start) (map asked_by calls)).sequence (board_after start calls)
   after-facts calls = built-facts start S (after-built calls)
 
-  facts-states : (ls : List Literal) (b : Board) → Facts start ls b → statesOf b ≡ states ls
+  facts-states : (ls : List Literal) (b : Board) → Facts start ls b → states_of b ≡ states ls
   facts-states ls b f = states-literals b (native-has b f.known) ∙ ap states f.stack
 
   -- the book's answer to a call after some others
   told-after : (calls : List Lent) (c : Lent)
-      → toldBy (givenBy (boardAfter start calls) c)
-      ≡ reply (puzzleOf start) (bookAfter (puzzleOf start) (map askedBy calls)) (askedBy c)
-  told-after calls c = step-told start S (bookAfter (puzzleOf start) (map askedBy calls)) (after-built calls) c
+      → told_by (given_by (board_after start calls) c)
+      ≡ reply (puzzle_of start) (book_after (puzzle_of start) (map asked_by calls)) (asked_by c)
+  told-after calls c = step-told start S (book_after (puzzle_of start) (map asked_by calls)) (after-built calls) c
 
   -- the board that it looked at, where it is answered
   looked-facts : (calls : List Lent) (c : Lent) (f : Verdict)
-      → reply (puzzleOf start) (bookAfter (puzzleOf start) (map askedBy calls)) (askedBy c) ≡ answered f
-      → Facts start (looked (bookAfter (puzzleOf start) (map askedBy calls)).sequence c.call)
-      (lookedOn (boardAfter start calls) c.call)
+      → reply (puzzle_of start) (book_after (puzzle_of start) (map asked_by calls)) (asked_by c) ≡ answered f
+      → Facts start (looked (book_after (puzzle_of start) (map asked_by calls)).sequence c.call)
+      (looked_on (board_after start calls) c.call)
   looked-facts calls c f e =
       built-facts start S
       (built-looked start S (after-built calls) c.call (length c.memory) f
-      (plain-answered (puzzleOf start) (bookAfter (puzzleOf start) (map askedBy calls)) (askedBy c) f e))
+      (plain-answered (puzzle_of start) (book_after (puzzle_of start) (map asked_by calls)) (asked_by c) f e))
 
   -- ---- what the run answers is what the book answers
   module _ (calls : List Lent) where
     -- what the run's answered call looked at
     run-facts : {b : Board} {f : Verdict} (a : Answered start calls b f)
-        → Facts start (looked (bookAfter (puzzleOf start) (map askedBy a.earlier)).sequence a.call.call) b
+        → Facts start (looked (book_after (puzzle_of start) (map asked_by a.earlier)).sequence a.call.call) b
     run-facts {f = f} a =
         subst (Facts start _) a.standing
         (looked-facts a.earlier a.call f (sym (told-after a.earlier a.call) ∙ a.answer))
 
-    pub answered-facts : {b : Board} {f : Verdict} → Answered start calls b f → Facts start (literalsOf b) b
+    pub answered-facts : {b : Board} {f : Verdict} → Answered start calls b f → Facts start (literals_of b) b
     answered-facts {b} a = let g = run-facts a in subst (λ ls. Facts start ls b) (sym g.stack) g
 
     pub answered-book : {b : Board} {f : Verdict} → Answered start calls b f
-        → BookAnswered (puzzleOf start) (map askedBy calls) (literalsOf b) f
+        → BookAnswered (puzzle_of start) (map asked_by calls) (literals_of b) f
     answered-book a =
         record {
-          earlier = map askedBy a.earlier;
-          call = askedBy a.call;
-          later = map askedBy a.later;
-          split = ap (map askedBy) a.split ∙ map-append askedBy a.earlier (a.call ∷ a.later);
+          earlier = map asked_by a.earlier;
+          call = asked_by a.call;
+          later = map asked_by a.later;
+          split = ap (map asked_by) a.split ∙ map-append asked_by a.earlier (a.call ∷ a.later);
           standing = sym (run-facts a).stack;
           answer = sym (told-after a.earlier a.call) ∙ a.answer;
         }
 
-    pub answered-run : {ls : List Literal} {f : Verdict} → BookAnswered (puzzleOf start) (map askedBy calls) ls f
+    pub answered-run : {ls : List Literal} {f : Verdict} → BookAnswered (puzzle_of start) (map asked_by calls) ls f
         → (b : Board) × Answered start calls b f × Facts start ls b
     answered-run {ls} {f} a =
         let s = split-asked calls a.earlier a.call a.later a.split in
-        let b = lookedOn (boardAfter start s.before) s.call.call in
-        let e = ap₂ (λ (asked : List Asked) (c : Asked). reply (puzzleOf start) (bookAfter (puzzleOf start) asked) c)
+        let b = looked_on (board_after start s.before) s.call.call in
+        let e = ap₂ (λ (asked : List Asked) (c : Asked). reply (puzzle_of start) (book_after (puzzle_of start) asked) c)
         s.same s.at ∙ a.answer in (
           b,
           record {
@@ -136,40 +136,40 @@ module _ (start : Board) (S : Bare start) where
             answer = told-after s.before s.call ∙ e;
           },
           subst (λ k. Facts start k b)
-              (ap₂ (λ (asked : List Asked) (c : Asked). looked (bookAfter (puzzleOf start) asked).sequence c.call)
+              (ap₂ (λ (asked : List Asked) (c : Asked). looked (book_after (puzzle_of start) asked).sequence c.call)
               s.same s.at ∙ a.standing)
               (looked-facts s.before s.call f e),
         )
 
     -- ---- ruled out
-    pub ruled-book : (σ : ℕ → State) → RuledOut start calls σ → BookRuledOut (puzzleOf start) (map askedBy calls) σ
+    pub ruled-book : (σ : ℕ → State) → RuledOut start calls σ → BookRuledOut (puzzle_of start) (map asked_by calls) σ
     ruled-book σ q =
         record {
-          sequence = literalsOf q.board;
+          sequence = literals_of q.board;
           reason = q.reason;
           given = answered-book q.given;
           contains = q.contains;
         }
 
-    pub ruled-run : (σ : ℕ → State) → BookRuledOut (puzzleOf start) (map askedBy calls) σ → RuledOut start calls σ
+    pub ruled-run : (σ : ℕ → State) → BookRuledOut (puzzle_of start) (map asked_by calls) σ → RuledOut start calls σ
     ruled-run σ q =
         let r = answered-run q.given in
         record { board = r.0; reason = q.reason; given = r.1; contains = q.contains }
 
     -- ---- stood
     pub stood-book : (σ : ℕ → State) (f : Verdict) → StoodAt start calls σ f
-        → BookStoodAt (puzzleOf start) (map askedBy calls) σ f
+        → BookStoodAt (puzzle_of start) (map asked_by calls) σ f
     stood-book σ f q =
         let g = answered-facts q.check in
-        let e = facts-states (literalsOf q.board) q.board g in
+        let e = facts-states (literals_of q.board) q.board g in
         record {
-          sequence = literalsOf q.board;
+          sequence = literals_of q.board;
           check = answered-book q.check;
           full = rw (← e, ← g.puzzle) q.full;
           sides = rw (← e, ← g.puzzle) q.sides;
         }
 
-    pub stood-run : (σ : ℕ → State) (f : Verdict) → BookStoodAt (puzzleOf start) (map askedBy calls) σ f
+    pub stood-run : (σ : ℕ → State) (f : Verdict) → BookStoodAt (puzzle_of start) (map asked_by calls) σ f
         → StoodAt start calls σ f
     stood-run σ f q =
         let r = answered-run q.check in
@@ -183,15 +183,15 @@ module _ (start : Board) (S : Bare start) where
 
 -- ---- a preview in a list
 module _ (start : Board) (earlier later : List Lent) (l : Literal) (m : List ℕ) where
-  abbrev withPreview : List Lent
-  withPreview = earlier ++ (lend m (Preview l) ∷ later)
+  abbrev with_preview : List Lent
+  with_preview = earlier ++ (lend m (Preview l) ∷ later)
 
   -- the copy, with the literal decided
-  abbrev previewedBoard : Board
-  previewedBoard = (decideOf (boardAfter start earlier) l).board
+  abbrev previewed_board : Board
+  previewed_board = (decide_of (board_after start earlier) l).board
 
-  preview-answered : (f : Verdict) → toldBy (givenBy (boardAfter start earlier) (lend m (Preview l))) ≡ answered f
-      → Answered start withPreview previewedBoard f
+  preview-answered : (f : Verdict) → told_by (given_by (board_after start earlier) (lend m (Preview l))) ≡ answered f
+      → Answered start with_preview previewed_board f
   preview-answered f e =
       record {
         earlier = earlier;
@@ -204,18 +204,18 @@ module _ (start : Board) (earlier later : List Lent) (l : Literal) (m : List ℕ
 
   -- "A preview's reason holds on the copy and counts as handed out"
   pub preview-handed : (r : Reason)
-      → toldBy (givenBy (boardAfter start earlier) (lend m (Preview l))) ≡ answered (conflict r)
-      → HandedOut start withPreview previewedBoard r
+      → told_by (given_by (board_after start earlier) (lend m (Preview l))) ≡ answered (conflict r)
+      → HandedOut start with_preview previewed_board r
   preview-handed r e = preview-answered (conflict r) e
 
   -- "a full setting on the copy counts as one that stood at the check"
   pub preview-stood : (σ : ℕ → State) (f : Verdict)
-      → toldBy (givenBy (boardAfter start earlier) (lend m (Preview l))) ≡ answered f
-      → Full (puzzleOf previewedBoard) (statesOf previewedBoard)
-      → SameSides (puzzleOf previewedBoard) (statesOf previewedBoard) σ
-      → StoodAt start withPreview σ f
+      → told_by (given_by (board_after start earlier) (lend m (Preview l))) ≡ answered f
+      → Full (puzzle_of previewed_board) (states_of previewed_board)
+      → SameSides (puzzle_of previewed_board) (states_of previewed_board) σ
+      → StoodAt start with_preview σ f
   preview-stood σ f e full sides =
-      record { board = previewedBoard; check = preview-answered f e; full = full; sides = sides }
+      record { board = previewed_board; check = preview-answered f e; full = full; sides = sides }
 
 -- ---- a longer list
 answered-longer : (start : Board) (calls more : List Lent) {b : Board} {f : Verdict} → Answered start calls b f
@@ -241,9 +241,9 @@ ruled-longer start calls more σ q =
     }
 
 -- ---- the claim
-module _ (start : Board) (S : Bare start) (D : (asked : List Asked) → BookDemand (puzzleOf start) asked) where
+module _ (start : Board) (S : Bare start) (D : (asked : List Asked) → BookDemand (puzzle_of start) asked) where
   stands : (calls : List Lent)
-      → Standing start (puzzleOf start) (bookAfter (puzzleOf start) (map askedBy calls)) (boardAfter start calls)
+      → Standing start (puzzle_of start) (book_after (puzzle_of start) (map asked_by calls)) (board_after start calls)
   stands calls =
       let f = after-facts start S calls in
       record {
@@ -255,72 +255,72 @@ module _ (start : Board) (S : Bare start) (D : (asked : List Asked) → BookDema
         only = f.only;
       }
 
-  holds : (calls : List Lent) (b : Board) (r : Reason) → Answered start calls b (conflict r) → Contains (statesOf b) r
+  holds : (calls : List Lent) (b : Board) (r : Reason) → Answered start calls b (conflict r) → Contains (states_of b) r
   holds calls b r a =
-      let e = facts-states start S (literalsOf b) b (answered-facts start S calls a) in
-      rw e ((D (map askedBy calls)).held (literalsOf b) r (answered-book start S calls a))
+      let e = facts-states start S (literals_of b) b (answered-facts start S calls a) in
+      rw e ((D (map asked_by calls)).held (literals_of b) r (answered-book start S calls a))
 
   few-named : (calls : List Lent) (b : Board) (r : Reason) → Answered start calls b (conflict r) → length r ≤ b.count
   few-named calls b r a =
       omega (
         arith,
-        (D (map askedBy calls)).few (literalsOf b) r (answered-book start S calls a),
+        (D (map asked_by calls)).few (literals_of b) r (answered-book start S calls a),
         literals-length b,
       )
 
-  none-ruled : (calls : List Lent) (σ : ℕ → State) → Solution (puzzleOf start) σ → RuledOut start calls σ → ⊥
-  none-ruled calls σ s q = (D (map askedBy calls)).noSolution σ s (ruled-book start S calls σ q)
+  none-ruled : (calls : List Lent) (σ : ℕ → State) → Solution (puzzle_of start) σ → RuledOut start calls σ → ⊥
+  none-ruled calls σ s q = (D (map asked_by calls)).no_solution σ s (ruled-book start S calls σ q)
 
   verdicts : (calls : List Lent) (σ : ℕ → State) (f : Verdict) → StoodAt start calls σ f
-      → (Passes f ↔ Solution (puzzleOf start) σ)
-  verdicts calls σ f q = (D (map askedBy calls)).verdict σ f (stood-book start S calls σ f q)
+      → (Passes f ↔ Solution (puzzle_of start) σ)
+  verdicts calls σ f q = (D (map asked_by calls)).verdict σ f (stood-book start S calls σ f q)
 
-  pub from-book : (calls : List Lent) → Demand3 start (puzzleOf start) calls
+  pub from-book : (calls : List Lent) → Demand3 start (puzzle_of start) calls
   from-book calls =
       record {
-        answers = run-told start S freshBook none calls;
-        memory = run-written start S freshBook none calls;
-        records = run-tallies start S freshBook none calls;
+        answers = run-told start S fresh_book none calls;
+        memory = run-written start S fresh_book none calls;
+        records = run-tallies start S fresh_book none calls;
         stack = λ earlier later e. stands earlier;
         held = holds calls;
-        eachOnce = λ b r a. (D (map askedBy calls)).eachOnce (literalsOf b) r (answered-book start S calls a);
+        each_once = λ b r a. (D (map asked_by calls)).each_once (literals_of b) r (answered-book start S calls a);
         few = few-named calls;
         monotone = ruled-longer start calls;
-        noSolution = none-ruled calls;
+        no_solution = none-ruled calls;
         verdict = verdicts calls;
         otherwise =
             λ σ f q n.
-            ruled-run start S calls σ ((D (map askedBy calls)).otherwise σ f (stood-book start S calls σ f q) n);
-        staysIn =
+            ruled-run start S calls σ ((D (map asked_by calls)).otherwise σ f (stood-book start S calls σ f q) n);
+        stays_in =
             λ more σ p. none-ruled (calls ++ more) σ ((verdicts calls σ (pass p.0) p.1).0 (p.0, refl));
-        staysOut =
+        stays_out =
             λ more σ q p. none-ruled calls σ ((verdicts (calls ++ more) σ (pass p.0) p.1).0 (p.0, refl)) q;
-        sameVerdict =
+        same_verdict =
             λ σ f g s t.
-            (D (map askedBy calls)).sameVerdict σ f g (stood-book start S calls σ f s) (stood-book start S calls σ g t);
+            (D (map asked_by calls)).same_verdict σ f g (stood-book start S calls σ f s) (stood-book start S calls σ g t);
       }
 
 -- ---- an accepted puzzle
 module _ (h w : ℕ) (cs : List ℕ) (ks : List ℤ) (A : Accepted h w cs ks) where
-  pub accepted-made : Made h w cs ks (madeBoard h w cs ks)
-  accepted-made = made-is (ap (λ (o : Outcome). returned o (madeBoard h w cs ks)) A.made)
+  pub accepted-made : Made h w cs ks (made_board h w cs ks)
+  accepted-made = made-is (ap (λ (o : Outcome). returned o (made_board h w cs ks)) A.made)
 
-  pub start-bare : Bare (madeBoard h w cs ks)
+  pub start-bare : Bare (made_board h w cs ks)
   start-bare =
       record {
         known = made-keeps accepted-made;
         typed = made-typed accepted-made A.small;
-        empty = ap literalsOf accepted-made.is ∙ literals-fresh h w cs ks;
+        empty = ap literals_of accepted-made.is ∙ literals-fresh h w cs ks;
       }
 
-  pub start-puzzle : puzzleOf (madeBoard h w cs ks) ≡ puzzleIn h w cs ks
-  start-puzzle = ap puzzleOf accepted-made.is ∙ fresh-puzzle h w cs ks
+  pub start-puzzle : puzzle_of (made_board h w cs ks) ≡ puzzle_in h w cs ks
+  start-puzzle = ap puzzle_of accepted-made.is ∙ fresh-puzzle h w cs ks
 
-  book-holds : (asked : List Asked) → BookDemand (puzzleIn h w cs ks) asked
-  book-holds = let s = accepted-made.size in flat-demand h w (omega arith) (coloursIn cs) (cluesIn ks)
+  book-holds : (asked : List Asked) → BookDemand (puzzle_in h w cs ks) asked
+  book-holds = let s = accepted-made.size in flat-demand h w (omega arith) (colours_in cs) (clues_in ks)
 
-  pub demand3 : (calls : List Lent) → Demand3 (madeBoard h w cs ks) (puzzleIn h w cs ks) calls
+  pub demand3 : (calls : List Lent) → Demand3 (made_board h w cs ks) (puzzle_in h w cs ks) calls
   demand3 calls =
-      subst (λ Z. Demand3 (madeBoard h w cs ks) Z calls) start-puzzle
-      (from-book (madeBoard h w cs ks) start-bare
+      subst (λ Z. Demand3 (made_board h w cs ks) Z calls) start-puzzle
+      (from-book (made_board h w cs ks) start-bare
       (λ asked. subst (λ Z. BookDemand Z asked) (sym start-puzzle) (book-holds asked)) calls)

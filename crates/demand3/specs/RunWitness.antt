@@ -10,18 +10,18 @@ use Rattle.rules.specs.declared.Literal.{Literal}
 use Rattle.rules.specs.declared.Call.{Call}
 use Rattle.rules.specs.declared.Call.TheVariants.{Decide, Check, Preview}
 use Rattle.rules.specs.Page.{Puzzle, State, undecided}
-use Rattle.rules.specs.Flat.{flat, borderCount}
+use Rattle.rules.specs.Flat.{flat, border_count}
 use Rattle.rules.specs.Check.{Verdict, check}
-use Rattle.rules.specs.Book.{Asked, ask, answered, states, names, looked, doneBook, decideReply, checkReply, replyTo}
-use Rattle.rules.specs.Book.{reply, after, bookFrom, bookAfter}
-use Rattle.rules.specs.Codes.{puzzleIn}
+use Rattle.rules.specs.Book.{Asked, ask, answered, states, names, looked, done_book, decide_reply, check_reply, reply_to}
+use Rattle.rules.specs.Book.{reply, after, book_from, book_after}
+use Rattle.rules.specs.Codes.{puzzle_in}
 use Rattle.argument.specs.Demand.{Full, SameSides, BookStoodAt, Passes}
 use Rattle.argument.specs.Witness.{open-solves, wall-fails}
 use Rattle.board.specs.declared.Board.{Board}
-use Rattle.board.specs.Alien.{sizeRight, coloursRight, cluesRight}
-use Rattle.board.specs.Board.{puzzleRefusal, fresh_of}
-use Rattle.board.specs.Accepted.{Accepted, madeBoard}
-use Rattle.demand3.specs.Runs.{lend, askedBy}
+use Rattle.board.specs.Alien.{size_right, colours_right, clues_right}
+use Rattle.board.specs.Board.{puzzle_refusal, fresh_of}
+use Rattle.board.specs.Accepted.{Accepted, made_board}
+use Rattle.demand3.specs.Runs.{lend, asked_by}
 use Rattle.demand3.specs.Demand3.{RuledOut, StoodAt}
 use Rattle.demand3.specs.Demand3Laws.{stood-run, start-bare, start-puzzle, demand3}
 use Rattle.demand3.specs.SmallRuns.{small-clues, asked-lent}
@@ -33,11 +33,11 @@ cs = 0 ∷ 1 ∷ []
 abbrev ks : List ℤ
 ks = pos 1 ∷ negsuc 0 ∷ []
 
-abbrev pub witnessBoard : Board
-witnessBoard = madeBoard 1 2 cs ks
+abbrev pub witness_board : Board
+witness_board = made_board 1 2 cs ks
 
 accepted : Accepted 1 2 cs ks
-unfolding all fresh_of puzzleRefusal sizeRight coloursRight cluesRight all_below
+unfolding all fresh_of puzzle_refusal size_right colours_right clues_right all_below
 accepted = record { small = small-clues ks refl; made = refl }
 
 -- the border's side, as a literal and as a setting
@@ -57,11 +57,11 @@ previewing d = Preview (first d) ∷ []
 
 -- what Check gives there
 abbrev pub found : Side → Verdict
-found d = check (puzzleIn 1 2 cs ks) (setting d)
+found d = check (puzzle_in 1 2 cs ks) (setting d)
 
 -- the full setting stood at the last of the calls, by the book
 abbrev BookStood : Side → List Asked → Type 0
-BookStood d asked = BookStoodAt (puzzleIn 1 2 cs ks) asked (setting d) (found d)
+BookStood d asked = BookStoodAt (puzzle_in 1 2 cs ks) asked (setting d) (found d)
 
 side-full : (d : Side) (b : ℕ) → b < 1 → setting d b ≡ undecided → ⊥
 unfolding states
@@ -70,10 +70,10 @@ side-full d (suc b) h e = omega arith
 
 -- a call that looked at the border's side alone, and is answered by what Check gives there
 book-stood : (d : Side) (earlier : List Asked) (call : Asked)
-    → looked (bookAfter (puzzleIn 1 2 cs ks) earlier).sequence call.call ≡ first d ∷ []
-    → reply (puzzleIn 1 2 cs ks) (bookAfter (puzzleIn 1 2 cs ks) earlier) call ≡ answered (found d)
+    → looked (book_after (puzzle_in 1 2 cs ks) earlier).sequence call.call ≡ first d ∷ []
+    → reply (puzzle_in 1 2 cs ks) (book_after (puzzle_in 1 2 cs ks) earlier) call ≡ answered (found d)
     → BookStood d (earlier ++ (call ∷ []))
-unfolding flat borderCount Full SameSides
+unfolding flat border_count Full SameSides
 book-stood d earlier call e f =
     record {
       sequence = first d ∷ [];
@@ -84,28 +84,28 @@ book-stood d earlier call e f =
     }
 
 book-decided : (d : Side) → BookStood d (map (ask 1984) (deciding d))
-unfolding flat borderCount bookFrom after doneBook replyTo decideReply checkReply names any
+unfolding flat border_count book_from after done_book reply_to decide_reply check_reply names any
 book-decided d = book-stood d (ask 1984 (Decide (first d)) ∷ []) (ask 1984 Check) refl refl
 
 book-previewed : (d : Side) → BookStood d (map (ask 1984) (previewing d))
-unfolding flat borderCount bookFrom replyTo decideReply checkReply names any
+unfolding flat border_count book_from reply_to decide_reply check_reply names any
 book-previewed d = book-stood d [] (ask 1984 (Preview (first d))) refl refl
 
 module _ (m : List ℕ) (p : length m ≡ 1984) where
   side-stood : (d : Side) (calls : List Call) → BookStood d (map (ask 1984) calls)
-      → StoodAt witnessBoard (map (lend m) calls) (setting d) (found d)
+      → StoodAt witness_board (map (lend m) calls) (setting d) (found d)
   side-stood d calls s =
-      stood-run witnessBoard (start-bare 1 2 cs ks accepted) (map (lend m) calls) (setting d) (found d)
-      (subst (λ (Z : Puzzle). BookStoodAt Z (map askedBy (map (lend m) calls)) (setting d) (found d))
+      stood-run witness_board (start-bare 1 2 cs ks accepted) (map (lend m) calls) (setting d) (found d)
+      (subst (λ (Z : Puzzle). BookStoodAt Z (map asked_by (map (lend m) calls)) (setting d) (found d))
       (sym (start-puzzle 1 2 cs ks accepted))
       (subst (BookStood d) (sym (asked-lent m calls ∙ ap (λ n. map (ask n) calls) p)) s))
 
   -- the solution passed, and the other setting is ruled out
   pub record Witnessed (calls : Side → List Call) : Type 0 where
-    pub open-stood : StoodAt witnessBoard (map (lend m) (calls Open)) (setting Open) (found Open)
+    pub open-stood : StoodAt witness_board (map (lend m) (calls Open)) (setting Open) (found Open)
     pub open-passed : Passes (found Open)
-    pub wall-stood : StoodAt witnessBoard (map (lend m) (calls Wall)) (setting Wall) (found Wall)
-    pub wall-ruled : RuledOut witnessBoard (map (lend m) (calls Wall)) (setting Wall)
+    pub wall-stood : StoodAt witness_board (map (lend m) (calls Wall)) (setting Wall) (found Wall)
+    pub wall-ruled : RuledOut witness_board (map (lend m) (calls Wall)) (setting Wall)
 
   witnessed : (calls : Side → List Call) → ((d : Side) → BookStood d (map (ask 1984) (calls d))) → Witnessed calls
   witnessed calls stood =

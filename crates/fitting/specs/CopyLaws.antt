@@ -21,46 +21,46 @@ use Rattle.lists.specs.PartLaws.{part-next, part-split}
 use Rattle.lists.specs.Arithmetic.{le-or-lt}
 use Rattle.lists.specs.AnyAll.{holds-any, all_same, all_map, all-flat}
 use Rattle.rules.specs.Page.{State, Point, Puzzle, Shape, ◌⊕◌, opposite}
-use Rattle.rules.specs.Flat.{Sized, flat, flatPlace, flatReads}
+use Rattle.rules.specs.Flat.{Sized, flat, flat_place, flat_reads}
 use Rattle.rules.specs.Groups.{entry}
-use Rattle.rules.specs.Shapes.{shift_by, normal, connectionsAt, shape_of}
+use Rattle.rules.specs.Shapes.{shift_by, normal, connections_at, shape_of}
 use Rattle.rules.specs.Codes.{unclued}
 use Rattle.laws.specs.PointLaws.{point-eq, add_assoc, add_comm}
 use Rattle.laws.specs.GroupLaws.{members-lt}
 use Rattle.laws.specs.FlatLaws.{row_of}
-use Rattle.groups.specs.Grouping.{numbersIn, cells_in, startsIn}
+use Rattle.groups.specs.Grouping.{numbers_in, cells_in, starts_in}
 use Rattle.groups.specs.Parts.{part_of}
 use Rattle.reasons.specs.Arrays.{Cells}
 use Rattle.shapes.specs.Raising.{raised}
 use Rattle.shapes.specs.ConnectionLaws.{connections-at}
-use Rattle.shapes.specs.Joints.{jointIf}
-use Rattle.shapes.specs.Spots.{placeAt}
+use Rattle.shapes.specs.Joints.{joint_if}
+use Rattle.shapes.specs.Spots.{place_at}
 use Rattle.shapes.specs.ImageLaws.{lower-raise}
 use Rattle.adjacent.specs.Homes.{UnitIn}
 use Rattle.planes.specs.JudgeLaws.{place-raised}
-use Rattle.planes.specs.Placing.{readRaised, reading_of, isClear, fits_of}
-use Rattle.planes.specs.Laying.{fitsAmong, fitsBeside}
+use Rattle.planes.specs.Placing.{read_raised, reading_of, is_clear, fits_of}
+use Rattle.planes.specs.Laying.{fits_among, fits_beside}
 use Rattle.fitting.specs.SameCells.{fits-clear}
-use Rattle.fitting.specs.Fitting.{fitsTurned}
+use Rattle.fitting.specs.Fitting.{fits_turned}
 use Rattle.fitting.specs.FitLaws.{turned-own}
-use Rattle.fitting.specs.Copies.{Shift, clearShifted, cellClear, soonEnd, soonIn}
+use Rattle.fitting.specs.Copies.{Shift, clear_shifted, cell_clear, soon_end, soon_in}
 
 -- the connections of a cell
 module _ (h w : ℕ) (cs : List ℕ) (s : ℕ → State) (y x : ℕ) where
   -- the raised doubled place (a,b) is clear
   abbrev reading : ℕ → ℕ → Bool
-  reading a b = isClear (reading_of (unclued h w cs) s (readRaised h w a b))
+  reading a b = is_clear (reading_of (unclued h w cs) s (read_raised h w a b))
 
-  place-clear : (Y X : ℕ) → clearShifted h w cs s y x (placeAt Y X) ≡ reading (Y + y) (X + x)
-  unfolding clearShifted readRaised flat ◌⊕◌
+  place-clear : (Y X : ℕ) → clear_shifted h w cs s y x (place_at Y X) ≡ reading (Y + y) (X + x)
+  unfolding clear_shifted read_raised flat ◌⊕◌
   place-clear Y X =
-      ap (λ (p : Point). isClear (reading_of (unclued h w cs) s (flatReads h w p)))
+      ap (λ (p : Point). is_clear (reading_of (unclued h w cs) s (flat_reads h w p)))
       (point-eq refl (sym (+ℤ_assoc (pos Y) (pos y) (negsuc 63))) (sym (+ℤ_assoc (pos X) (pos x) (negsuc 63))))
 
-  joint-is : (b : Bool) (Y X : ℕ) → all (clearShifted h w cs s y x) (jointIf b Y X)
+  joint-is : (b : Bool) (Y X : ℕ) → all (clear_shifted h w cs s y x) (joint_if b Y X)
       ≡ cond b (reading (Y + y) (X + x)) true
   unfolding all
-  joint-is true Y X = and-true (clearShifted h w cs s y x (placeAt Y X)) ∙ place-clear Y X
+  joint-is true Y X = and-true (clear_shifted h w cs s y x (place_at Y X)) ∙ place-clear Y X
   joint-is false Y X = refl
 
   module _ (number : ℕ → ℕ) (g c : ℕ) (l : c % w < w) where
@@ -70,38 +70,38 @@ module _ (h w : ℕ) (cs : List ℕ) (s : ℕ → State) (y x : ℕ) where
     abbrev right : Bool
     right = cond (ltb (c % w + 1) w && eqb (number (c + 1)) g) (reading (2 * (c / w) + y) (2 * (c % w) + x + 1)) true
 
-    cell-is : cellClear h w cs s number g y x c ≡ below && right
-    unfolding cellClear
+    cell-is : cell_clear h w cs s number g y x c ≡ below && right
+    unfolding cell_clear
     cell-is =
         let p = ltb (c / w + 1) h && eqb (number (c + w)) g in
         let q = ltb (c % w + 1) w && eqb (number (c + 1)) g in
-        ap (all (clearShifted h w cs s y x)) (connections-at h w number g c (c / w) (c % w) (sym (div-add-mod' c w)) l)
-        ∙ (all_append (clearShifted h w cs s y x) (jointIf p (2 * (c / w) + 1) (2 * (c % w)))
-        (jointIf q (2 * (c / w)) (2 * (c % w) + 1))
+        ap (all (clear_shifted h w cs s y x)) (connections-at h w number g c (c / w) (c % w) (sym (div-add-mod' c w)) l)
+        ∙ (all_append (clear_shifted h w cs s y x) (joint_if p (2 * (c / w) + 1) (2 * (c % w)))
+        (joint_if q (2 * (c / w)) (2 * (c % w) + 1))
         ∙ ap₂ (λ a b. a && b)
         (joint-is p (2 * (c / w) + 1) (2 * (c % w))
         ∙ ap (λ a. cond p (reading a (2 * (c % w) + x)) true) (omega arith))
         (joint-is q (2 * (c / w)) (2 * (c % w) + 1)
         ∙ ap (λ b. cond q (reading (2 * (c / w) + y) b) true) (omega arith)))
 
-    pub copy-cell-yes : {a b : Bool} → a ≡ below → a ≡ true → b ≡ right → b ≡ cellClear h w cs s number g y x c
+    pub copy-cell-yes : {a b : Bool} → a ≡ below → a ≡ true → b ≡ right → b ≡ cell_clear h w cs s number g y x c
     copy-cell-yes {a} {b} d t e = sym (cell-is ∙ (ap₂ (λ a b. a && b) (sym d ∙ t) (sym e)))
 
-    pub copy-cell-no : {a : Bool} → a ≡ below → a ≡ false → false ≡ cellClear h w cs s number g y x c
+    pub copy-cell-no : {a : Bool} → a ≡ below → a ≡ false → false ≡ cell_clear h w cs s number g y x c
     copy-cell-no {a} d t = sym (cell-is ∙ ap (λ a. a && right) (sym d ∙ t))
 
 module _ {h w g : ℕ} {us : List ℕ} (z : Sized h w) (u : UnitIn h w us g) where
   abbrev ids : List ℕ
-  ids = numbersIn us
+  ids = numbers_in us
 
   abbrev units : List ℕ
   units = cells_in us
 
   abbrev first : ℕ
-  first = get_or (startsIn us) g 0
+  first = get_or (starts_in us) g 0
 
   abbrev last : ℕ
-  last = get_or (startsIn us) (g + 1) 0
+  last = get_or (starts_in us) (g + 1) 0
 
   pub copy-unit-low : (i : ℕ) → first ≤ i → i < last → get_or units i 0 < h * w
   unfolding flat
@@ -147,7 +147,7 @@ module _ {h w g : ℕ} {us : List ℕ} (z : Sized h w) (u : UnitIn h w us g) whe
       back = opposite ((flat h w).place f) ⊕ opposite ((flat h w).place f)
 
       back_is : back ≡ raised (64 - 2 * (f / w)) (64 - 2 * (f % w))
-      unfolding flat flatPlace ◌⊕◌ opposite
+      unfolding flat flat_place ◌⊕◌ opposite
       back_is =
           let r = row_of h w f (copy-unit-low first (omega arith) u.some) in
           point-eq refl (sym (lower-raise (pos (f / w)) (omega (arith, r.row, z.tall))))
@@ -162,7 +162,7 @@ module _ {h w g : ℕ} {us : List ℕ} (z : Sized h w) (u : UnitIn h w us g) whe
           (ap (λ p. to ⊕ p) back_is ∙ place-raised h w o (64 - 2 * (f / w)) (64 - 2 * (f % w)))))
 
       abbrev joints : List ℕ → List Point
-      joints ms = flat_map (connectionsAt (flat h w) (entry ids) g) ms
+      joints ms = flat_map (connections_at (flat h w) (entry ids) g) ms
 
       connections-are : (shape_of (flat h w) (entry ids) g).connections ≡ shift_by back (joints (part units first last))
       unfolding shape_of normal
@@ -172,31 +172,31 @@ module _ {h w g : ℕ} {us : List ℕ} (z : Sized h w) (u : UnitIn h w us g) whe
           ∙ ap (λ ms. shift_by back (joints ms)) (sym e)
 
       abbrev read : Point → Bool
-      read d = isClear (reading_of Z s ((flat h w).reads (to ⊕ d)))
+      read d = is_clear (reading_of Z s ((flat h w).reads (to ⊕ d)))
 
       all-shifted : (js : List Point)
-          → all isClear (map (reading_of Z s) (map (λ d. (flat h w).reads (to ⊕ d)) (shift_by back js)))
-          ≡ all (clearShifted h w cs s down across) js
-      unfolding shift_by clearShifted
+          → all is_clear (map (reading_of Z s) (map (λ d. (flat h w).reads (to ⊕ d)) (shift_by back js)))
+          ≡ all (clear_shifted h w cs s down across) js
+      unfolding shift_by clear_shifted
       all-shifted js =
-          all_map isClear (reading_of Z s) _
-          ∙ (all_map (λ o. isClear (reading_of Z s o)) (λ d. (flat h w).reads (to ⊕ d)) _
+          all_map is_clear (reading_of Z s) _
+          ∙ (all_map (λ o. is_clear (reading_of Z s o)) (λ d. (flat h w).reads (to ⊕ d)) _
           ∙ (all_map read (λ d. d ⊕ back) js
-          ∙ all_same (λ d. read (d ⊕ back)) (clearShifted h w cs s down across)
-          js (λ d m. ap (λ p. isClear (reading_of Z s ((flat h w).reads p))) (shifted d))))
+          ∙ all_same (λ d. read (d ⊕ back)) (clear_shifted h w cs s down across)
+          js (λ d m. ap (λ p. is_clear (reading_of Z s ((flat h w).reads p))) (shifted d))))
 
       pub copied-cells : fits_of (unclued h w cs) s (shape_of (flat h w) (entry ids) g) o
-          ≡ all (cellClear h w cs s (entry ids) g down across) (part units first last)
-      unfolding cellClear
+          ≡ all (cell_clear h w cs s (entry ids) g down across) (part units first last)
+      unfolding cell_clear
       copied-cells =
           fits-clear Z s (shape_of (flat h w) (entry ids) g) o
-          ∙ (ap (λ js. all isClear (map (reading_of Z s) (map (λ d. (flat h w).reads (to ⊕ d)) js))) connections-are
+          ∙ (ap (λ js. all is_clear (map (reading_of Z s) (map (λ d. (flat h w).reads (to ⊕ d)) js))) connections-are
           ∙ (all-shifted (joints (part units first last))
-          ∙ all-flat (clearShifted h w cs s down across) (connectionsAt (flat h w) (entry ids) g)
+          ∙ all-flat (clear_shifted h w cs s down across) (connections_at (flat h w) (entry ids) g)
           (part units first last)))
 
 -- the first cells of a group
-soon-end : (first last : ℕ) → first ≤ last → (first ≤ soonEnd first last) × (soonEnd first last ≤ last)
+soon-end : (first last : ℕ) → first ≤ last → (first ≤ soon_end first last) × (soon_end first last ≤ last)
 soon-end first last l =
     ⊎_elim
     (λ (k : first + 8 ≤ last). rw (le-ltb last (first + 8) k) (omega arith, k))
@@ -204,7 +204,7 @@ soon-end first last l =
     (le-or-lt (first + 8) last)
 
 pub soon-cells : {h w first last : ℕ} {cells : List ℕ} → Cells h w cells first last
-    → Cells h w cells first (soonEnd first last)
+    → Cells h w cells first (soon_end first last)
 soon-cells {first = first} {last = last} c =
     let b = soon-end first last c.order in
     record {
@@ -216,19 +216,19 @@ soon-cells {first = first} {last = last} c =
 
 module _ (Z : Puzzle) (s : ℕ → State) (cells offs : List ℕ) (t : Shape) where
   soon-group : (Q : ℕ) → get_or offs Q 0 ≤ get_or offs (Q + 1) 0
-      → fitsAmong Z s t (soonIn cells offs Q) ≡ true → fitsAmong Z s t (part_of cells offs Q) ≡ true
-  unfolding fitsAmong soonIn part_of
+      → fits_among Z s t (soon_in cells offs Q) ≡ true → fits_among Z s t (part_of cells offs Q) ≡ true
+  unfolding fits_among soon_in part_of
   soon-group Q l e =
       let first = get_or offs Q 0 in
       let last = get_or offs (Q + 1) 0 in
-      let end = soonEnd first last in
+      let end = soon_end first last in
       let b = soon-end first last l in
       ap (any (fits_of Z s t)) (part-split cells first end last b.0 b.1)
       ∙ (any_append (fits_of Z s t) (part cells first end) (part cells end last) ∙ rw e)
 
   pub soon-turned : {gs : List ℕ} {Q : ℕ} → Q ∈ gs → get_or offs Q 0 ≤ get_or offs (Q + 1) 0
-      → fitsAmong Z s t (soonIn cells offs Q) ≡ true → fitsTurned Z s cells offs gs t ≡ true
-  unfolding fitsBeside
+      → fits_among Z s t (soon_in cells offs Q) ≡ true → fits_turned Z s cells offs gs t ≡ true
+  unfolding fits_beside
   soon-turned {gs} {Q} m l e =
       turned-own Z s cells offs t gs
-      (holds-any (λ q. fitsAmong Z s t (part_of cells offs q)) m (soon-group Q l e))
+      (holds-any (λ q. fits_among Z s t (part_of cells offs q)) m (soon-group Q l e))

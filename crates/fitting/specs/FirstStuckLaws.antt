@@ -7,21 +7,21 @@ use mathlib.Core.List.{List, [], ◌∷◌}
 use Prim.Native.Nat.{ℕ, zero, suc, ◌+◌, ◌-◌, ◌<◌, ◌≤◌}
 use Rattle.std.proofs.Math.Numerals.{add-one}
 use native.Mathlib.Omega.{arith}
-use Rattle.lists.specs.Lists.{firstHit, or_else, range, rangeFrom}
+use Rattle.lists.specs.Lists.{first_hit, or_else, range, range_from}
 use Rattle.rules.specs.Page.{State, Puzzle}
-use Rattle.rules.specs.Groups.{members, unit_of, potentialOf}
-use Rattle.rules.specs.Check.{hitIf, unitReason, unitHitIn, unitHitOn, unitHit}
-use Rattle.groups.specs.Pages.{head_of, potentialIn}
-use Rattle.fitting.specs.FirstStuck.{firstFrom, firstFail, Passed, fitsOn, fitsUnit, stuckHit}
+use Rattle.rules.specs.Groups.{members, unit_of, potential_of}
+use Rattle.rules.specs.Check.{hit_if, unit_reason, unit_hit_in, unit_hit_on, unit_hit}
+use Rattle.groups.specs.Pages.{head_of, potential_in}
+use Rattle.fitting.specs.FirstStuck.{first_from, first_fail, Passed, fits_on, fits_unit, stuck_hit}
 
 -- the search goes from number to number
 pub passed_start : (f : ℕ → Bool) (n : ℕ) → Passed f n 0
-unfolding firstFail
+unfolding first_fail
 passed_start f n = let e : n - 0 ≡ n = omega arith in record { most = omega arith; left = rw e }
 
 module _ {f : ℕ → Bool} {n i : ℕ} (k : Passed f n i) where
-  pub passed-done : n ≤ i → n ≡ firstFail f n
-  unfolding firstFrom
+  pub passed-done : n ≤ i → n ≡ first_fail f n
+  unfolding first_from
   passed-done h =
       let m = k.most in
       let e : n - i ≡ 0 = omega arith in
@@ -35,44 +35,44 @@ module _ {f : ℕ → Bool} {n i : ℕ} (k : Passed f n i) where
     next : n - i ≡ suc (n - (i + 1))
     next = omega arith
 
-    pub passed_here : f i ≡ false → i ≡ firstFail f n
-    unfolding firstFrom
+    pub passed_here : f i ≡ false → i ≡ first_fail f n
+    unfolding first_from
     passed_here e = sym (k.left ∙ rw (next, e))
 
     pub passed-next : f i ≡ true → Passed f n (i + 1)
-    unfolding firstFrom
+    unfolding first_from
     passed-next e = record { most = omega arith; left = k.left ∙ rw (next, e, add-one i) }
 
 module _ (Z : Puzzle) (s : ℕ → State) where
   hit-on : (U : ℕ) (xs : List ℕ)
-      → unitHitOn Z s U xs ≡ hitIf (not (fitsOn Z s U xs)) (unitReason Z s U (potentialOf Z s (head_of xs)))
-  unfolding unitHitOn unitHitIn fitsOn hitIf
+      → unit_hit_on Z s U xs ≡ hit_if (not (fits_on Z s U xs)) (unit_reason Z s U (potential_of Z s (head_of xs)))
+  unfolding unit_hit_on unit_hit_in fits_on hit_if
   hit-on U [] = refl
   hit-on U (x ∷ xs) = refl
 
-  hit-unit : (U : ℕ) → unitHit Z s U ≡ hitIf (not (fitsUnit Z s U)) (unitReason Z s U (potentialIn Z s U))
-  unfolding unitHit fitsUnit potentialIn
+  hit-unit : (U : ℕ) → unit_hit Z s U ≡ hit_if (not (fits_unit Z s U)) (unit_reason Z s U (potential_in Z s U))
+  unfolding unit_hit fits_unit potential_in
   hit-unit U = hit-on U (members Z.page (unit_of Z s) U)
 
   hits-from : (i n : ℕ)
-      → firstHit (unitHit Z s) (rangeFrom i n) ≡ stuckHit Z s (i + n) (firstFrom (fitsUnit Z s) i n)
-  unfolding firstHit or_else stuckHit hitIf firstFrom
+      → first_hit (unit_hit Z s) (range_from i n) ≡ stuck_hit Z s (i + n) (first_from (fits_unit Z s) i n)
+  unfolding first_hit or_else stuck_hit hit_if first_from
   hits-from i zero = rw (le-ltb i (i + 0) (omega arith))
   hits-from i (suc n) =
-      rw (hit-unit i) (go (fitsUnit Z s i) (hits-from (suc i) n))
+      rw (hit-unit i) (go (fits_unit Z s i) (hits-from (suc i) n))
     where
       go : (b : Bool)
-          → firstHit (unitHit Z s) (rangeFrom (suc i) n) ≡ stuckHit Z s (suc i + n) (firstFrom (fitsUnit Z s) (suc i) n)
-          → or_else (hitIf (not b) (unitReason Z s i (potentialIn Z s i))) (firstHit (unitHit Z s) (rangeFrom (suc i) n))
-          ≡ stuckHit Z s (i + suc n) (cond b (firstFrom (fitsUnit Z s) (suc i) n) i)
+          → first_hit (unit_hit Z s) (range_from (suc i) n) ≡ stuck_hit Z s (suc i + n) (first_from (fits_unit Z s) (suc i) n)
+          → or_else (hit_if (not b) (unit_reason Z s i (potential_in Z s i))) (first_hit (unit_hit Z s) (range_from (suc i) n))
+          ≡ stuck_hit Z s (i + suc n) (cond b (first_from (fits_unit Z s) (suc i) n) i)
       go true e =
           let d : suc i + n ≡ i + suc n = omega arith in
-          e ∙ ap (λ k. stuckHit Z s k (firstFrom (fitsUnit Z s) (suc i) n)) d
+          e ∙ ap (λ k. stuck_hit Z s k (first_from (fits_unit Z s) (suc i) n)) d
       go false e = rw (lt-ltb i (i + suc n) (omega arith))
 
   -- step 3 is the reason of the first unit that does not fit
-  pub stuck-hit : (n : ℕ) → firstHit (unitHit Z s) (range n) ≡ stuckHit Z s n (firstFail (fitsUnit Z s) n)
-  unfolding firstFail
+  pub stuck-hit : (n : ℕ) → first_hit (unit_hit Z s) (range n) ≡ stuck_hit Z s n (first_fail (fits_unit Z s) n)
+  unfolding first_fail
   stuck-hit n =
       let e : 0 + n ≡ n = omega arith in
-      hits-from 0 n ∙ ap (λ k. stuckHit Z s k (firstFrom (fitsUnit Z s) 0 n)) e
+      hits-from 0 n ∙ ap (λ k. stuck_hit Z s k (first_from (fits_unit Z s) 0 n)) e

@@ -4,7 +4,7 @@ use Rattle.std.proofs.Math.Path.{refl, sym, ap}
 use Rattle.std.proofs.Common.{◌∙◌, arith}
 use mathlib.Core.List.Memᴰ
 use Rattle.lists.specs.Lists.{◌∈◌, any}
-use Rattle.lists.specs.Tests.{anyBelow}
+use Rattle.lists.specs.Tests.{any_below}
 use Rattle.lists.specs.TestLaws.{any_some, any-witness}
 use Rattle.lists.specs.Booleans.{same_true}
 use Rattle.lists.specs.AnyAll.{any-holds, holds-any, any_same, any-never, any-map}
@@ -13,27 +13,27 @@ use Rattle.rules.specs.Flat.{flat}
 use Rattle.rules.specs.Groups.{entry}
 use Rattle.rules.specs.Check.{laid}
 use Rattle.rules.specs.Turns.{apply, half, quarter, flip}
-use Rattle.rules.specs.Shapes.{turned, same_shape, shape_of, withHalf, withQuarter, withFlip, flatTransforms}
-use Rattle.groups.specs.Grouping.{numbersIn}
+use Rattle.rules.specs.Shapes.{turned, same_shape, shape_of, with_half, with_quarter, with_flip, flat_transforms}
+use Rattle.groups.specs.Grouping.{numbers_in}
 use Rattle.shapes.specs.ListingLaws.{listed-low}
 use Rattle.shapes.specs.Rows.{image, rows_of}
-use Rattle.shapes.specs.Outlines.{rowsIn, columnsIn, cellCount}
-use Rattle.shapes.specs.Spots.{cellSpots, jointSpots, places, UnitAt}
+use Rattle.shapes.specs.Outlines.{rows_in, columns_in, cell_count}
+use Rattle.shapes.specs.Spots.{cell_spots, joint_spots, places, UnitAt}
 use Rattle.shapes.specs.SpotLaws.{length-spots}
 use Rattle.shapes.specs.Joints.{OutlineJoined}
 use Rattle.shapes.specs.UnitLaws.{transforms-flat}
-use Rattle.shapes.specs.Images.{imageJoints}
+use Rattle.shapes.specs.Images.{image_joints}
 use Rattle.shapes.specs.ImageLaws.{image-is}
 use Rattle.planes.specs.Placing.{bare, fits_of}
-use Rattle.planes.specs.Laying.{fitsAmong, fitsBeside}
+use Rattle.planes.specs.Laying.{fits_among, fits_beside}
 use Rattle.fitting.specs.SameCells.{same-connections, row_listed, beside_same}
-use Rattle.fitting.specs.Fitting.{fitsTurned, fitsRows}
+use Rattle.fitting.specs.Fitting.{fits_turned, fits_rows}
 
 -- the shape is the first of its listed transforms
-own-listed : (t : Shape) → t ∈ flatTransforms t
-unfolding flatTransforms withFlip withQuarter withHalf
+own-listed : (t : Shape) → t ∈ flat_transforms t
+unfolding flat_transforms with_flip with_quarter with_half
 own-listed t =
-    kept (any (λ u. same_shape u (turned (apply flip) t)) (withQuarter t (withHalf t))) _
+    kept (any (λ u. same_shape u (turned (apply flip) t)) (with_quarter t (with_half t))) _
     (kept (same_shape t (turned (apply quarter) t)) _ (first (same_shape t (turned (apply half) t))))
   where
     first : (b : Bool) → t ∈ cond b (t ∷ []) (t ∷ turned (apply half) t ∷ [])
@@ -47,25 +47,25 @@ own-listed t =
 module _ (Z : Puzzle) (s : ℕ → State) (cells offs : List ℕ) where
   module _ (gs : List ℕ) {h w g : ℕ} {us o : List ℕ} (u : UnitAt h w us g o) (j : OutlineJoined h w us g o) where
     abbrev ids : List ℕ
-    ids = numbersIn us
+    ids = numbers_in us
 
     abbrev shape : Shape
     shape = shape_of (flat h w) (entry ids) g
 
     abbrev fit : ℕ → Bool
-    fit r = fitsBeside Z s (bare (imageJoints r (cellSpots o) (jointSpots o))) cells offs gs
+    fit r = fits_beside Z s (bare (image_joints r (cell_spots o) (joint_spots o))) cells offs gs
 
     -- a placement looks at the connections only
-    turned-listed : fitsTurned Z s cells offs gs shape ≡ any fit (rows_of shape)
-    unfolding fitsTurned fitsBeside fitsAmong fits_of laid
+    turned-listed : fits_turned Z s cells offs gs shape ≡ any fit (rows_of shape)
+    unfolding fits_turned fits_beside fits_among fits_of laid
     turned-listed =
-        ap (any (λ t. fitsBeside Z s t cells offs gs)) (transforms-flat h w (entry ids) g u.sized.columns)
-        ∙ (any-map (λ t. fitsBeside Z s t cells offs gs) (λ r. image r shape) (rows_of shape)
-        ∙ any_same (λ r. fitsBeside Z s (image r shape) cells offs gs) fit
-        (rows_of shape) (λ r m. ap (λ js. fitsBeside Z s (bare js) cells offs gs) (image-is u j r)))
+        ap (any (λ t. fits_beside Z s t cells offs gs)) (transforms-flat h w (entry ids) g u.sized.columns)
+        ∙ (any-map (λ t. fits_beside Z s t cells offs gs) (λ r. image r shape) (rows_of shape)
+        ∙ any_same (λ r. fits_beside Z s (image r shape) cells offs gs) fit
+        (rows_of shape) (λ r m. ap (λ js. fits_beside Z s (bare js) cells offs gs) (image-is u j r)))
 
     full : 1 ≤ length (places h w (entry ids) g)
-    full = omega (arith, u.spotted.some, length-spots (rowsIn o) (columnsIn o) (cellCount o), ap length u.here)
+    full = omega (arith, u.spotted.some, length-spots (rows_in o) (columns_in o) (cell_count o), ap length u.here)
 
     same-fit : (r q : ℕ) → r < 8 → q < 8 → (image r shape).cells ≡ (image q shape).cells → fit r ≡ fit q
     same-fit r q a b e =
@@ -75,11 +75,11 @@ module _ (Z : Puzzle) (s : ℕ → State) (cells offs : List ℕ) where
         (same q r b a (sym e)) cells offs gs)
 
     -- a row that is not listed gives the cells of one that is
-    pub rows-turned : fitsRows Z s cells offs gs (cellSpots o) (jointSpots o)
-        ≡ fitsTurned Z s cells offs gs (shape_of (flat h w) (entry ids) g)
-    unfolding fitsRows
+    pub rows-turned : fits_rows Z s cells offs gs (cell_spots o) (joint_spots o)
+        ≡ fits_turned Z s cells offs gs (shape_of (flat h w) (entry ids) g)
+    unfolding fits_rows
     rows-turned =
-        same_true (anyBelow 8 fit) (any fit (rows_of shape))
+        same_true (any_below 8 fit) (any fit (rows_of shape))
         (λ e.
         let r = any-witness 8 fit e in
         let q = row_listed h w (entry ids) g u.sized.columns full r.0 r.1 in
@@ -90,16 +90,16 @@ module _ (Z : Puzzle) (s : ℕ → State) (cells offs : List ℕ) where
         ∙ sym turned-listed
 
   -- no adjacent unit
-  fits-none : (t : Shape) → fitsBeside Z s t cells offs [] ≡ false
-  unfolding fitsBeside any
+  fits-none : (t : Shape) → fits_beside Z s t cells offs [] ≡ false
+  unfolding fits_beside any
   fits-none t = refl
 
-  pub turned_none : {gs : List ℕ} (t : Shape) → gs ≡ [] → fitsTurned Z s cells offs gs t ≡ false
-  unfolding fitsTurned
-  turned_none t e = rw e (any-never _ (flatTransforms t) (λ x m. fits-none x))
+  pub turned_none : {gs : List ℕ} (t : Shape) → gs ≡ [] → fits_turned Z s cells offs gs t ≡ false
+  unfolding fits_turned
+  turned_none t e = rw e (any-never _ (flat_transforms t) (λ x m. fits-none x))
 
   -- the shape itself is listed
-  pub turned-own : (t : Shape) (gs : List ℕ) → fitsBeside Z s t cells offs gs ≡ true
-      → fitsTurned Z s cells offs gs t ≡ true
-  unfolding fitsTurned
-  turned-own t gs e = holds-any (λ u. fitsBeside Z s u cells offs gs) (own-listed t) e
+  pub turned-own : (t : Shape) (gs : List ℕ) → fits_beside Z s t cells offs gs ≡ true
+      → fits_turned Z s cells offs gs t ≡ true
+  unfolding fits_turned
+  turned-own t gs e = holds-any (λ u. fits_beside Z s u cells offs gs) (own-listed t) e

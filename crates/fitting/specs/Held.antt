@@ -7,23 +7,23 @@
 --   Held .. p m         nothing yet, and the last place of the mask is 0; or what is held of the potential unit there
 use Rattle.std.specs.Prelude.{◌≡◌, List, ℕ, ◌+◌, ◌<◌, length, get_or, replicate}
 use Rattle.lists.specs.Lists.{◌∈◌}
-use Rattle.rules.specs.Codes.{statesIn, unclued}
+use Rattle.rules.specs.Codes.{states_in, unclued}
 use Rattle.rules.specs.Check.{mates}
-use Rattle.groups.specs.Grouping.{cells_in, startsIn}
-use Rattle.planes.specs.Planes.{planesOf}
-use Rattle.planes.specs.Masks.{Masked, originsIn}
+use Rattle.groups.specs.Grouping.{cells_in, starts_in}
+use Rattle.planes.specs.Planes.{planes_of}
+use Rattle.planes.specs.Masks.{Masked, origins_in}
 
 pub record Nearby (h w : ℕ) (cs bs near : List ℕ) : Type 0 where
   pub long : length near ≡ 1024
-  pub some : (p q : ℕ) → get_or near p 0 ≡ q + 1 → q ∈ mates (unclued h w cs) (statesIn bs) p
+  pub some : (p q : ℕ) → get_or near p 0 ≡ q + 1 → q ∈ mates (unclued h w cs) (states_in bs) p
 
 pub record Adjoined (h w : ℕ) (cs bs : List ℕ) (n : ℕ) : Type 0 where
-  pub each : (p : ℕ) → p < n → (q : ℕ) × (q ∈ mates (unclued h w cs) (statesIn bs) p)
+  pub each : (p : ℕ) → p < n → (q : ℕ) × (q ∈ mates (unclued h w cs) (states_in bs) p)
 
 module _ (h w : ℕ) (cs bs ps : List ℕ) where
   pub record HeldOf (q : ℕ) (p m : List ℕ) : Type 0 where
-    pub planes : p ≡ planesOf h w cs bs
-    pub mask : Masked w (originsIn (cells_in ps) (startsIn ps) (mates (unclued h w cs) (statesIn bs) q)) m
+    pub planes : p ≡ planes_of h w cs bs
+    pub mask : Masked w (origins_in (cells_in ps) (starts_in ps) (mates (unclued h w cs) (states_in bs) q)) m
     pub name : get_or m 32 0 ≡ q + 1
 
   pub record Held (p m : List ℕ) : Type 0 where

@@ -11,17 +11,17 @@ use Rattle.lists.specs.PaddedLaws.{zeros}
 use Rattle.lists.specs.Ranges.{length-range}
 use Rattle.lists.specs.Arithmetic.{if-same}
 use Rattle.rules.specs.Check.{adjacent, mates}
-use Rattle.rules.specs.Codes.{statesIn, unclued}
-use Rattle.rules.specs.Groups.{potentialCount}
-use Rattle.groups.specs.Grouping.{cells_in, startsIn}
+use Rattle.rules.specs.Codes.{states_in, unclued}
+use Rattle.rules.specs.Groups.{potential_count}
+use Rattle.groups.specs.Grouping.{cells_in, starts_in}
 use Rattle.reasons.specs.Arrays.{Cells}
 use Rattle.adjacent.specs.Mates.{OneOf, Gathered}
 use Rattle.adjacent.specs.BesideLaws.{mates-low, beside-gathered}
 use Rattle.adjacent.specs.Homes.{Home}
 use Rattle.planes.specs.DrawLaws.{planes-long}
 use Rattle.planes.specs.Placing.{bare}
-use Rattle.planes.specs.Laying.{fitsBeside}
-use Rattle.planes.specs.Planes.{planesOf}
+use Rattle.planes.specs.Laying.{fits_beside}
+use Rattle.planes.specs.Planes.{planes_of}
 use Rattle.planes.specs.Masks.{Sizes, MaskAnswers}
 use Rattle.planes.specs.FitLaws.{beside-answers}
 use Rattle.fitting.specs.Held.{Nearby, Adjoined, HeldOf, Held}
@@ -33,7 +33,7 @@ module _ (h w : ℕ) (cs bs : List ℕ) where
       record { long = length-replicate 1024 zero; some = λ p q e. absurd (omega (arith, zeros 1024 p)) }
 
 pub nearby-more : {h w : ℕ} {cs bs near : List ℕ} → Nearby h w cs bs near → (p q : ℕ) → p < 1024
-    → q ∈ mates (unclued h w cs) (statesIn bs) p → Nearby h w cs bs (set near p (q + 1))
+    → q ∈ mates (unclued h w cs) (states_in bs) p → Nearby h w cs bs (set near p (q + 1))
 nearby-more {h} {w} {cs} {bs} {near} k p q l m =
     record {
       long = length-set near p (q + 1) ∙ k.long;
@@ -53,41 +53,41 @@ pub adjoined-none : (h w : ℕ) (cs bs : List ℕ) → Adjoined h w cs bs 0
 adjoined-none h w cs bs = record { each = λ p l. absurd (omega arith) }
 
 pub adjoined-more : {h w : ℕ} {cs bs : List ℕ} {n : ℕ} → Adjoined h w cs bs n → {q : ℕ}
-    → q ∈ mates (unclued h w cs) (statesIn bs) n → Adjoined h w cs bs (n + 1)
+    → q ∈ mates (unclued h w cs) (states_in bs) n → Adjoined h w cs bs (n + 1)
 adjoined-more {n = n} k {q} m =
     record { each = λ p l. if-same p n (λ e. rw e (q, m)) (λ d. k.each p (omega arith)) }
 
 -- a potential unit that the arrays have
 module _ {h w : ℕ} {cs bs ps : List ℕ} {p : ℕ} (k : Home h w cs bs ps p) where
-  pub mate-few : {q : ℕ} → q ∈ mates (unclued h w cs) (statesIn bs) p → q < 1024
+  pub mate-few : {q : ℕ} → q ∈ mates (unclued h w cs) (states_in bs) p → q < 1024
   mate-few {q} m = omega (arith, mates-low k.grouped p q m, k.known.few)
 
-  pub mate-cells : {q : ℕ} → q ∈ mates (unclued h w cs) (statesIn bs) p
-      → Cells h w (cells_in ps) (get_or (startsIn ps) q 0) (get_or (startsIn ps) (q + 1) 0)
+  pub mate-cells : {q : ℕ} → q ∈ mates (unclued h w cs) (states_in bs) p
+      → Cells h w (cells_in ps) (get_or (starts_in ps) q 0) (get_or (starts_in ps) (q + 1) 0)
   mate-cells {q} m = k.grouped.each q (mates-low k.grouped p q m)
 
-  pub mate-kept : {q : ℕ} → q ∈ mates (unclued h w cs) (statesIn bs) p
-      → OneOf (mates (unclued h w cs) (statesIn bs) p) q
+  pub mate-kept : {q : ℕ} → q ∈ mates (unclued h w cs) (states_in bs) p
+      → OneOf (mates (unclued h w cs) (states_in bs) p) q
   mate-kept m = record { some = λ l. m; none = λ l. absurd (omega (arith, mate-few m)) }
 
   -- some list begins with its adjacent units
-  mates-few : length (mates (unclued h w cs) (statesIn bs) p) ≤ 1024
+  mates-few : length (mates (unclued h w cs) (states_in bs) p) ≤ 1024
   unfolding mates
   mates-few =
-      let n = potentialCount (unclued h w cs) (statesIn bs) in
+      let n = potential_count (unclued h w cs) (states_in bs) in
       omega (
         arith,
-        length-filter (adjacent (unclued h w cs) (statesIn bs) p) (range n),
+        length-filter (adjacent (unclued h w cs) (states_in bs) p) (range n),
         length-range 0 n,
         k.known.few,
       )
 
   abbrev mates-list : List ℕ
-  mates-list = let xs = mates (unclued h w cs) (statesIn bs) p in padded 1024 0 xs ++ (length xs ∷ [])
+  mates-list = let xs = mates (unclued h w cs) (states_in bs) p in padded 1024 0 xs ++ (length xs ∷ [])
 
-  mates-gathered : Gathered (mates (unclued h w cs) (statesIn bs) p) mates-list
+  mates-gathered : Gathered (mates (unclued h w cs) (states_in bs) p) mates-list
   mates-gathered =
-      let xs = mates (unclued h w cs) (statesIn bs) p in
+      let xs = mates (unclued h w cs) (states_in bs) p in
       let n = length xs in
       let zs = replicate {A = ℕ} (1024 - n) 0 in
       let long : length (xs ++ zs) ≡ 1024 =
@@ -120,7 +120,7 @@ module _ (h w : ℕ) (cs bs ps : List ℕ) where
 
 module _ {h w : ℕ} {cs bs ps p m : List ℕ} where
   -- planes that are drawn stay
-  pub held-planes : Held h w cs bs ps p m → (get_or m 32 0 ≡ 0 → ⊥) → p ≡ planesOf h w cs bs
+  pub held-planes : Held h w cs bs ps p m → (get_or m 32 0 ≡ 0 → ⊥) → p ≡ planes_of h w cs bs
   held-planes k e = (k.some (get_or m 32 0 - 1) (last (get_or m 32 0) e)).planes
     where
       last : (n : ℕ) → (n ≡ 0 → ⊥) → n ≡ n - 1 + 1
@@ -143,8 +143,8 @@ module _ {h w : ℕ} {cs bs ps p m : List ℕ} {q : ℕ} (k : HeldOf h w cs bs p
         record { tall = a.drawn.sized.tall; planes = planes-long h w cs bs k.planes; mask = k.mask.size }
 
     pub held-answers : MaskAnswers h p m
-        (λ js. fitsBeside (unclued h w cs) (statesIn bs) (bare js) (cells_in ps) (startsIn ps)
-        (mates (unclued h w cs) (statesIn bs) q))
+        (λ js. fits_beside (unclued h w cs) (states_in bs) (bare js) (cells_in ps) (starts_in ps)
+        (mates (unclued h w cs) (states_in bs) q))
     held-answers =
         let l = mates-gathered a in
         let b = beside-gathered ps a.grouped a.known q l in

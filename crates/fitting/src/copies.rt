@@ -1,17 +1,17 @@
 // Whether the unit itself, shifted, fits at one of the first cells of a potential unit. This is asked of the unit's
 // list of cells, before anything is written.
 ghost use Rattle.std.specs.Prelude.{◌≡◌, true, ◌&&◌, cond, ◌+◌, ◌*◌, ◌%◌, ◌<◌, ◌≤◌, eqb, get_or};
-ghost use Rattle.rules.specs.Codes.{statesIn, unclued};
+ghost use Rattle.rules.specs.Codes.{states_in, unclued};
 ghost use Rattle.rules.specs.Flat.{flat};
 ghost use Rattle.rules.specs.Groups.{entry};
 ghost use Rattle.rules.specs.Shapes.{shape_of};
-ghost use Rattle.groups.specs.Grouping.{numbersIn, cells_in, startsIn};
+ghost use Rattle.groups.specs.Grouping.{numbers_in, cells_in, starts_in};
 ghost use Rattle.groups.specs.Pages.{Drawn};
 ghost use Rattle.reasons.specs.Arrays.{Cells};
 ghost use Rattle.adjacent.specs.Homes.{UnitIn};
-ghost use Rattle.planes.specs.Placing.{readRaised, reading_of, isClear, fits_of};
-ghost use Rattle.planes.specs.Laying.{fitsAmong};
-ghost use Rattle.fitting.specs.Copies.{Shift, soonEnd, soonIn, cellClear};
+ghost use Rattle.planes.specs.Placing.{read_raised, reading_of, is_clear, fits_of};
+ghost use Rattle.planes.specs.Laying.{fits_among};
+ghost use Rattle.fitting.specs.Copies.{Shift, soon_end, soon_in, cell_clear};
 
 use groups::{Grouping, cell_at, group_of, start_of};
 use planes::connection::{is_clear, read_place};
@@ -30,9 +30,9 @@ fn joint_clear<'a>(
     x: usize,
 ) -> bool
     requires { Drawn h w colours.now × (on ≡ true → to < 1024) × (1 ≤ y % 2 + x % 2) × (y < 256) × (x < 256) }
-    ensures { result ≡ cond (on && eqb (entry (numbersIn units.now) to) g)
-        (isClear (reading_of (unclued h w colours.now) (statesIn borders.now)
-        (readRaised h w y x))) true }
+    ensures { result ≡ cond (on && eqb (entry (numbers_in units.now) to) g)
+        (is_clear (reading_of (unclued h w colours.now) (states_in borders.now)
+        (read_raised h w y x))) true }
 {
     if on {
         if group_of(units, to) == g {
@@ -56,8 +56,8 @@ fn cell_clear<'a>(
     x: usize,
 ) -> bool
     requires { Drawn h w colours.now × (c < h * w) × Shift y x }
-    ensures { result ≡ cellClear h w colours.now (statesIn borders.now)
-        (entry (numbersIn units.now)) g y x c }
+    ensures { result ≡ cell_clear h w colours.now (states_in borders.now)
+        (entry (numbers_in units.now)) g y x c }
 {
     let row = c / w;
     let column = c % w;
@@ -104,8 +104,8 @@ fn copy_fits<'a>(
     o: usize,
 ) -> bool
     requires { Drawn h w colours.now × UnitIn h w units.now g × (o < h * w) }
-    ensures { result ≡ fits_of (unclued h w colours.now) (statesIn borders.now)
-        (shape_of (flat h w) (entry (numbersIn units.now)) g) o }
+    ensures { result ≡ fits_of (unclued h w colours.now) (states_in borders.now)
+        (shape_of (flat h w) (entry (numbers_in units.now)) g) o }
 {
     let first = start_of(units, g);
     let last = start_of(units, g + 1);
@@ -127,7 +127,7 @@ fn copy_fits<'a>(
 // Where the first eight cells of a group end, which stand from `first` to `last`.
 fn soon_end(first: usize, last: usize) -> usize
     requires { first < 65536 }
-    ensures { result ≡ soonEnd first last }
+    ensures { result ≡ soon_end first last }
 {
     if last < first + 8 {
         return last;
@@ -147,11 +147,11 @@ pub fn copy_fits_soon<'a>(
     q: usize,
 ) -> bool
     requires { Drawn h w colours.now × UnitIn h w units.now g × (q < 1024)
-        × Cells h w (cells_in potential.now) (get_or (startsIn potential.now) q 0)
-        (get_or (startsIn potential.now) (q + 1) 0) }
-    ensures { result ≡ fitsAmong (unclued h w colours.now) (statesIn borders.now)
-        (shape_of (flat h w) (entry (numbersIn units.now)) g)
-        (soonIn (cells_in potential.now) (startsIn potential.now) q) }
+        × Cells h w (cells_in potential.now) (get_or (starts_in potential.now) q 0)
+        (get_or (starts_in potential.now) (q + 1) 0) }
+    ensures { result ≡ fits_among (unclued h w colours.now) (states_in borders.now)
+        (shape_of (flat h w) (entry (numbers_in units.now)) g)
+        (soon_in (cells_in potential.now) (starts_in potential.now) q) }
 {
     let from = start_of(potential, q);
     let to = soon_end(from, start_of(potential, q + 1));

@@ -1,11 +1,11 @@
 // Whether one of a unit's eight images, by the rows of the table, fits at one of the origins of a mask.
 ghost use Rattle.std.specs.Prelude.{◌≡◌, Bool, false, List, ◌<◌, length};
-ghost use Rattle.lists.specs.Tests.{anyBelow};
+ghost use Rattle.lists.specs.Tests.{any_below};
 ghost use Rattle.rules.specs.Page.{Point};
-ghost use Rattle.shapes.specs.Images.{imageJoints, Jointed};
-ghost use Rattle.shapes.specs.Outlines.{jointCount};
+ghost use Rattle.shapes.specs.Images.{image_joints, Jointed};
+ghost use Rattle.shapes.specs.Outlines.{joint_count};
 ghost use Rattle.shapes.specs.Raising.{Raised, spelled};
-ghost use Rattle.shapes.specs.Spots.{cellSpots, jointSpots, Spotted};
+ghost use Rattle.shapes.specs.Spots.{cell_spots, joint_spots, Spotted};
 ghost use Rattle.planes.specs.Masks.{Sizes, Span, MaskAnswers};
 
 use planes::{end_row, first_row, mask_fits};
@@ -27,7 +27,7 @@ fn row_fits<'a>(
     requires { (row < 8) × Sizes h planes.now mask.now × Span h mask.now top end
         × Spotted outline.now × Jointed outline.now × (length turned.old ≡ 4096) }
     ensures { ((F : List Point → Bool) → MaskAnswers h planes.now mask.now F
-        → result ≡ F (imageJoints row (cellSpots outline.now) (jointSpots outline.now)))
+        → result ≡ F (image_joints row (cell_spots outline.now) (joint_spots outline.now)))
         × (length turned.new ≡ 4096) }
 {
     turn_row(row, outline, turned);
@@ -47,9 +47,9 @@ fn others_fit<'a>(
     requires { Sizes h planes.now mask.now × Span h mask.now top end × Spotted outline.now
         × Jointed outline.now × (length turned.old ≡ 4096) }
     ensures { ((F : List Point → Bool) → MaskAnswers h planes.now mask.now F
-        → F (imageJoints 0 (cellSpots outline.now) (jointSpots outline.now)) ≡ false
-        → result ≡ anyBelow 8 (λ i. F (imageJoints i (cellSpots outline.now)
-        (jointSpots outline.now))))
+        → F (image_joints 0 (cell_spots outline.now) (joint_spots outline.now)) ≡ false
+        → result ≡ any_below 8 (λ i. F (image_joints i (cell_spots outline.now)
+        (joint_spots outline.now))))
         × (length turned.new ≡ 4096) }
 {
     let mut row: usize = 1;
@@ -71,12 +71,12 @@ pub fn some_row_fits<'a>(
     turned: &mut Turned,
 ) -> bool
     requires { Sizes h planes.now mask.now × Spotted outline.now × Jointed outline.now
-        × Raised turned.old (jointCount outline.now)
-        × (spelled turned.old (jointCount outline.now) ≡ imageJoints 0 (cellSpots outline.now)
-        (jointSpots outline.now)) × (length turned.old ≡ 4096) }
+        × Raised turned.old (joint_count outline.now)
+        × (spelled turned.old (joint_count outline.now) ≡ image_joints 0 (cell_spots outline.now)
+        (joint_spots outline.now)) × (length turned.old ≡ 4096) }
     ensures { ((F : List Point → Bool) → MaskAnswers h planes.now mask.now F
-        → result ≡ anyBelow 8 (λ i. F (imageJoints i (cellSpots outline.now)
-        (jointSpots outline.now))))
+        → result ≡ any_below 8 (λ i. F (image_joints i (cell_spots outline.now)
+        (joint_spots outline.now))))
         × (length turned.new ≡ 4096) }
 {
     let top = first_row(mask, h);

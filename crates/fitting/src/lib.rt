@@ -5,12 +5,12 @@ mod images; // images.rt: the eight images of a unit, at the origins of a mask
 mod singles; // singles.rt: units of one cell
 
 ghost use Rattle.std.specs.Prelude.{◌≡◌, true, ◌<◌};
-ghost use Rattle.rules.specs.Codes.{statesIn, unclued};
-ghost use Rattle.groups.specs.Grouping.{countIn};
+ghost use Rattle.rules.specs.Codes.{states_in, unclued};
+ghost use Rattle.groups.specs.Grouping.{count_in};
 ghost use Rattle.adjacent.specs.Homes.{Sorted};
 ghost use Rattle.fitting.specs.Fitting.{Scratch};
 ghost use Rattle.fitting.specs.Held.{Nearby, Held};
-ghost use Rattle.fitting.specs.FirstStuck.{Passed, fitsUnit, firstFail};
+ghost use Rattle.fitting.specs.FirstStuck.{Passed, fits_unit, first_fail};
 
 use crate::copies::copy_fits_soon;
 use crate::singles::after_singles;
@@ -37,11 +37,11 @@ fn fits_at<'a>(
     mask: &mut [u64; 33],
 ) -> bool
     requires { Sorted h w colours.now borders.now units.now potential.now
-        × (u < countIn units.now)
+        × (u < count_in units.now)
         × Nearby h w colours.now borders.now near.old
         × Scratch outline.old turned.old
         × Held h w colours.now borders.now potential.now planes.old mask.old }
-    ensures { (result ≡ fitsUnit (unclued h w colours.now) (statesIn borders.now) u)
+    ensures { (result ≡ fits_unit (unclued h w colours.now) (states_in borders.now) u)
         × Nearby h w colours.now borders.now near.new
         × Scratch outline.new turned.new
         × Held h w colours.now borders.now potential.now
@@ -77,10 +77,10 @@ fn stuck_from<'a>(
     near: &mut [u16; 1024],
 ) -> usize
     requires { Sorted h w colours.now borders.now units.now potential.now
-        × Passed (fitsUnit (unclued h w colours.now) (statesIn borders.now)) (countIn units.now) from
+        × Passed (fits_unit (unclued h w colours.now) (states_in borders.now)) (count_in units.now) from
         × Nearby h w colours.now borders.now near.old }
-    ensures { result ≡ firstFail (fitsUnit (unclued h w colours.now) (statesIn borders.now))
-        (countIn units.now) }
+    ensures { result ≡ first_fail (fits_unit (unclued h w colours.now) (states_in borders.now))
+        (count_in units.now) }
 {
     let mut outline = [0u16; 6146];
     let mut turned = [0u8; 4096];
@@ -122,8 +122,8 @@ pub fn first_stuck<'a>(
     potential: &'a Grouping,
 ) -> usize
     requires { Sorted h w colours.now borders.now units.now potential.now }
-    ensures { result ≡ firstFail (fitsUnit (unclued h w colours.now) (statesIn borders.now))
-        (countIn units.now) }
+    ensures { result ≡ first_fail (fits_unit (unclued h w colours.now) (states_in borders.now))
+        (count_in units.now) }
 {
     let mut near = [0u16; 1024];
     let u = after_singles(h, w, colours, borders, units, potential, &mut near);

@@ -1,10 +1,10 @@
 // Units of one cell, which are passed before any memory for larger ones is made.
 ghost use Rattle.std.specs.Prelude.{◌≡◌, true, ◌<◌};
-ghost use Rattle.rules.specs.Codes.{statesIn, unclued};
-ghost use Rattle.groups.specs.Grouping.{countIn};
+ghost use Rattle.rules.specs.Codes.{states_in, unclued};
+ghost use Rattle.groups.specs.Grouping.{count_in};
 ghost use Rattle.adjacent.specs.Homes.{Sorted};
 ghost use Rattle.fitting.specs.Held.{Nearby, Adjoined};
-ghost use Rattle.fitting.specs.FirstStuck.{Passed, fitsUnit};
+ghost use Rattle.fitting.specs.FirstStuck.{Passed, fits_unit};
 
 use crate::unit::{all_near, near_mate};
 use groups::{Grouping, cell_at, count_of, group_of, start_of};
@@ -23,11 +23,11 @@ fn single_fits<'a>(
     near: &mut [u16; 1024],
 ) -> bool
     requires { Sorted h w colours.now borders.now units.now potential.now
-        × (u < countIn units.now)
-        × (sure ≡ true → Adjoined h w colours.now borders.now (countIn potential.now))
+        × (u < count_in units.now)
+        × (sure ≡ true → Adjoined h w colours.now borders.now (count_in potential.now))
         × Nearby h w colours.now borders.now near.old }
     ensures { (result ≡ true
-        → fitsUnit (unclued h w colours.now) (statesIn borders.now) u ≡ true)
+        → fits_unit (unclued h w colours.now) (states_in borders.now) u ≡ true)
         × Nearby h w colours.now borders.now near.new }
 {
     let first = start_of(units, u);
@@ -56,8 +56,8 @@ pub fn after_singles<'a>(
 ) -> usize
     requires { Sorted h w colours.now borders.now units.now potential.now
         × Nearby h w colours.now borders.now near.old }
-    ensures { Passed (fitsUnit (unclued h w colours.now) (statesIn borders.now))
-        (countIn units.now) result
+    ensures { Passed (fits_unit (unclued h w colours.now) (states_in borders.now))
+        (count_in units.now) result
         × Nearby h w colours.now borders.now near.new }
 {
     let sure = all_near(h, w, colours, borders, potential, near);

@@ -1,16 +1,16 @@
 // Whether a unit fits beside its potential unit.
 ghost use Rattle.std.specs.Prelude.{◌≡◌, true, ℕ, ◌<◌, length};
 ghost use Rattle.rules.specs.Check.{mates};
-ghost use Rattle.rules.specs.Codes.{statesIn, unclued};
+ghost use Rattle.rules.specs.Codes.{states_in, unclued};
 ghost use Rattle.rules.specs.Flat.{flat};
 ghost use Rattle.rules.specs.Groups.{entry};
 ghost use Rattle.rules.specs.Shapes.{shape_of};
-ghost use Rattle.groups.specs.Grouping.{numbersIn, cells_in, startsIn, countIn};
+ghost use Rattle.groups.specs.Grouping.{numbers_in, cells_in, starts_in, count_in};
 ghost use Rattle.shapes.specs.Images.{Jointed};
-ghost use Rattle.shapes.specs.Spots.{cellSpots, jointSpots, Spotted};
+ghost use Rattle.shapes.specs.Spots.{cell_spots, joint_spots, Spotted};
 ghost use Rattle.adjacent.specs.Mates.{OneOf};
 ghost use Rattle.adjacent.specs.Homes.{UnitIn, Home};
-ghost use Rattle.fitting.specs.Fitting.{Scratch, fitsTurned, fitsRows};
+ghost use Rattle.fitting.specs.Fitting.{Scratch, fits_turned, fits_rows};
 ghost use Rattle.fitting.specs.Held.{Nearby, Adjoined, Held, HeldOf};
 
 use crate::images::some_row_fits;
@@ -35,7 +35,7 @@ pub fn near_mate<'a>(
 ) -> usize
     requires { Home h w colours.now borders.now potential.now p
         × Nearby h w colours.now borders.now near.old }
-    ensures { OneOf (mates (unclued h w colours.now) (statesIn borders.now) p) result
+    ensures { OneOf (mates (unclued h w colours.now) (states_in borders.now) p) result
         × Nearby h w colours.now borders.now near.new }
 {
     let kept = index(near[p]);
@@ -59,10 +59,10 @@ pub fn all_near<'a>(
     potential: &'a Grouping,
     near: &mut [u16; 1024],
 ) -> bool
-    requires { ((p : ℕ) → p < countIn potential.now → Home h w colours.now borders.now potential.now p)
+    requires { ((p : ℕ) → p < count_in potential.now → Home h w colours.now borders.now potential.now p)
         × Nearby h w colours.now borders.now near.old }
     ensures { (result ≡ true → Adjoined h w colours.now borders.now
-        (countIn potential.now))
+        (count_in potential.now))
         × Nearby h w colours.now borders.now near.new }
 {
     let total = count_of(potential);
@@ -122,10 +122,10 @@ fn written_fits<'a>(
         × Spotted outline.now × Jointed outline.now
         × Held h w colours.now borders.now potential.now planes.old mask.old
         × (length turned.old ≡ 4096) }
-    ensures { (result ≡ fitsRows (unclued h w colours.now) (statesIn borders.now)
-        (cells_in potential.now) (startsIn potential.now)
-        (mates (unclued h w colours.now) (statesIn borders.now) p)
-        (cellSpots outline.now) (jointSpots outline.now))
+    ensures { (result ≡ fits_rows (unclued h w colours.now) (states_in borders.now)
+        (cells_in potential.now) (starts_in potential.now)
+        (mates (unclued h w colours.now) (states_in borders.now) p)
+        (cell_spots outline.now) (joint_spots outline.now))
         × Held h w colours.now borders.now potential.now
         planes.new mask.new
         × (length turned.new ≡ 4096) }
@@ -154,10 +154,10 @@ pub fn unit_fits<'a>(
     requires { Home h w colours.now borders.now potential.now p
         × UnitIn h w units.now g × Scratch outline.old turned.old
         × Held h w colours.now borders.now potential.now planes.old mask.old }
-    ensures { (result ≡ fitsTurned (unclued h w colours.now) (statesIn borders.now)
-        (cells_in potential.now) (startsIn potential.now)
-        (mates (unclued h w colours.now) (statesIn borders.now) p)
-        (shape_of (flat h w) (entry (numbersIn units.now)) g))
+    ensures { (result ≡ fits_turned (unclued h w colours.now) (states_in borders.now)
+        (cells_in potential.now) (starts_in potential.now)
+        (mates (unclued h w colours.now) (states_in borders.now) p)
+        (shape_of (flat h w) (entry (numbers_in units.now)) g))
         × Scratch outline.new turned.new
         × Held h w colours.now borders.now potential.now
         planes.new mask.new }

@@ -6,7 +6,7 @@
 --   Numbering n count ids     ids numbers n cells below count; where count is n, each by its own place
 use Rattle.std.specs.Prelude.{◌≡◌, List, ℕ, ◌<◌, ◌≤◌, length, get_or}
 use Rattle.groups.specs.Forests.{Forest}
-use Rattle.groups.specs.Parts.{sizeAmong}
+use Rattle.groups.specs.Parts.{size_among}
 
 pub record Blank (N n : ℕ) (l : List ℕ) : Type 0 where
   pub long : length l ≡ N
@@ -19,7 +19,7 @@ pub record Stored (n : ℕ) (f : ℕ → ℕ) (l m : List ℕ) : Type 0 where
 
 pub record Ranked (n : ℕ) (f : ℕ → ℕ) (p : List ℕ) : Type 0 where
   pub forest : Forest p
-  pub at : (x : ℕ) → x < n → get_or p x 0 ≡ sizeAmong x f (f x)
+  pub at : (x : ℕ) → x < n → get_or p x 0 ≡ size_among x f (f x)
 
 pub record Numbering (n count : ℕ) (ids : List ℕ) : Type 0 where
   pub few : count ≤ n

@@ -4,26 +4,26 @@ use Rattle.std.proofs.Math.Path.{refl}
 use Rattle.rules.specs.Flat.{flat}
 use Rattle.board.specs.declared.Board.{Board}
 use Rattle.board.specs.declared.Outcome.TheVariants.{Done, Alien}
-use Rattle.board.specs.Alien.{isAlien}
-use Rattle.board.specs.View.{puzzleOf, statesOf}
+use Rattle.board.specs.Alien.{is_alien}
+use Rattle.board.specs.View.{puzzle_of, states_of}
 use Rattle.groups.specs.declared.Kind.{Kind}
-use Rattle.groups.specs.Kinds.{joinsIn, link_of}
+use Rattle.groups.specs.Kinds.{joins_in, link_of}
 use Rattle.groups.specs.KindLaws.{link-in}
 use Rattle.groups.specs.Parts.{groups_of}
 use Rattle.groups.specs.Grouping.{array_of}
-use Rattle.groups.specs.Asked.{noGroups, boardGroups, asked_of}
+use Rattle.groups.specs.Asked.{no_groups, board_groups, asked_of}
 
 module _ (b : Board) (k : Kind) where
-  pub asked-alien : isAlien b ≡ true → boardGroups Alien noGroups ≡ asked_of b k
+  pub asked-alien : is_alien b ≡ true → board_groups Alien no_groups ≡ asked_of b k
   unfolding asked_of
   asked-alien e = rw e
 
-  board-link : link_of k (puzzleOf b) (statesOf b) ≡ joinsIn k b.height b.width b.colours b.borders
-  unfolding puzzleOf statesOf
-  board-link = link-in k (puzzleOf b) b.height b.width b.colours b.borders refl refl
+  board-link : link_of k (puzzle_of b) (states_of b) ≡ joins_in k b.height b.width b.colours b.borders
+  unfolding puzzle_of states_of
+  board-link = link-in k (puzzle_of b) b.height b.width b.colours b.borders refl refl
 
-  pub asked-done : isAlien b ≡ false
-      → boardGroups Done (array_of (groups_of (flat b.height b.width)
-      (joinsIn k b.height b.width b.colours b.borders))) ≡ asked_of b k
-  unfolding asked_of puzzleOf
+  pub asked-done : is_alien b ≡ false
+      → board_groups Done (array_of (groups_of (flat b.height b.width)
+      (joins_in k b.height b.width b.colours b.borders))) ≡ asked_of b k
+  unfolding asked_of puzzle_of
   asked-done e = rw (e, board-link)

@@ -4,7 +4,7 @@ use Rattle.std.proofs.Common.{sym, ap, ◌∙◌, arith, length-set, get_or-set_
 use Rattle.std.proofs.Math.Decide.{ℕ_discrete}
 use Rattle.std.proofs.lemmas.List.{length-replicate}
 use Rattle.lists.specs.PaddedLaws.{zeros}
-use Rattle.rules.specs.Groups.{entry, rename, mergeIf}
+use Rattle.rules.specs.Groups.{entry, rename, merge_if}
 use Rattle.laws.specs.LabelLaws.{rename-hit, rename-miss, renamed, labelled-renamed, merge-earlier, merge-later}
 use Rattle.laws.specs.LabelLaws.{merge-same}
 use Rattle.groups.specs.Forests.{Forest, Rep}
@@ -64,22 +64,22 @@ module _ (n : ℕ) (p L : List ℕ) (f : Forest p) (r : Rep n p L) (few : n ≤ 
 -- what a border that joins cells a and b asks of the forest, whose roots there are u and v
 module _ (n : ℕ) (p L : List ℕ) (f : Forest p) (r : Rep n p L) (few : n ≤ 1024) (a b u v : ℕ) (ha : a < n) (hb : b < n)
     (eu : u ≡ get_or L a 0) (ev : v ≡ get_or L b 0) (ru : get_or p u 0 ≡ u) (rv : get_or p v 0 ≡ v) where
-  pub rep-earlier : u < v → Rep n (set p v u) (mergeIf true (entry L a) (entry L b) L)
+  pub rep-earlier : u < v → Rep n (set p v u) (merge_if true (entry L a) (entry L b) L)
   rep-earlier l =
       rw (merge-earlier L a b (omega arith), ← eu, ← ev)
       (rep-join n p L f r few u v l (omega (arith, r.labelled.least b hb)) ru rv)
 
-  pub rep-later : v < u → Rep n (set p u v) (mergeIf true (entry L a) (entry L b) L)
+  pub rep-later : v < u → Rep n (set p u v) (merge_if true (entry L a) (entry L b) L)
   rep-later l =
       rw (merge-later L a b (omega arith), ← eu, ← ev)
       (rep-join n p L f r few v u l (omega (arith, r.labelled.least a ha)) rv ru)
 
-  pub rep-one : u ≡ v → Rep n p (mergeIf true (entry L a) (entry L b) L)
+  pub rep-one : u ≡ v → Rep n p (merge_if true (entry L a) (entry L b) L)
   rep-one e = rw (merge-same L a b (sym eu ∙ e ∙ ev)) r
 
 -- cells whose parents have one parent are of one group
 pub rep-cousins : (n : ℕ) (p L : List ℕ) → Forest p → Rep n p L → (a b : ℕ) → a < n → b < n
-    → get_or p (get_or p a 0) 0 ≡ get_or p (get_or p b 0) 0 → Rep n p (mergeIf true (entry L a) (entry L b) L)
+    → get_or p (get_or p a 0) 0 ≡ get_or p (get_or p b 0) 0 → Rep n p (merge_if true (entry L a) (entry L b) L)
 rep-cousins n p L f r a b ha hb e =
     let up : (x : ℕ) → x < n → get_or L x 0 ≡ get_or L (get_or p (get_or p x 0) 0) 0 =
     λ x h. sym (r.same (get_or p x 0) (omega (arith, f.down x)) ∙ r.same x h) in

@@ -4,8 +4,8 @@
 --   Rep n p L           each cell's root in the forest p is its label in L
 --   ForestLinked h w link p   p represents the labels once all borders of a page are taken
 use Rattle.std.specs.Prelude.{◌≡◌, Bool, List, ℕ, ◌*◌, ◌<◌, ◌≤◌, length, get_or}
-use Rattle.rules.specs.Flat.{flat, borderCount}
-use Rattle.laws.specs.LabelLaws.{labelsAfter, Labelled}
+use Rattle.rules.specs.Flat.{flat, border_count}
+use Rattle.laws.specs.LabelLaws.{labels_after, Labelled}
 
 pub record Forest (p : List ℕ) : Type 0 where
   pub long : length p ≡ 1024
@@ -18,4 +18,4 @@ pub record Rep (n : ℕ) (p L : List ℕ) : Type 0 where
 
 pub record ForestLinked (h w : ℕ) (link : ℕ → Bool) (p : List ℕ) : Type 0 where
   pub forest : Forest p
-  pub rep : Rep (h * w) p (labelsAfter (flat h w) link (borderCount h w))
+  pub rep : Rep (h * w) p (labels_after (flat h w) link (border_count h w))

@@ -9,14 +9,14 @@ use Rattle.lists.specs.SectionLaws.{front_at, front-set}
 use Rattle.lists.specs.PaddedLaws.{zeros}
 use Rattle.groups.specs.Parts.{Groups}
 use Rattle.groups.specs.Arrays.{Stored}
-use Rattle.groups.specs.Grouping.{numbersIn, cells_in, startsIn, countIn, array_of, Filled, Vacant}
+use Rattle.groups.specs.Grouping.{numbers_in, cells_in, starts_in, count_in, array_of, Filled, Vacant}
 use Rattle.groups.specs.NumberLaws.{blank-set}
 
 -- the numbers' section starts at 0
-pub grouping-number : (g : List ℕ) (x : ℕ) → x < 1024 → get_or g x 0 ≡ get_or (numbersIn g) x 0
+pub grouping-number : (g : List ℕ) (x : ℕ) → x < 1024 → get_or g x 0 ≡ get_or (numbers_in g) x 0
 grouping-number g x h = front_at 1024 g x h
 
-pub number-set : (g : List ℕ) (x v : ℕ) → x < 1024 → numbersIn (set g x v) ≡ set (numbersIn g) x v
+pub number-set : (g : List ℕ) (x v : ℕ) → x < 1024 → numbers_in (set g x v) ≡ set (numbers_in g) x v
 number-set g x v h = front-set 1024 g x v h
 
 -- the first n places of a section are stored to, one by one
@@ -53,7 +53,7 @@ module _ (n : ℕ) (g : List ℕ) (few : n ≤ 1024) (z : Vacant n g) where
   pub vacant-number : (x v : ℕ) → x < n → Vacant n (set g x v)
   vacant-number x v h = record {
     long = length-set g x v ∙ z.long;
-    numbers = rw (number-set g x v (omega arith)) (blank-set 1024 n x v (numbersIn g) h z.numbers);
+    numbers = rw (number-set g x v (omega arith)) (blank-set 1024 n x v (numbers_in g) h z.numbers);
     cells = rw (section-low 1024 1024 g x v (omega arith)) z.cells;
     starts = rw (section-low 2048 1025 g x v (omega arith)) z.starts;
   }
@@ -68,18 +68,18 @@ module _ (n : ℕ) (g : List ℕ) (few : n ≤ 1024) (z : Vacant n g) where
 
 -- the groups as one value: an array is its sections, and then its last place
 sections : (g : List ℕ) → length g ≡ 3074
-    → g ≡ numbersIn g ++ (cells_in g ++ (startsIn g ++ (countIn g ∷ [])))
+    → g ≡ numbers_in g ++ (cells_in g ++ (starts_in g ++ (count_in g ∷ [])))
 unfolding section
 sections g e =
-    let rest : drop 3073 g ≡ countIn g ∷ [] =
-    drop-cons g 3073 0 (omega arith) ∙ ap (λ (x : List ℕ). countIn g ∷ x)
+    let rest : drop 3073 g ≡ count_in g ∷ [] =
+    drop-cons g 3073 0 (omega arith) ∙ ap (λ (x : List ℕ). count_in g ∷ x)
     (drop_of_length-le g {i = 3074} (omega arith)) in
-    let starts : drop 2048 g ≡ startsIn g ++ drop 3073 g =
+    let starts : drop 2048 g ≡ starts_in g ++ drop 3073 g =
     sym (take-append-drop 1025 (drop 2048 g)) ∙ rw (drop-drop 1025 2048 g) in
     let cells : drop 1024 g ≡ cells_in g ++ drop 2048 g =
     sym (take-append-drop 1024 (drop 1024 g)) ∙ rw (drop-drop 1024 1024 g) in
-    sym (take-append-drop 1024 g) ∙ ap (λ (x : List ℕ). numbersIn g ++ x)
-    (cells ∙ ap (λ (x : List ℕ). cells_in g ++ x) (starts ∙ ap (λ (x : List ℕ). startsIn g ++ x) rest))
+    sym (take-append-drop 1024 g) ∙ ap (λ (x : List ℕ). numbers_in g ++ x)
+    (cells ∙ ap (λ (x : List ℕ). cells_in g ++ x) (starts ∙ ap (λ (x : List ℕ). starts_in g ++ x) rest))
 
 pub filled-array : {G : Groups} (g : List ℕ) → Filled G g → g ≡ array_of G
 unfolding array_of

@@ -10,18 +10,18 @@ use Rattle.std.proofs.Math.ListN.{get_or, get_or-eq_default}
 use Rattle.lists.specs.Lengths.{some-length}
 use Rattle.rules.specs.Page.{Puzzle, State}
 use Rattle.rules.specs.Flat.{Sized, flat}
-use Rattle.rules.specs.Codes.{statesIn, cluedBy}
-use Rattle.rules.specs.Rules.{oneColour, joinsBlock, joinsUnit}
-use Rattle.rules.specs.Groups.{entry, numbers, groupCount, members, joinsPotential}
+use Rattle.rules.specs.Codes.{states_in, clued_by}
+use Rattle.rules.specs.Rules.{one_colour, joins_block, joins_unit}
+use Rattle.rules.specs.Groups.{entry, numbers, group_count, members, joins_potential}
 use Rattle.laws.specs.FlatLaws.{counts}
 use Rattle.laws.specs.GroupLaws.{numbers-length, members-some}
 use Rattle.laws.specs.FlatPage.{flat-bordered}
 use Rattle.groups.specs.declared.Kind.{Kind}
 use Rattle.groups.specs.declared.Kind.TheVariants.{Blocks, Units, Potential}
 use Rattle.groups.specs.Parts.{Groups, groups_of, part_of}
-use Rattle.groups.specs.Kinds.{link_of, joinsIn}
+use Rattle.groups.specs.Kinds.{link_of, joins_in}
 use Rattle.groups.specs.PartLaws.{ids-entry, ids-lt, offs-next, offs-le, part-members, cell_at}
-use Rattle.groups.specs.Pages.{head_of, groupsIn, kindNumber, kindCount}
+use Rattle.groups.specs.Pages.{head_of, groups_in, kind_number, kind_count}
 
 -- a page has between 1 and 1,024 cells
 pub cells-some : {h w : ℕ} → Sized h w → 1 ≤ (flat h w).cells
@@ -57,7 +57,7 @@ module _ {h w : ℕ} (z : Sized h w) (link : ℕ → Bool) where
         | no l ↦ omega (arith, id-past c (omega arith), count-some)
       ]
 
-  pub count_same : groups.count ≡ groupCount (flat h w) link
+  pub count_same : groups.count ≡ group_count (flat h w) link
   unfolding groups_of
   count_same = refl
 
@@ -95,29 +95,29 @@ module _ {h w : ℕ} (z : Sized h w) (link : ℕ → Bool) where
 -- what they mean, whatever the clues
 module _ {h w : ℕ} (z : Sized h w) (cs : List ℕ) (k : ℕ → Option ℕ) (bs : List ℕ) where
   abbrev Z : Puzzle
-  Z = cluedBy h w cs k
+  Z = clued_by h w cs k
 
   abbrev s : ℕ → State
-  s = statesIn bs
+  s = states_in bs
 
-  pub kind-number : (kind : Kind) → entry (numbers (flat h w) (joinsIn kind h w cs bs)) ≡ kindNumber kind Z s
-  unfolding joinsIn link_of joinsBlock joinsUnit joinsPotential oneColour
+  pub kind-number : (kind : Kind) → entry (numbers (flat h w) (joins_in kind h w cs bs)) ≡ kind_number kind Z s
+  unfolding joins_in link_of joins_block joins_unit joins_potential one_colour
   kind-number Blocks = refl
   kind-number Units = refl
   kind-number Potential = refl
 
-  pub kind-ids : (kind : Kind) → entry (groupsIn kind h w cs bs).ids ≡ kindNumber kind Z s
+  pub kind-ids : (kind : Kind) → entry (groups_in kind h w cs bs).ids ≡ kind_number kind Z s
   kind-ids kind =
-      ids-entry (flat h w) (joinsIn kind h w cs bs) (cells-some z) (cells-few z)
+      ids-entry (flat h w) (joins_in kind h w cs bs) (cells-some z) (cells-few z)
       ∙ kind-number kind
 
-  pub kind-count : (kind : Kind) → (groupsIn kind h w cs bs).count ≡ kindCount kind Z s
-  unfolding groups_of joinsIn link_of joinsBlock joinsUnit joinsPotential oneColour
+  pub kind-count : (kind : Kind) → (groups_in kind h w cs bs).count ≡ kind_count kind Z s
+  unfolding groups_of joins_in link_of joins_block joins_unit joins_potential one_colour
   kind-count Blocks = refl
   kind-count Units = refl
   kind-count Potential = refl
 
   pub kind-cells : (kind : Kind)
-      → part_of (groupsIn kind h w cs bs).cells (groupsIn kind h w cs bs).offs
-      ≡ members (flat h w) (kindNumber kind Z s)
-  kind-cells kind = parts_are z (joinsIn kind h w cs bs) ∙ ap (members (flat h w)) (kind-number kind)
+      → part_of (groups_in kind h w cs bs).cells (groups_in kind h w cs bs).offs
+      ≡ members (flat h w) (kind_number kind Z s)
+  kind-cells kind = parts_are z (joins_in kind h w cs bs) ∙ ap (members (flat h w)) (kind-number kind)

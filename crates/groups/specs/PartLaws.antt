@@ -9,14 +9,14 @@ use Rattle.std.proofs.Math.ListN.{length, get_or, take, length-drop}
 use Rattle.std.proofs.Math.Seq.{drop-append-le}
 use Rattle.std.proofs.lemmas.List.{take-append-le}
 use Rattle.lists.specs.Lists.{◌∈◌, flat_map, range}
-use Rattle.lists.specs.ListLaws.{flat-find, getD-mem}
+use Rattle.lists.specs.ListLaws.{flat-find, get_d-mem}
 use Rattle.lists.specs.Padded.{padded}
 use Rattle.lists.specs.TableLaws.{length-table}
-use Rattle.lists.specs.PaddedLaws.{getD-padded, length-padded}
+use Rattle.lists.specs.PaddedLaws.{get_d-padded, length-padded}
 use Rattle.rules.specs.Page.{Page}
-use Rattle.rules.specs.Groups.{entry, numbers, groupCount, members}
-use Rattle.laws.specs.GroupLaws.{numbers-length, number_lt, groupCount-le, members-lt, members-none}
-use Rattle.groups.specs.Parts.{startAmong, startsAmong, cellsAmong, listed, part_of, groups_of}
+use Rattle.rules.specs.Groups.{entry, numbers, group_count, members}
+use Rattle.laws.specs.GroupLaws.{numbers-length, number_lt, group_count-le, members-lt, members-none}
+use Rattle.groups.specs.Parts.{start_among, starts_among, cells_among, listed, part_of, groups_of}
 use Rattle.groups.specs.Arrays.{Blank}
 use Rattle.groups.specs.NumberLaws.{starts-at, starts-past, starts-end, blank-padded}
 use Rattle.groups.specs.SortLaws.{cells-length, start-suc, start_up, start-le, listed-length, listed-part}
@@ -24,15 +24,15 @@ use Rattle.groups.specs.SortLaws.{cells-length, start-suc, start_up, start-le, l
 -- an array filled up with 0 numbers the cells as its list does
 pub entry-padded : (n : ℕ) (l : List ℕ) → entry (padded n 0 l) ≡ entry l
 unfolding entry
-entry-padded n l = fun_ext (λ x. getD-padded n 0 l x)
+entry-padded n l = fun_ext (λ x. get_d-padded n 0 l x)
 
 module _ (G : Page) (number : ℕ → ℕ) where
-  pub members-cells : (g : ℕ) → members G number g ≡ cellsAmong G.cells number g
-  unfolding members cellsAmong
+  pub members-cells : (g : ℕ) → members G number g ≡ cells_among G.cells number g
+  unfolding members cells_among
   members-cells g = refl
 
   pub members-listed : (k : ℕ) → flat_map (members G number) (range k) ≡ listed G.cells number k
-  unfolding members cellsAmong listed
+  unfolding members cells_among listed
   members-listed k = refl
 
 module _ (G : Page) (link : ℕ → Bool) (some : 1 ≤ G.cells) (few : G.cells ≤ 1024) where
@@ -40,10 +40,10 @@ module _ (G : Page) (link : ℕ → Bool) (some : 1 ≤ G.cells) (few : G.cells 
   number = entry (numbers G link)
 
   abbrev count : ℕ
-  count = groupCount G link
+  count = group_count G link
 
   small : count ≤ 1024
-  small = omega (arith, groupCount-le G link)
+  small = omega (arith, group_count-le G link)
 
   -- definitions over the cells' numbers may read the array instead
   pub ids-entry : entry (groups_of G link).ids ≡ entry (numbers G link)
@@ -56,14 +56,14 @@ module _ (G : Page) (link : ℕ → Bool) (some : 1 ≤ G.cells) (few : G.cells 
 
   pub ids-lt : (x : ℕ) → x < G.cells → get_or (groups_of G link).ids x 0 < (groups_of G link).count
   unfolding groups_of entry
-  ids-lt x h = rw (getD-padded 1024 0 (numbers G link) x) (number_lt G link some x h)
+  ids-lt x h = rw (get_d-padded 1024 0 (numbers G link) x) (number_lt G link some x h)
 
   pub groups-le : (groups_of G link).count ≤ G.cells
   unfolding groups_of
-  groups-le = groupCount-le G link
+  groups-le = group_count-le G link
 
   -- where a group's cells start, and where they end
-  pub offs-at : (g : ℕ) → g ≤ count → get_or (groups_of G link).offs g 0 ≡ startAmong G.cells number g
+  pub offs-at : (g : ℕ) → g ≤ count → get_or (groups_of G link).offs g 0 ≡ start_among G.cells number g
   unfolding groups_of
   offs-at g h = starts-at G.cells number count g h
 
@@ -76,7 +76,7 @@ module _ (G : Page) (link : ℕ → Bool) (some : 1 ≤ G.cells) (few : G.cells 
         offs-at g (omega arith),
         offs-at (g + 1) (omega arith),
         start-suc number G.cells g,
-        ap (startAmong G.cells number) (add-one g),
+        ap (start_among G.cells number) (add-one g),
         cells-length number G.cells g,
       ))
 
@@ -88,7 +88,7 @@ module _ (G : Page) (link : ℕ → Bool) (some : 1 ≤ G.cells) (few : G.cells 
   offs-past k h = starts-past G.cells number count k h
 
   -- the last group ends with the last cell
-  start-end : startAmong G.cells number count ≡ G.cells
+  start-end : start_among G.cells number count ≡ G.cells
   start-end = starts-end G.cells number count (number_lt G link some)
 
   pub listed-all : length (listed G.cells number count) ≡ G.cells
@@ -105,8 +105,8 @@ module _ (G : Page) (link : ℕ → Bool) (some : 1 ≤ G.cells) (few : G.cells 
   -- every listed cell is a cell of the page
   pub cells-lt : (i : ℕ) → i < G.cells → get_or (groups_of G link).cells i 0 < G.cells
   cells-lt i h =
-      rw (cells_are, getD-padded 1024 0 (listed G.cells number count) i)
-      (inside (getD-mem (listed G.cells number count) i 0 (omega (arith, listed-all))))
+      rw (cells_are, get_d-padded 1024 0 (listed G.cells number count) i)
+      (inside (get_d-mem (listed G.cells number count) i 0 (omega (arith, listed-all))))
     where
       inside : {x : ℕ} → x ∈ listed G.cells number count → x < G.cells
       inside {x} m =
@@ -124,11 +124,11 @@ module _ (G : Page) (link : ℕ → Bool) (some : 1 ≤ G.cells) (few : G.cells 
           → take (get_or (groups_of G link).offs (g + 1) 0 - get_or (groups_of G link).offs g 0)
           (drop (get_or (groups_of G link).offs g 0) (groups_of G link).cells) ≡ members G number g
       go (yes h) =
-          let a = startAmong G.cells number g in
-          let e = startAmong G.cells number (suc g) in
+          let a = start_among G.cells number g in
+          let e = start_among G.cells number (suc g) in
           let l = listed G.cells number count in
           let o : get_or (groups_of G link).offs (g + 1) 0 ≡ e =
-          offs-at (g + 1) (omega arith) ∙ ap (startAmong G.cells number) (add-one g) in
+          offs-at (g + 1) (omega arith) ∙ ap (start_among G.cells number) (add-one g) in
           let k : e ≤ length l = omega (arith, start_up number G.cells (suc g) count h, listed-all, start-end) in
           let b : a ≤ e = omega (arith, start-suc number G.cells g) in
           rw (offs-at g (omega arith), o, cells_are, drop-append-le a l _ (omega arith))
@@ -162,7 +162,7 @@ module _ (G : Page) (link : ℕ → Bool) (some : 1 ≤ G.cells) (few : G.cells 
       (blank-padded 1024 G.cells (listed G.cells number count) few (omega (arith, listed-all)))
 
   pub filled-offs : Blank 1025 (G.cells + 1) (groups_of G link).offs
-  unfolding groups_of startsAmong
+  unfolding groups_of starts_among
   filled-offs =
-      blank-padded 1025 (G.cells + 1) (startsAmong G.cells number count) (omega (arith, few))
-      (omega (arith, length-table (count + 1) (startAmong G.cells number), groupCount-le G link))
+      blank-padded 1025 (G.cells + 1) (starts_among G.cells number count) (omega (arith, few))
+      (omega (arith, length-table (count + 1) (start_among G.cells number), group_count-le G link))

@@ -15,12 +15,12 @@ use Rattle.std.proofs.lemmas.List.{length-replicate}
 use Rattle.lists.specs.TableLaws.{stored_more}
 use Rattle.lists.specs.PaddedLaws.{replicate-at}
 use Rattle.lists.specs.Booleans.{false-true}
-use Rattle.rules.specs.Flat.{Sized, flat, flatFirst, flatSecond, borderCount}
+use Rattle.rules.specs.Flat.{Sized, flat, flat_first, flat_second, border_count}
 use Rattle.rules.specs.Groups.{entry}
 use Rattle.laws.specs.FlatLaws.{counts}
-use Rattle.laws.specs.LabelLaws.{labelsAfter, Labelled, labelled-after, labels-one, after-meets, after-sound}
+use Rattle.laws.specs.LabelLaws.{labels_after, Labelled, labelled-after, labels-one, after-meets, after-sound}
 use Rattle.groups.specs.Forests.{Forest, Rep}
-use Rattle.groups.specs.Ties.{tiedLeft, aboveAt, TieFlags, Tied, Scanned, joined}
+use Rattle.groups.specs.Ties.{tied_left, above_at, TieFlags, Tied, Scanned, joined}
 use Rattle.groups.specs.GridLaws.{right-first, right-second, right_lt, below-first, below-second, below-lt}
 use Rattle.groups.specs.MergeLaws.{joined-labels, joined_keeps, joined_meets, joined-sound}
 
@@ -48,30 +48,30 @@ tie-flags-none f flags e = record { long = e; at = λ x h. absurd (omega arith) 
 
 -- the flags at a place
 module _ (h w : ℕ) (link : ℕ → Bool) where
-  left-none : (c : ℕ) → c % w ≡ 0 → tiedLeft h w link c ≡ false
-  unfolding tiedLeft
+  left-none : (c : ℕ) → c % w ≡ 0 → tied_left h w link c ≡ false
+  unfolding tied_left
   left-none c e = rw (eq-eqb (c % w) 0 e)
 
-  pub left-start : (y : ℕ) → 1 ≤ w → tiedLeft h w link (y * w) ≡ false
+  pub left-start : (y : ℕ) → 1 ≤ w → tied_left h w link (y * w) ≡ false
   left-start y s = left-none (y * w) (rw add-zero at (digits_mod y {m = w} {r = 0} s))
 
-  pub left_at : (y x : ℕ) → x + 1 < w → tiedLeft h w link (y * w + x + 1) ≡ link (y * (w - 1) + x)
-  unfolding tiedLeft
+  pub left_at : (y x : ℕ) → x + 1 < w → tied_left h w link (y * w + x + 1) ≡ link (y * (w - 1) + x)
+  unfolding tied_left
   left_at y x hx =
       let e : y * w + x + 1 ≡ y * w + (x + 1) = omega arith in
       let z : x + 1 - 1 ≡ x = omega arith in
       rw (e, digits_div y hx, digits_mod y hx, ne_eqb (x + 1) 0 (λ q. omega arith), z)
 
-  above-first : (c : ℕ) → c < w → aboveAt h w link c ≡ false
-  unfolding aboveAt
+  above-first : (c : ℕ) → c < w → above_at h w link c ≡ false
+  unfolding above_at
   above-first c l = rw (lt-ltb c w l)
 
-  pub above_at : (c : ℕ) → aboveAt h w link (c + w) ≡ link (h * (w - 1) + c)
-  unfolding aboveAt
-  above_at c = let e : c + w - w ≡ c = omega arith in rw (le-ltb (c + w) w (omega arith), e)
+  pub above_at_lem : (c : ℕ) → above_at h w link (c + w) ≡ link (h * (w - 1) + c)
+  unfolding above_at
+  above_at_lem c = let e : c + w - w ≡ c = omega arith in rw (le-ltb (c + w) w (omega arith), e)
 
   -- the first row's flags are those of an array without flags
-  pub tied-above-none : (flags : List Bool) → flags ≡ replicate 1024 false → TieFlags w (aboveAt h w link) flags
+  pub tied-above-none : (flags : List Bool) → flags ≡ replicate 1024 false → TieFlags w (above_at h w link) flags
   tied-above-none flags e =
       rw e (record {
         long = length-replicate 1024 false;
@@ -91,8 +91,8 @@ record Below (h w b : ℕ) : Type 0 where
   high : cell < (h - 1) * w
   is : b ≡ h * (w - 1) + cell
 
-border-side : (h w b : ℕ) → b < borderCount h w → Right h w b ⊎ Below h w b
-unfolding borderCount
+border-side : (h w b : ℕ) → b < border_count h w → Right h w b ⊎ Below h w b
+unfolding border_count
 border-side h w b l = go (dec_lt b (h * (w - 1))) (ℕ_discrete (w - 1) 0)
   where
     go : Dec (b < h * (w - 1)) → Dec (w - 1 ≡ 0) → Right h w b ⊎ Below h w b
@@ -110,10 +110,10 @@ border-side h w b l = go (dec_lt b (h * (w - 1))) (ℕ_discrete (w - 1) 0)
 
 module _ (h w : ℕ) (link : ℕ → Bool) (sized : Sized h w) where
   -- the cells of a border are on the page
-  inside : (b : ℕ) → b < borderCount h w → (flatFirst h w b < h * w) × (flatSecond h w b < h * w)
+  inside : (b : ℕ) → b < border_count h w → (flat_first h w b < h * w) × (flat_second h w b < h * w)
   inside b l = go (border-side h w b l)
     where
-      go : Right h w b ⊎ Below h w b → (flatFirst h w b < h * w) × (flatSecond h w b < h * w)
+      go : Right h w b ⊎ Below h w b → (flat_first h w b < h * w) × (flat_second h w b < h * w)
       go (inl r) =
           let k : r.row * w + (r.column + 1) < h * w = digits_lt r.high r.slim in
           rw (
@@ -126,11 +126,11 @@ module _ (h w : ℕ) (link : ℕ → Bool) (sized : Sized h w) where
           rw (r.is, below-first h w r.cell, below-second h w r.cell) (omega arith, k)
 
   -- labels that part no joined cells have one label on both sides of each border that joins
-  closed : (M : List ℕ) → Tied (h * w) w (tiedLeft h w link) (aboveAt h w link) M → (b : ℕ) → b < borderCount h w
-      → link b ≡ true → get_or M (flatFirst h w b) 0 ≡ get_or M (flatSecond h w b) 0
+  closed : (M : List ℕ) → Tied (h * w) w (tied_left h w link) (above_at h w link) M → (b : ℕ) → b < border_count h w
+      → link b ≡ true → get_or M (flat_first h w b) 0 ≡ get_or M (flat_second h w b) 0
   closed M t b l e = go (border-side h w b l)
     where
-      go : Right h w b ⊎ Below h w b → get_or M (flatFirst h w b) 0 ≡ get_or M (flatSecond h w b) 0
+      go : Right h w b ⊎ Below h w b → get_or M (flat_first h w b) 0 ≡ get_or M (flat_second h w b) 0
       go (inl r) =
           let k : r.row * w + (r.column + 1) < h * w = digits_lt r.high r.slim in
           let z : r.row * w + r.column + 1 - 1 ≡ r.row * w + r.column = omega arith in
@@ -145,22 +145,22 @@ module _ (h w : ℕ) (link : ℕ → Bool) (sized : Sized h w) where
           let z : r.cell + w - w ≡ r.cell = omega arith in
           rw (r.is, below-first h w r.cell, below-second h w r.cell)
           (rw z at (t.over (r.cell + w) (below-lt h w r.cell sized.rows r.high) (omega arith)
-          (above_at h w link r.cell ∙ ap link (sym r.is) ∙ e)))
+          (above_at_lem h w link r.cell ∙ ap link (sym r.is) ∙ e)))
 
   abbrev all : List ℕ
-  all = labelsAfter (flat h w) link (borderCount h w)
+  all = labels_after (flat h w) link (border_count h w)
 
-  meets : (b : ℕ) → b < borderCount h w → link b ≡ true
-      → get_or all (flatFirst h w b) 0 ≡ get_or all (flatSecond h w b) 0
+  meets : (b : ℕ) → b < border_count h w → link b ≡ true
+      → get_or all (flat_first h w b) 0 ≡ get_or all (flat_second h w b) 0
   unfolding flat
-  meets = after-meets (flat h w) link (counts sized).some inside (borderCount h w) (omega arith)
+  meets = after-meets (flat h w) link (counts sized).some inside (border_count h w) (omega arith)
 
   -- the labels part no joined cells
-  tied : Tied (h * w) w (tiedLeft h w link) (aboveAt h w link) all
-  unfolding borderCount
+  tied : Tied (h * w) w (tied_left h w link) (above_at h w link) all
+  unfolding border_count
   tied = record { beside = λ c l e. beside c l (ℕ_discrete (c % w) 0) e; over = over }
     where
-      beside : (c : ℕ) → c < h * w → Dec (c % w ≡ 0) → tiedLeft h w link c ≡ true → get_or all (c - 1) 0 ≡ get_or all c 0
+      beside : (c : ℕ) → c < h * w → Dec (c % w ≡ 0) → tied_left h w link c ≡ true → get_or all (c - 1) 0 ≡ get_or all c 0
       beside c l (yes z) e = false-true (left-none h w link c z) e
       beside c l (no z) e =
           let s : 0 < w = sized.columns in
@@ -170,26 +170,26 @@ module _ (h w : ℕ) (link : ℕ → Bool) (sized : Sized h w) where
           let q : c / w * w + x + 1 ≡ c = omega (arith, div-add-mod' c w) in
           let o : c / w * w + x ≡ c - 1 = omega arith in
           let on : link (c / w * (w - 1) + x) ≡ true =
-          sym (left_at h w link (c / w) x hx) ∙ ap (tiedLeft h w link) q ∙ e in
+          sym (left_at h w link (c / w) x hx) ∙ ap (tied_left h w link) q ∙ e in
           let m : get_or all (c / w * w + x) 0 ≡ get_or all (c / w * w + x + 1) 0 =
           rw (right-first h w (c / w) x hy hx, right-second h w (c / w) x hy hx) at
           (meets (c / w * (w - 1) + x) (omega (arith, right_lt h w (c / w) x hy hx)) on) in
           ap (λ (i : ℕ). get_or all i 0) (sym o) ∙ m ∙ ap (λ (i : ℕ). get_or all i 0) q
 
-      over : (c : ℕ) → c < h * w → w ≤ c → aboveAt h w link c ≡ true → get_or all (c - w) 0 ≡ get_or all c 0
+      over : (c : ℕ) → c < h * w → w ≤ c → above_at h w link c ≡ true → get_or all (c - w) 0 ≡ get_or all c 0
       over c l k e =
           let q : c - w + w ≡ c = omega arith in
           let g : h - 1 + 1 ≡ h = omega (arith, sized.rows) in
           let m : (h - 1 + 1) * w ≡ (h - 1) * w + w = add-mul (h - 1) 1 w ∙ omega arith in
           let on : link (h * (w - 1) + (c - w)) ≡ true =
-          sym (above_at h w link (c - w)) ∙ ap (aboveAt h w link) q ∙ e in
+          sym (above_at_lem h w link (c - w)) ∙ ap (above_at h w link) q ∙ e in
           (rw (below-first h w (c - w), below-second h w (c - w)) at
           (meets (h * (w - 1) + (c - w)) (omega (arith, rw g at m)) on))
           ∙ ap (λ (i : ℕ). get_or all i 0) q
 
   -- the parents that the pass gave, and the labels once the cells of its list are joined to those left of them
   module _ (p cs : List ℕ) (k : ℕ) (f : Forest p)
-      (s : Scanned (h * w) w (tiedLeft h w link) (aboveAt h w link) p cs k) where
+      (s : Scanned (h * w) w (tied_left h w link) (above_at h w link) p cs k) where
     abbrev first : List ℕ
     first = take (h * w) p
 
@@ -208,7 +208,7 @@ module _ (h w : ℕ) (link : ℕ → Bool) (sized : Sized h w) where
           root = λ x l e. at x l ∙ e;
         }
 
-    pub scan-labels : joined (take (h * w) p) (entry cs) k ≡ labelsAfter (flat h w) link (borderCount h w)
+    pub scan-labels : joined (take (h * w) p) (entry cs) k ≡ labels_after (flat h w) link (border_count h w)
     unfolding entry flat
     scan-labels =
         let some : 1 ≤ h * w = (counts sized).some in
@@ -218,11 +218,11 @@ module _ (h w : ℕ) (link : ℕ → Bool) (sized : Sized h w) where
         let follows : (x : ℕ) → x < h * w → get_or M (get_or p x 0) 0 ≡ get_or M x 0 =
         λ x l. joined_keeps (h * w) some first lab (entry cs) k few k (omega arith) (get_or p x 0) x
         (omega (arith, f.down x)) l (scan-rep.same x l) in
-        let t : Tied (h * w) w (tiedLeft h w link) (aboveAt h w link) M =
+        let t : Tied (h * w) w (tied_left h w link) (above_at h w link) M =
         s.whole M follows (joined_meets (h * w) some first lab (entry cs) k few k (omega arith)) in
         labels-one (h * w) M all (joined-labels (h * w) some first lab (entry cs) k)
-        (labelled-after (flat h w) link some (borderCount h w))
+        (labelled-after (flat h w) link some (border_count h w))
         (joined-sound (h * w) some first lab (entry cs) k few all
         (λ i l. tied.beside (get_or cs i 0) (few i l) (s.joins i l))
         (λ x l. ap (λ (j : ℕ). get_or all j 0) (at x l) ∙ s.sound all tied x l) k (omega arith))
-        (after-sound (flat h w) link some inside M (borderCount h w) (omega arith) (closed M t))
+        (after-sound (flat h w) link some inside M (border_count h w) (omega arith) (closed M t))

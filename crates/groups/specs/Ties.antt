@@ -1,8 +1,8 @@
 -- Which cells are joined, as flags for each cell, and the parents that one pass over the flags gives.
 --
---   tiedLeft h w link c     cell c is joined to the cell left of it
---   aboveAt h w link c      cell c is joined to the cell above it
---   flagAt flags c          flag c of a list of flags
+--   tied_left h w link c    cell c is joined to the cell left of it
+--   above_at h w link c     cell c is joined to the cell above it
+--   flag_at flags c         flag c of a list of flags
 --   TieFlags n f flags      the list has 1,024 flags, and the first n are those of f
 --   Tied n w left above L   of the first n cells, any two that are joined have one label in L
 --   Scanned n w left above p cs k   of the first n cells: each has a root for parent, no two cells that are not joined
@@ -10,16 +10,16 @@
 --                           first k cells of the list cs from the cells left of them, part no joined cells
 --   joined L cs k           the labels L once the first k cells of cs are joined to the cells left of them
 use Rattle.std.specs.Prelude.{◌≡◌, Bool, true, false, not, ◌&&◌, List, ℕ, zero, suc, ◌+◌, ◌-◌, ◌*◌, ◌/◌, ◌%◌, ◌<◌, ◌≤◌, eqb, ltb, length, get_or}
-use Rattle.rules.specs.Groups.{entry, mergeIf}
+use Rattle.rules.specs.Groups.{entry, merge_if}
 
-unfoldable pub tiedLeft : ℕ → ℕ → (ℕ → Bool) → ℕ → Bool
-tiedLeft h w link c = not (eqb (c % w) 0) && link (c / w * (w - 1) + (c % w - 1))
+unfoldable pub tied_left : ℕ → ℕ → (ℕ → Bool) → ℕ → Bool
+tied_left h w link c = not (eqb (c % w) 0) && link (c / w * (w - 1) + (c % w - 1))
 
-unfoldable pub aboveAt : ℕ → ℕ → (ℕ → Bool) → ℕ → Bool
-aboveAt h w link c = not (ltb c w) && link (h * (w - 1) + (c - w))
+unfoldable pub above_at : ℕ → ℕ → (ℕ → Bool) → ℕ → Bool
+above_at h w link c = not (ltb c w) && link (h * (w - 1) + (c - w))
 
-unfoldable pub flagAt : List Bool → ℕ → Bool
-flagAt flags c = get_or flags c false
+unfoldable pub flag_at : List Bool → ℕ → Bool
+flag_at flags c = get_or flags c false
 
 pub record TieFlags (n : ℕ) (f : ℕ → Bool) (flags : List Bool) : Type 0 where
   pub long : length flags ≡ 1024
@@ -39,4 +39,4 @@ pub record Scanned (n w : ℕ) (left above : ℕ → Bool) (p cs : List ℕ) (k 
 
 unfoldable pub joined : List ℕ → (ℕ → ℕ) → ℕ → List ℕ
 joined L cs zero = L
-joined L cs (suc k) = mergeIf true (entry (joined L cs k) (cs k - 1)) (entry (joined L cs k) (cs k)) (joined L cs k)
+joined L cs (suc k) = merge_if true (entry (joined L cs k) (cs k - 1)) (entry (joined L cs k) (cs k)) (joined L cs k)

@@ -2,10 +2,10 @@
 ghost use Rattle.std.specs.Prelude.{◌≡◌, Bool, true, false, not, ◌&&◌, cond, List, ℕ, ◌+◌, ◌-◌, ◌*◌, ◌≤◌, ◌<◌, eqb, length, get_or, replicate};
 ghost use Rattle.lists.specs.Count.{bit};
 ghost use Rattle.rules.specs.Flat.{Sized};
-ghost use Rattle.rules.specs.Groups.{entry, mergeIf};
-ghost use Rattle.groups.specs.Kinds.{oneColourBy, joinsBy, joinsIn};
+ghost use Rattle.rules.specs.Groups.{entry, merge_if};
+ghost use Rattle.groups.specs.Kinds.{one_colour_by, joins_by, joins_in};
 ghost use Rattle.groups.specs.Forests.{Forest, Rep, ForestLinked};
-ghost use Rattle.groups.specs.Ties.{tiedLeft, aboveAt, flagAt, TieFlags, Scanned, joined};
+ghost use Rattle.groups.specs.Ties.{tied_left, above_at, flag_at, TieFlags, Scanned, joined};
 ghost use Rattle.groups.specs.Grouping.{cells_in, Vacant};
 
 use crate::{Grouping, Kind};
@@ -13,14 +13,14 @@ use board::Board;
 
 // Whether two cells have one colour: both are 1, or neither is.
 fn one_colour(a: u8, b: u8) -> bool
-    ensures { result ≡ oneColourBy a b }
+    ensures { result ≡ one_colour_by a b }
 {
     (a == 1) == (b == 1)
 }
 
 // Whether a border with the number v joins its two cells, which have the colours a and b.
 fn joins(kind: Kind, v: u8, a: u8, b: u8) -> bool
-    ensures { result ≡ joinsBy kind v a b }
+    ensures { result ≡ joins_by kind v a b }
 {
     match kind {
         Kind::Blocks => v == 2,
@@ -47,7 +47,7 @@ fn join(p: &mut [u16; Board::CELL_LIMIT], a: usize, b: usize)
     requires { (a < 1024) × (b < 1024) × Forest p.old }
     ensures { Forest p.new
         × ((n : ℕ) (L : List ℕ) → n ≤ 1024 → a < n → b < n → Rep n p.old L
-        → Rep n p.new (mergeIf true (entry L a) (entry L b) L)) }
+        → Rep n p.new (merge_if true (entry L a) (entry L b) L)) }
 {
     let c = p[a] as usize;
     let d = p[b] as usize;
@@ -78,9 +78,9 @@ fn row<'a>(
     lefts: &mut [bool; Board::CELL_LIMIT],
 )
     requires { Sized h w × (y < h) × (w ≤ count + 1) × (count ≤ w) × (y * w + count < h * w)
-        × TieFlags (y * w) (tiedLeft h w (joinsIn kind h w colours.now borders.now)) lefts.old }
+        × TieFlags (y * w) (tied_left h w (joins_in kind h w colours.now borders.now)) lefts.old }
     ensures { TieFlags ((y + 1) * w)
-        (tiedLeft h w (joinsIn kind h w colours.now borders.now))
+        (tied_left h w (joins_in kind h w colours.now borders.now))
         lefts.new }
 {
     let c = y * w;
@@ -104,7 +104,7 @@ fn across<'a>(
     lefts: &mut [bool; Board::CELL_LIMIT],
 )
     requires { Sized h w × (length lefts.old ≡ 1024) }
-    ensures { TieFlags (h * w) (tiedLeft h w (joinsIn kind h w colours.now borders.now))
+    ensures { TieFlags (h * w) (tied_left h w (joins_in kind h w colours.now borders.now))
         lefts.new }
 {
     let mut y = 0;
@@ -125,7 +125,7 @@ fn down<'a>(
     aboves: &mut [bool; Board::CELL_LIMIT],
 )
     requires { Sized h w × (aboves.old ≡ replicate 1024 false) }
-    ensures { TieFlags (h * w) (aboveAt h w (joinsIn kind h w colours.now borders.now))
+    ensures { TieFlags (h * w) (above_at h w (joins_in kind h w colours.now borders.now))
         aboves.new }
 {
     let b = h * (w - 1);
@@ -155,7 +155,7 @@ fn clash(left: bool, above: bool, root: u16, over: u16) -> usize
 fn first_row(p: &mut [u16; Board::CELL_LIMIT], w: usize, lefts: &[bool; Board::CELL_LIMIT])
     requires { (1 ≤ w) × (w ≤ 32) × Forest p.old }
     ensures { Forest p.new × ((above : ℕ → Bool) (list : List ℕ)
-        → Scanned w w (flagAt lefts.now) above p.new list 0) }
+        → Scanned w w (flag_at lefts.now) above p.new list 0) }
 {
     let mut root: u16 = 0;
     p[0] = root;
@@ -178,9 +178,9 @@ fn later_rows<'a>(
     grouping: &mut Grouping,
 ) -> usize
     requires { (1 ≤ w) × (w ≤ n) × (n ≤ 1024) × Forest p.old × Vacant n grouping.old
-        × Scanned w w (flagAt lefts.now) (flagAt aboves.now) p.old (cells_in grouping.old) 0 }
+        × Scanned w w (flag_at lefts.now) (flag_at aboves.now) p.old (cells_in grouping.old) 0 }
     ensures { (result ≤ n) × Forest p.new × Vacant n grouping.new
-        × Scanned n w (flagAt lefts.now) (flagAt aboves.now) p.new
+        × Scanned n w (flag_at lefts.now) (flag_at aboves.now) p.new
         (cells_in grouping.new) result }
 {
     let mut k: usize = 0;
@@ -228,7 +228,7 @@ pub fn link<'a>(
     grouping: &mut Grouping,
 )
     requires { Sized h w × Forest p.old × Vacant (h * w) grouping.old }
-    ensures { ForestLinked h w (joinsIn kind h w colours.now borders.now) p.new
+    ensures { ForestLinked h w (joins_in kind h w colours.now borders.now) p.new
         × Vacant (h * w) grouping.new }
 {
     let mut lefts = [false; Board::CELL_LIMIT];

@@ -9,34 +9,34 @@ use Rattle.std.proofs.lemmas.List.Edits.{sets}
 use Rattle.std.specs.Int.Signed.{le_z}
 use Rattle.lists.specs.Table.{table}
 use Rattle.lists.specs.TableLaws.{table-part}
-use Rattle.image.specs.Image.{pair, quad, fromBits, twoBytes, fourBytes, bits_of, Bytes}
+use Rattle.image.specs.Image.{pair, quad, from_bits, two_bytes, four_bytes, bits_of, Bytes}
 
-pub two-long : (v : ℕ) → length (twoBytes v) ≡ 2
-unfolding twoBytes
+pub two-long : (v : ℕ) → length (two_bytes v) ≡ 2
+unfolding two_bytes
 two-long v = refl
 
-pub four-long : (v : ℕ) → length (fourBytes v) ≡ 4
-unfolding fourBytes twoBytes
+pub four-long : (v : ℕ) → length (four_bytes v) ≡ 4
+unfolding four_bytes two_bytes
 four-long v = refl
 
 -- two bytes stored over two others
-pub two-over : (v w : ℕ) (l : List ℕ) → sets (twoBytes v ++ l) 0 (twoBytes w) ≡ twoBytes w ++ l
-unfolding twoBytes
+pub two-over : (v w : ℕ) (l : List ℕ) → sets (two_bytes v ++ l) 0 (two_bytes w) ≡ two_bytes w ++ l
+unfolding two_bytes
 two-over v w l = refl
 
 -- ---- a number from its bytes
 module _ (s : List ℕ) (k v : ℕ) where
-  pub pair_of : ((j : ℕ) → j < 2 → get_or s (k + j) 0 ≡ get_or (twoBytes v) j 0) → v < 65536 → pair s k ≡ v
-  unfolding twoBytes
+  pub pair_of : ((j : ℕ) → j < 2 → get_or s (k + j) 0 ≡ get_or (two_bytes v) j 0) → v < 65536 → pair s k ≡ v
+  unfolding two_bytes
   pair_of f h =
       let z : k + 0 ≡ k = omega arith in
       let p : get_or s k 0 ≡ v % 256 = ap (λ j. get_or s j 0) (sym z) ∙ f 0 (omega arith) in
       let q : get_or s (k + 1) 0 ≡ v / 256 % 256 = f 1 (omega arith) in
       omega arith
 
-pub quad-of : (s : List ℕ) (k v : ℕ) → ((j : ℕ) → j < 4 → get_or s (k + j) 0 ≡ get_or (fourBytes v) j 0)
+pub quad-of : (s : List ℕ) (k v : ℕ) → ((j : ℕ) → j < 4 → get_or s (k + j) 0 ≡ get_or (four_bytes v) j 0)
     → v < 4294967296 → quad s k ≡ v
-unfolding fourBytes twoBytes
+unfolding four_bytes two_bytes
 quad-of s k v f h =
     let z : k + 0 ≡ k = omega arith in
     let t : k + 3 ≡ k + 2 + 1 = omega arith in
@@ -57,8 +57,8 @@ high a b h k = let e : (a + 256 * b) / 256 ≡ b = omega arith in ap (λ x. x % 
     small = omega arith
 
 module _ (s : List ℕ) (h : Bytes s) (k : ℕ) where
-  pub two-of : k + 2 ≤ length s → twoBytes (pair s k) ≡ take 2 (drop k s)
-  unfolding twoBytes table
+  pub two-of : k + 2 ≤ length s → two_bytes (pair s k) ≡ take 2 (drop k s)
+  unfolding two_bytes table
   two-of l =
       let z : k + 0 ≡ k = omega arith in
       let x : get_or s (k + 0) 0 ≡ get_or s k 0 = ap (λ j. get_or s j 0) z in
@@ -69,39 +69,39 @@ module _ (s : List ℕ) (h : Bytes s) (k : ℕ) where
 low' : (a b : ℕ) → (a + 256 * b) % 256 ≡ a % 256
 low' a b = omega arith
 
-two-low : (v w : ℕ) → twoBytes (v + 65536 * w) ≡ twoBytes v
-unfolding twoBytes
+two-low : (v w : ℕ) → two_bytes (v + 65536 * w) ≡ two_bytes v
+unfolding two_bytes
 two-low v w =
     let p : (v + 65536 * w) % 256 ≡ v % 256 = omega arith in
     let r : (v + 65536 * w) / 256 ≡ v / 256 + 256 * w = omega arith in
     let q : (v + 65536 * w) / 256 % 256 ≡ v / 256 % 256 = ap (λ x. x % 256) r ∙ low' (v / 256) w in
     ap₂ (λ (y z : ℕ). y ∷ z ∷ []) p q
 
-pub four-of : (s : List ℕ) → Bytes s → (k : ℕ) → k + 4 ≤ length s → fourBytes (quad s k) ≡ take 4 (drop k s)
-unfolding fourBytes
+pub four-of : (s : List ℕ) → Bytes s → (k : ℕ) → k + 4 ≤ length s → four_bytes (quad s k) ≡ take 4 (drop k s)
+unfolding four_bytes
 four-of s h k l =
     let a = h k in
     let b = h (k + 1) in
     let e : quad s k / 65536 ≡ pair s (k + 2) = omega arith in
     ap₂ (λ (x y : List ℕ). x ++ y) (two-low (pair s k) (pair s (k + 2)) ∙ two-of s h k (omega arith))
-    (ap twoBytes e ∙ two-of s h (k + 2) (omega arith) ∙ ap (λ (x : List ℕ). take 2 x) (sym (drop-drop 2 k s)))
+    (ap two_bytes e ∙ two-of s h (k + 2) (omega arith) ∙ ap (λ (x : List ℕ). take 2 x) (sym (drop-drop 2 k s)))
     ∙ sym (take-add 2 2 (drop k s))
 
 pub quad-small : (s : List ℕ) → Bytes s → (k : ℕ) → quad s k < 4294967296
 quad-small s h k = omega (arith, h k, h (k + 1), h (k + 2), h (k + 2 + 1))
 
 -- ---- signed numbers
-pub bits-from : (n : ℕ) → n < 4294967296 → bits_of (fromBits n) ≡ n
+pub bits-from : (n : ℕ) → n < 4294967296 → bits_of (from_bits n) ≡ n
 bits-from n h = go (dec_lt n 2147483648)
   where
-    go : Dec (n < 2147483648) → bits_of (fromBits n) ≡ n
+    go : Dec (n < 2147483648) → bits_of (from_bits n) ≡ n
     go (yes l) = rw (lt-ltb n 2147483648 l)
     go (no l) = rw (le-ltb n 2147483648 (omega arith)) (omega arith)
 
-pub from-small : (n : ℕ) → le_z (fromBits n) (pos 2147483647) ≡ true
+pub from-small : (n : ℕ) → le_z (from_bits n) (pos 2147483647) ≡ true
 from-small n = go (dec_lt n 2147483648)
   where
-    go : Dec (n < 2147483648) → le_z (fromBits n) (pos 2147483647) ≡ true
+    go : Dec (n < 2147483648) → le_z (from_bits n) (pos 2147483647) ≡ true
     go (yes l) = rw (lt-ltb n 2147483648 l) (le-leb n 2147483647 (omega arith))
     go (no l) = rw (le-ltb n 2147483648 (omega arith))
 
@@ -114,10 +114,10 @@ module _ (z : ℤ) (p : le_z (negsuc 0) z ≡ true) (q : le_z z (pos 2147483647)
       go (pos n) e = let l = leb-true n 2147483647 e in omega arith
       go (negsuc n) e = omega arith
 
-  pub from_bits : fromBits (bits_of z) ≡ z
-  from_bits = go z p q
+  pub from_bits_lem : from_bits (bits_of z) ≡ z
+  from_bits_lem = go z p q
     where
-      go : (y : ℤ) → le_z (negsuc 0) y ≡ true → le_z y (pos 2147483647) ≡ true → fromBits (bits_of y) ≡ y
+      go : (y : ℤ) → le_z (negsuc 0) y ≡ true → le_z y (pos 2147483647) ≡ true → from_bits (bits_of y) ≡ y
       go (pos n) d e = let l = leb-true n 2147483647 e in rw (lt-ltb n 2147483648 (omega arith))
       go (negsuc zero) d e = refl
       go (negsuc (suc n)) d e = absurd (let l = leb-true (suc n) 0 d in omega arith)

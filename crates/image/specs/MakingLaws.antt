@@ -21,18 +21,18 @@ use Rattle.lists.specs.PaddedLaws.{length-padded}
 use Rattle.lists.specs.Stores.{sets-past, sets_over}
 use Rattle.lists.specs.Appends.{flat_append}
 use Rattle.lists.specs.Flats.{length-flat, flat-replicate}
-use Rattle.rules.specs.Flat.{borderCount}
-use Rattle.rules.specs.Codes.{puzzleIn}
+use Rattle.rules.specs.Flat.{border_count}
+use Rattle.rules.specs.Codes.{puzzle_in}
 use Rattle.rules.specs.Book.{tally_of}
 use Rattle.board.specs.declared.Returned.{Returned}
-use Rattle.board.specs.Board.{number_of, freshBoard, fresh_of, SmallClues}
-use Rattle.board.specs.Accepted.{Accepted, madeBoard}
+use Rattle.board.specs.Board.{number_of, fresh_board, fresh_of, SmallClues}
+use Rattle.board.specs.Accepted.{Accepted, made_board}
 use Rattle.board.specs.DecideLaws.{done-returned}
 use Rattle.board.specs.FreshLaws.{Made, made-is}
 use Rattle.demand3.specs.Demand3Laws.{start-bare}
-use Rattle.image.specs.Image.{twoBytes, fourBytes, bits_of, clueBytes, tallyBytes, image_of, rightLength}
-use Rattle.image.specs.Image.{imageAlien}
-use Rattle.image.specs.Making.{freshNumber, freshImage}
+use Rattle.image.specs.Image.{two_bytes, four_bytes, bits_of, clue_bytes, tally_bytes, image_of, right_length}
+use Rattle.image.specs.Image.{image_alien}
+use Rattle.image.specs.Making.{fresh_number, fresh_image}
 use Rattle.image.specs.Hosts.{HostCall, HostDemand}
 use Rattle.image.specs.HostLaws.{host-demand}
 use Rattle.image.specs.RoundLaws.{long-is, image-known}
@@ -47,42 +47,42 @@ zeros-join a b c l e =
     sym (append_assoc (zeros a) (zeros b) l)
     ∙ ap (λ (x : List ℕ). x ++ l) (replicate-append-replicate a b 0 ∙ ap zeros e)
 
-zero-clue : clueBytes (pos 0) ≡ zeros 4
-unfolding fourBytes twoBytes
+zero-clue : clue_bytes (pos 0) ≡ zeros 4
+unfolding four_bytes two_bytes
 zero-clue = refl
 
-zero-two : twoBytes 0 ≡ zeros 2
-unfolding twoBytes
+zero-two : two_bytes 0 ≡ zeros 2
+unfolding two_bytes
 zero-two = refl
 
 -- the tally with m borders undecided and none decided
-tally-stored : (m : ℕ) → sets (zeros 11082) 11076 (twoBytes m) ≡ zeros 11076 ++ tallyBytes (tally_of m 0 0)
-unfolding flat_map twoBytes
+tally-stored : (m : ℕ) → sets (zeros 11082) 11076 (two_bytes m) ≡ zeros 11076 ++ tally_bytes (tally_of m 0 0)
+unfolding flat_map two_bytes
 tally-stored m =
-    ap (λ (l : List ℕ). sets l 11076 (twoBytes m)) (sym (replicate-append-replicate 11076 6 0))
-    ∙ sets-past (zeros 11076) (zeros 6) 11076 0 (twoBytes m) (length-replicate {A = ℕ} 11076 0)
+    ap (λ (l : List ℕ). sets l 11076 (two_bytes m)) (sym (replicate-append-replicate 11076 6 0))
+    ∙ sets-past (zeros 11076) (zeros 6) 11076 0 (two_bytes m) (length-replicate {A = ℕ} 11076 0)
 
 -- from the clues on a fresh board's image has the clues, then zeros and the bytes l of the tally
 module _ (ks : List ℤ) (q : length ks ≤ 1024) where
   abbrev bytes : List ℕ
-  bytes = flat_map clueBytes ks
+  bytes = flat_map clue_bytes ks
 
   bytes-long : length bytes ≡ 4 * length ks
-  bytes-long = length-flat clueBytes 4 ks (λ k m. four-long (bits_of k))
+  bytes-long = length-flat clue_bytes 4 ks (λ k m. four-long (bits_of k))
 
-  tail : (l : List ℕ) → flat_map clueBytes (padded 1024 (pos 0) ks)
-      ++ (zeros 1984 ++ (twoBytes 0 ++ (flat_map twoBytes (zeros 1984) ++ l)))
+  tail : (l : List ℕ) → flat_map clue_bytes (padded 1024 (pos 0) ks)
+      ++ (zeros 1984 ++ (two_bytes 0 ++ (flat_map two_bytes (zeros 1984) ++ l)))
       ≡ bytes ++ (zeros (10050 - 4 * length ks) ++ l)
   tail l =
       let m = 1024 - length ks in
-      let z : zeros 1984 ++ (twoBytes 0 ++ (flat_map twoBytes (zeros 1984) ++ l)) ≡ zeros 5954 ++ l =
+      let z : zeros 1984 ++ (two_bytes 0 ++ (flat_map two_bytes (zeros 1984) ++ l)) ≡ zeros 5954 ++ l =
       ap (λ (x : List ℕ). zeros 1984 ++ x)
-      (ap₂ (λ (x y : List ℕ). x ++ (y ++ l)) zero-two (flat-replicate twoBytes 2 0 0 zero-two 1984)
+      (ap₂ (λ (x y : List ℕ). x ++ (y ++ l)) zero-two (flat-replicate two_bytes 2 0 0 zero-two 1984)
       ∙ zeros-join 2 (2 * 1984) 3970 l (omega arith))
       ∙ zeros-join 1984 3970 5954 l (omega arith) in
-      let f : flat_map clueBytes (padded 1024 (pos 0) ks) ≡ bytes ++ zeros (4 * m) =
-      flat_append clueBytes ks (replicate m (pos 0))
-      ∙ ap (λ (x : List ℕ). bytes ++ x) (flat-replicate clueBytes 4 (pos 0) 0 zero-clue m) in
+      let f : flat_map clue_bytes (padded 1024 (pos 0) ks) ≡ bytes ++ zeros (4 * m) =
+      flat_append clue_bytes ks (replicate m (pos 0))
+      ∙ ap (λ (x : List ℕ). bytes ++ x) (flat-replicate clue_bytes 4 (pos 0) 0 zero-clue m) in
       ap₂ (λ (x y : List ℕ). x ++ y) f z
       ∙ append_assoc bytes (zeros (4 * m)) (zeros 5954 ++ l)
       ∙ ap (λ (x : List ℕ). bytes ++ x) (zeros-join (4 * m) 5954 (10050 - 4 * length ks) l (omega arith))
@@ -92,7 +92,7 @@ module _ (h w : ℕ) (cs : List ℕ) (ks : List ℤ) (p : length cs ≤ 1024) (q
   size = h ∷ w ∷ []
 
   abbrev tally : List ℕ
-  tally = tallyBytes (tally_of (borderCount h w) 0 0)
+  tally = tally_bytes (tally_of (border_count h w) 0 0)
 
   abbrev rest : List ℕ
   rest = zeros (10050 - 4 * length ks) ++ tally
@@ -129,14 +129,14 @@ module _ (h w : ℕ) (cs : List ℕ) (ks : List ℤ) (p : length cs ≤ 1024) (q
       (sets_over (bytes ks q) (zeros (4 * length ks)) rest
       (length-replicate (4 * length ks) 0 ∙ sym (bytes-long ks q))))
 
-  pub fresh-bytes : (n m : ℕ) → n ≡ 11082 → m ≡ borderCount h w
-      → sets (sets (set (set (sets (zeros n) 11076 (twoBytes m)) 0 h) 1 w) 2 cs) 1026 (flat_map clueBytes ks)
-      ≡ image_of (freshBoard h w cs ks)
+  pub fresh-bytes : (n m : ℕ) → n ≡ 11082 → m ≡ border_count h w
+      → sets (sets (set (set (sets (zeros n) 11076 (two_bytes m)) 0 h) 1 w) 2 cs) 1026 (flat_map clue_bytes ks)
+      ≡ image_of (fresh_board h w cs ks)
   unfolding image_of
   fresh-bytes n m e f =
       ap (λ (l : List ℕ). sets (sets l 2 cs) 1026 (bytes ks q))
-      (ap₂ (λ (i j : ℕ). set (set (sets (zeros i) 11076 (twoBytes j)) 0 h) 1 w) e f
-      ∙ ap (λ (l : List ℕ). set (set l 0 h) 1 w) (tally-stored (borderCount h w)))
+      (ap₂ (λ (i j : ℕ). set (set (sets (zeros i) 11076 (two_bytes j)) 0 h) 1 w) e f
+      ∙ ap (λ (l : List ℕ). set (set l 0 h) 1 w) (tally-stored (border_count h w)))
       ∙ ap (λ (l : List ℕ). sets l 1026 (bytes ks q)) colours-stored
       ∙ clues-stored
       ∙ ap (λ (l : List ℕ). size ++ (padded 1024 0 cs ++ l)) (sym (tail ks q tally))
@@ -146,32 +146,32 @@ module _ (h w : ℕ) (cs : List ℕ) (ks : List ℤ) (s : List ℕ) where
   abbrev made : ℕ
   made = number_of (fresh_of h w cs ks).outcome
 
-  pub number-refused : (made ≡ 0 → ⊥) → freshNumber h w cs ks s ≡ made
-  unfolding freshNumber
+  pub number-refused : (made ≡ 0 → ⊥) → fresh_number h w cs ks s ≡ made
+  unfolding fresh_number
   number-refused p = rw (ne_eqb made 0 p)
 
   module _ (p : made ≡ 0) where
-    pub making-other : (length s ≡ 11082 → ⊥) → freshNumber h w cs ks s ≡ 5
-    unfolding freshNumber rightLength
+    pub making-other : (length s ≡ 11082 → ⊥) → fresh_number h w cs ks s ≡ 5
+    unfolding fresh_number right_length
     making-other q = rw (eq-eqb made 0 p, ne_eqb (length s) 11082 q)
 
-    pub number-done : length s ≡ 11082 → freshNumber h w cs ks s ≡ 0
-    unfolding freshNumber
+    pub number-done : length s ≡ 11082 → fresh_number h w cs ks s ≡ 0
+    unfolding fresh_number
     number-done q = rw (eq-eqb made 0 p, long-is s q)
 
     -- what a number of 0 says of the puzzle
-    pub made_of : Made h w cs ks (madeBoard h w cs ks)
+    pub made_of : Made h w cs ks (made_board h w cs ks)
     made_of = made-is (done-returned (fresh_of h w cs ks) p)
 
-  pub bytes-refused : (freshNumber h w cs ks s ≡ 0 → ⊥) → freshImage h w cs ks s ≡ s
-  unfolding freshImage
-  bytes-refused p = rw (ne_eqb (freshNumber h w cs ks s) 0 p)
+  pub bytes-refused : (fresh_number h w cs ks s ≡ 0 → ⊥) → fresh_image h w cs ks s ≡ s
+  unfolding fresh_image
+  bytes-refused p = rw (ne_eqb (fresh_number h w cs ks s) 0 p)
 
-  pub bytes-done : freshNumber h w cs ks s ≡ 0 → freshImage h w cs ks s ≡ image_of (madeBoard h w cs ks)
-  unfolding freshImage
-  bytes-done p = rw (eq-eqb (freshNumber h w cs ks s) 0 p)
+  pub bytes-done : fresh_number h w cs ks s ≡ 0 → fresh_image h w cs ks s ≡ image_of (made_board h w cs ks)
+  unfolding fresh_image
+  bytes-done p = rw (eq-eqb (fresh_number h w cs ks s) 0 p)
 
-  zero_of : freshNumber h w cs ks s ≡ 0 → (made ≡ 0) × (length s ≡ 11082)
+  zero_of : fresh_number h w cs ks s ≡ 0 → (made ≡ 0) × (length s ≡ 11082)
   zero_of e = go (ℕ_discrete made 0) (ℕ_discrete (length s) 11082)
     where
       go : Dec (made ≡ 0) → Dec (length s ≡ 11082) → (made ≡ 0) × (length s ≡ 11082)
@@ -181,10 +181,10 @@ module _ (h w : ℕ) (cs : List ℕ) (ks : List ℤ) (s : List ℕ) where
 
 -- ---- accepted puzzles
 module _ (h w : ℕ) (cs : List ℕ) (ks : List ℤ) (s : List ℕ) where
-  accepted-zero : Accepted h w cs ks → length s ≡ 11082 → freshNumber h w cs ks s ≡ 0
+  accepted-zero : Accepted h w cs ks → length s ≡ 11082 → fresh_number h w cs ks s ≡ 0
   accepted-zero A q = number-done h w cs ks s (ap number_of A.made) q
 
-  pub fresh-exact : SmallClues ks → (freshNumber h w cs ks s ≡ 0) ↔ (Accepted h w cs ks × (length s ≡ 11082))
+  pub fresh-exact : SmallClues ks → (fresh_number h w cs ks s ≡ 0) ↔ (Accepted h w cs ks × (length s ≡ 11082))
   fresh-exact f = (
     λ e.
         let z = zero_of h w cs ks s e in
@@ -194,16 +194,16 @@ module _ (h w : ℕ) (cs : List ℕ) (ks : List ℤ) (s : List ℕ) where
   )
 
   module _ (A : Accepted h w cs ks) (q : length s ≡ 11082) where
-    pub fresh-image : freshImage h w cs ks s ≡ image_of (madeBoard h w cs ks)
+    pub fresh-image : fresh_image h w cs ks s ≡ image_of (made_board h w cs ks)
     fresh-image = bytes-done h w cs ks s (accepted-zero A q)
 
-    pub fresh-known : imageAlien (freshImage h w cs ks s) ≡ false
+    pub fresh-known : image_alien (fresh_image h w cs ks s) ≡ false
     fresh-known =
         let b = start-bare h w cs ks A in
-        ap imageAlien fresh-image ∙ image-known (madeBoard h w cs ks) (record { known = b.known; typed = b.typed })
+        ap image_alien fresh-image ∙ image-known (made_board h w cs ks) (record { known = b.known; typed = b.typed })
 
     pub fresh-demand : (calls : List HostCall)
-        → HostDemand (freshImage h w cs ks s) (madeBoard h w cs ks) (puzzleIn h w cs ks) calls
+        → HostDemand (fresh_image h w cs ks s) (made_board h w cs ks) (puzzle_in h w cs ks) calls
     fresh-demand calls =
-        subst (λ (t : List ℕ). HostDemand t (madeBoard h w cs ks) (puzzleIn h w cs ks) calls) (sym fresh-image)
+        subst (λ (t : List ℕ). HostDemand t (made_board h w cs ks) (puzzle_in h w cs ks) calls) (sym fresh-image)
         (host-demand h w cs ks A calls)

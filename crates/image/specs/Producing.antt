@@ -5,9 +5,9 @@ use Rattle.std.specs.Prelude.{◌≡◌, List, ℕ, ℤ}
 use Rattle.board.specs.declared.Board.{Board}
 use Rattle.board.specs.declared.Outcome.TheVariants.{Done}
 use Rattle.board.specs.Board.{returned, fresh_of, SmallClues}
-use Rattle.image.specs.Image.{image_of, ImageCall, imageNumber, imageAfter}
+use Rattle.image.specs.Image.{image_of, ImageCall, image_number, image_after}
 
 pub data ImageProduced : List ℕ → Type 0 where
   begun : (h w : ℕ) (cs : List ℕ) (ks : List ℤ) (b : Board) → SmallClues ks → fresh_of h w cs ks ≡ returned Done b
       → ImageProduced (image_of b)
-  called : (s : List ℕ) (a : ImageCall) → ImageProduced s → imageNumber s a ≡ 0 → ImageProduced (imageAfter s a)
+  called : (s : List ℕ) (a : ImageCall) → ImageProduced s → image_number s a ≡ 0 → ImageProduced (image_after s a)

@@ -7,22 +7,22 @@ use Rattle.std.specs.Prelude.{◌≡◌, refl, Bool, true, false, cond, List, �
 use Rattle.std.proofs.Common.{ap, sym, ◌∙◌, arith}
 use Rattle.std.proofs.Math.Path.{transport}
 use Rattle.std.proofs.lemmas.Bool.{false≢true, eqb-false}
-use Rattle.rules.specs.Codes.{sideCode}
+use Rattle.rules.specs.Codes.{side_code}
 use Rattle.rules.specs.Check.{Verdict, pass, conflict, check}
 use Rattle.board.specs.declared.Board.{Board}
 use Rattle.board.specs.declared.Returned.{Returned}
-use Rattle.board.specs.Alien.{borderCountOf, isAlien}
-use Rattle.board.specs.Board.{number_of, decideRefusal, decideOf, undoRefusal, undoOf}
+use Rattle.board.specs.Alien.{border_count_of, is_alien}
+use Rattle.board.specs.Board.{number_of, decide_refusal, decide_of, undo_refusal, undo_of}
 use Rattle.board.specs.declared.Outcome.TheVariants.{Done, Alien, Border, Taken, Bare, Short}
-use Rattle.board.specs.View.{puzzleOf, statesOf}
+use Rattle.board.specs.View.{puzzle_of, states_of}
 use Rattle.reach.specs.Produced as board
 use Rattle.reach.specs.Produced.{Produced}
 use Rattle.reach.specs.Reach.{produced-known, known-produced}
 use Rattle.calls.specs.declared.Answer.TheVariants.{Refused}
-use Rattle.calls.specs.Answers.{answerNumber, asAnswer, checkAnswer}
-use Rattle.image.specs.Image.{spelledBoard, image_of, imageAlien, Bytes, Proper, ImageCall, decide, undo}
-use Rattle.image.specs.Image.{rightLength, numberBy, boardBy, imageNumber, imageAfter, placeCount}
-use Rattle.image.specs.Image.{checkNumber}
+use Rattle.calls.specs.Answers.{answer_number, as_answer, check_answer}
+use Rattle.image.specs.Image.{spelled_board, image_of, image_alien, Bytes, Proper, ImageCall, decide, undo}
+use Rattle.image.specs.Image.{right_length, number_by, board_by, image_number, image_after, place_count}
+use Rattle.image.specs.Image.{check_number}
 use Rattle.image.specs.Producing.{ImageProduced, begun, called}
 use Rattle.image.specs.RoundLaws.{long-is, known-board, alien-image}
 use Rattle.image.specs.RunLaws.{literal-of-code, proper-after, number-image, after-image}
@@ -34,7 +34,7 @@ produced-proper b p = let r = produced-known b p in record { known = r.0; typed 
 
 -- a call on the board that is done is one on its image
 module _ (b d : Board) (p : Produced b) (a : ImageCall) where
-  called-image : numberBy b a ≡ 0 → boardBy b a ≡ d → ImageProduced (image_of b) → ImageProduced (image_of d)
+  called-image : number_by b a ≡ 0 → board_by b a ≡ d → ImageProduced (image_of b) → ImageProduced (image_of d)
   called-image n e q =
       let P = produced-proper b p in
       transport (λ i. ImageProduced ((after-image b P a ∙ ap image_of e) i))
@@ -42,11 +42,11 @@ module _ (b d : Board) (p : Produced b) (a : ImageCall) where
 
 board-produced : (b : Board) → Produced b → ImageProduced (image_of b)
 board-produced b (board.made h w cs ks _ s e) = begun h w cs ks b s e
-board-produced b (board.afterDecide c l _ p e) =
-    let f = ap (decideOf c) (literal-of-code l) ∙ e in
-    called-image c b p (decide l.border (sideCode l.side))
+board-produced b (board.after_decide c l _ p e) =
+    let f = ap (decide_of c) (literal-of-code l) ∙ e in
+    called-image c b p (decide l.border (side_code l.side))
     (ap (λ (r : Returned). number_of r.outcome) f) (ap (λ (r : Returned). r.board) f) (board-produced c p)
-board-produced b (board.afterUndo c _ p e) =
+board-produced b (board.after_undo c _ p e) =
     called-image c b p undo
     (ap (λ (r : Returned). number_of r.outcome) e) (ap (λ (r : Returned). r.board) e) (board-produced c p)
 
@@ -56,10 +56,10 @@ produced-board s (called t a p z) =
     let r = produced-board t p in
     let b = r.0 in
     let P = r.1 in
-    (boardBy b a, proper-after b a P, ap (λ (u : List ℕ). imageAfter u a) r.2 ∙ after-image b P a)
+    (board_by b a, proper-after b a P, ap (λ (u : List ℕ). image_after u a) r.2 ∙ after-image b P a)
 
 -- ---- which images are alien
-pub image-exactly : (s : List ℕ) → Bytes s → (imageAlien s ≡ false) ↔ ImageProduced s
+pub image-exactly : (s : List ℕ) → Bytes s → (image_alien s ≡ false) ↔ ImageProduced s
 image-exactly s h = (
   λ k.
       let r = (alien-image s h).0 k in
@@ -69,20 +69,20 @@ image-exactly s h = (
 )
 
 -- an answer that is 5 on alien images, and on no others
-exactly-by : (s : List ℕ) → Bytes s → (n : ℕ) → (imageAlien s ≡ true → n ≡ 5) → (imageAlien s ≡ false → n ≡ 5 → ⊥)
+exactly-by : (s : List ℕ) → Bytes s → (n : ℕ) → (image_alien s ≡ true → n ≡ 5) → (image_alien s ≡ false → n ≡ 5 → ⊥)
     → (n ≡ 5) ↔ (ImageProduced s → ⊥)
 exactly-by s h n f g =
-    (λ e p. g ((image-exactly s h).1 p) e, λ q. go (imageAlien s) refl q)
+    (λ e p. g ((image-exactly s h).1 p) e, λ q. go (image_alien s) refl q)
   where
-    go : (t : Bool) → imageAlien s ≡ t → (ImageProduced s → ⊥) → n ≡ 5
+    go : (t : Bool) → image_alien s ≡ t → (ImageProduced s → ⊥) → n ≡ 5
     go true k q = f k
     go false k q = absurd (q ((image-exactly s h).0 k))
 
 -- ---- on other images no call answers 5
-call-else : (b : Board) → isAlien b ≡ false → (a : ImageCall) → numberBy b a ≡ 5 → ⊥
-unfolding decideOf decideRefusal undoOf undoRefusal
+call-else : (b : Board) → is_alien b ≡ false → (a : ImageCall) → number_by b a ≡ 5 → ⊥
+unfolding decide_of decide_refusal undo_of undo_refusal
 call-else b k (decide n d) =
-    rw k (go (ltb n (borderCountOf b)) (eqb (get_or b.borders n 0) 0))
+    rw k (go (ltb n (border_count_of b)) (eqb (get_or b.borders n 0) 0))
   where
     go : (x y : Bool) → number_of (cond x (cond y Done Taken) Border) ≡ 5 → ⊥
     go true true e = eqb-false 0 5 refl e
@@ -97,35 +97,35 @@ call-else b k undo = rw k (go (eqb b.count 0))
 above : (n m : ℕ) → 5 < n → n + m ≡ 5 → ⊥
 above n m l e = omega arith
 
-check-else : (b : Board) → isAlien b ≡ false → (n : ℕ) → answerNumber (checkAnswer b n) ≡ 5 → ⊥
-unfolding checkAnswer
-check-else b k n = rw k (go (ltb n 1984) (check (puzzleOf b) (statesOf b)))
+check-else : (b : Board) → is_alien b ≡ false → (n : ℕ) → answer_number (check_answer b n) ≡ 5 → ⊥
+unfolding check_answer
+check-else b k n = rw k (go (ltb n 1984) (check (puzzle_of b) (states_of b)))
   where
-    go : (x : Bool) (f : Verdict) → answerNumber (cond x (Refused Short) (asAnswer f)) ≡ 5 → ⊥
+    go : (x : Bool) (f : Verdict) → answer_number (cond x (Refused Short) (as_answer f)) ≡ 5 → ⊥
     go true f e = eqb-false 9 5 refl e
     go false (pass m) e = above 32 m (omega arith) e
     go false (conflict r) e = above 65536 (length r) (omega arith) e
 
-check-alien : (s m : List ℕ) → imageAlien s ≡ true → checkNumber s m ≡ 5
-unfolding imageAlien checkNumber checkAnswer
-check-alien s m k = go (rightLength s) (isAlien (spelledBoard s)) k
+check-alien : (s m : List ℕ) → image_alien s ≡ true → check_number s m ≡ 5
+unfolding image_alien check_number check_answer
+check-alien s m k = go (right_length s) (is_alien (spelled_board s)) k
   where
     go : (x y : Bool) → cond x y true ≡ true
-        → cond x (answerNumber (cond y (Refused Alien) (cond (ltb (placeCount m) 1984) (Refused Short)
-        (asAnswer (check (puzzleOf (spelledBoard s)) (statesOf (spelledBoard s))))))) 5 ≡ 5
+        → cond x (answer_number (cond y (Refused Alien) (cond (ltb (place_count m) 1984) (Refused Short)
+        (as_answer (check (puzzle_of (spelled_board s)) (states_of (spelled_board s))))))) 5 ≡ 5
     go true true e = refl
     go true false e = absurd (false≢true e)
     go false y e = refl
 
 module _ (s : List ℕ) (h : Bytes s) where
-  pub call-five : (a : ImageCall) → (imageNumber s a ≡ 5) ↔ (ImageProduced s → ⊥)
-  unfolding imageNumber
+  pub call-five : (a : ImageCall) → (image_number s a ≡ 5) ↔ (ImageProduced s → ⊥)
+  unfolding image_number
   call-five a =
-      exactly-by s h (imageNumber s a) (λ k. alien-number s k a)
-      (λ k. let r = known-board s k in rw (long-is s r.0) (call-else (spelledBoard s) r.1.known a))
+      exactly-by s h (image_number s a) (λ k. alien-number s k a)
+      (λ k. let r = known-board s k in rw (long-is s r.0) (call-else (spelled_board s) r.1.known a))
 
-  pub check-five : (m : List ℕ) → (checkNumber s m ≡ 5) ↔ (ImageProduced s → ⊥)
-  unfolding checkNumber
+  pub check-five : (m : List ℕ) → (check_number s m ≡ 5) ↔ (ImageProduced s → ⊥)
+  unfolding check_number
   check-five m =
-      exactly-by s h (checkNumber s m) (check-alien s m)
-      (λ k. let r = known-board s k in rw (long-is s r.0) (check-else (spelledBoard s) r.1.known (placeCount m)))
+      exactly-by s h (check_number s m) (check-alien s m)
+      (λ k. let r = known-board s k in rw (long-is s r.0) (check-else (spelled_board s) r.1.known (place_count m)))

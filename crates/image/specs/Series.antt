@@ -1,24 +1,24 @@
 -- Series: a list of decides and undos on an image in one call.
 --
---   codeCall c        the call of a code: 65,535 is an undo, any other the decide of the literal with that code
+--   code_call c       the call of a code: 65,535 is an undo, any other the decide of the literal with that code
 --   done_of s cs       how many of the calls are done one after another, up to the first that is refused
---   imageDone s cs    the image after those
+--   image_done s cs   the image after those
 --   SeriesStepped s a t r   one call: r is the number of the call a on the image s, and t is the image afterwards
 use Rattle.std.specs.Prelude.{◌≡◌, cond, List, [], ◌∷◌, ℕ, suc, ◌/◌, ◌%◌, eqb}
-use Rattle.image.specs.Image.{ImageCall, decide, undo, imageNumber, imageAfter}
+use Rattle.image.specs.Image.{ImageCall, decide, undo, image_number, image_after}
 
 -- "a literal is 2·border, plus 1 for wall"
-unfoldable pub codeCall : ℕ → ImageCall
-codeCall c = cond (eqb c 65535) undo (decide (c / 2) (c % 2))
+unfoldable pub code_call : ℕ → ImageCall
+code_call c = cond (eqb c 65535) undo (decide (c / 2) (c % 2))
 
 unfoldable pub done_of : List ℕ → List ℕ → ℕ
 done_of s [] = 0
-done_of s (c ∷ cs) = cond (eqb (imageNumber s (codeCall c)) 0) (suc (done_of (imageAfter s (codeCall c)) cs)) 0
+done_of s (c ∷ cs) = cond (eqb (image_number s (code_call c)) 0) (suc (done_of (image_after s (code_call c)) cs)) 0
 
-unfoldable pub imageDone : List ℕ → List ℕ → List ℕ
-imageDone s [] = s
-imageDone s (c ∷ cs) = cond (eqb (imageNumber s (codeCall c)) 0) (imageDone (imageAfter s (codeCall c)) cs) s
+unfoldable pub image_done : List ℕ → List ℕ → List ℕ
+image_done s [] = s
+image_done s (c ∷ cs) = cond (eqb (image_number s (code_call c)) 0) (image_done (image_after s (code_call c)) cs) s
 
 pub record SeriesStepped (s : List ℕ) (a : ImageCall) (t : List ℕ) (r : ℕ) : Type 0 where
-  pub number : r ≡ imageNumber s a
-  pub after : t ≡ imageAfter s a
+  pub number : r ≡ image_number s a
+  pub after : t ≡ image_after s a

@@ -1,10 +1,10 @@
 // A board image made, read, tested and rewritten: the exported `dbchoco_fresh`, `dbchoco_decide`, `dbchoco_undo`,
 // `dbchoco_check` and `dbchoco_calls`.
 ghost use Rattle.std.specs.Prelude.{◌≡◌, false, ◌≤◌, length};
-ghost use Rattle.calls.specs.Answers.{answerNumber, asAnswer};
-ghost use Rattle.calls.specs.Known.{KnownBoard, foundIn};
-ghost use Rattle.image.specs.Image.{imageAlien, decideLiteral, decide, undo, imageNumber, imageAfter};
-ghost use Rattle.image.specs.Image.{isShort, bytesAfter, checkNumber, checkBytes};
+ghost use Rattle.calls.specs.Answers.{answer_number, as_answer};
+ghost use Rattle.calls.specs.Known.{KnownBoard, found_in};
+ghost use Rattle.image.specs.Image.{image_alien, decide_literal, decide, undo, image_number, image_after};
+ghost use Rattle.image.specs.Image.{is_short, bytes_after, check_number, check_bytes};
 
 use board::Board;
 use calls::Answer;
@@ -37,7 +37,7 @@ const SHORT: u32 = 9;
 
 // Whether decides and undos cannot produce the image.
 pub fn alien(image: &[u8]) -> bool
-    ensures { result ≡ imageAlien image.now }
+    ensures { result ≡ image_alien image.now }
 {
     if image.len() != LENGTH {
         return true;
@@ -48,7 +48,7 @@ pub fn alien(image: &[u8]) -> bool
 
 // The literal of a decide on an image.
 fn literal(border: u32, side: u32) -> Literal
-    ensures { result ≡ decideLiteral border side }
+    ensures { result ≡ decide_literal border side }
 {
     let n = border as usize;
     if side == 0 {
@@ -67,8 +67,8 @@ fn literal(border: u32, side: u32) -> Literal
 // Decides a border of the image; side 0 is open, any other wall. The refusal's number, or 0.
 #[unsafe(no_mangle)]
 pub extern "C" fn dbchoco_decide(image: &mut [u8], border: u32, side: u32) -> u32
-    ensures number { result ≡ imageNumber image.old (decide border side) }
-    ensures bytes { image.new ≡ imageAfter image.old (decide border side) }
+    ensures number { result ≡ image_number image.old (decide border side) }
+    ensures bytes { image.new ≡ image_after image.old (decide border side) }
 {
     if alien(image) {
         return ALIEN;
@@ -79,8 +79,8 @@ pub extern "C" fn dbchoco_decide(image: &mut [u8], border: u32, side: u32) -> u3
 // Takes the last decision of the image back. The refusal's number, or 0.
 #[unsafe(no_mangle)]
 pub extern "C" fn dbchoco_undo(image: &mut [u8]) -> u32
-    ensures number { result ≡ imageNumber image.old undo }
-    ensures bytes { image.new ≡ imageAfter image.old undo }
+    ensures number { result ≡ image_number image.old undo }
+    ensures bytes { image.new ≡ image_after image.old undo }
 {
     if alien(image) {
         return ALIEN;
@@ -101,10 +101,10 @@ fn answered<'a>(
     memory: &mut [u8],
 ) -> u32
     requires { KnownBoard h w colours.now clues.now borders.now undecided × (1984 ≤ length codes.old)
-        × (isShort memory.old ≡ false) }
-    ensures number { result ≡ answerNumber (asAnswer (foundIn h w colours.now clues.now
+        × (is_short memory.old ≡ false) }
+    ensures number { result ≡ answer_number (as_answer (found_in h w colours.now clues.now
         borders.now)) }
-    ensures bytes { memory.new ≡ bytesAfter memory.old (foundIn h w colours.now
+    ensures bytes { memory.new ≡ bytes_after memory.old (found_in h w colours.now
         clues.now borders.now) }
 {
     let answer = calls::answer_known(h, w, colours, clues, borders, undecided, codes);
@@ -123,8 +123,8 @@ fn answered<'a>(
 // of literals for a conflict; a reason's literals stand from the start of the memory, two bytes each.
 #[unsafe(no_mangle)]
 pub extern "C" fn dbchoco_check(image: &[u8], memory: &mut [u8]) -> u32
-    ensures number { result ≡ checkNumber image.now memory.old }
-    ensures bytes { memory.new ≡ checkBytes image.now memory.old }
+    ensures number { result ≡ check_number image.now memory.old }
+    ensures bytes { memory.new ≡ check_bytes image.now memory.old }
 {
     if image.len() != LENGTH {
         return ALIEN;

@@ -3,9 +3,9 @@ ghost use Rattle.std.specs.Prelude.{◌≡◌, ◌+◌, ◌*◌, ◌<◌, ◌≤
 ghost use Rattle.std.proofs.lemmas.List.Edits.{sets};
 ghost use Rattle.lists.specs.Lists.{flat_map};
 ghost use Rattle.rules.specs.Flat.{Sized};
-ghost use Rattle.board.specs.Board.{freshBoard};
-ghost use Rattle.image.specs.Image.{fourBytes, bits_of, clueBytes, image_of};
-ghost use Rattle.image.specs.Making.{freshNumber, freshImage};
+ghost use Rattle.board.specs.Board.{fresh_board};
+ghost use Rattle.image.specs.Image.{four_bytes, bits_of, clue_bytes, image_of};
+ghost use Rattle.image.specs.Making.{fresh_number, fresh_image};
 
 use crate::writing::put_two;
 use crate::{ALIEN, CLUES, COLOURS, LENGTH, TALLY};
@@ -49,7 +49,7 @@ fn bits(k: i32) -> usize
 // Stores a number in four bytes, low byte first.
 fn put_four(s: &mut [u8], k: usize, v: usize)
     requires { k + 3 < length s.old }
-    ensures { s.new ≡ sets s.old k (fourBytes v) }
+    ensures { s.new ≡ sets s.old k (four_bytes v) }
 {
     put_two(s, k, v);
     put_two(s, k + 2, v / 65536);
@@ -58,7 +58,7 @@ fn put_four(s: &mut [u8], k: usize, v: usize)
 // Stores the clues at their places.
 fn put_clues(s: &mut [u8], clues: &[i32])
     requires { 1026 + 4 * length clues.now ≤ length s.old }
-    ensures { s.new ≡ sets s.old 1026 (flat_map clueBytes clues.now) }
+    ensures { s.new ≡ sets s.old 1026 (flat_map clue_bytes clues.now) }
 {
     let mut i: usize = 0;
     while i < clues.len() {
@@ -71,7 +71,7 @@ fn put_clues(s: &mut [u8], clues: &[i32])
 fn put_fresh(s: &mut [u8], height: u8, width: u8, colours: &[u8], clues: &[i32])
     requires { (length s.old ≡ 11082) × Sized height width × (length colours.now ≤ 1024)
         × (length clues.now ≤ 1024) }
-    ensures { s.new ≡ image_of (freshBoard height width colours.now clues.now) }
+    ensures { s.new ≡ image_of (fresh_board height width colours.now clues.now) }
 {
     clear(s);
     let total = board::border_count(index_byte(height), index_byte(width));
@@ -91,9 +91,9 @@ pub extern "C" fn dbchoco_fresh(
     colours: &[u8],
     clues: &[i32],
 ) -> u32
-    ensures number { result ≡ freshNumber height width colours.now clues.now
+    ensures number { result ≡ fresh_number height width colours.now clues.now
         image.old }
-    ensures bytes { image.new ≡ freshImage height width colours.now clues.now
+    ensures bytes { image.new ≡ fresh_image height width colours.now clues.now
         image.old }
 {
     let made = Board::fresh(height as usize, width as usize, colours, clues);

@@ -1,7 +1,7 @@
 // The board that an image spells.
 ghost use Rattle.std.specs.Prelude.{◌≡◌, ◌+◌, ◌*◌, ◌<◌, ◌≤◌, length, get_or};
 ghost use Rattle.lists.specs.Table.{table};
-ghost use Rattle.image.specs.Image.{pair, quad, fromBits, spelledTally, spelledBoard};
+ghost use Rattle.image.specs.Image.{pair, quad, from_bits, spelled_tally, spelled_board};
 
 use crate::{BORDERS, CLUES, COLOURS, COUNT, STACK, TALLY};
 use board::Board;
@@ -25,7 +25,7 @@ fn four(s: &[u8], k: usize) -> u32
 
 // What 32 bits spell, two's complement.
 fn clue(n: u32) -> i32
-    ensures { result ≡ fromBits n }
+    ensures { result ≡ from_bits n }
 {
     if n < 2147483648 {
         n as i32
@@ -49,7 +49,7 @@ fn copy(out: &mut [u8], s: &[u8], from: usize)
 // The clues of an image.
 fn clues(s: &[u8]) -> [i32; Board::CELL_LIMIT]
     requires { length s.now ≡ 11082 }
-    ensures { result ≡ table 1024 (λ i. fromBits (quad s.now (1026 + 4 * i))) }
+    ensures { result ≡ table 1024 (λ i. from_bits (quad s.now (1026 + 4 * i))) }
 {
     let mut out = [0i32; Board::CELL_LIMIT];
     let mut i: usize = 0;
@@ -77,7 +77,7 @@ fn stack(s: &[u8]) -> [u16; Board::BORDER_LIMIT]
 // The tally of an image.
 pub fn tally(s: &[u8]) -> Tally
     requires { length s.now ≡ 11082 }
-    ensures { result ≡ spelledTally s.now }
+    ensures { result ≡ spelled_tally s.now }
 {
     Tally {
         undecided: index(two(s, TALLY)),
@@ -89,7 +89,7 @@ pub fn tally(s: &[u8]) -> Tally
 // The board of an image of the right length.
 pub fn board(s: &[u8]) -> Board
     requires { length s.now ≡ 11082 }
-    ensures { result ≡ spelledBoard s.now }
+    ensures { result ≡ spelled_board s.now }
 {
     let mut colours = [0u8; Board::CELL_LIMIT];
     copy(&mut colours, s, COLOURS);

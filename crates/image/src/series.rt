@@ -1,9 +1,9 @@
 // A decide and an undo on an image that is not alien, and a list of them on an image that is tested once: such a call
 // leaves an image that is not alien, so that the next one needs no test.
 ghost use Rattle.std.specs.Prelude.{◌≡◌, false, length, get_or};
-ghost use Rattle.board.specs.Alien.{bordersOf};
-ghost use Rattle.image.specs.Image.{imageAlien, decide, undo};
-ghost use Rattle.image.specs.Series.{SeriesStepped, codeCall, done_of, imageDone};
+ghost use Rattle.board.specs.Alien.{borders_of};
+ghost use Rattle.image.specs.Image.{image_alien, decide, undo};
+ghost use Rattle.image.specs.Series.{SeriesStepped, code_call, done_of, image_done};
 
 use crate::reading::{tally, two};
 use crate::writing::rewrite;
@@ -17,14 +17,14 @@ const UNDO: u16 = 65535;
 // How many borders the page of an image has.
 fn border_count(image: &[u8]) -> usize
     requires { length image.now ≡ 11082 }
-    ensures { result ≡ bordersOf (get_or image.now 0 0) (get_or image.now 1 0) }
+    ensures { result ≡ borders_of (get_or image.now 0 0) (get_or image.now 1 0) }
 {
     board::border_count(index_byte(image[0]), index_byte(image[1]))
 }
 
 // Decides a border of an image that is not alien. The refusal's number, or 0.
 pub fn decided(image: &mut [u8], border: u32, side: u32) -> u32
-    requires { (length image.old ≡ 11082) × (imageAlien image.old ≡ false) }
+    requires { (length image.old ≡ 11082) × (image_alien image.old ≡ false) }
     ensures { SeriesStepped image.old (decide border side) image.new result }
 {
     let l = literal(border, side);
@@ -44,7 +44,7 @@ pub fn decided(image: &mut [u8], border: u32, side: u32) -> u32
 
 // Takes the last decision of an image that is not alien back. The refusal's number, or 0.
 pub fn undone(image: &mut [u8]) -> u32
-    requires { (length image.old ≡ 11082) × (imageAlien image.old ≡ false) }
+    requires { (length image.old ≡ 11082) × (image_alien image.old ≡ false) }
     ensures { SeriesStepped image.old undo image.new result }
 {
     let count = index(two(image, COUNT));
@@ -63,8 +63,8 @@ pub fn undone(image: &mut [u8]) -> u32
 
 // Makes the call of a code on an image that is not alien. The refusal's number, or 0.
 fn step(image: &mut [u8], code: u16) -> u32
-    requires { (length image.old ≡ 11082) × (imageAlien image.old ≡ false) }
-    ensures { SeriesStepped image.old (codeCall code) image.new result }
+    requires { (length image.old ≡ 11082) × (image_alien image.old ≡ false) }
+    ensures { SeriesStepped image.old (code_call code) image.new result }
 {
     if code == UNDO {
         return undone(image);
@@ -77,7 +77,7 @@ fn step(image: &mut [u8], code: u16) -> u32
 #[unsafe(no_mangle)]
 pub extern "C" fn dbchoco_calls(image: &mut [u8], codes: &[u16]) -> usize
     ensures number { result ≡ done_of image.old codes.now }
-    ensures bytes { image.new ≡ imageDone image.old codes.now }
+    ensures bytes { image.new ≡ image_done image.old codes.now }
 {
     if alien(image) {
         return 0;

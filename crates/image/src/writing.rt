@@ -1,7 +1,7 @@
 // The bytes that a call on an image changes, and a reason's literals in lent bytes.
 ghost use Rattle.std.specs.Prelude.{◌≡◌, ◌+◌, ◌*◌, ◌<◌, ◌≤◌, length};
 ghost use Rattle.std.proofs.lemmas.List.Edits.{sets};
-ghost use Rattle.image.specs.Image.{twoBytes, tallyBytes, imageWritten, putCodes, isShort};
+ghost use Rattle.image.specs.Image.{two_bytes, tally_bytes, image_written, put_codes, is_short};
 
 use crate::{BORDERS, COUNT, STACK, TALLY};
 use rules::{Tally, index};
@@ -12,7 +12,7 @@ const REASON_LENGTH: usize = 3968;
 // Stores a number in two bytes, low byte first.
 pub fn put_two(s: &mut [u8], k: usize, v: usize)
     requires { k + 1 < length s.old }
-    ensures { s.new ≡ sets s.old k (twoBytes v) }
+    ensures { s.new ≡ sets s.old k (two_bytes v) }
 {
     s[k] = (v % 256) as u8;
     s[k + 1] = (v / 256 % 256) as u8;
@@ -21,7 +21,7 @@ pub fn put_two(s: &mut [u8], k: usize, v: usize)
 // Stores the three counts of a tally at their places.
 fn put_tally(s: &mut [u8], t: Tally)
     requires { length s.old ≡ 11082 }
-    ensures { s.new ≡ sets s.old 11076 (tallyBytes t) }
+    ensures { s.new ≡ sets s.old 11076 (tally_bytes t) }
 {
     put_two(s, TALLY, t.undecided);
     put_two(s, TALLY + 2, t.walls);
@@ -31,7 +31,7 @@ fn put_tally(s: &mut [u8], t: Tally)
 // Sets the border n to v, the count to c, the entry i of the stack to e, and the tally to t.
 pub fn rewrite(s: &mut [u8], n: usize, v: u8, c: usize, i: usize, e: usize, t: Tally)
     requires { (length s.old ≡ 11082) × (n < 1984) × (i < 1984) }
-    ensures { s.new ≡ imageWritten s.old n v c i e t }
+    ensures { s.new ≡ image_written s.old n v c i e t }
 {
     s[BORDERS + n] = v;
     put_two(s, COUNT, c);
@@ -41,7 +41,7 @@ pub fn rewrite(s: &mut [u8], n: usize, v: u8, c: usize, i: usize, e: usize, t: T
 
 // Whether reason memory beside an image is below 1,984 literals.
 pub fn short(memory: &[u8]) -> bool
-    ensures { result ≡ isShort memory.now }
+    ensures { result ≡ is_short memory.now }
 {
     memory.len() < REASON_LENGTH
 }
@@ -49,7 +49,7 @@ pub fn short(memory: &[u8]) -> bool
 // Stores the first n codes of literals in two bytes each, from the start of the memory.
 pub fn put_codes(memory: &mut [u8], codes: &[u16], n: usize)
     requires { (n ≤ length codes.now) × (2 * n ≤ length memory.old) }
-    ensures { memory.new ≡ putCodes memory.old codes.now n }
+    ensures { memory.new ≡ put_codes memory.old codes.now n }
 {
     let mut i: usize = 0;
     while i < n {

@@ -15,36 +15,36 @@ use Rattle.std.specs.Int.Signed.{le_z, non_neg}
 use Rattle.std.specs.Int.{w32, w64}
 use Rattle.rules.specs.declared.Side.{Side}
 use Rattle.rules.specs.declared.Side.TheVariants.{Wall, Open}
-use Rattle.rules.specs.Page.{undecided, decided, isWall, isOpen}
-use Rattle.rules.specs.Codes.{state_of, code_of, side_in, statesIn}
+use Rattle.rules.specs.Page.{undecided, decided, is_wall, is_open}
+use Rattle.rules.specs.Codes.{state_of, code_of, side_in, states_in}
 
-pub wall-state : (v : ℕ) → isWall (state_of v) ≡ eqb v 1
+pub wall-state : (v : ℕ) → is_wall (state_of v) ≡ eqb v 1
 wall-state v = go (eqb v 1) (eqb v 2)
   where
-    go : (a b : Bool) → isWall (cond a (decided Wall) (cond b (decided Open) undecided)) ≡ a
+    go : (a b : Bool) → is_wall (cond a (decided Wall) (cond b (decided Open) undecided)) ≡ a
     go true b = refl
     go false true = refl
     go false false = refl
 
-pub open-state : (v : ℕ) → isOpen (state_of v) ≡ eqb v 2
+pub open-state : (v : ℕ) → is_open (state_of v) ≡ eqb v 2
 open-state v = go (ℕ_discrete v 1) (ℕ_discrete v 2)
   where
-    go : Dec (v ≡ 1) → Dec (v ≡ 2) → isOpen (state_of v) ≡ eqb v 2
+    go : Dec (v ≡ 1) → Dec (v ≡ 2) → is_open (state_of v) ≡ eqb v 2
     go (yes e) d = rw e
     go (no n) (yes e) = rw e
     go (no n) (no m) = rw (ne_eqb v 1 n, ne_eqb v 2 m)
 
 module _ (bs : List ℕ) (b : ℕ) where
-  pub state-wall : isWall (statesIn bs b) ≡ eqb (get_or bs b 0) 1
-  unfolding statesIn
+  pub state-wall : is_wall (states_in bs b) ≡ eqb (get_or bs b 0) 1
+  unfolding states_in
   state-wall = wall-state (get_or bs b 0)
 
-  pub state-open : isOpen (statesIn bs b) ≡ eqb (get_or bs b 0) 2
-  unfolding statesIn
+  pub state-open : is_open (states_in bs b) ≡ eqb (get_or bs b 0) 2
+  unfolding states_in
   state-open = open-state (get_or bs b 0)
 
-pub decided-below : (bs : List ℕ) (n : ℕ) (d : Side) → statesIn bs n ≡ decided d → n < length bs
-unfolding statesIn
+pub decided-below : (bs : List ℕ) (n : ℕ) (d : Side) → states_in bs n ≡ decided d → n < length bs
+unfolding states_in
 decided-below bs n d e = go (dec_lt n (length bs))
   where
     go : Dec (n < length bs) → n < length bs

@@ -14,7 +14,7 @@ use Rattle.lists.specs.Lists.{◌∈◌, filter, flat_map}
 use Rattle.lists.specs.ListLaws.{mem-filter, filter-mem, filter-test, mem-map, map-find, mem-flat, flat-find}
 use Rattle.rules.specs.Page.{Hop, Point, ◌⊕◌, opposite, Shape, Page}
 use Rattle.rules.specs.Groups.{members}
-use Rattle.rules.specs.Shapes.{shift_by, connectionsAt, shape_of}
+use Rattle.rules.specs.Shapes.{shift_by, connections_at, shape_of}
 use Rattle.laws.specs.PointLaws.{origin, add-opposite, same-difference, twice-shift, opposite-unique}
 use Rattle.laws.specs.PageLaws.{Turns, Moved}
 use Rattle.laws.specs.ShapeLaws.{Normal, is_normal}
@@ -43,7 +43,7 @@ module _ (G : Page) (number : ℕ → ℕ) (k : ℕ) where
     places = map G.place (members G number k)
 
     abbrev sums : List Point
-    sums = flat_map (connectionsAt G number k) (members G number k)
+    sums = flat_map (connections_at G number k) (members G number k)
 
     shape-normal : Normal places sums
     shape-normal = is_normal places sums (G.place m) (mem-map G.place mm)
@@ -65,11 +65,11 @@ module _ (G : Page) (number : ℕ → ℕ) (k : ℕ) where
     shape-connection : (p : Point) → p ∈ (shape_of G number k).connections
         → (c : ℕ) × (h : Hop) × c ∈ members G number k × h ∈ G.ahead c × (number h.to ≡ k) ×
         (p ≡ (G.place c ⊕ G.place h.to) ⊕ (n ⊕ n))
-    unfolding shape_of shift_by connectionsAt
+    unfolding shape_of shift_by connections_at
     shape-connection p q =
         let y = map-find (λ (z : Point). z ⊕ (n ⊕ n)) sums
         (subst (λ (l : List Point). p ∈ l) shape-normal.connections-are q) in
-        let c = flat-find (connectionsAt G number k) (members G number k) y.1 in
+        let c = flat-find (connections_at G number k) (members G number k) y.1 in
         let h = map-find (λ (h : Hop). G.place c.0 ⊕ G.place h.to)
         (filter (λ (h : Hop). eqb (number h.to) k) (G.ahead c.0)) c.2 in (
           c.0,
@@ -83,10 +83,10 @@ module _ (G : Page) (number : ℕ → ℕ) (k : ℕ) where
 
     connection-shape : (c : ℕ) (h : Hop) → c ∈ members G number k → h ∈ G.ahead c → number h.to ≡ k
         → ((G.place c ⊕ G.place h.to) ⊕ (n ⊕ n)) ∈ (shape_of G number k).connections
-    unfolding shape_of shift_by connectionsAt
+    unfolding shape_of shift_by connections_at
     connection-shape c h q r e = subst (λ (l : List Point). ((G.place c ⊕ G.place h.to) ⊕ (n ⊕ n)) ∈ l)
         (sym shape-normal.connections-are) (mem-map (λ (z : Point). z ⊕ (n ⊕ n))
-        (mem-flat (connectionsAt G number k) q
+        (mem-flat (connections_at G number k) q
         (mem-map (λ (h : Hop). G.place c ⊕ G.place h.to)
         (mem-filter (λ (h : Hop). eqb (number h.to) k) (G.ahead c) r (rw e (eqb_refl k))))))
 

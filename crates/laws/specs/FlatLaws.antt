@@ -3,7 +3,7 @@
 use Rattle.std.specs.Prelude.{◌≡◌, ℕ, zero, suc, ◌+◌, ◌-◌, ◌*◌, ◌/◌, ◌%◌, ◌<◌, ◌≤◌}
 use Rattle.std.proofs.Common.{sym, ◌∙◌, mul-le-mul_left, mul-le-mul_right, add-mul, le_trans, mul-zero, mod-lt, div-add-mod', div-lt_iff_lt-mul, arith}
 use Rattle.std.proofs.Math.Arith.{digits_lt, digits_div, digits_mod}
-use Rattle.rules.specs.Flat.{Sized, borderCount}
+use Rattle.rules.specs.Flat.{Sized, border_count}
 
 -- the page's counts
 pub record Counts (h w : ℕ) : Type 0 where
@@ -25,8 +25,8 @@ counts {h} {w} s =
       some = le_trans s.rows (omega (arith, mul-le-mul_left h s.columns));
     }
 
-pub borders-le : {h w : ℕ} → Sized h w → borderCount h w ≤ 1984
-unfolding borderCount
+pub borders-le : {h w : ℕ} → Sized h w → border_count h w ≤ 1984
+unfolding border_count
 borders-le s = omega (arith, counts s)
 
 -- the numbers at a cell (y, x)

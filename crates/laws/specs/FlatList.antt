@@ -15,29 +15,29 @@ use Rattle.lists.specs.Lists.{◌∈◌, any, all}
 use Rattle.lists.specs.ListLaws.{any-find, all-mem, mem-map, map-find}
 use Rattle.lists.specs.Booleans.{T-and-l, T-and-r}
 use Rattle.rules.specs.Page.{Point, ◌⊕◌, opposite, Shape}
-use Rattle.rules.specs.Turns.{Turn, apply, compose, keep, half, quarter, halfQuarter, flip, flipHalf, flipQuarter}
-use Rattle.rules.specs.Turns.{flipHalfQuarter, flatTable}
-use Rattle.rules.specs.Shapes.{samePoint, same_shape, turned, withHalf, quarters, withQuarter, withFlip, flatTransforms}
+use Rattle.rules.specs.Turns.{Turn, apply, compose, keep, half, quarter, half_quarter, flip, flip_half, flip_quarter}
+use Rattle.rules.specs.Turns.{flip_half_quarter, flat_table}
+use Rattle.rules.specs.Shapes.{same_point, same_shape, turned, with_half, quarters, with_quarter, with_flip, flat_transforms}
 use Rattle.laws.specs.PointLaws.{origin, add_assoc, add-origin, add-opposite, swap4}
-use Rattle.laws.specs.PageLaws.{Moved, Turns, sixSteps}
-use Rattle.laws.specs.SameLaws.{samePoint→eq, samePoints→eq}
+use Rattle.laws.specs.PageLaws.{Moved, Turns, six_steps}
+use Rattle.laws.specs.SameLaws.{same_point→eq, same_points→eq}
 use Rattle.laws.specs.ShapeLaws.{TurnedBy, turned_by}
-use Rattle.laws.specs.TurnLaws.{sameTurn, sameTurn→eq, hasTurn, has-turn, undone, apply-undo, apply-compose}
+use Rattle.laws.specs.TurnLaws.{same_turn, same_turn→eq, has_turn, has-turn, undone, apply-undo, apply-compose}
 use Rattle.laws.specs.TurnLaws.{apply-sum, apply-keep}
 
-abbrev toSteps : Turn → Bool
-toSteps a = all (λ e. any (samePoint (apply a e)) sixSteps) sixSteps
+abbrev to_steps : Turn → Bool
+to_steps a = all (λ e. any (same_point (apply a e)) six_steps) six_steps
 
 -- what a table of turns has: two tests over its rows
-pub table-turns : (ts : List Turn) → T (all (undone ts) ts) → T (all toSteps ts) → Turns (map apply ts)
+pub table-turns : (ts : List Turn) → T (all (undone ts) ts) → T (all to_steps ts) → Turns (map apply ts)
 table-turns ts u v =
     record {
       sum = λ g m p q. let r = map-find apply ts m in rw r.2 (apply-sum r.0 p q);
       step = λ g m e n.
           let r = map-find apply ts m in
-          let f = all-mem (λ e. any (samePoint (apply r.0 e)) sixSteps) sixSteps (all-mem toSteps ts v r.1) n in
-          let w = any-find (samePoint (apply r.0 e)) sixSteps f in
-          rw r.2 (Memᴰ.cast (samePoint→eq (apply r.0 e) w.0 w.2) w.1);
+          let f = all-mem (λ e. any (same_point (apply r.0 e)) six_steps) six_steps (all-mem to_steps ts v r.1) n in
+          let w = any-find (same_point (apply r.0 e)) six_steps f in
+          rw r.2 (Memᴰ.cast (same_point→eq (apply r.0 e) w.0 w.2) w.1);
       inj = λ g m p q e.
           let r = map-find apply ts m in
           let b = apply-undo ts r.0 (all-mem (undone ts) ts u r.1) in
@@ -147,25 +147,25 @@ images-append ts t us vs f g u m = go (Memᴰ.append_cases us m)
 -- a shape with the same cells does as well
 onto_same : (a : Turn) (t u v : Shape) → T (same_shape u v) → Onto a t.cells v.cells
     → Onto a t.cells u.cells
-onto_same a t u v e M = subst (Onto a t.cells) (sym (samePoints→eq u.cells v.cells e)) M
+onto_same a t u v e M = subst (Onto a t.cells) (sym (same_points→eq u.cells v.cells e)) M
 
 -- the table's first half, and its second
 abbrev pub rotations : List Turn
-rotations = keep ∷ half ∷ halfQuarter ∷ quarter ∷ []
+rotations = keep ∷ half ∷ half_quarter ∷ quarter ∷ []
 
 abbrev pub reflections : List Turn
-reflections = flip ∷ flipHalf ∷ flipHalfQuarter ∷ flipQuarter ∷ []
+reflections = flip ∷ flip_half ∷ flip_half_quarter ∷ flip_quarter ∷ []
 
 -- the rules of the table that the flips need, tested over it: a flipped rotation is a row, every reflection is one, and
 -- a reflection g comes about by the flip, back by a rotation r, and by a rotation
 abbrev back : Turn → Turn → Turn → Bool
-back g r i = sameTurn (compose i r) keep && any (λ x. sameTurn (compose x (compose i flip)) g) rotations
+back g r i = same_turn (compose i r) keep && any (λ x. same_turn (compose x (compose i flip)) g) rotations
 
-flip-row : T (all (λ a. hasTurn (compose flip a) flatTable) rotations)
+flip-row : T (all (λ a. has_turn (compose flip a) flat_table) rotations)
 unfolding all any xor
 flip-row = tt
 
-row-flip : T (all (λ g. any (λ r. sameTurn (compose flip r) g) rotations) reflections)
+row-flip : T (all (λ g. any (λ r. same_turn (compose flip r) g) rotations) reflections)
 unfolding all any xor
 row-flip = tt
 
@@ -184,7 +184,7 @@ module _ (t : Shape) (o : origin ∈ t.cells) where
     are : Images rotations t us
     cover : Covers rotations t us
 
-  four : (us : List Shape) → Lists keep t us → Lists half t us → Lists halfQuarter t us → Lists quarter t us
+  four : (us : List Shape) → Lists keep t us → Lists half t us → Lists half_quarter t us → Lists quarter t us
       → Covers rotations t us
   four us a b c d x (Memᴰ.head e) = rw e a
   four us a b c d x (Memᴰ.tail (Memᴰ.head e)) = rw e b
@@ -215,14 +215,14 @@ module _ (t : Shape) (o : origin ∈ t.cells) where
   based-q : origin ∈ q.cells
   based-q = (turned_by (apply quarter) t o).based
 
-  hq : Image halfQuarter t (turned (apply half) q)
+  hq : Image half_quarter t (turned (apply half) q)
   unfolding xor
   hq = image-then quarter half t q (turned (apply half) q) (turned_by (apply quarter) t o)
       (turned_by (apply half) q based-q)
 
   image-hq : (a : Turn) × a ∈ rotations × Image a t (turned (apply half) q)
   unfolding any
-  image-hq = (halfQuarter, has-turn halfQuarter rotations tt, hq)
+  image-hq = (half_quarter, has-turn half_quarter rotations tt, hq)
 
   one : (us : List Shape) (u : Shape) → Images rotations t us → ((a : Turn) × a ∈ rotations × Image a t u)
       → Images rotations t (u ∷ us)
@@ -236,8 +236,8 @@ module _ (t : Shape) (o : origin ∈ t.cells) where
   abbrev halves : Bool → List Shape
   halves b = cond b (t ∷ []) (t ∷ h ∷ [])
 
-  rotated : Rotated (withQuarter t (withHalf t))
-  unfolding withHalf withQuarter quarters xor
+  rotated : Rotated (with_quarter t (with_half t))
+  unfolding with_half with_quarter quarters xor
   rotated = go (same_shape t h) refl (same_shape t q) refl
     where
       go : (b : Bool) → same_shape t h ≡ b → (c : Bool) → same_shape t q ≡ c
@@ -273,20 +273,20 @@ module _ (t : Shape) (o : origin ∈ t.cells) where
             cover = four _ (t, Memᴰ.head refl, onto-t) (h, Memᴰ.tail (Memᴰ.head refl), onto-h) (
               turned (apply half) q,
               Memᴰ.tail (Memᴰ.tail (Memᴰ.head refl)),
-              image-onto halfQuarter t (turned (apply half) q) hq,
+              image-onto half_quarter t (turned (apply half) q) hq,
             )
                 (q, Memᴰ.tail (Memᴰ.tail (Memᴰ.tail (Memᴰ.head refl))), onto-q);
           }
 
   record Done (us : List Shape) : Type 0 where
-    are : Images flatTable t us
-    cover : Covers flatTable t us
+    are : Images flat_table t us
+    cover : Covers flat_table t us
 
-  widen : (us : List Shape) → Images rotations t us → Images flatTable t us
+  widen : (us : List Shape) → Images rotations t us → Images flat_table t us
   widen us f u m = let r = f u m in (r.0, Memᴰ.append_left reflections r.1, r.2)
 
-  flipped : (us : List Shape) → Rotated us → Done (withFlip t us)
-  unfolding withFlip
+  flipped : (us : List Shape) → Rotated us → Done (with_flip t us)
+  unfolding with_flip
   flipped us R = go (any (λ u. same_shape u (turned (apply flip) t)) us) refl
     where
       go : (b : Bool) → any (λ u. same_shape u (turned (apply flip) t)) us ≡ b
@@ -310,10 +310,10 @@ module _ (t : Shape) (o : origin ∈ t.cells) where
               let i = any-find (back g r0.0) rotations
               (all-mem (λ r. any (back g r) rotations) rotations
               (all-mem (λ g. all (λ r. any (back g r) rotations) rotations) reflections flip-back m) r0.1) in
-              let x = any-find (λ x. sameTurn (compose x (compose i.0 flip)) g) rotations
-              (T-and-r (sameTurn (compose i.0 r0.0) keep) _ i.2) in
-              let u = sameTurn→eq (compose i.0 r0.0) keep
-              (T-and-l (sameTurn (compose i.0 r0.0) keep) _ i.2) in
+              let x = any-find (λ x. same_turn (compose x (compose i.0 flip)) g) rotations
+              (T-and-r (same_turn (compose i.0 r0.0) keep) _ i.2) in
+              let u = same_turn→eq (compose i.0 r0.0) keep
+              (T-and-l (same_turn (compose i.0 r0.0) keep) _ i.2) in
               let un : (p : Point) → apply i.0 (apply r0.0 p) ≡ p =
               λ p. sym (apply-compose i.0 r0.0 p) ∙ (ap (λ z. apply z p) u ∙ apply-keep p) in
               let c = R.cover x.0 x.1 in
@@ -321,21 +321,21 @@ module _ (t : Shape) (o : origin ∈ t.cells) where
                 c.0,
                 c.1,
                 subst (λ (z : Turn). Onto z t.cells c.0.cells)
-                    (sameTurn→eq (compose x.0 (compose i.0 flip)) g x.2)
+                    (same_turn→eq (compose x.0 (compose i.0 flip)) g x.2)
                     (onto-then (compose i.0 flip) x.0 {rs = c.0.cells} (onto-then flip i.0 onto-f w) c.2),
               )
       go false e =
           record {
-            are = images-append flatTable t us _ (widen us R.are) flips-are;
+            are = images-append flat_table t us _ (widen us R.are) flips-are;
             cover = λ g m. cases g (Memᴰ.append_cases rotations m);
           }
         where
-          flips-are : Images flatTable t (map (turned (apply flip)) us)
+          flips-are : Images flat_table t (map (turned (apply flip)) us)
           flips-are u m =
               let v = map-find (turned (apply flip)) us m in
               let r = R.are v.0 v.1 in (
                 compose flip r.0,
-                has-turn _ flatTable (all-mem (λ a. hasTurn (compose flip a) flatTable) rotations flip-row r.1),
+                has-turn _ flat_table (all-mem (λ a. has_turn (compose flip a) flat_table) rotations flip-row r.1),
                 subst (Image (compose flip r.0) t) (sym v.2)
                     (image-then r.0 flip t v.0 _ r.2 (turned_by (apply flip) v.0 r.2.based)),
               )
@@ -343,36 +343,36 @@ module _ (t : Shape) (o : origin ∈ t.cells) where
           cases : (g : Turn) → g ∈ rotations ⊎ g ∈ reflections → Lists g t (us ++ map (turned (apply flip)) us)
           cases g (inl m) = let c = R.cover g m in (c.0, Memᴰ.append_left _ c.1, c.2)
           cases g (inr m) =
-              let r = any-find (λ r. sameTurn (compose flip r) g) rotations
-              (all-mem (λ g. any (λ r. sameTurn (compose flip r) g) rotations) reflections row-flip m) in
+              let r = any-find (λ r. same_turn (compose flip r) g) rotations
+              (all-mem (λ g. any (λ r. same_turn (compose flip r) g) rotations) reflections row-flip m) in
               let c = R.cover r.0 r.1 in
               let b = R.are c.0 c.1 in (
                 turned (apply flip) c.0,
                 Memᴰ.append_right us (mem-map (turned (apply flip)) c.1),
                 subst (λ (z : Turn). Onto z t.cells (turned (apply flip) c.0).cells)
-                    (sameTurn→eq (compose flip r.0) g r.2)
+                    (same_turn→eq (compose flip r.0) g r.2)
                     (onto-then r.0 flip c.2
                     (image-onto flip c.0 _ (turned_by (apply flip) c.0 b.2.based))),
               )
 
-  flat-done : Done (flatTransforms t)
-  unfolding flatTransforms
+  flat-done : Done (flat_transforms t)
+  unfolding flat_transforms
   flat-done = flipped _ rotated
 
 -- each listed transform is the shape turned by a row of the table
-pub flat-are : (t u : Shape) → origin ∈ t.cells → u ∈ flatTransforms t → (a : Turn) × a ∈ flatTable × Image a t u
+pub flat-are : (t u : Shape) → origin ∈ t.cells → u ∈ flat_transforms t → (a : Turn) × a ∈ flat_table × Image a t u
 flat-are t u o m = (flat-done t o).are u m
 
 -- each of the eight turned shapes is listed
-pub flat-cover : (t : Shape) (a : Turn) → origin ∈ t.cells → a ∈ flatTable
-    → (u : Shape) × u ∈ flatTransforms t × Onto a t.cells u.cells
+pub flat-cover : (t : Shape) (a : Turn) → origin ∈ t.cells → a ∈ flat_table
+    → (u : Shape) × u ∈ flat_transforms t × Onto a t.cells u.cells
 flat-cover t a o m = (flat-done t o).cover a m
 
-pub flat-turns : Turns (map apply flatTable)
+pub flat-turns : Turns (map apply flat_table)
 unfolding all any apply xor
-flat-turns = table-turns flatTable tt tt
+flat-turns = table-turns flat_table tt tt
 
 -- each rotated shape is listed before the flips
 pub rotations-listed : (t : Shape) → origin ∈ t.cells → (a : Turn) → a ∈ rotations
-    → (u : Shape) × u ∈ withQuarter t (withHalf t) × Onto a t.cells u.cells
+    → (u : Shape) × u ∈ with_quarter t (with_half t) × Onto a t.cells u.cells
 rotations-listed t o a m = (rotated t o).cover a m

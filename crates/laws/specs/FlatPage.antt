@@ -20,11 +20,11 @@ use Rattle.lists.specs.Lists.{◌∈◌}
 use Rattle.lists.specs.ListLaws.{mem-map, map-find}
 use Rattle.lists.specs.Booleans.{and-fails, T-dec}
 use Rattle.rules.specs.Page.{Hop, Point, ◌⊕◌}
-use Rattle.rules.specs.Turns.{apply, flatTable}
-use Rattle.rules.specs.Flat.{flat, cell_at, rightOf, belowOf, aroundAt}
-use Rattle.rules.specs.Flat.{flatPlace, flatReadsAt, flatReads}
+use Rattle.rules.specs.Turns.{apply, flat_table}
+use Rattle.rules.specs.Flat.{flat, cell_at, right_of, below_of, around_at}
+use Rattle.rules.specs.Flat.{flat_place, flat_reads_at, flat_reads}
 use Rattle.laws.specs.PointLaws.{point-eq}
-use Rattle.laws.specs.PageLaws.{OneStep, sixSteps, at3, Bordered, CellsPlaced, TurnsListed, Moved}
+use Rattle.laws.specs.PageLaws.{OneStep, six_steps, at3, Bordered, CellsPlaced, TurnsListed, Moved}
 use Rattle.laws.specs.Links.{Linking, linking-hop, linking-in, linking-reads, linked-bordered, linked-near}
 use Rattle.laws.specs.Links.{linked-reads}
 use Rattle.laws.specs.TurnLaws.{Swaps, table-swaps}
@@ -37,26 +37,26 @@ module _ (h w : ℕ) where
     cell : ℕ
     over : ℕ
     link : Linking (flat h w) over (cell_at h w Y X) cell
-    spot : flatPlace h w cell ≡ at3 (pos 0) (pos Y) (pos X) ⊕ e
+    spot : flat_place h w cell ≡ at3 (pos 0) (pos Y) (pos X) ⊕ e
 
   record Off (Y X : ℕ) (e : Point) : Type 0 where
-    no_cell : (y : ℕ) → y < h * w → flatPlace h w y ≡ at3 (pos 0) (pos Y) (pos X) ⊕ e → ⊥
-    no-border : flatReads h w (at3 (pos 0) (pos Y) (pos X) ⊕ (at3 (pos 0) (pos Y) (pos X) ⊕ e)) ≡ none
+    no_cell : (y : ℕ) → y < h * w → flat_place h w y ≡ at3 (pos 0) (pos Y) (pos X) ⊕ e → ⊥
+    no-border : flat_reads h w (at3 (pos 0) (pos Y) (pos X) ⊕ (at3 (pos 0) (pos Y) (pos X) ⊕ e)) ≡ none
 
   abbrev Beside : ℕ → ℕ → Point → Type 0
   Beside Y X e = NextCell Y X e ⊎ Off Y X e
 
-  too-low : (Y X : ℕ) → 2 * (h - 1) < Y → flatReadsAt h w Y X ≡ none
-  unfolding flatReadsAt
+  too-low : (Y X : ℕ) → 2 * (h - 1) < Y → flat_reads_at h w Y X ≡ none
+  unfolding flat_reads_at
   too-low Y X l = rw (lt-leb Y (2 * (h - 1)) l)
 
-  too_far : (Y X : ℕ) → 2 * (w - 1) < X → flatReadsAt h w Y X ≡ none
-  unfolding flatReadsAt
+  too_far : (Y X : ℕ) → 2 * (w - 1) < X → flat_reads_at h w Y X ≡ none
+  unfolding flat_reads_at
   too_far Y X l = rw (and-fails (leb Y (2 * (h - 1))) (leb X (2 * (w - 1))) (lt-leb X (2 * (w - 1)) l))
 
 module _ (h w : ℕ) (hw : 0 < w) where
   right : (Y X : ℕ) → Y < h → X < w → Beside h w Y X (at3 (pos 0) (pos 0) (pos 1))
-  unfolding ◌⊕◌ flatReads flatPlace
+  unfolding ◌⊕◌ flat_reads flat_place
   right Y X l k = go (T-dec (ltb (X + 1) w))
     where
       go : T (ltb (X + 1) w) ⊎ T (not (ltb (X + 1) w))
@@ -65,7 +65,7 @@ module _ (h w : ℕ) (hw : 0 < w) where
           let j = ltb→lt (X + 1) w t in
           inl (record {
             cell = cell_at h w Y (X + 1);
-            over = rightOf h w Y X;
+            over = right_of h w Y X;
             link = inl (right-link h w Y X l j);
             spot = place_at h w Y (X + 1) j ∙ point-eq refl (ap pos (plus_none Y)) refl;
           })
@@ -80,7 +80,7 @@ module _ (h w : ℕ) (hw : 0 < w) where
           })
 
   down : (Y X : ℕ) → Y < h → X < w → Beside h w Y X (at3 (pos 0) (pos 1) (pos 0))
-  unfolding ◌⊕◌ flatReads flatPlace
+  unfolding ◌⊕◌ flat_reads flat_place
   down Y X l k = go (T-dec (ltb (Y + 1) h))
     where
       go : T (ltb (Y + 1) h) ⊎ T (not (ltb (Y + 1) h))
@@ -89,7 +89,7 @@ module _ (h w : ℕ) (hw : 0 < w) where
           let j = ltb→lt (Y + 1) h t in
           inl (record {
             cell = cell_at h w (Y + 1) X;
-            over = belowOf h w Y X;
+            over = below_of h w Y X;
             link = inl (down-link h w Y X j k);
             spot = place_at h w (Y + 1) X k ∙ point-eq refl refl (ap pos (plus_none X));
           })
@@ -105,7 +105,7 @@ module _ (h w : ℕ) (hw : 0 < w) where
 
   left : (Y X : ℕ) → Y < h → X < w
       → Beside h w Y X (at3 (pos 0) (pos 0) (negsuc 0))
-  unfolding ◌⊕◌ flatReads flatPlace
+  unfolding ◌⊕◌ flat_reads flat_place
   left Y zero l k =
       inr (record {
         no_cell = λ y m e.
@@ -117,14 +117,14 @@ module _ (h w : ℕ) (hw : 0 < w) where
       let j : X + 1 < w = omega arith in
       inl (rw (← e) (record {
         cell = cell_at h w Y X;
-        over = rightOf h w Y X;
+        over = right_of h w Y X;
         link = inr (right-link h w Y X l j);
         spot = place_at h w Y X (omega arith) ∙ point-eq refl (ap pos (plus_none Y)) (step_back X);
       }))
 
   up : (Y X : ℕ) → Y < h → X < w
       → Beside h w Y X (at3 (pos 0) (negsuc 0) (pos 0))
-  unfolding ◌⊕◌ flatReads flatPlace
+  unfolding ◌⊕◌ flat_reads flat_place
   up zero X l k =
       inr (record {
         no_cell = λ y m e.
@@ -136,13 +136,13 @@ module _ (h w : ℕ) (hw : 0 < w) where
       let j : Y + 1 < h = omega arith in
       inl (rw (← e) (record {
         cell = cell_at h w Y X;
-        over = belowOf h w Y X;
+        over = below_of h w Y X;
         link = inr (down-link h w Y X j k);
         spot = place_at h w Y X k ∙ point-eq refl (step_back Y) (ap pos (plus_none X));
       }))
 
   layer : (Y X : ℕ) → Off h w Y X (at3 (pos 1) (pos 0) (pos 0))
-  unfolding ◌⊕◌ flatReads flatPlace
+  unfolding ◌⊕◌ flat_reads flat_place
   layer Y X =
       record {
         no_cell = λ y m e.
@@ -151,7 +151,7 @@ module _ (h w : ℕ) (hw : 0 < w) where
       }
 
   under : (Y X : ℕ) → Off h w Y X (at3 (negsuc 0) (pos 0) (pos 0))
-  unfolding ◌⊕◌ flatReads flatPlace
+  unfolding ◌⊕◌ flat_reads flat_place
   under Y X =
       record {
         no_cell = λ y m e.
@@ -159,7 +159,7 @@ module _ (h w : ℕ) (hw : 0 < w) where
         no-border = refl;
       }
 
-  beside : (Y X : ℕ) → Y < h → X < w → (e : Point) → e ∈ sixSteps → Beside h w Y X e
+  beside : (Y X : ℕ) → Y < h → X < w → (e : Point) → e ∈ six_steps → Beside h w Y X e
   beside Y X l k e (Memᴰ.head q) = rw q (right Y X l k)
   beside Y X l k e (Memᴰ.tail (Memᴰ.head q)) = rw q (left Y X l k)
   beside Y X l k e (Memᴰ.tail (Memᴰ.tail (Memᴰ.head q))) = rw q (down Y X l k)
@@ -174,18 +174,18 @@ module _ (h w : ℕ) (hw : 0 < w) where
       absurd (Memᴰ.not-nil m)
 
   -- the same from a cell by its number
-  place_is : (x : ℕ) → flatPlace h w x ≡ at3 (pos 0) (pos (x / w)) (pos (x % w))
-  unfolding flatPlace
+  place_is : (x : ℕ) → flat_place h w x ≡ at3 (pos 0) (pos (x / w)) (pos (x % w))
+  unfolding flat_place
   place_is x = refl
 
-  from : (x : ℕ) → x < h * w → (e : Point) → e ∈ sixSteps → Beside h w (x / w) (x % w) e
+  from : (x : ℕ) → x < h * w → (e : Point) → e ∈ six_steps → Beside h w (x / w) (x % w) e
   from x l = beside (x / w) (x % w) (row_in h w hw x l) (column-in h w hw x)
 
   link-from : (x : ℕ) (e : Point) (N : NextCell h w (x / w) (x % w) e) → Linking (flat h w) N.over x N.cell
   link-from x e N = subst (λ (p : ℕ). Linking (flat h w) N.over p N.cell) (cell-is h w x) N.link
 
-  place-inj : (x y : ℕ) → x < h * w → y < h * w → flatPlace h w x ≡ flatPlace h w y → x ≡ y
-  unfolding flatPlace
+  place-inj : (x y : ℕ) → x < h * w → y < h * w → flat_place h w x ≡ flat_place h w y → x ≡ y
+  unfolding flat_place
   place-inj x y l k e =
       let r = ap (λ (p : Point). p.row) e in
       let c = ap (λ (p : Point). p.column) e in
@@ -193,16 +193,16 @@ module _ (h w : ℕ) (hw : 0 < w) where
       let v : x % w ≡ y % w = cc in
       sym (cell-is h w x) ∙ (ap (λ i. cell_at h w i (x % w)) u ∙ (ap (cell_at h w (y / w)) v ∙ cell-is h w y))
 
-  near-hop : (x y : ℕ) → x < h * w → y < h * w → OneStep (flatPlace h w x) (flatPlace h w y)
-      → (j : Hop) × j ∈ aroundAt h w (x / w) (x % w) × (j.to ≡ y)
+  near-hop : (x y : ℕ) → x < h * w → y < h * w → OneStep (flat_place h w x) (flat_place h w y)
+      → (j : Hop) × j ∈ around_at h w (x / w) (x % w) × (j.to ≡ y)
   unfolding flat
   near-hop x y l k n = go (from x l n.by n.unit)
     where
-      there : flatPlace h w y ≡ at3 (pos 0) (pos (x / w)) (pos (x % w)) ⊕ n.by
+      there : flat_place h w y ≡ at3 (pos 0) (pos (x / w)) (pos (x % w)) ⊕ n.by
       there = n.reach ∙ ap (λ z. z ⊕ n.by) (place_is x)
 
       go : Beside h w (x / w) (x % w) n.by
-          → (j : Hop) × j ∈ aroundAt h w (x / w) (x % w) × (j.to ≡ y)
+          → (j : Hop) × j ∈ around_at h w (x / w) (x % w) × (j.to ≡ y)
       go (inl N) =
           let L = link-from x n.by N in (
             record { border = N.over; to = N.cell },
@@ -211,9 +211,9 @@ module _ (h w : ℕ) (hw : 0 < w) where
           )
       go (inr O) = absurd (O.no_cell y k there)
 
-  reads-hop : (x : ℕ) (p : Point) (b : ℕ) → x < h * w → OneStep (flatPlace h w x) p
-      → flatReads h w (flatPlace h w x ⊕ p) ≡ some b
-      → (j : Hop) × j ∈ aroundAt h w (x / w) (x % w) × (j.border ≡ b) × (flatPlace h w j.to ≡ p)
+  reads-hop : (x : ℕ) (p : Point) (b : ℕ) → x < h * w → OneStep (flat_place h w x) p
+      → flat_reads h w (flat_place h w x ⊕ p) ≡ some b
+      → (j : Hop) × j ∈ around_at h w (x / w) (x % w) × (j.border ≡ b) × (flat_place h w j.to ≡ p)
   unfolding flat
   reads-hop x p b l n e = go (from x l n.by n.unit)
     where
@@ -221,20 +221,20 @@ module _ (h w : ℕ) (hw : 0 < w) where
       there = n.reach ∙ ap (λ z. z ⊕ n.by) (place_is x)
 
       go : Beside h w (x / w) (x % w) n.by
-          → (j : Hop) × j ∈ aroundAt h w (x / w) (x % w) × (j.border ≡ b) × (flatPlace h w j.to ≡ p)
+          → (j : Hop) × j ∈ around_at h w (x / w) (x % w) × (j.border ≡ b) × (flat_place h w j.to ≡ p)
       go (inl N) =
           let L = link-from x n.by N in
           let s = N.spot ∙ sym there in
           let r = sym (linking-reads (flat h w) N.over x N.cell L)
-          ∙ (ap (λ z. flatReads h w (flatPlace h w x ⊕ z)) s ∙ e) in (
+          ∙ (ap (λ z. flat_reads h w (flat_place h w x ⊕ z)) s ∙ e) in (
             record { border = N.over; to = N.cell },
             linking-hop (flat h w) N.over x N.cell L,
             (let v : N.over ≡ b = cc in v),
             s,
           )
       go (inr O) =
-          let r = ap (λ z. flatReads h w (at3 (pos 0) (pos (x / w)) (pos (x % w)) ⊕ z)) there ∙ O.no-border in
-          let q = ap (λ z. flatReads h w (z ⊕ p)) (place_is x) in
+          let r = ap (λ z. flat_reads h w (at3 (pos 0) (pos (x / w)) (pos (x % w)) ⊕ z)) there ∙ O.no-border in
+          let q = ap (λ z. flat_reads h w (z ⊕ p)) (place_is x) in
           let z : ◌≡◌ {A = ℕ} 0 1 = cc in
           absurd (omega arith)
 
@@ -262,7 +262,7 @@ flat-listed h w =
           (apply r.0, r.2.shift, mem-map apply r.1, r.2.cells-moved, r.2.connections-moved);
       is-based = λ t u o m. (flat-are t u o m).2.based;
       has-turned = λ t g o m.
-          let r = map-find apply flatTable m in
+          let r = map-find apply flat_table m in
           let c = flat-cover t r.0 o r.1 in (
             c.0,
             c.2.shift,

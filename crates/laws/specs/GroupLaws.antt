@@ -7,7 +7,7 @@
 --   members-distinct                no cell stands in a group twice
 --   members-same                    they come from the numbers of the page's cells alone
 --   numbers-length, number_at       there is a number for each cell: how many first cells stand before its label
---   number_lt, groupCount-le        numbers are below the count, and there are no more groups than cells
+--   number_lt, group_count-le       numbers are below the count, and there are no more groups than cells
 --   number-alone                    where there are as many, a cell's number is its place
 --   members-none                    "A number that no group has gives an empty part"
 --   number-joined, joined_number    equal numbers are joined cells, and the other way round
@@ -15,8 +15,8 @@
 --   number-first, number-order      each number has a first cell; an earlier first cell has the smaller number
 --   numbered                        the numbers of Groups are such a numbering
 --   number-has, members-some        each number below the count is that of a cell
---   blockCells, unitCells, potentialCells   the cells of a block, of a unit, of a potential unit
---   ownBlock, ownUnit, ownPotential         the cells of a cell's own block, unit, potential unit
+--   block_cells, unit_cells, potential_cells the cells of a block, of a unit, of a potential unit
+--   own_block, own_unit, own_potential      the cells of a cell's own block, unit, potential unit
 use Rattle.std.specs.Prelude.{◌≡◌, refl, Bool, List, [], ◌∷◌, ℕ, ◌≤◌, ◌<◌, length, get_or}
 use Rattle.std.proofs.Common.{◌∙◌, ap, sym, arith}
 use mathlib.Core.List.Memᴰ
@@ -25,14 +25,14 @@ use Rattle.std.proofs.Math.Dec.{eqb, T, eqb→eq, eqb_refl}
 use Rattle.std.proofs.Math.ListN.{length-map}
 use Rattle.lists.specs.Lists.{◌∈◌, range, Distinct}
 use Rattle.lists.specs.ListLaws.{mem-filter, filter-mem, filter-test}
-use Rattle.lists.specs.Count.{countBelow}
+use Rattle.lists.specs.Count.{count_below}
 use Rattle.lists.specs.CountLaws.{count-le, count-grows, count-inj, count-find, count-all, count-full}
 use Rattle.lists.specs.Ranges.{mem-range, range-lt, distinct-range}
 use Rattle.lists.specs.Filters.{distinct_filter, filter_same}
 use Rattle.lists.specs.Maps.{get_d_map}
 use Rattle.rules.specs.Page.{Hop, Page, Puzzle, State}
 use Rattle.rules.specs.Rules.{Joined, stay, step}
-use Rattle.rules.specs.Groups.{entry, labels, isFirst, numbers, groupCount, members, block_of, unit_of, potentialOf}
+use Rattle.rules.specs.Groups.{entry, labels, is_first, numbers, group_count, members, block_of, unit_of, potential_of}
 use Rattle.laws.specs.PageLaws.{Bordered}
 use Rattle.laws.specs.RuleLaws.{join-in}
 use Rattle.laws.specs.LabelLaws.{labelled, label-le, label-idem, label-joined, joined-label}
@@ -77,9 +77,9 @@ unfolding members
 members-same G f g same k = filter_same _ _ (range G.cells) (λ x m. rw (same x (range-lt G.cells m)))
 
 module _ (G : Page) (link : ℕ → Bool) where
-  pub groupCount-le : groupCount G link ≤ G.cells
-  unfolding groupCount
-  groupCount-le = count-le G.cells (isFirst (labels G link))
+  pub group_count-le : group_count G link ≤ G.cells
+  unfolding group_count
+  group_count-le = count-le G.cells (is_first (labels G link))
 
 module _ (G : Page) (link : ℕ → Bool) (some : 1 ≤ G.cells) where
   pub numbers-length : length (numbers G link) ≡ G.cells
@@ -87,29 +87,29 @@ module _ (G : Page) (link : ℕ → Bool) (some : 1 ≤ G.cells) where
   numbers-length = length-map (labels G link) _ ∙ (labelled G link some).size
 
   pub number_at : (i : ℕ) → i < G.cells
-      → entry (numbers G link) i ≡ countBelow (get_or (labels G link) i 0) (isFirst (labels G link))
+      → entry (numbers G link) i ≡ count_below (get_or (labels G link) i 0) (is_first (labels G link))
   unfolding numbers entry
   number_at i h = get_d_map _ (labels G link) i 0 0 (omega (arith, (labelled G link some).size))
 
   -- every cell's number is below the count
-  pub number_lt : (i : ℕ) → i < G.cells → entry (numbers G link) i < groupCount G link
-  unfolding groupCount isFirst entry
+  pub number_lt : (i : ℕ) → i < G.cells → entry (numbers G link) i < group_count G link
+  unfolding group_count is_first entry
   number_lt i h =
       rw (number_at i h)
-      (count-grows (get_or (labels G link) i 0) G.cells (isFirst (labels G link))
+      (count-grows (get_or (labels G link) i 0) G.cells (is_first (labels G link))
       (omega (arith, (labelled G link some).least i h))
       (rw ((labelled G link some).twice i h) (eqb_refl (get_or (labels G link) i 0))))
 
   -- where there are as many groups as cells, a cell's number is its place
-  pub number-alone : groupCount G link ≡ G.cells → (i : ℕ) → i < G.cells → entry (numbers G link) i ≡ i
-  unfolding groupCount isFirst entry
+  pub number-alone : group_count G link ≡ G.cells → (i : ℕ) → i < G.cells → entry (numbers G link) i ≡ i
+  unfolding group_count is_first entry
   number-alone e i h =
-      let first = count-full G.cells (isFirst (labels G link)) e in
+      let first = count-full G.cells (is_first (labels G link)) e in
       rw (number_at i h, eqb-true (get_or (labels G link) i 0) i (first i h))
-      (count-all i (isFirst (labels G link)) (λ x l. first x (omega arith)))
+      (count-all i (is_first (labels G link)) (λ x l. first x (omega arith)))
 
 -- "A number that no group has gives an empty part"
-pub members-none : (G : Page) (link : ℕ → Bool) (g : ℕ) → groupCount G link ≤ g
+pub members-none : (G : Page) (link : ℕ → Bool) (g : ℕ) → group_count G link ≤ g
     → members G (entry (numbers G link)) g ≡ []
 members-none G link g h = go (members G (entry (numbers G link)) g) (λ x m. m)
   where
@@ -125,18 +125,18 @@ members-none G link g h = go (members G (entry (numbers G link)) g) (λ x m. m)
 module _ (G : Page) (K : Bordered G) (link : ℕ → Bool) where
   -- a cell's number counts the first cells before its label
   number_is : (x : ℕ) → x < G.cells
-      → entry (numbers G link) x ≡ countBelow (entry (labels G link) x) (isFirst (labels G link))
+      → entry (numbers G link) x ≡ count_below (entry (labels G link) x) (is_first (labels G link))
   unfolding entry
   number_is x h = number_at G link (omega arith) x h
 
-  label-first : (x : ℕ) → x < G.cells → T (isFirst (labels G link) (entry (labels G link) x))
-  unfolding isFirst
+  label-first : (x : ℕ) → x < G.cells → T (is_first (labels G link) (entry (labels G link) x))
+  unfolding is_first
   label-first x h = rw (label-idem G K link x h) (eqb_refl (entry (labels G link) x))
 
   number-label : (x y : ℕ) → x < G.cells → y < G.cells → entry (numbers G link) x ≡ entry (numbers G link) y
       → entry (labels G link) x ≡ entry (labels G link) y
   number-label x y h k e =
-      count-inj _ _ (isFirst (labels G link)) (label-first x h) (label-first y k)
+      count-inj _ _ (is_first (labels G link)) (label-first x h) (label-first y k)
       (sym (number_is x h) ∙ (e ∙ number_is y k))
 
   pub number-joined : (x y : ℕ) → x < G.cells → y < G.cells → entry (numbers G link) x ≡ entry (numbers G link) y
@@ -147,7 +147,7 @@ module _ (G : Page) (K : Bordered G) (link : ℕ → Bool) where
       → entry (numbers G link) x ≡ entry (numbers G link) y
   joined_number {x} {y} h j =
       number_is x h
-      ∙ (ap (λ k. countBelow k (isFirst (labels G link))) (joined-label G K link h j)
+      ∙ (ap (λ k. count_below k (is_first (labels G link))) (joined-label G K link h j)
       ∙ sym (number_is y (join-in G K link h j)))
 
   pub hop-number : (x : ℕ) (h : Hop) → x < G.cells → h ∈ G.around x → T (link h.border)
@@ -165,23 +165,23 @@ module _ (G : Page) (K : Bordered G) (link : ℕ → Bool) where
       let h : entry (labels G link) x < G.cells = (let k = f.here in omega arith) in
       let q : entry (numbers G link) (entry (labels G link) x) ≡ entry (numbers G link) x =
       number_is (entry (labels G link) x) h
-      ∙ (ap (λ k. countBelow k (isFirst (labels G link))) (label-idem G K link x f.here)
+      ∙ (ap (λ k. count_below k (is_first (labels G link))) (label-idem G K link x f.here)
       ∙ sym (number_is x f.here)) in
       let m = f.least (entry (labels G link) x) h q in
       omega arith
 
-  pub number-first : (g : ℕ) → g < groupCount G link
+  pub number-first : (g : ℕ) → g < group_count G link
       → (x : ℕ) × FirstOf G (entry (numbers G link)) x × (entry (numbers G link) x ≡ g)
-  unfolding groupCount isFirst
-  number-first g h = go (count-find G.cells (isFirst (labels G link)) g h)
+  unfolding group_count is_first
+  number-first g h = go (count-find G.cells (is_first (labels G link)) g h)
     where
-      go : (x : ℕ) × (x < G.cells) × T (isFirst (labels G link) x) × (countBelow x (isFirst (labels G link)) ≡ g)
+      go : (x : ℕ) × (x < G.cells) × T (is_first (labels G link) x) × (count_below x (is_first (labels G link)) ≡ g)
           → (x : ℕ) × FirstOf G (entry (numbers G link)) x × (entry (numbers G link) x ≡ g)
       go r =
           let l : entry (labels G link) r.0 ≡ r.0 = eqb→eq _ _ r.2 in (
             r.0,
             record { here = r.1; least = λ y k e. rw l at (label-least r.0 y r.1 k e) },
-            number_is r.0 r.1 ∙ (ap (λ k. countBelow k (isFirst (labels G link))) l ∙ r.3),
+            number_is r.0 r.1 ∙ (ap (λ k. count_below k (is_first (labels G link))) l ∙ r.3),
           )
 
   pub number-order : (x y : ℕ) → FirstOf G (entry (numbers G link)) x → FirstOf G (entry (numbers G link)) y → x < y
@@ -190,9 +190,9 @@ module _ (G : Page) (K : Bordered G) (link : ℕ → Bool) where
       let p = first-label x f in
       let q = first-label y g in
       rw (number_is x f.here, number_is y g.here)
-      (count-grows _ _ (isFirst (labels G link)) (omega arith) (label-first x f.here))
+      (count-grows _ _ (is_first (labels G link)) (omega arith) (label-first x f.here))
 
-  pub numbered : Numbered G link (entry (numbers G link)) (groupCount G link)
+  pub numbered : Numbered G link (entry (numbers G link)) (group_count G link)
   numbered = record {
     joined = number-joined;
     same = λ x y h j. joined_number h j;
@@ -202,29 +202,29 @@ module _ (G : Page) (K : Bordered G) (link : ℕ → Bool) where
   }
 
   -- every number below the count is that of a cell
-  pub number-has : (g : ℕ) → g < groupCount G link → (x : ℕ) × (x < G.cells) × (entry (numbers G link) x ≡ g)
+  pub number-has : (g : ℕ) → g < group_count G link → (x : ℕ) × (x < G.cells) × (entry (numbers G link) x ≡ g)
   number-has g h = let r = number-first g h in (r.0, r.1.here, r.2)
 
-  pub members-some : (g : ℕ) → g < groupCount G link → (x : ℕ) × x ∈ members G (entry (numbers G link)) g
+  pub members-some : (g : ℕ) → g < group_count G link → (x : ℕ) × x ∈ members G (entry (numbers G link)) g
   members-some g h =
       let r = number-has g h in
       (r.0, mem-members G (entry (numbers G link)) g r.0 r.1 r.2)
 
 module _ (Z : Puzzle) (s : ℕ → State) where
-  abbrev pub blockCells : ℕ → List ℕ
-  blockCells B = members Z.page (block_of Z s) B
+  abbrev pub block_cells : ℕ → List ℕ
+  block_cells B = members Z.page (block_of Z s) B
 
-  abbrev pub unitCells : ℕ → List ℕ
-  unitCells U = members Z.page (unit_of Z s) U
+  abbrev pub unit_cells : ℕ → List ℕ
+  unit_cells U = members Z.page (unit_of Z s) U
 
-  abbrev pub potentialCells : ℕ → List ℕ
-  potentialCells P = members Z.page (potentialOf Z s) P
+  abbrev pub potential_cells : ℕ → List ℕ
+  potential_cells P = members Z.page (potential_of Z s) P
 
-  abbrev pub ownBlock : ℕ → List ℕ
-  ownBlock x = blockCells (block_of Z s x)
+  abbrev pub own_block : ℕ → List ℕ
+  own_block x = block_cells (block_of Z s x)
 
-  abbrev pub ownUnit : ℕ → List ℕ
-  ownUnit x = unitCells (unit_of Z s x)
+  abbrev pub own_unit : ℕ → List ℕ
+  own_unit x = unit_cells (unit_of Z s x)
 
-  abbrev pub ownPotential : ℕ → List ℕ
-  ownPotential x = potentialCells (potentialOf Z s x)
+  abbrev pub own_potential : ℕ → List ℕ
+  own_potential x = potential_cells (potential_of Z s x)

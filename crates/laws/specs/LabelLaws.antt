@@ -1,7 +1,7 @@
 -- Laws of labels: what a merge does to them, those after each border, and that two cells have the same label exactly
 -- when they are joined, the first cell of the group.
 --
---   labelsAfter G link k      the labels once the first k borders are taken
+--   labels_after G link k     the labels once the first k borders are taken
 --   Labelled n L        L has for each of n cells a label that is no later, and is its own label
 --   rename-hit, rename-miss, rename-same, renamed, labelled-renamed   one label renamed
 --   merge-earlier, merge-later, merge-same, labelled-merge   the merge of two cells, by how their labels stand
@@ -29,12 +29,12 @@ use Rattle.lists.specs.Maps.{get_d_map}
 use Rattle.lists.specs.Booleans.{T_true}
 use Rattle.rules.specs.Page.{Page, Hop}
 use Rattle.rules.specs.Rules.{Joined, stay, step}
-use Rattle.rules.specs.Groups.{entry, rename, merge, mergeIf, mergeAll, labels}
+use Rattle.rules.specs.Groups.{entry, rename, merge, merge_if, merge_all, labels}
 use Rattle.laws.specs.PageLaws.{Bordered, second-in}
 use Rattle.laws.specs.RuleLaws.{join-trans, join-sym, border-join}
 
-unfoldable pub labelsAfter : Page → (ℕ → Bool) → ℕ → List ℕ
-labelsAfter G link k = mergeAll G link (range G.cells) (range k)
+unfoldable pub labels_after : Page → (ℕ → Bool) → ℕ → List ℕ
+labels_after G link k = merge_all G link (range G.cells) (range k)
 
 pub record Labelled (n : ℕ) (L : List ℕ) : Type 0 where
   pub size : length L ≡ n
@@ -93,16 +93,16 @@ rename-same a (l ∷ L) = rw (go (ℕ_discrete l a), rename-same a L)
 -- the merge of a border that joins, by how its cells' labels stand
 module _ (L : List ℕ) (a b : ℕ) where
   pub merge-earlier : get_or L a 0 ≤ get_or L b 0
-      → mergeIf true (entry L a) (entry L b) L ≡ map (rename (get_or L a 0) (get_or L b 0)) L
+      → merge_if true (entry L a) (entry L b) L ≡ map (rename (get_or L a 0) (get_or L b 0)) L
   unfolding entry
   merge-earlier h = rw (le-leb (get_or L a 0) (get_or L b 0) h)
 
   pub merge-later : get_or L b 0 < get_or L a 0
-      → mergeIf true (entry L a) (entry L b) L ≡ map (rename (get_or L b 0) (get_or L a 0)) L
+      → merge_if true (entry L a) (entry L b) L ≡ map (rename (get_or L b 0) (get_or L a 0)) L
   unfolding entry
   merge-later h = rw (lt-leb (get_or L a 0) (get_or L b 0) h)
 
-  pub merge-same : get_or L a 0 ≡ get_or L b 0 → mergeIf true (entry L a) (entry L b) L ≡ L
+  pub merge-same : get_or L a 0 ≡ get_or L b 0 → merge_if true (entry L a) (entry L b) L ≡ L
   merge-same e = merge-earlier (omega arith) ∙ rw e (rename-same (get_or L b 0) L)
 
 -- a border keeps labels labels
@@ -117,7 +117,7 @@ module _ (n : ℕ) (some : 1 ≤ n) (L : List ℕ) (x : Labelled n L) where
           let z : get_or L i 0 ≡ 0 = get_or-eq_default L 0 k in
           rw z (omega (arith, x.least 0 some))
 
-  pub labelled-merge : (t : Bool) (a b : ℕ) → Labelled n (mergeIf t (entry L a) (entry L b) L)
+  pub labelled-merge : (t : Bool) (a b : ℕ) → Labelled n (merge_if t (entry L a) (entry L b) L)
   unfolding entry
   labelled-merge false a b = x
   labelled-merge true a b = go (leb (get_or L a 0) (get_or L b 0)) refl
@@ -139,34 +139,34 @@ labelled-range n =
     }
 
 module _ (G : Page) (link : ℕ → Bool) where
-  merge-append : (L xs ys : List ℕ) → mergeAll G link L (xs ++ ys) ≡ mergeAll G link (mergeAll G link L xs) ys
+  merge-append : (L xs ys : List ℕ) → merge_all G link L (xs ++ ys) ≡ merge_all G link (merge_all G link L xs) ys
   merge-append L [] ys = refl
   merge-append L (b ∷ xs) ys =
-      merge-append (mergeIf (link b) (entry L (G.first b)) (entry L (G.second b)) L) xs ys
+      merge-append (merge_if (link b) (entry L (G.first b)) (entry L (G.second b)) L) xs ys
 
-  pub after_none : labelsAfter G link 0 ≡ range G.cells
-  unfolding labelsAfter
+  pub after_none : labels_after G link 0 ≡ range G.cells
+  unfolding labels_after
   after_none = refl
 
   -- one more border
-  pub after_more : (k : ℕ) → labelsAfter G link (k + 1)
-      ≡ mergeIf (link k) (entry (labelsAfter G link k) (G.first k)) (entry (labelsAfter G link k) (G.second k))
-      (labelsAfter G link k)
-  unfolding labelsAfter
+  pub after_more : (k : ℕ) → labels_after G link (k + 1)
+      ≡ merge_if (link k) (entry (labels_after G link k) (G.first k)) (entry (labels_after G link k) (G.second k))
+      (labels_after G link k)
+  unfolding labels_after
   after_more k =
       rw (add-one k, range-more k) (merge-append (range G.cells) (range k) (k ∷ []))
 
-  pub after-all : labels G link ≡ labelsAfter G link G.borders
-  unfolding labels labelsAfter
+  pub after-all : labels G link ≡ labels_after G link G.borders
+  unfolding labels labels_after
   after-all = refl
 
   module _ (some : 1 ≤ G.cells) where
-    pub labelled-after : (k : ℕ) → Labelled G.cells (labelsAfter G link k)
+    pub labelled-after : (k : ℕ) → Labelled G.cells (labels_after G link k)
     labelled-after zero = rw after_none (labelled-range G.cells)
     labelled-after (suc k) =
         let e : suc k ≡ k + 1 = omega arith in
         rw (e, after_more k)
-        (labelled-merge G.cells some (labelsAfter G link k) (labelled-after k) (link k) (G.first k) (G.second k))
+        (labelled-merge G.cells some (labels_after G link k) (labelled-after k) (link k) (G.first k) (G.second k))
 
     pub labelled : Labelled G.cells (labels G link)
     labelled = rw after-all (labelled-after G.borders)
@@ -186,10 +186,10 @@ rename-low lo hi = go (ℕ_discrete lo hi)
     go (no e) = rename-miss lo hi lo e
 
 module _ (n : ℕ) (M : List ℕ) (lab : Labelled n M) (u v : ℕ) (hu : u < n) (hv : v < n) where
-  renames : Renames n M (mergeIf true (entry M u) (entry M v) M) u v
+  renames : Renames n M (merge_if true (entry M u) (entry M v) M) u v
   renames = go (dec_lt (get_or M v 0) (get_or M u 0))
     where
-      go : Dec (get_or M v 0 < get_or M u 0) → Renames n M (mergeIf true (entry M u) (entry M v) M) u v
+      go : Dec (get_or M v 0 < get_or M u 0) → Renames n M (merge_if true (entry M u) (entry M v) M) u v
       go (yes h) =
           rw (merge-later M u v h)
           (record {
@@ -209,13 +209,13 @@ module _ (n : ℕ) (M : List ℕ) (lab : Labelled n M) (u v : ℕ) (hu : u < n) 
 
   -- equal labels stay equal
   pub merge_keeps : (a b : ℕ) → a < n → b < n → get_or M a 0 ≡ get_or M b 0
-      → get_or (mergeIf true (entry M u) (entry M v) M) a 0 ≡ get_or (mergeIf true (entry M u) (entry M v) M) b 0
+      → get_or (merge_if true (entry M u) (entry M v) M) a 0 ≡ get_or (merge_if true (entry M u) (entry M v) M) b 0
   merge_keeps a b ha hb e =
       renames.is a ha ∙ ap (rename renames.lo renames.hi) e ∙ sym (renames.is b hb)
 
   -- the two cells' labels become equal
   pub merge-meets :
-      get_or (mergeIf true (entry M u) (entry M v) M) u 0 ≡ get_or (mergeIf true (entry M u) (entry M v) M) v 0
+      get_or (merge_if true (entry M u) (entry M v) M) u 0 ≡ get_or (merge_if true (entry M u) (entry M v) M) v 0
   merge-meets = renames.is u hu ∙ go renames.lo renames.hi renames.ends ∙ sym (renames.is v hv)
     where
       go : (lo hi : ℕ) → ((get_or M u 0 ≡ lo) × (get_or M v 0 ≡ hi)) ⊎ ((get_or M u 0 ≡ hi) × (get_or M v 0 ≡ lo))
@@ -226,7 +226,7 @@ module _ (n : ℕ) (M : List ℕ) (lab : Labelled n M) (u v : ℕ) (hu : u < n) 
   -- no others: what relates each cell to its label, and the two cells, relates each cell to its new label
   pub merge-within : (R : ℕ → ℕ → Type 0) → ((x y : ℕ) → x < n → R x y → R y x)
       → ((x y z : ℕ) → R x y → R y z → R x z) → R u v → ((x : ℕ) → x < n → R (get_or M x 0) x)
-      → (x : ℕ) → x < n → R (get_or (mergeIf true (entry M u) (entry M v) M) x 0) x
+      → (x : ℕ) → x < n → R (get_or (merge_if true (entry M u) (entry M v) M) x 0) x
   merge-within R turn join e s x h =
       subst (λ (i : ℕ). R i x) (sym (renames.is x h))
       (go renames.lo renames.hi renames.ends (ℕ_discrete (get_or M x 0) renames.hi))
@@ -247,7 +247,7 @@ module _ (n : ℕ) (M : List ℕ) (lab : Labelled n M) (u v : ℕ) (hu : u < n) 
 
   -- labels that are the same for each cell and its label stay so
   pub merge-sound : (K : List ℕ) → get_or K u 0 ≡ get_or K v 0 → ((x : ℕ) → x < n → get_or K (get_or M x 0) 0 ≡ get_or K x 0)
-      → (x : ℕ) → x < n → get_or K (get_or (mergeIf true (entry M u) (entry M v) M) x 0) 0 ≡ get_or K x 0
+      → (x : ℕ) → x < n → get_or K (get_or (merge_if true (entry M u) (entry M v) M) x 0) 0 ≡ get_or K x 0
   merge-sound K =
       merge-within (λ x y. get_or K x 0 ≡ get_or K y 0) (λ x y h e. sym e) (λ x y z d e. d ∙ e)
 
@@ -274,7 +274,7 @@ module _ (G : Page) (link : ℕ → Bool) (some : 1 ≤ G.cells)
     (inside : (b : ℕ) → b < G.borders → (G.first b < G.cells) × (G.second b < G.cells)) where
   -- a border that joins has one label on both sides from then on
   pub after-meets : (k : ℕ) → k ≤ G.borders → (b : ℕ) → b < k → link b ≡ true
-      → get_or (labelsAfter G link k) (G.first b) 0 ≡ get_or (labelsAfter G link k) (G.second b) 0
+      → get_or (labels_after G link k) (G.first b) 0 ≡ get_or (labels_after G link k) (G.second b) 0
   after-meets zero h b l e = absurd (omega arith)
   after-meets (suc k) h b l e =
       let q : suc k ≡ k + 1 = omega arith in
@@ -282,14 +282,14 @@ module _ (G : Page) (link : ℕ → Bool) (some : 1 ≤ G.cells)
       (go (link k) refl (λ (m : b < k). after-meets k (omega arith) b m e) (ℕ_discrete b k))
     where
       L : List ℕ
-      L = labelsAfter G link k
+      L = labels_after G link k
 
       different : true ≡ false → ⊥
       different z = let w : ◌≡◌ {A = ℕ} 0 1 = cc in omega arith
 
       go : (t : Bool) → link k ≡ t → (b < k → get_or L (G.first b) 0 ≡ get_or L (G.second b) 0) → Dec (b ≡ k)
-          → get_or (mergeIf t (entry L (G.first k)) (entry L (G.second k)) L) (G.first b) 0
-          ≡ get_or (mergeIf t (entry L (G.first k)) (entry L (G.second k)) L) (G.second b) 0
+          → get_or (merge_if t (entry L (G.first k)) (entry L (G.second k)) L) (G.first b) 0
+          ≡ get_or (merge_if t (entry L (G.first k)) (entry L (G.second k)) L) (G.second b) 0
       go true f r (yes d) =
           rw d (merge-meets G.cells L (labelled-after G link some k) (G.first k) (G.second k)
           (inside k h).0 (inside k h).1)
@@ -304,7 +304,7 @@ module _ (G : Page) (link : ℕ → Bool) (some : 1 ≤ G.cells)
   pub after-within : (R : ℕ → ℕ → Type 0) → ((x : ℕ) → R x x) → ((x y : ℕ) → x < G.cells → R x y → R y x)
       → ((x y z : ℕ) → R x y → R y z → R x z) → (k : ℕ) → k ≤ G.borders
       → ((b : ℕ) → b < k → link b ≡ true → R (G.first b) (G.second b))
-      → (x : ℕ) → x < G.cells → R (get_or (labelsAfter G link k) x 0) x
+      → (x : ℕ) → x < G.cells → R (get_or (labels_after G link k) x 0) x
   after-within R self turn join zero h f x l =
       subst (λ (i : ℕ). R i x) (sym (rw (after_none G link) (range_at G.cells x l))) (self x)
   after-within R self turn join (suc k) h f x l =
@@ -313,10 +313,10 @@ module _ (G : Page) (link : ℕ → Bool) (some : 1 ≤ G.cells)
       (go (link k) refl (after-within R self turn join k (omega arith) (λ b j. f b (omega arith))))
     where
       L : List ℕ
-      L = labelsAfter G link k
+      L = labels_after G link k
 
       go : (t : Bool) → link k ≡ t → ((y : ℕ) → y < G.cells → R (get_or L y 0) y)
-          → R (get_or (mergeIf t (entry L (G.first k)) (entry L (G.second k)) L) x 0) x
+          → R (get_or (merge_if t (entry L (G.first k)) (entry L (G.second k)) L) x 0) x
       go true e before =
           merge-within G.cells L (labelled-after G link some k) (G.first k) (G.second k)
           (inside k h).0 (inside k h).1 R turn join (f k (omega arith) e) before x l
@@ -325,7 +325,7 @@ module _ (G : Page) (link : ℕ → Bool) (some : 1 ≤ G.cells)
   -- labels that part no joined cells part no cell from its label
   pub after-sound : (M : List ℕ) → (k : ℕ) → k ≤ G.borders
       → ((b : ℕ) → b < k → link b ≡ true → get_or M (G.first b) 0 ≡ get_or M (G.second b) 0)
-      → (x : ℕ) → x < G.cells → get_or M (get_or (labelsAfter G link k) x 0) 0 ≡ get_or M x 0
+      → (x : ℕ) → x < G.cells → get_or M (get_or (labels_after G link k) x 0) 0 ≡ get_or M x 0
   after-sound M =
       after-within (λ x y. get_or M x 0 ≡ get_or M y 0) (λ x. refl) (λ x y h e. sym e) (λ x y z d e. d ∙ e)
 

@@ -2,11 +2,11 @@
 -- of it (FlatPage, FlatList).
 --
 --   Bordered G          neighbours stay on the page, and go both ways over the border between them
---   hopBorders hs       the borders that the hops hs go over
+--   hop_borders hs      the borders that the hops hs go over
 --   HopsOnce G          a cell's neighbours lie over different borders, and it is the first cell of those ahead
 --   second-in           so the second cell of a border is on the page
 --   at3 l y x           the place with the layer l, the row y and the column x
---   sixSteps            the six steps to a neighbour
+--   six_steps           the six steps to a neighbour
 --   OneStep p q         q is one step from p
 --   Turns ts            turns keep sums and steps, and no two places fall together
 --   CellsPlaced G       cells have different places, and a doubled place reads the border between two near cells
@@ -35,13 +35,13 @@ pub record Bordered (G : Page) : Type 0 where
   pub ahead-all : (x : ℕ) (h : Hop) → x < G.cells → h ∈ G.around x
       → h ∈ G.ahead x ⊎ record { border = h.border; to = x } ∈ G.ahead h.to
 
-abbrev pub hopBorders : List Hop → List ℕ
-hopBorders hs = map (λ (h : Hop). h.border) hs
+abbrev pub hop_borders : List Hop → List ℕ
+hop_borders hs = map (λ (h : Hop). h.border) hs
 
 pub record HopsOnce (G : Page) : Type 0 where
   pub ahead-first : (x : ℕ) (h : Hop) → x < G.cells → h ∈ G.ahead x → G.first h.border ≡ x
-  pub ahead-once : (x : ℕ) → x < G.cells → Distinct (hopBorders (G.ahead x))
-  pub around-once : (x : ℕ) → x < G.cells → Distinct (hopBorders (G.around x))
+  pub ahead-once : (x : ℕ) → x < G.cells → Distinct (hop_borders (G.ahead x))
+  pub around-once : (x : ℕ) → x < G.cells → Distinct (hop_borders (G.around x))
 
 -- the second cell of a border is on the page
 pub second-in : (G : Page) → Bordered G → (b : ℕ) → b < G.borders → G.second b < G.cells
@@ -52,18 +52,18 @@ abbrev pub at3 : ℤ → ℤ → ℤ → Point
 at3 l y x = record { layer = l; row = y; column = x }
 
 -- the six steps to a neighbour
-abbrev pub sixSteps : List Point
-sixSteps = at3 (pos 0) (pos 0) (pos 1) ∷ at3 (pos 0) (pos 0) (negsuc 0) ∷ at3 (pos 0) (pos 1) (pos 0) ∷ at3 (pos 0)
+abbrev pub six_steps : List Point
+six_steps = at3 (pos 0) (pos 0) (pos 1) ∷ at3 (pos 0) (pos 0) (negsuc 0) ∷ at3 (pos 0) (pos 1) (pos 0) ∷ at3 (pos 0)
     (negsuc 0) (pos 0) ∷ at3 (pos 1) (pos 0) (pos 0) ∷ at3 (negsuc 0) (pos 0) (pos 0) ∷ []
 
 pub record OneStep (p q : Point) : Type 0 where
   pub by : Point
-  pub unit : by ∈ sixSteps
+  pub unit : by ∈ six_steps
   pub reach : q ≡ p ⊕ by
 
 pub record Turns (ts : List (Point → Point)) : Type 0 where
   pub sum : (g : Point → Point) → g ∈ ts → (p q : Point) → g (p ⊕ q) ≡ g p ⊕ g q
-  pub step : (g : Point → Point) → g ∈ ts → (e : Point) → e ∈ sixSteps → g e ∈ sixSteps
+  pub step : (g : Point → Point) → g ∈ ts → (e : Point) → e ∈ six_steps → g e ∈ six_steps
   pub inj : (g : Point → Point) → g ∈ ts → (p q : Point) → g p ≡ g q → p ≡ q
 
 pub record CellsPlaced (G : Page) : Type 0 where

@@ -13,7 +13,7 @@ use Rattle.rules.specs.declared.Side.{Side}
 use Rattle.rules.specs.declared.Side.TheVariants.{Wall, Open}
 use Rattle.rules.specs.Page.{Page, State, Hop}
 use Rattle.rules.specs.Groups.{members}
-use Rattle.rules.specs.Reasons.{gather, insideAt, inside, edge_at, edge}
+use Rattle.rules.specs.Reasons.{gather, inside_at, inside, edge_at, edge}
 use Rattle.laws.specs.PageLaws.{Bordered}
 use Rattle.laws.specs.GroupLaws.{members-lt, members-same}
 
@@ -32,9 +32,9 @@ gather-same side p q hs e =
 -- Inside and Edge ask the group numbers of the page's cells only
 module _ (G : Page) (K : Bordered G) (f g : ℕ → ℕ) (same : (x : ℕ) → x < G.cells → f x ≡ g x) (k : ℕ) where
   pub inside-same : (s : ℕ → State) → inside G s f k ≡ inside G s g k
-  unfolding inside insideAt
+  unfolding inside inside_at
   inside-same s =
-      flat-same (insideAt G s f k) (insideAt G s g k) (members G f k)
+      flat-same (inside_at G s f k) (inside_at G s g k) (members G f k)
       (λ x m.
       let l = members-lt G f k x m in
       gather-same Open _ _ (G.ahead x)

@@ -11,8 +11,8 @@ use Rattle.std.specs.Prelude.{◌≡◌, refl, ◌⊎◌, Bool, ℕ, ◌<◌, T}
 use Rattle.std.proofs.Common.{◌∙◌, ap, sym, inl, inr}
 use Rattle.lists.specs.Lists.{◌∈◌}
 use Rattle.lists.specs.Booleans.{T-and-l, T-and-r, beq-eq, eq-beq}
-use Rattle.rules.specs.Page.{Hop, Page, Puzzle, State, isOpen}
-use Rattle.rules.specs.Rules.{Joined, stay, oneColour, joinsBlock, joinsUnit, SameBlock, SameUnit, step}
+use Rattle.rules.specs.Page.{Hop, Page, Puzzle, State, is_open}
+use Rattle.rules.specs.Rules.{Joined, stay, one_colour, joins_block, joins_unit, SameBlock, SameUnit, step}
 use Rattle.laws.specs.PageLaws.{Bordered}
 
 module _ (G : Page) (link : ℕ → Bool) where
@@ -49,8 +49,8 @@ module _ (G : Page) (K : Bordered G) (link : ℕ → Bool) where
 module _ (Z : Puzzle) (K : Bordered Z.page) where
   -- the two ends of a border, whichever way it is crossed
   pub hop-colour : (x : ℕ) (h : Hop) → x < Z.page.cells → h ∈ Z.page.around x →
-      T (oneColour Z h.border) → Z.colour x ≡ Z.colour h.to
-  unfolding oneColour
+      T (one_colour Z h.border) → Z.colour x ≡ Z.colour h.to
+  unfolding one_colour
   hop-colour x h hx m t = go (K.hop-ends x h hx m) (beq-eq _ _ t)
     where
       go : ((Z.page.first h.border ≡ x) × (Z.page.second h.border ≡ h.to)) ⊎
@@ -61,8 +61,8 @@ module _ (Z : Puzzle) (K : Bordered Z.page) where
       go (inr e) q = cc (e.0, e.1, q)
 
   pub colour-hop : (x : ℕ) (h : Hop) → x < Z.page.cells → h ∈ Z.page.around x → Z.colour x ≡ Z.colour h.to →
-      T (oneColour Z h.border)
-  unfolding oneColour
+      T (one_colour Z h.border)
+  unfolding one_colour
   colour-hop x h hx m q = eq-beq _ _ (go (K.hop-ends x h hx m))
     where
       go : ((Z.page.first h.border ≡ x) × (Z.page.second h.border ≡ h.to)) ⊎
@@ -71,7 +71,7 @@ module _ (Z : Puzzle) (K : Bordered Z.page) where
       go (inl e) = cc (e.0, e.1, q)
       go (inr e) = cc (e.0, e.1, q)
 
-  pub joined-colour : (link : ℕ → Bool) → ((b : ℕ) → T (link b) → T (oneColour Z b)) → {x y : ℕ} → x < Z.page.cells
+  pub joined-colour : (link : ℕ → Bool) → ((b : ℕ) → T (link b) → T (one_colour Z b)) → {x y : ℕ} → x < Z.page.cells
       → Joined Z.page link y x → Z.colour x ≡ Z.colour y
   joined-colour link f h (stay e) = ap Z.colour e
   joined-colour link f {x} h (step j m t r) =
@@ -79,9 +79,9 @@ module _ (Z : Puzzle) (K : Bordered Z.page) where
 
 module _ (Z : Puzzle) (K : Bordered Z.page) (σ : ℕ → State) where
   pub unit-colour : {x y : ℕ} → x < Z.page.cells → SameUnit Z σ x y → Z.colour x ≡ Z.colour y
-  unfolding joinsUnit
-  unit-colour h j = joined-colour Z K (joinsUnit Z σ) (λ b t. T-and-r (isOpen (σ b)) _ t) h j
+  unfolding joins_unit
+  unit-colour h j = joined-colour Z K (joins_unit Z σ) (λ b t. T-and-r (is_open (σ b)) _ t) h j
 
   pub unit-block : {x y : ℕ} → SameUnit Z σ x y → SameBlock Z σ x y
-  unfolding joinsUnit joinsBlock
-  unit-block j = join-weaken Z.page (joinsUnit Z σ) (joinsBlock Z σ) (λ b t. T-and-l (isOpen (σ b)) _ t) j
+  unfolding joins_unit joins_block
+  unit-block j = join-weaken Z.page (joins_unit Z σ) (joins_block Z σ) (λ b t. T-and-l (is_open (σ b)) _ t) j

@@ -12,7 +12,7 @@ use mathlib.Core.List.Memᴰ
 use Rattle.lists.specs.Lists.{◌∈◌}
 use Rattle.rules.specs.declared.Side.TheVariants.{Wall, Open}
 use Rattle.rules.specs.declared.Literal.{Literal}
-use Rattle.rules.specs.Page.{State, undecided, decided, Has, Contains, isWall, isOpen}
+use Rattle.rules.specs.Page.{State, undecided, decided, Has, Contains, is_wall, is_open}
 
 pub contains-l : (σ : ℕ → State) (r q : List Literal) → Contains σ (r ++ q) → Contains σ r
 unfolding Contains
@@ -26,17 +26,17 @@ pub has : (σ : ℕ → State) (r : List Literal) → Contains σ r → (l : Lit
 unfolding Contains
 has σ r c l m = c l m
 
-pub open_is : (m : State) → T (isOpen m) → m ≡ decided Open
+pub open_is : (m : State) → T (is_open m) → m ≡ decided Open
 open_is undecided t = absurd t
 open_is (decided Wall) t = absurd t
 open_is (decided Open) t = refl
 
-pub wall-is : (m : State) → T (isWall m) → m ≡ decided Wall
+pub wall-is : (m : State) → T (is_wall m) → m ≡ decided Wall
 wall-is undecided t = absurd t
 wall-is (decided Open) t = absurd t
 wall-is (decided Wall) t = refl
 
-pub open-not-wall : (m : State) → T (isOpen m) → m ≡ decided Wall → ⊥
+pub open-not-wall : (m : State) → T (is_open m) → m ≡ decided Wall → ⊥
 open-not-wall m t e = rw e at t
 
 pub not-both : (a b : Bool) → T (not (beq a b)) → b ≡ not a

@@ -13,10 +13,10 @@ use Rattle.std.proofs.Math.Dec.{eqb→eq, eqb_refl}
 use Rattle.lists.specs.Lists.{◌∈◌, filter, flat_map}
 use Rattle.lists.specs.ListLaws.{mem-map, map-find, mem-flat, flat-find, mem-filter, filter-mem, filter-test}
 use Rattle.rules.specs.Page.{Hop, Page, Point, Shape, ◌⊕◌, opposite}
-use Rattle.rules.specs.Turns.{Turn, apply, flatTable}
+use Rattle.rules.specs.Turns.{Turn, apply, flat_table}
 use Rattle.rules.specs.Flat.{flat}
 use Rattle.rules.specs.Groups.{members}
-use Rattle.rules.specs.Shapes.{sort, shift_by, normal, turned, connectionsAt, shape_of}
+use Rattle.rules.specs.Shapes.{sort, shift_by, normal, turned, connections_at, shape_of}
 use Rattle.laws.specs.PointLaws.{add_comm, add_back, twice-shift}
 use Rattle.laws.specs.PageLaws.{Bordered, OneStep, CellsPlaced, near-turn, near-right, near-eq}
 use Rattle.laws.specs.TurnLaws.{apply-compose, apply-keep, apply-sum, table-rules}
@@ -66,7 +66,7 @@ sums-shift v {ps} {js} S =
     back : (x y : Point) → OneStep (x ⊕ v) (y ⊕ v) → OneStep x y
     back x y k = near-eq (sym (add_back x v)) (sym (add_back y v)) (near-right (opposite v) k)
 
-sums-turn : (a : Turn) → a ∈ flatTable → {ps js : List Point} → Sums ps js
+sums-turn : (a : Turn) → a ∈ flat_table → {ps js : List Point} → Sums ps js
     → Sums (map (apply a) ps) (map (apply a) js)
 sums-turn a t {ps} {js} S =
     record {
@@ -77,7 +77,7 @@ sums-turn a t {ps} {js} S =
             apply a r.1,
             mem-map (apply a) r.2,
             mem-map (apply a) r.3,
-            near-turn (map apply flatTable) flat-turns (apply a) (mem-map apply t) r.4,
+            near-turn (map apply flat_table) flat-turns (apply a) (mem-map apply t) r.4,
             x.2 ∙ (ap (apply a) r.5 ∙ apply-sum a r.0 r.1),
           );
       each = λ p q m n k.
@@ -94,14 +94,14 @@ sums-turn a t {ps} {js} S =
         let undo : (z : Point) → z ≡ apply b.0 (apply a z) =
         λ z. sym (sym (apply-compose b.0 a z) ∙ (ap (λ d. apply d z) b.2 ∙ apply-keep z)) in
         near-eq (undo x) (undo y)
-        (near-turn (map apply flatTable) flat-turns (apply b.0) (mem-map apply b.1) k)
+        (near-turn (map apply flat_table) flat-turns (apply b.0) (mem-map apply b.1) k)
 
 sums-normal : (ps js : List Point) → Sums ps js → Sums (normal ps js).cells (normal ps js).connections
 unfolding normal
 sums-normal [] js S = S
 sums-normal (p ∷ ps) js S = sums-shift (opposite p) S
 
-pub turned-sums : (a : Turn) → a ∈ flatTable → (t : Shape) → Sums t.cells t.connections
+pub turned-sums : (a : Turn) → a ∈ flat_table → (t : Shape) → Sums t.cells t.connections
     → Sums (turned (apply a) t).cells (turned (apply a) t).connections
 unfolding turned
 turned-sums a m t S =
@@ -118,13 +118,13 @@ module _ (G : Page) (K : Bordered G) (P : CellsPlaced G) (number : ℕ → ℕ) 
   places = map G.place ms
 
   abbrev joints : List Point
-  joints = flat_map (connectionsAt G number g) ms
+  joints = flat_map (connections_at G number g) ms
 
   connection : (c : ℕ) (j : Hop) → c ∈ ms → j ∈ G.ahead c → j.to ∈ ms
       → (G.place c ⊕ G.place j.to) ∈ joints
-  unfolding connectionsAt
+  unfolding connections_at
   connection c j m n k =
-      mem-flat (connectionsAt G number g) m
+      mem-flat (connections_at G number g) m
       (mem-map (λ (j : Hop). G.place c ⊕ G.place j.to)
       (mem-filter own (G.ahead c) n (rw (members-number G number g j.to k) (eqb_refl g))))
 
@@ -146,11 +146,11 @@ module _ (G : Page) (K : Bordered G) (P : CellsPlaced G) (number : ℕ → ℕ) 
 
   -- "the sums of all adjacent pairs of cells"
   own-sums : Sums (places) (joints)
-  unfolding connectionsAt
+  unfolding connections_at
   own-sums =
       record {
         are = λ d m.
-            let c = flat-find (connectionsAt G number g) ms m in
+            let c = flat-find (connections_at G number g) ms m in
             let j = map-find (λ (j : Hop). G.place c.0 ⊕ G.place j.to) (filter own (G.ahead c.0)) c.2 in
             let l = members-lt G number g c.0 c.1 in
             let a = K.ahead-around c.0 j.0 l (filter-mem own (G.ahead c.0) j.1) in
@@ -173,7 +173,7 @@ module _ (G : Page) (K : Bordered G) (P : CellsPlaced G) (number : ℕ → ℕ) 
   unfolding shape_of
   shape-sums = sums-normal places joints own-sums
 
-pub turned-connections : (h w : ℕ) → 1 ≤ w → (number : ℕ → ℕ) (g : ℕ) (a b : Turn) → a ∈ flatTable → b ∈ flatTable
+pub turned-connections : (h w : ℕ) → 1 ≤ w → (number : ℕ → ℕ) (g : ℕ) (a b : Turn) → a ∈ flat_table → b ∈ flat_table
     → (turned (apply a) (shape_of (flat h w) number g)).cells ≡ (turned (apply b) (shape_of (flat h w) number g)).cells
     → (d : Point) → d ∈ (turned (apply a) (shape_of (flat h w) number g)).connections
     → d ∈ (turned (apply b) (shape_of (flat h w) number g)).connections

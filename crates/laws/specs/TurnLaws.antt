@@ -1,10 +1,10 @@
 -- Laws of turns: what a row does to sums, composing rows is composing what they do, and the rules of the table of eight
 -- rows, each one computed test over the table.
 --
---   sameAxis, sameRow, sameTurn   tests for equal rows
---   hasTurn a ts        the row a is in the table ts
---   bothAxes a b        one of the axes a and b is row, the other column
---   signedSwap t        t keeps the layer, and keeps or swaps row and column, with any signs
+--   same_axis, same_row, same_turn tests for equal rows
+--   has_turn a ts       the row a is in the table ts
+--   both_axes a b       one of the axes a and b is row, the other column
+--   signed_swap t       t keeps the layer, and keeps or swaps row and column, with any signs
 --   product ts          the row that does the rows ts one after the other, the last first
 --   makings             for each row of the table, in order, the quarter turns and flips that it is made from
 --   TableRules ts       the rules of a table: all signed swaps and nothing else, each once, closed under composition,
@@ -24,64 +24,64 @@ use Rattle.lists.specs.Pairs.{pairwise, distinct-pairwise, distinct-map}
 use Rattle.lists.specs.Booleans.{T_and, T-and-l, T-and-r, T-or, beq-eq}
 use Rattle.rules.specs.Page.{Point, ◌⊕◌}
 use Rattle.rules.specs.Turns.{Axis, layerward, rowward, columnward, Row, Turn, coordinate, signed, read, apply, row_of}
-use Rattle.rules.specs.Turns.{composeRow, compose, plus, minus, flatTurn, keep, quarter, flip, flatTable}
+use Rattle.rules.specs.Turns.{compose_row, compose, plus, minus, flat_turn, keep, quarter, flip, flat_table}
 use Rattle.rules.specs.Shapes.{sameℤ}
 use Rattle.laws.specs.PointLaws.{point-eq}
 use Rattle.laws.specs.PageLaws.{at3}
 use Rattle.laws.specs.SameLaws.{sameℤ-refl}
 
 -- equality as a test
-abbrev pub sameAxis : Axis → Axis → Bool
-sameAxis layerward layerward = true
-sameAxis layerward rowward = false
-sameAxis layerward columnward = false
-sameAxis rowward layerward = false
-sameAxis rowward rowward = true
-sameAxis rowward columnward = false
-sameAxis columnward layerward = false
-sameAxis columnward rowward = false
-sameAxis columnward columnward = true
+abbrev pub same_axis : Axis → Axis → Bool
+same_axis layerward layerward = true
+same_axis layerward rowward = false
+same_axis layerward columnward = false
+same_axis rowward layerward = false
+same_axis rowward rowward = true
+same_axis rowward columnward = false
+same_axis columnward layerward = false
+same_axis columnward rowward = false
+same_axis columnward columnward = true
 
-abbrev pub sameRow : Row → Row → Bool
-sameRow r q = sameAxis r.axis q.axis && beq r.minus q.minus
+abbrev pub same_row : Row → Row → Bool
+same_row r q = same_axis r.axis q.axis && beq r.minus q.minus
 
-abbrev pub sameTurn : Turn → Turn → Bool
-sameTurn a b = sameRow a.layers b.layers && sameRow a.rows b.rows && sameRow a.columns b.columns
+abbrev pub same_turn : Turn → Turn → Bool
+same_turn a b = same_row a.layers b.layers && same_row a.rows b.rows && same_row a.columns b.columns
 
-abbrev pub hasTurn : Turn → List Turn → Bool
-hasTurn a ts = any (sameTurn a) ts
+abbrev pub has_turn : Turn → List Turn → Bool
+has_turn a ts = any (same_turn a) ts
 
-sameAxis→eq : (a b : Axis) → T (sameAxis a b) → a ≡ b
-sameAxis→eq layerward layerward t = refl
-sameAxis→eq layerward rowward t = absurd t
-sameAxis→eq layerward columnward t = absurd t
-sameAxis→eq rowward layerward t = absurd t
-sameAxis→eq rowward rowward t = refl
-sameAxis→eq rowward columnward t = absurd t
-sameAxis→eq columnward layerward t = absurd t
-sameAxis→eq columnward rowward t = absurd t
-sameAxis→eq columnward columnward t = refl
+same_axis→eq : (a b : Axis) → T (same_axis a b) → a ≡ b
+same_axis→eq layerward layerward t = refl
+same_axis→eq layerward rowward t = absurd t
+same_axis→eq layerward columnward t = absurd t
+same_axis→eq rowward layerward t = absurd t
+same_axis→eq rowward rowward t = refl
+same_axis→eq rowward columnward t = absurd t
+same_axis→eq columnward layerward t = absurd t
+same_axis→eq columnward rowward t = absurd t
+same_axis→eq columnward columnward t = refl
 
-sameRow→eq : (r q : Row) → T (sameRow r q) → r ≡ q
-sameRow→eq r q t =
-    let a = sameAxis→eq r.axis q.axis (T-and-l (sameAxis r.axis q.axis) _ t) in
-    let b = beq-eq r.minus q.minus (T-and-r (sameAxis r.axis q.axis) _ t) in
+same_row→eq : (r q : Row) → T (same_row r q) → r ≡ q
+same_row→eq r q t =
+    let a = same_axis→eq r.axis q.axis (T-and-l (same_axis r.axis q.axis) _ t) in
+    let b = beq-eq r.minus q.minus (T-and-r (same_axis r.axis q.axis) _ t) in
     λ i. record { axis = a i; minus = b i }
 
-pub sameTurn→eq : (a b : Turn) → T (sameTurn a b) → a ≡ b
-sameTurn→eq a b t =
-    let u = T-and-l (sameRow a.layers b.layers && sameRow a.rows b.rows) _ t in
-    let l = sameRow→eq a.layers b.layers (T-and-l (sameRow a.layers b.layers) _ u) in
-    let r = sameRow→eq a.rows b.rows (T-and-r (sameRow a.layers b.layers) _ u) in
-    let c = sameRow→eq a.columns b.columns
-    (T-and-r (sameRow a.layers b.layers && sameRow a.rows b.rows) _ t) in
+pub same_turn→eq : (a b : Turn) → T (same_turn a b) → a ≡ b
+same_turn→eq a b t =
+    let u = T-and-l (same_row a.layers b.layers && same_row a.rows b.rows) _ t in
+    let l = same_row→eq a.layers b.layers (T-and-l (same_row a.layers b.layers) _ u) in
+    let r = same_row→eq a.rows b.rows (T-and-r (same_row a.layers b.layers) _ u) in
+    let c = same_row→eq a.columns b.columns
+    (T-and-r (same_row a.layers b.layers && same_row a.rows b.rows) _ t) in
     λ i. record { layers = l i; rows = r i; columns = c i }
 
-sameRow-refl : (r : Row) → T (sameRow r r)
-sameRow-refl r = T_and (sameAxis r.axis r.axis) (beq r.minus r.minus) (axis r.axis)
+same_row-refl : (r : Row) → T (same_row r r)
+same_row-refl r = T_and (same_axis r.axis r.axis) (beq r.minus r.minus) (axis r.axis)
     (sign r.minus)
   where
-    axis : (a : Axis) → T (sameAxis a a)
+    axis : (a : Axis) → T (same_axis a a)
     axis layerward = tt
     axis rowward = tt
     axis columnward = tt
@@ -90,11 +90,11 @@ sameRow-refl r = T_and (sameAxis r.axis r.axis) (beq r.minus r.minus) (axis r.ax
     sign true = tt
     sign false = tt
 
-sameTurn-refl : (a : Turn) → T (sameTurn a a)
-sameTurn-refl a = search (T_and, sameRow-refl)
+same_turn-refl : (a : Turn) → T (same_turn a a)
+same_turn-refl a = search (T_and, same_row-refl)
 
-pub has-turn : (a : Turn) (ts : List Turn) → T (hasTurn a ts) → a ∈ ts
-has-turn a ts t = let r = any-find (sameTurn a) ts t in Memᴰ.cast (sameTurn→eq a r.0 r.2) r.1
+pub has-turn : (a : Turn) (ts : List Turn) → T (has_turn a ts) → a ∈ ts
+has-turn a ts t = let r = any-find (same_turn a) ts t in Memᴰ.cast (same_turn→eq a r.0 r.2) r.1
 
 -- composing rows is composing what they do
 signed-twice : (a b : Bool) (k : ℤ) → signed (xor a b) k ≡ signed a (signed b k)
@@ -104,7 +104,7 @@ signed-twice true false k = refl
 signed-twice false true k = refl
 signed-twice false false k = refl
 
-row-compose : (r : Row) (t : Turn) (p : Point) → read (composeRow r t) p ≡ read r (apply t p)
+row-compose : (r : Row) (t : Turn) (p : Point) → read (compose_row r t) p ≡ read r (apply t p)
 unfolding apply
 row-compose r t p =
     signed-twice r.minus (row_of r.axis t).minus (coordinate (row_of r.axis t).axis p)
@@ -145,14 +145,14 @@ unfolding apply ◌⊕◌
 apply-sum t p q = point-eq (row-sum t.layers p q) (row-sum t.rows p q) (row-sum t.columns p q)
 
 -- two rows that take the place (1,2,3) to one place are one row
-abbrev sixRows : List Row
-sixRows =
+abbrev six_rows : List Row
+six_rows =
     plus layerward ∷ minus layerward ∷ plus rowward ∷ minus rowward ∷ plus columnward ∷ minus columnward ∷ []
 
-six-all : (r : Row) → r ∈ sixRows
+six-all : (r : Row) → r ∈ six_rows
 six-all r = at r.axis r.minus
   where
-    at : (a : Axis) (b : Bool) → record { axis = a; minus = b } ∈ sixRows
+    at : (a : Axis) (b : Bool) → record { axis = a; minus = b } ∈ six_rows
     at layerward false = Memᴰ.head refl
     at layerward true = Memᴰ.tail (Memᴰ.head refl)
     at rowward false = Memᴰ.tail (Memᴰ.tail (Memᴰ.head refl))
@@ -164,24 +164,24 @@ six-all r = at r.axis r.minus
 abbrev probe : Point
 probe = at3 (pos 1) (pos 2) (pos 3)
 
-told : T (all (λ r. all (λ q. not (sameℤ (read r probe) (read q probe)) || sameRow r q) sixRows) sixRows)
+told : T (all (λ r. all (λ q. not (sameℤ (read r probe) (read q probe)) || same_row r q) six_rows) six_rows)
 unfolding all
 told = tt
 
 row_told : (r q : Row) → read r probe ≡ read q probe → r ≡ q
 row_told r q e =
-    go (T-or (not (sameℤ (read r probe) (read q probe))) (sameRow r q)
-    (all-mem (λ q. not (sameℤ (read r probe) (read q probe)) || sameRow r q) sixRows
-    (all-mem (λ r. all (λ q. not (sameℤ (read r probe) (read q probe)) || sameRow r q) sixRows) sixRows told
+    go (T-or (not (sameℤ (read r probe) (read q probe))) (same_row r q)
+    (all-mem (λ q. not (sameℤ (read r probe) (read q probe)) || same_row r q) six_rows
+    (all-mem (λ r. all (λ q. not (sameℤ (read r probe) (read q probe)) || same_row r q) six_rows) six_rows told
     (six-all r)) (six-all q)))
   where
     no : (b : Bool) → T b → T (not b) → ⊥
     no true t u = u
     no false t u = t
 
-    go : T (not (sameℤ (read r probe) (read q probe))) ⊎ T (sameRow r q) → r ≡ q
+    go : T (not (sameℤ (read r probe) (read q probe))) ⊎ T (same_row r q) → r ≡ q
     go (inl t) = absurd (no (sameℤ (read r probe) (read q probe)) (rw e (sameℤ-refl (read q probe))) t)
-    go (inr t) = sameRow→eq r q t
+    go (inr t) = same_row→eq r q t
 
 pub apply-told : (a b : Turn) → apply a probe ≡ apply b probe → a ≡ b
 unfolding apply
@@ -196,12 +196,12 @@ pub apply-inj : (a b : Turn) → apply a ≡ apply b → a ≡ b
 apply-inj a b e = apply-told a b (ap (λ (f : Point → Point). f probe) e)
 
 -- row and column, one way round or the other
-abbrev pub bothAxes : Axis → Axis → Bool
-bothAxes a b = sameAxis a rowward && sameAxis b columnward || sameAxis a columnward && sameAxis b rowward
+abbrev pub both_axes : Axis → Axis → Bool
+both_axes a b = same_axis a rowward && same_axis b columnward || same_axis a columnward && same_axis b rowward
 
 -- "signs and swaps" of (y,x)
-abbrev pub signedSwap : Turn → Bool
-signedSwap t = sameRow t.layers (plus layerward) && bothAxes t.rows.axis t.columns.axis
+abbrev pub signed_swap : Turn → Bool
+signed_swap t = same_row t.layers (plus layerward) && both_axes t.rows.axis t.columns.axis
 
 -- one after the other, the last first
 unfoldable pub product : List Turn → Turn
@@ -223,15 +223,15 @@ makings =
 
 pub record TableRules (ts : List Turn) : Type 0 where
   pub once : Distinct ts
-  pub whole : (t : Turn) → T (signedSwap t) → t ∈ ts
-  pub only : (t : Turn) → t ∈ ts → T (signedSwap t)
+  pub whole : (t : Turn) → T (signed_swap t) → t ∈ ts
+  pub only : (t : Turn) → t ∈ ts → T (signed_swap t)
   pub closed : (a b : Turn) → a ∈ ts → b ∈ ts → compose a b ∈ ts
   pub inverse : (a : Turn) → a ∈ ts → (b : Turn) × b ∈ ts × (compose b a ≡ keep) × (compose a b ≡ keep)
   pub made : map product makings ≡ ts
-  pub made_of : T (all (all (λ t. hasTurn t (quarter ∷ flip ∷ []))) makings)
+  pub made_of : T (all (all (λ t. has_turn t (quarter ∷ flip ∷ []))) makings)
 
 abbrev pub inverses : Turn → Turn → Bool
-inverses a b = sameTurn (compose b a) keep && sameTurn (compose a b) keep
+inverses a b = same_turn (compose b a) keep && same_turn (compose a b) keep
 
 -- the row a has its inverse in the table
 abbrev pub undone : List Turn → Turn → Bool
@@ -243,8 +243,8 @@ undo ts a t =
     let r = any-find (inverses a) ts t in (
       r.0,
       r.1,
-      sameTurn→eq (compose r.0 a) keep (T-and-l (sameTurn (compose r.0 a) keep) _ r.2),
-      sameTurn→eq (compose a r.0) keep (T-and-r (sameTurn (compose r.0 a) keep) _ r.2),
+      same_turn→eq (compose r.0 a) keep (T-and-l (same_turn (compose r.0 a) keep) _ r.2),
+      same_turn→eq (compose a r.0) keep (T-and-r (same_turn (compose r.0 a) keep) _ r.2),
     )
 
 pub apply-undo : (ts : List Turn) (a : Turn) → T (undone ts a)
@@ -255,63 +255,63 @@ apply-undo ts a t =
 
 -- "its composition rules are tested over the table": each row has its inverse there, and composes with each to a row
 abbrev composes : Turn → Bool
-composes a = undone flatTable a && all (λ b. hasTurn (compose a b) flatTable) flatTable
+composes a = undone flat_table a && all (λ b. has_turn (compose a b) flat_table) flat_table
 
-composition : T (all composes flatTable)
+composition : T (all composes flat_table)
 unfolding all any xor
 composition = tt
 
-pub table-rules : TableRules flatTable
+pub table-rules : TableRules flat_table
 unfolding all any pairwise product xor
 table-rules =
     record {
-      once = distinct-pairwise (λ a. a) (λ a b. not (sameTurn a b)) differ flatTable tt;
+      once = distinct-pairwise (λ a. a) (λ a b. not (same_turn a b)) differ flat_table tt;
       whole = swap-listed;
-      only = λ t m. all-mem signedSwap flatTable tt m;
-      closed = λ a b m n. has-turn (compose a b) flatTable
-          (all-mem (λ b. hasTurn (compose a b) flatTable) flatTable
-          (T-and-r (undone flatTable a) _ (all-mem composes flatTable composition m)) n);
-      inverse = λ a m. undo flatTable a (T-and-l (undone flatTable a) _ (all-mem composes flatTable composition m));
+      only = λ t m. all-mem signed_swap flat_table tt m;
+      closed = λ a b m n. has-turn (compose a b) flat_table
+          (all-mem (λ b. has_turn (compose a b) flat_table) flat_table
+          (T-and-r (undone flat_table a) _ (all-mem composes flat_table composition m)) n);
+      inverse = λ a m. undo flat_table a (T-and-l (undone flat_table a) _ (all-mem composes flat_table composition m));
       made = refl;
       made_of = tt;
     }
   where
-    differ : (a b : Turn) → T (not (sameTurn a b)) → a ≡ b → ⊥
-    differ a b t e = T_not (sameTurn a b) t (rw e (sameTurn-refl b))
+    differ : (a b : Turn) → T (not (same_turn a b)) → a ≡ b → ⊥
+    differ a b t e = T_not (same_turn a b) t (rw e (same_turn-refl b))
 
-    signs : (a b : Axis) → T (bothAxes a b) → (i j : Bool)
-        → flatTurn (record { axis = a; minus = i }) (record { axis = b; minus = j }) ∈ flatTable
-    signs rowward columnward t true true = has-turn _ flatTable tt
-    signs rowward columnward t true false = has-turn _ flatTable tt
-    signs rowward columnward t false true = has-turn _ flatTable tt
-    signs rowward columnward t false false = has-turn _ flatTable tt
-    signs columnward rowward t true true = has-turn _ flatTable tt
-    signs columnward rowward t true false = has-turn _ flatTable tt
-    signs columnward rowward t false true = has-turn _ flatTable tt
-    signs columnward rowward t false false = has-turn _ flatTable tt
+    signs : (a b : Axis) → T (both_axes a b) → (i j : Bool)
+        → flat_turn (record { axis = a; minus = i }) (record { axis = b; minus = j }) ∈ flat_table
+    signs rowward columnward t true true = has-turn _ flat_table tt
+    signs rowward columnward t true false = has-turn _ flat_table tt
+    signs rowward columnward t false true = has-turn _ flat_table tt
+    signs rowward columnward t false false = has-turn _ flat_table tt
+    signs columnward rowward t true true = has-turn _ flat_table tt
+    signs columnward rowward t true false = has-turn _ flat_table tt
+    signs columnward rowward t false true = has-turn _ flat_table tt
+    signs columnward rowward t false false = has-turn _ flat_table tt
     signs layerward b t i j = absurd t
     signs rowward layerward t i j = absurd t
     signs rowward rowward t i j = absurd t
     signs columnward layerward t i j = absurd t
     signs columnward columnward t i j = absurd t
 
-    swap-listed : (t : Turn) → T (signedSwap t) → t ∈ flatTable
+    swap-listed : (t : Turn) → T (signed_swap t) → t ∈ flat_table
     swap-listed t s =
-        let l = sameRow→eq t.layers (plus layerward) (T-and-l (sameRow t.layers (plus layerward)) _ s) in
-        let m = signs t.rows.axis t.columns.axis (T-and-r (sameRow t.layers (plus layerward)) _ s)
+        let l = same_row→eq t.layers (plus layerward) (T-and-l (same_row t.layers (plus layerward)) _ s) in
+        let m = signs t.rows.axis t.columns.axis (T-and-r (same_row t.layers (plus layerward)) _ s)
         t.rows.minus t.columns.minus in
-        subst (λ (r : Row). record { layers = r; rows = t.rows; columns = t.columns } ∈ flatTable) (sym l) m
+        subst (λ (r : Row). record { layers = r; rows = t.rows; columns = t.columns } ∈ flat_table) (sym l) m
 
 -- a list of turns that is exactly the eight signed swaps, each once
 pub record Swaps (ts : List (Point → Point)) : Type 0 where
-  pub whole : (t : Turn) → T (signedSwap t) → apply t ∈ ts
-  pub only : (g : Point → Point) → g ∈ ts → (t : Turn) × T (signedSwap t) × (g ≡ apply t)
+  pub whole : (t : Turn) → T (signed_swap t) → apply t ∈ ts
+  pub only : (g : Point → Point) → g ∈ ts → (t : Turn) × T (signed_swap t) × (g ≡ apply t)
   pub once : Distinct ts
 
-pub table-swaps : Swaps (map apply flatTable)
+pub table-swaps : Swaps (map apply flat_table)
 table-swaps =
     record {
       whole = λ t s. mem-map apply (table-rules.whole t s);
-      only = λ g m. let r = map-find apply flatTable m in (r.0, table-rules.only r.0 r.1, r.2);
-      once = distinct-map apply apply-inj flatTable table-rules.once;
+      only = λ g m. let r = map-find apply flat_table m in (r.0, table-rules.only r.0 r.1, r.2);
+      once = distinct-map apply apply-inj flat_table table-rules.once;
     }

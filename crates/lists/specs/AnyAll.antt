@@ -1,4 +1,4 @@
--- Laws of any and all: element by element, two tests that agree, and any and all of maps, flatMaps, tables and ranges.
+-- Laws of any and all: element by element, two tests that agree, and any and all of maps, flat_maps, tables and ranges.
 use Rattle.std.specs.Prelude.{◌≡◌, Bool, true, false, ◌&&◌, length, get_or}
 use Rattle.std.proofs.Math.Path.{refl, sym, ap}
 use Rattle.std.proofs.Common.{◌∙◌}
@@ -7,11 +7,11 @@ use mathlib.Core.List.Memᴰ
 use mathlib.Core.List.{List, [], ◌∷◌, map}
 use Prim.Native.Nat.{ℕ, zero, suc, ◌+◌, ◌<◌}
 use native.Mathlib.Omega.{arith}
-use Rattle.lists.specs.Lists.{◌∈◌, any, all, flat_map, rangeFrom}
+use Rattle.lists.specs.Lists.{◌∈◌, any, all, flat_map, range_from}
 use Rattle.lists.specs.Table.{table}
 use Rattle.lists.specs.Tests.{all_below}
 use Rattle.lists.specs.Booleans.{T_true}
-use Rattle.lists.specs.ListLaws.{any-find, all-mem, getD-mem}
+use Rattle.lists.specs.ListLaws.{any-find, all-mem, get_d-mem}
 use Rattle.lists.specs.Appends.{any_append, all_append}
 use Rattle.lists.specs.TestLaws.{all-cong, all_first}
 
@@ -71,9 +71,9 @@ module _ {A : Type 0} where
 
   pub all-get : (p : A → Bool) (xs : List A) (i : ℕ) (d : A) → all p xs ≡ true → i < length xs
       → p (get_or xs i d) ≡ true
-  all-get p xs i d e h = T_true (p (get_or xs i d)) (all-mem p xs (rw e tt) (getD-mem xs i d h))
+  all-get p xs i d e h = T_true (p (get_or xs i d)) (all-mem p xs (rw e tt) (get_d-mem xs i d h))
 
--- ---- maps, flatMaps, tables, ranges
+-- ---- maps, flat_maps, tables, ranges
 module _ {A B : Type 0} where
   pub any-map : (p : B → Bool) (f : A → B) (xs : List A) → any p (map f xs) ≡ any (λ x. p (f x)) xs
   unfolding any
@@ -102,7 +102,7 @@ module _ {A : Type 0} where
   all-table p (suc n) f = rw (all_append p (table n f) (f n ∷ []), all-table p n f, and-true (p (f n)))
 
   pub all-range : (p : A → Bool) (f : ℕ → A) (i n : ℕ)
-      → all p (map f (rangeFrom i n)) ≡ all_below n (λ j. p (f (i + j)))
+      → all p (map f (range_from i n)) ≡ all_below n (λ j. p (f (i + j)))
   unfolding all all_below
   all-range p f i zero = refl
   all-range p f i (suc n) =

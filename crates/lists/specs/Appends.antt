@@ -5,7 +5,7 @@ use Rattle.std.proofs.Common.{sym}
 use Rattle.std.proofs.Math.Bool.{true, false, and_assoc, or_assoc}
 use mathlib.Core.List.{List, [], ◌∷◌, ◌++◌, append_assoc}
 use Rattle.std.proofs.Math.Option.{Option, some, none}
-use Rattle.lists.specs.Lists.{keepIf, filter, any, all, or_else, flat_map, firstHit}
+use Rattle.lists.specs.Lists.{keep_if, filter, any, all, or_else, flat_map, first_hit}
 
 module _ {A : Type 0} where
   pub filter-append : (p : A → Bool) (xs ys : List A) → filter p (xs ++ ys) ≡ filter p xs ++ filter p ys
@@ -14,7 +14,7 @@ module _ {A : Type 0} where
   filter-append p (x ∷ xs) ys = go (p x) (filter-append p xs ys)
     where
       go : (b : Bool) → filter p (xs ++ ys) ≡ filter p xs ++ filter p ys
-          → keepIf b x (filter p (xs ++ ys)) ≡ keepIf b x (filter p xs) ++ filter p ys
+          → keep_if b x (filter p (xs ++ ys)) ≡ keep_if b x (filter p xs) ++ filter p ys
       go true e = ap (λ (l : List A). x ∷ l) e
       go false e = e
 
@@ -35,12 +35,12 @@ module _ {A B : Type 0} where
   flat_append f (x ∷ xs) ys = rw (flat_append f xs ys, append_assoc)
 
   pub first-append : (f : A → Option B) (xs ys : List A)
-      → firstHit f (xs ++ ys) ≡ or_else (firstHit f xs) (firstHit f ys)
-  unfolding firstHit or_else
+      → first_hit f (xs ++ ys) ≡ or_else (first_hit f xs) (first_hit f ys)
+  unfolding first_hit or_else
   first-append f [] ys = refl
   first-append f (x ∷ xs) ys = go (f x) (first-append f xs ys)
     where
-      go : (o : Option B) → firstHit f (xs ++ ys) ≡ or_else (firstHit f xs) (firstHit f ys)
-          → or_else o (firstHit f (xs ++ ys)) ≡ or_else (or_else o (firstHit f xs)) (firstHit f ys)
+      go : (o : Option B) → first_hit f (xs ++ ys) ≡ or_else (first_hit f xs) (first_hit f ys)
+          → or_else o (first_hit f (xs ++ ys)) ≡ or_else (or_else o (first_hit f xs)) (first_hit f ys)
       go none e = e
       go (some b) e = refl

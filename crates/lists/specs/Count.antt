@@ -2,7 +2,7 @@
 -- Assumes nothing.
 --
 --   bit b               1 for true, 0 for false
---   countBelow n f      how many numbers below n pass the test f
+--   count_below n f     how many numbers below n pass the test f
 use Rattle.std.specs.Prelude.{Bool, true, false, ℕ, zero, suc, ◌+◌}
 
 abbrev pub bit : Bool → ℕ
@@ -10,6 +10,6 @@ bit true = 1
 bit false = 0
 
 -- how many numbers below n pass the test
-unfoldable pub countBelow : ℕ → (ℕ → Bool) → ℕ
-countBelow zero f = 0
-countBelow (suc n) f = countBelow n f + bit (f n)
+unfoldable pub count_below : ℕ → (ℕ → Bool) → ℕ
+count_below zero f = 0
+count_below (suc n) f = count_below n f + bit (f n)

@@ -9,8 +9,8 @@ use Prim.Native.Nat.{ℕ, zero, suc, ◌≤◌, ◌<◌}
 use native.Mathlib.Omega.{arith}
 use Rattle.std.proofs.Math.Dec.{eqb_refl}
 use Rattle.std.proofs.Math.ListN.{length}
-use Rattle.lists.specs.Lists.{◌∈◌, Distinct, keepIf, filter, any, range}
-use Rattle.lists.specs.Count.{bit, countBelow}
+use Rattle.lists.specs.Lists.{◌∈◌, Distinct, keep_if, filter, any, range}
+use Rattle.lists.specs.Count.{bit, count_below}
 use Rattle.lists.specs.Booleans.{same_test, false-true}
 use Rattle.lists.specs.ListLaws.{mem-filter, filter-mem, filter-test, any-mem, any-find}
 use Rattle.lists.specs.Appends.{filter-append}
@@ -22,7 +22,7 @@ module _ {A : Type 0} where
   length-filter p [] = omega arith
   length-filter p (x ∷ xs) = go (p x) (length-filter p xs)
     where
-      go : (b : Bool) → length (filter p xs) ≤ length xs → length (keepIf b x (filter p xs)) ≤ suc (length xs)
+      go : (b : Bool) → length (filter p xs) ≤ length xs → length (keep_if b x (filter p xs)) ≤ suc (length xs)
       go true h = omega arith
       go false h = omega arith
 
@@ -33,7 +33,7 @@ module _ {A : Type 0} where
   filter-less p (y ∷ xs) {x} m e = go (p y) refl (Memᴰ.cases_cons m) (λ n. filter-less p xs n e)
     where
       go : (b : Bool) → p y ≡ b → (x ≡ y) ⊎ x ∈ xs → (x ∈ xs → length (filter p xs) < length xs)
-          → length (keepIf b y (filter p xs)) < suc (length xs)
+          → length (keep_if b y (filter p xs)) < suc (length xs)
       go true f (inl q) ih = false-true (rw q at e) f
       go true f (inr n) ih = omega (arith, ih n)
       go false f c ih = omega (arith, length-filter p xs)
@@ -56,8 +56,8 @@ module _ {A : Type 0} where
   filter-twice p q (x ∷ xs) = go (q x) (filter-twice p q xs)
     where
       go : (b : Bool) → filter p (filter q xs) ≡ filter (λ y. q y && p y) xs
-          → filter p (keepIf b x (filter q xs)) ≡ keepIf (b && p x) x (filter (λ y. q y && p y) xs)
-      go true h = ap (keepIf (p x) x) h
+          → filter p (keep_if b x (filter q xs)) ≡ keep_if (b && p x) x (filter (λ y. q y && p y) xs)
+      go true h = ap (keep_if (p x) x) h
       go false h = h
 
   -- none passes
@@ -71,24 +71,24 @@ module _ {A : Type 0} where
   distinct_filter p [] d = tt
   distinct_filter p (x ∷ xs) d = go (p x) (distinct_filter p xs d.1)
     where
-      go : (b : Bool) → Distinct (filter p xs) → Distinct (keepIf b x (filter p xs))
+      go : (b : Bool) → Distinct (filter p xs) → Distinct (keep_if b x (filter p xs))
       go true e = (λ m. d.0 (filter-mem p xs m), e)
       go false e = e
 
 -- ---- the numbers below n
 -- one more number is tested
-pub filter_more : (p : ℕ → Bool) (n : ℕ) → filter p (range (suc n)) ≡ filter p (range n) ++ keepIf (p n) n []
+pub filter_more : (p : ℕ → Bool) (n : ℕ) → filter p (range (suc n)) ≡ filter p (range n) ++ keep_if (p n) n []
 unfolding filter
 filter_more p n = ap (filter p) (range-more n) ∙ filter-append p (range n) (n ∷ [])
 
-pub filter-length : (p : ℕ → Bool) (n : ℕ) → length (filter p (range n)) ≡ countBelow n p
-unfolding filter countBelow
+pub filter-length : (p : ℕ → Bool) (n : ℕ) → length (filter p (range n)) ≡ count_below n p
+unfolding filter count_below
 filter-length p zero = refl
 filter-length p (suc n) =
-    ap length (filter_more p n) ∙ length-append (filter p (range n)) (keepIf (p n) n [])
+    ap length (filter_more p n) ∙ length-append (filter p (range n)) (keep_if (p n) n [])
     ∙ omega (arith, filter-length p n, one (p n))
   where
-    one : (b : Bool) → length (keepIf b n []) ≡ bit b
+    one : (b : Bool) → length (keep_if b n []) ≡ bit b
     one true = refl
     one false = refl
 

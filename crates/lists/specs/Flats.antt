@@ -58,23 +58,23 @@ module _ {A B : Type 0} where
       omega arith
 
   -- ---- lists of k elements each
-  pub getD-flat : (f : A → List B) (k : ℕ) → ((x : A) → length (f x) ≡ k)
+  pub get_d-flat : (f : A → List B) (k : ℕ) → ((x : A) → length (f x) ≡ k)
       → (xs : List A) (i j : ℕ) (d : A) (z : B) → i < length xs → j < k
       → get_or (flat_map f xs) (k * i + j) z ≡ get_or (f (get_or xs i d)) j z
   unfolding flat_map
-  getD-flat f k long [] i j d z h l = absurd (not-suc-le-zero h)
-  getD-flat f k long (x ∷ xs) zero j d z h l =
+  get_d-flat f k long [] i j d z h l = absurd (not-suc-le-zero h)
+  get_d-flat f k long (x ∷ xs) zero j d z h l =
       let b = long x in
       let q : k * 0 ≡ 0 = mul-zero k in
       let e : k * 0 + j ≡ j = omega arith in
       ap (λ n. get_or (f x ++ flat_map f xs) n z) e ∙ get_or-append (f x) (flat_map f xs) z j (omega arith)
-  getD-flat f k long (x ∷ xs) (suc i) j d z h l =
+  get_d-flat f k long (x ∷ xs) (suc i) j d z h l =
       let b = long x in
       let q : k * suc i ≡ k * i + k = mul-suc k i in
       let e : k * suc i + j ≡ length (f x) + (k * i + j) = omega arith in
       ap (λ n. get_or (f x ++ flat_map f xs) n z) e
       ∙ get_or-append-add (f x) (flat_map f xs) (k * i + j) z
-      ∙ getD-flat f k long xs i j d z (le_of_suc-le-suc h) l
+      ∙ get_d-flat f k long xs i j d z (le_of_suc-le-suc h) l
 
   -- as many times z
   pub flat-replicate : (f : A → List B) (k : ℕ) (a : A) (z : B) → f a ≡ replicate k z

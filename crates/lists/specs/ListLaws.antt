@@ -1,4 +1,4 @@
--- What is an element of a filter, a map, a flat_map, and what any, all and firstHit say of the elements.
+-- What is an element of a filter, a map, a flat_map, and what any, all and first_hit say of the elements.
 use Rattle.std.proofs.Math.Path.{◌≡◌, refl}
 use Rattle.std.proofs.Common.{ap, ◌∙◌, subst, inl, inr, not-suc-le-zero, le_of_suc-le-suc}
 use Rattle.std.specs.Prelude.{◌⊎◌, Bool, ℕ, zero, suc, ◌<◌, length, get_or}
@@ -8,7 +8,7 @@ use mathlib.Core.List.{List, [], ◌∷◌, map}
 use Rattle.std.proofs.Math.Option.{Option, some, none}
 use native.Mathlib.Omega.{arith}
 use Rattle.std.proofs.Math.Dec.{T}
-use Rattle.lists.specs.Lists.{◌∈◌, keepIf, filter, any, all, or_else, flat_map, firstHit}
+use Rattle.lists.specs.Lists.{◌∈◌, keep_if, filter, any, all, or_else, flat_map, first_hit}
 use Rattle.lists.specs.Booleans.{T-and-l, T-and-r, T_and, T-or, T-or-l, T-or-r}
 
 module _ {A : Type 0} where
@@ -17,7 +17,7 @@ module _ {A : Type 0} where
   mem-filter p [] m t = absurd (Memᴰ.not-nil m)
   mem-filter p (y ∷ ys) {x} m t = go (p y) refl (Memᴰ.cases_cons m) (λ m'. mem-filter p ys m' t)
     where
-      go : (b : Bool) → p y ≡ b → (x ≡ y) ⊎ x ∈ ys → (x ∈ ys → x ∈ filter p ys) → x ∈ keepIf b y (filter p ys)
+      go : (b : Bool) → p y ≡ b → (x ≡ y) ⊎ x ∈ ys → (x ∈ ys → x ∈ filter p ys) → x ∈ keep_if b y (filter p ys)
       go true e (inl q) ih = Memᴰ.head q
       go true e (inr m') ih = Memᴰ.tail (ih m')
       go false e (inl q) ih = absurd (rw (q, e) at t)
@@ -28,7 +28,7 @@ module _ {A : Type 0} where
   filter-mem p [] m = m
   filter-mem p (y ∷ ys) {x} m = go (p y) m (λ m'. filter-mem p ys m')
     where
-      go : (b : Bool) → x ∈ keepIf b y (filter p ys) → (x ∈ filter p ys → x ∈ ys) → x ∈ (y ∷ ys)
+      go : (b : Bool) → x ∈ keep_if b y (filter p ys) → (x ∈ filter p ys → x ∈ ys) → x ∈ (y ∷ ys)
       go true (Memᴰ.head q) ih = Memᴰ.head q
       go true (Memᴰ.tail m') ih = Memᴰ.tail (ih m')
       go false m' ih = Memᴰ.tail (ih m')
@@ -38,7 +38,7 @@ module _ {A : Type 0} where
   filter-test p [] m = absurd (Memᴰ.not-nil m)
   filter-test p (y ∷ ys) {x} m = go (p y) refl m (λ m'. filter-test p ys m')
     where
-      go : (b : Bool) → p y ≡ b → x ∈ keepIf b y (filter p ys) → (x ∈ filter p ys → T (p x)) → T (p x)
+      go : (b : Bool) → p y ≡ b → x ∈ keep_if b y (filter p ys) → (x ∈ filter p ys → T (p x)) → T (p x)
       go true e (Memᴰ.head q) ih = rw (q, e) tt
       go true e (Memᴰ.tail m') ih = ih m'
       go false e m' ih = ih m'
@@ -69,10 +69,10 @@ module _ {A : Type 0} where
   mem-all p (x ∷ xs) f =
       T_and (p x) (all p xs) (f x (Memᴰ.head refl)) (mem-all p xs (λ y m. f y (Memᴰ.tail m)))
 
-  pub getD-mem : (xs : List A) (i : ℕ) (d : A) → i < length xs → get_or xs i d ∈ xs
-  getD-mem [] i d h = absurd (not-suc-le-zero h)
-  getD-mem (x ∷ xs) zero d h = Memᴰ.head refl
-  getD-mem (x ∷ xs) (suc i) d h = Memᴰ.tail (getD-mem xs i d (le_of_suc-le-suc h))
+  pub get_d-mem : (xs : List A) (i : ℕ) (d : A) → i < length xs → get_or xs i d ∈ xs
+  get_d-mem [] i d h = absurd (not-suc-le-zero h)
+  get_d-mem (x ∷ xs) zero d h = Memᴰ.head refl
+  get_d-mem (x ∷ xs) (suc i) d h = Memᴰ.tail (get_d-mem xs i d (le_of_suc-le-suc h))
 
 module _ {A B : Type 0} where
   pub mem-map : (f : A → B) {xs : List A} {x : A} → x ∈ xs → f x ∈ map f xs
@@ -103,25 +103,25 @@ module _ {A B : Type 0} where
       go (inl n) ih = (x, Memᴰ.head refl, n)
       go (inr n) ih = let r = ih n in (r.0, Memᴰ.tail r.1, r.2)
 
-  pub first-find : (f : A → Option B) (xs : List A) (b : B) → firstHit f xs ≡ some b → (x : A) × x ∈ xs × (f x ≡ some b)
-  unfolding firstHit or_else
+  pub first-find : (f : A → Option B) (xs : List A) (b : B) → first_hit f xs ≡ some b → (x : A) × x ∈ xs × (f x ≡ some b)
+  unfolding first_hit or_else
   first-find f [] b e = absurd (none-some e)
     where
       none-some : Path (Option B) none (some b) → ⊥
       none-some q = let z : ◌≡◌ {A = ℕ} 0 1 = cc in omega arith
   first-find f (x ∷ xs) b e = go (f x) refl e (first-find f xs b)
     where
-      go : (o : Option B) → f x ≡ o → or_else o (firstHit f xs) ≡ some b
-          → (firstHit f xs ≡ some b → (z : A) × z ∈ xs × (f z ≡ some b)) → (z : A) × z ∈ (x ∷ xs) × (f z ≡ some b)
+      go : (o : Option B) → f x ≡ o → or_else o (first_hit f xs) ≡ some b
+          → (first_hit f xs ≡ some b → (z : A) × z ∈ xs × (f z ≡ some b)) → (z : A) × z ∈ (x ∷ xs) × (f z ≡ some b)
       go (some a) p q ih = (x, Memᴰ.head refl, p ∙ q)
       go none p q ih = let r = ih q in (r.0, Memᴰ.tail r.1, r.2)
 
-  pub first-none : (f : A → Option B) (xs : List A) → firstHit f xs ≡ none → {x : A} → x ∈ xs → f x ≡ none
-  unfolding firstHit or_else
+  pub first-none : (f : A → Option B) (xs : List A) → first_hit f xs ≡ none → {x : A} → x ∈ xs → f x ≡ none
+  unfolding first_hit or_else
   first-none f (y ∷ ys) e {x} m = go (f y) refl e (Memᴰ.cases_cons m) (λ q m'. first-none f ys q m')
     where
-      go : (o : Option B) → f y ≡ o → or_else o (firstHit f ys) ≡ none → (x ≡ y) ⊎ x ∈ ys
-          → (firstHit f ys ≡ none → x ∈ ys → f x ≡ none) → f x ≡ none
+      go : (o : Option B) → f y ≡ o → or_else o (first_hit f ys) ≡ none → (x ≡ y) ⊎ x ∈ ys
+          → (first_hit f ys ≡ none → x ∈ ys → f x ≡ none) → f x ≡ none
       go (some a) p q c ih = let z : ◌≡◌ {A = ℕ} 0 1 = cc in absurd (omega arith)
       go none p q (inl r) ih = rw r p
       go none p q (inr m') ih = ih q m'

@@ -41,8 +41,8 @@ module _ {A : Type 0} where
   length-padded n z l h =
       omega (arith, length-append l (replicate (n - length l) z), length-replicate (n - length l) z)
 
-  pub getD-padded : (n : ℕ) (z : A) (l : List A) (i : ℕ) → get_or (padded n z l) i z ≡ get_or l i z
-  getD-padded n z l i = go (dec_lt i (length l))
+  pub get_d-padded : (n : ℕ) (z : A) (l : List A) (i : ℕ) → get_or (padded n z l) i z ≡ get_or l i z
+  get_d-padded n z l i = go (dec_lt i (length l))
     where
       go : Dec (i < length l) → get_or (padded n z l) i z ≡ get_or l i z
       go (yes h) = get_or-append l (replicate (n - length l) z) z i h
@@ -57,7 +57,7 @@ module _ {A : Type 0} where
   pub padded-is : (n : ℕ) (z : A) (l out : List A) → length l ≤ n → length out ≡ n
       → ((i : ℕ) → get_or out i z ≡ get_or l i z) → out ≡ padded n z l
   padded-is n z l out h e f =
-      ext_get_or z out (padded n z l) (e ∙ sym (length-padded n z l h)) (λ i k. f i ∙ sym (getD-padded n z l i))
+      ext_get_or z out (padded n z l) (e ∙ sym (length-padded n z l h)) (λ i k. f i ∙ sym (get_d-padded n z l i))
 
   -- a list of n that has z from m on
   pub padded-take : (z : A) (n m : ℕ) (l : List A) → length l ≡ n → m ≤ n → ((i : ℕ) → m ≤ i → get_or l i z ≡ z)

@@ -7,7 +7,7 @@ use Rattle.std.proofs.Common.{sym, subst, inl, inr}
 use Rattle.std.proofs.Math.Bool.{true, false}
 use mathlib.Core.List.Memᴰ
 use mathlib.Core.List.{List, [], ◌∷◌, ◌++◌, map}
-use Rattle.lists.specs.Lists.{◌∈◌, Distinct, all, keepIf, filter, flat_map}
+use Rattle.lists.specs.Lists.{◌∈◌, Distinct, all, keep_if, filter, flat_map}
 use Rattle.lists.specs.Booleans.{T-and-l, T-and-r}
 use Rattle.lists.specs.ListLaws.{all-mem, mem-map, map-find, flat-find, filter-mem}
 
@@ -55,7 +55,7 @@ module _ {A B : Type 0} where
   distinct-kept f p [] d = tt
   distinct-kept f p (x ∷ xs) d = go (p x) (distinct-kept f p xs d.1)
     where
-      go : (b : Bool) → Distinct (map f (filter p xs)) → Distinct (map f (keepIf b x (filter p xs)))
+      go : (b : Bool) → Distinct (map f (filter p xs)) → Distinct (map f (keep_if b x (filter p xs)))
       go false e = e
       go true e = (
         λ m.

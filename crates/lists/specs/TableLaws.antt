@@ -1,4 +1,4 @@
--- Laws of tables: a loop that stores their values one by one, and tables in maps, flatMaps and parts of lists.
+-- Laws of tables: a loop that stores their values one by one, and tables in maps, flat_maps and parts of lists.
 use Rattle.std.specs.Prelude.{◌≡◌, ◌⊎◌, length, get_or, set, drop}
 use Rattle.std.proofs.Math.Path.{refl, ap, ap₂, sym}
 use Rattle.std.proofs.Common.{◌∙◌, inl, inr, not-suc-le-zero, eq-or-lt_of_le, le_of_suc-le-suc, length-drop, ext_get_or, get_or-set_same, get_or-set_other, take-add, drop-drop, length-take-le, get_or-take, get_or-drop}
@@ -23,15 +23,15 @@ module _ {A : Type 0} where
   length-table zero f = refl
   length-table (suc n) f = omega (arith, length-append (table n f) (f n ∷ []), length-table n f)
 
-  pub getD-table : (n : ℕ) (f : ℕ → A) (i : ℕ) (d : A) → i < n → get_or (table n f) i d ≡ f i
+  pub get_d-table : (n : ℕ) (f : ℕ → A) (i : ℕ) (d : A) → i < n → get_or (table n f) i d ≡ f i
   unfolding table
-  getD-table zero f i d h = absurd (not-suc-le-zero h)
-  getD-table (suc n) f i d h =
+  get_d-table zero f i d h = absurd (not-suc-le-zero h)
+  get_d-table (suc n) f i d h =
       ⊎_elim
       (λ (p : i ≡ n). rw p (get_or_at (table n f) (f n) [] d n (length-table n f)))
       (λ l.
       let k = length-table n f in
-      get_or-append (table n f) (f n ∷ []) d i (omega arith) ∙ getD-table n f i d l)
+      get_or-append (table n f) (f n ∷ []) d i (omega arith) ∙ get_d-table n f i d l)
       (eq-or-lt_of_le (le_of_suc-le-suc h))
 
   pub table_more : (n : ℕ) (f : ℕ → A) → table (n + 1) f ≡ table n f ++ (f n ∷ [])
@@ -48,7 +48,7 @@ module _ {A : Type 0} where
       → ((i : ℕ) → i < n → get_or l i d ≡ f i) → l ≡ table n f
   table_is n f d l e h =
       ext_get_or d l (table n f) (e ∙ sym (length-table n f))
-      (λ i k. h i (omega arith) ∙ sym (getD-table n f i d (omega arith)))
+      (λ i k. h i (omega arith) ∙ sym (get_d-table n f i d (omega arith)))
 
   -- one more value is stored
   pub stored_more : (f : ℕ → A) (d v : A) (l : List A) (i : ℕ) → i < length l → v ≡ f i

@@ -4,7 +4,7 @@ use Rattle.std.proofs.Common.{ap, sym, ◌∙◌, ⊎_elim, not-suc-le-zero, eq-
 use Rattle.std.proofs.Math.Bool.{or-true, or-false, or_assoc, and-true, and_assoc}
 use Rattle.std.proofs.Math.Decide.{dec_lt}
 use Rattle.std.specs.Int.Bits.{bit_or}
-use Rattle.lists.specs.Tests.{all_below, anyBelow, allBetween}
+use Rattle.lists.specs.Tests.{all_below, any_below, all_between}
 use Rattle.lists.specs.Booleans.{and_left, and_right, and-fails, or_cases, false-true}
 use Rattle.lists.specs.Arithmetic.{or-none}
 
@@ -83,16 +83,16 @@ pub all-stop : (i n : ℕ) (f : ℕ → Bool) (z : Bool) → z ≡ all_below i f
 all-stop i n f z p h k = let e : i ≡ n = omega arith in rw e at p
 
 -- ---- every number from a on
-pub between_none : (a n : ℕ) (f : ℕ → Bool) → n ≤ a → allBetween a n f ≡ true
-unfolding allBetween
+pub between_none : (a n : ℕ) (f : ℕ → Bool) → n ≤ a → all_between a n f ≡ true
+unfolding all_between
 between_none a n f h = all-every n _ (λ i l. rw (lt-ltb i a (omega arith)))
 
-pub between-at : (a n : ℕ) (f : ℕ → Bool) (i : ℕ) → allBetween a n f ≡ true → a ≤ i → i < n → f i ≡ true
-unfolding allBetween
+pub between-at : (a n : ℕ) (f : ℕ → Bool) (i : ℕ) → all_between a n f ≡ true → a ≤ i → i < n → f i ≡ true
+unfolding all_between
 between-at a n f i e h k = rw (le-ltb i a h) at (all-at n (λ j. ltb j a || f j) i e k)
 
-pub between-every : (a n : ℕ) (f : ℕ → Bool) → ((i : ℕ) → a ≤ i → i < n → f i ≡ true) → allBetween a n f ≡ true
-unfolding allBetween
+pub between-every : (a n : ℕ) (f : ℕ → Bool) → ((i : ℕ) → a ≤ i → i < n → f i ≡ true) → all_between a n f ≡ true
+unfolding all_between
 between-every a n f h = all-every n (λ j. ltb j a || f j) (λ i l. go i l (dec_lt i a))
   where
     go : (i : ℕ) → i < n → Dec (i < a) → ltb i a || f i ≡ true
@@ -101,69 +101,69 @@ between-every a n f h = all-every n (λ j. ltb j a || f j) (λ i l. go i l (dec_
 
 -- a loop that gathers goes on
 pub between-and : (a i : ℕ) (f : ℕ → Bool) (z b : Bool)
-    → z ≡ allBetween a i f → b ≡ f i → a ≤ i → z && b ≡ allBetween a (i + 1) f
-unfolding allBetween
+    → z ≡ all_between a i f → b ≡ f i → a ≤ i → z && b ≡ all_between a (i + 1) f
+unfolding all_between
 between-and a i f z b p q h = all-and i (λ j. ltb j a || f j) z b p (rw (q, le-ltb i a h))
 
 pub between-or : (a i : ℕ) (f : ℕ → Bool) (w x : ℕ)
-    → eqb w 0 ≡ allBetween a i f → eqb x 0 ≡ f i → a ≤ i → eqb (bit_or w x) 0 ≡ allBetween a (i + 1) f
+    → eqb w 0 ≡ all_between a i f → eqb x 0 ≡ f i → a ≤ i → eqb (bit_or w x) 0 ≡ all_between a (i + 1) f
 between-or a i f w x p q h = or-none w x ∙ between-and a i f (eqb w 0) (eqb x 0) p q h
 
 -- and one that ends
-pub between-stop : (a i n : ℕ) (f : ℕ → Bool) → a ≤ i → n ≤ i → i - a ≤ n - a → allBetween a i f ≡ allBetween a n f
+pub between-stop : (a i n : ℕ) (f : ℕ → Bool) → a ≤ i → n ≤ i → i - a ≤ n - a → all_between a i f ≡ all_between a n f
 between-stop a i n f h k l = go (dec_lt n a)
   where
-    go : Dec (n < a) → allBetween a i f ≡ allBetween a n f
+    go : Dec (n < a) → all_between a i f ≡ all_between a n f
     go (yes d) = between_none a i f (omega arith) ∙ sym (between_none a n f (omega arith))
-    go (no d) = ap (λ j. allBetween a j f) (let e : i ≡ n = omega arith in e)
+    go (no d) = ap (λ j. all_between a j f) (let e : i ≡ n = omega arith in e)
 
 -- ---- some number
-pub any_none : (f : ℕ → Bool) → anyBelow 0 f ≡ false
-unfolding anyBelow
+pub any_none : (f : ℕ → Bool) → any_below 0 f ≡ false
+unfolding any_below
 any_none f = refl
 
-pub any-more : (n : ℕ) (f : ℕ → Bool) → anyBelow (n + 1) f ≡ anyBelow n f || f n
-unfolding anyBelow
+pub any-more : (n : ℕ) (f : ℕ → Bool) → any_below (n + 1) f ≡ any_below n f || f n
+unfolding any_below
 any-more n f = rw add-one
 
-pub any-cong : (n : ℕ) (f g : ℕ → Bool) → ((i : ℕ) → i < n → f i ≡ g i) → anyBelow n f ≡ anyBelow n g
-unfolding anyBelow
+pub any-cong : (n : ℕ) (f g : ℕ → Bool) → ((i : ℕ) → i < n → f i ≡ g i) → any_below n f ≡ any_below n g
+unfolding any_below
 any-cong zero f g h = refl
 any-cong (suc n) f g h = rw (any-cong n f g (λ i l. h i (omega arith)), h n (omega arith))
 
 -- some number passes
-pub any_some : (n : ℕ) (f : ℕ → Bool) (i : ℕ) → i < n → f i ≡ true → anyBelow n f ≡ true
-unfolding anyBelow
+pub any_some : (n : ℕ) (f : ℕ → Bool) (i : ℕ) → i < n → f i ≡ true → any_below n f ≡ true
+unfolding any_below
 any_some zero f i h e = absurd (not-suc-le-zero h)
 any_some (suc n) f i h e =
     ⊎_elim
-    (λ (p : i ≡ n). rw (← p, e) (or-true (anyBelow i f)))
+    (λ (p : i ≡ n). rw (← p, e) (or-true (any_below i f)))
     (λ l. rw (any_some n f i l e))
     (eq-or-lt_of_le (le_of_suc-le-suc h))
 
 -- there is a number that the test holds of
-pub any-witness : (n : ℕ) (f : ℕ → Bool) → anyBelow n f ≡ true → (x : ℕ) × (x < n) × (f x ≡ true)
-unfolding anyBelow
+pub any-witness : (n : ℕ) (f : ℕ → Bool) → any_below n f ≡ true → (x : ℕ) × (x < n) × (f x ≡ true)
+unfolding any_below
 any-witness zero f e = false-true refl e
 any-witness (suc n) f e =
     ⊎_elim
-    (λ (p : anyBelow n f ≡ true). let r = any-witness n f p in (r.0, omega arith, r.2))
+    (λ (p : any_below n f ≡ true). let r = any-witness n f p in (r.0, omega arith, r.2))
     (λ (p : f n ≡ true). (n, omega arith, p))
-    (or_cases (anyBelow n f) (f n) e)
+    (or_cases (any_below n f) (f n) e)
 
 -- no number passes, and one number more does not, and none from i on does
-pub any-fails : (n : ℕ) (f : ℕ → Bool) → ((i : ℕ) → i < n → f i ≡ false) → anyBelow n f ≡ false
-unfolding anyBelow
+pub any-fails : (n : ℕ) (f : ℕ → Bool) → ((i : ℕ) → i < n → f i ≡ false) → any_below n f ≡ false
+unfolding any_below
 any-fails zero f h = refl
 any-fails (suc n) f h = rw (any-fails n f (λ i l. h i (omega arith)), h n (omega arith))
 
-pub none_more : (n : ℕ) (f : ℕ → Bool) → anyBelow n f ≡ false → f n ≡ false → anyBelow (n + 1) f ≡ false
-unfolding anyBelow
+pub none_more : (n : ℕ) (f : ℕ → Bool) → any_below n f ≡ false → f n ≡ false → any_below (n + 1) f ≡ false
+unfolding any_below
 none_more n f p q = rw (add-one, p, q)
 
-pub none_rest : (i n : ℕ) (f : ℕ → Bool) → anyBelow i f ≡ false → i ≤ n
-    → ((j : ℕ) → i ≤ j → j < n → f j ≡ false) → anyBelow n f ≡ false
-unfolding anyBelow
+pub none_rest : (i n : ℕ) (f : ℕ → Bool) → any_below i f ≡ false → i ≤ n
+    → ((j : ℕ) → i ≤ j → j < n → f j ≡ false) → any_below n f ≡ false
+unfolding any_below
 none_rest i zero f h l r = refl
 none_rest i (suc n) f h l r =
     ⊎_elim
@@ -173,9 +173,9 @@ none_rest i (suc n) f h l r =
     (eq-or-lt_of_le l)
 
 -- the first test apart
-pub any-first : (n : ℕ) (f : ℕ → Bool) → anyBelow (suc n) f ≡ f 0 || anyBelow n (λ x. f (suc x))
-unfolding anyBelow
+pub any-first : (n : ℕ) (f : ℕ → Bool) → any_below (suc n) f ≡ f 0 || any_below n (λ x. f (suc x))
+unfolding any_below
 any-first zero f = sym (or-false (f 0))
 any-first (suc n) f =
     ap (λ (b : Bool). b || f (suc n)) (any-first n f)
-    ∙ or_assoc (f 0) (anyBelow n (λ x. f (suc x))) (f (suc n))
+    ∙ or_assoc (f 0) (any_below n (λ x. f (suc x))) (f (suc n))

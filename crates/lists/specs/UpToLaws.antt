@@ -7,7 +7,7 @@ use Rattle.std.proofs.Math.Logic.{⊎_elim}
 use mathlib.Core.List.{List, [], ◌∷◌, ◌++◌, map, map-append, append_assoc, append-nil}
 use Prim.Native.Nat.{ℕ, zero, suc, ◌+◌, ◌<◌, ◌≤◌}
 use Rattle.std.proofs.Math.ListN.{length-append}
-use Rattle.lists.specs.Lists.{keepIf, filter, any, flat_map, range}
+use Rattle.lists.specs.Lists.{keep_if, filter, any, flat_map, range}
 use Rattle.lists.specs.UpTo.{up_to}
 use Rattle.lists.specs.Arithmetic.{if-same}
 use Rattle.lists.specs.Appends.{any_append}
@@ -49,12 +49,12 @@ module _ {A : Type 0} where
 
   -- what a loop gathers that looks at one number after the other
   pub up-filter : (f : ℕ → A) (t : ℕ → Bool) (n : ℕ)
-      → up_to (λ i. map f (keepIf (t i) i [])) n ≡ map f (filter t (range n))
+      → up_to (λ i. map f (keep_if (t i) i [])) n ≡ map f (filter t (range n))
   unfolding up_to filter
   up-filter f t zero = refl
   up-filter f t (suc n) =
-      ap (λ xs. xs ++ map f (keepIf (t n) n [])) (up-filter f t n)
-      ∙ (sym (map-append f (filter t (range n)) (keepIf (t n) n []))
+      ap (λ xs. xs ++ map f (keep_if (t n) n [])) (up-filter f t n)
+      ∙ (sym (map-append f (filter t (range n)) (keep_if (t n) n []))
       ∙ ap (map f) (sym (filter_more t n)))
 
 -- a search through lists one after another

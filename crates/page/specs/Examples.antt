@@ -3,13 +3,13 @@ use Rattle.std.specs.Prelude.{◌≡◌, refl, List, [], ◌∷◌, ℕ}
 use Rattle.lists.specs.Lists.{or_else, all, any}
 use Rattle.rules.specs.declared.Side.TheVariants.{Wall, Open}
 use Rattle.rules.specs.declared.Call.TheVariants.{Decide, Undo, Check}
-use Rattle.board.specs.Alien.{sizeRight}
-use Rattle.page.specs.Parsers.{strip, also, onto, give, lead, followed, either, both, map_r, andOn, times, many}
-use Rattle.page.specs.Parsers.{rep, digit, mayFollow, numberOn, number, withDigit, digitsOn, digits}
-use Rattle.page.specs.Grammar.{size, row, clue, side, decideCall, call, close, sheet, onPage, sameCell, cluesFit}
+use Rattle.board.specs.Alien.{size_right}
+use Rattle.page.specs.Parsers.{strip, also, onto, give, lead, followed, either, both, map_r, and_on, times, many}
+use Rattle.page.specs.Parsers.{rep, digit, may_follow, number_on, number, with_digit, digits_on, digits}
+use Rattle.page.specs.Grammar.{size, row, clue, side, decide_call, call, close, sheet, on_page, same_cell, clues_fit}
 use Rattle.page.specs.Grammar.{Sheet, whole, page_of}
-use Rattle.page.specs.Judge.{accepted, rowsFit, low, twoColours, judgeSheet, judgeRead}
-use Rattle.page.specs.Judge.{judgementOf}
+use Rattle.page.specs.Judge.{accepted, rows_fit, low, two_colours, judge_sheet, judge_read}
+use Rattle.page.specs.Judge.{judgement_of}
 
 -- `(page` `(size 1 2)` `(row 01)` `(check)` `(decide 0 1)` `(check)` `(undo)` `(decide 0 0)` `(check)` `)`
 abbrev pub sample : List ℕ
@@ -20,8 +20,8 @@ sample =
     40 ∷ 100 ∷ 101 ∷ 99 ∷ 105 ∷ 100 ∷ 101 ∷ 32 ∷ 48 ∷ 32 ∷ 48 ∷ 41 ∷ 10 ∷ 40 ∷ 99 ∷ 104 ∷ 101 ∷ 99 ∷ 107 ∷ 41 ∷ 10 ∷
     41 ∷ 10 ∷ []
 
-abbrev pub samplePage : Sheet
-samplePage =
+abbrev pub sample_page : Sheet
+sample_page =
     record {
       height = 1;
       width = 2;
@@ -39,8 +39,8 @@ draft =
     119 ∷ 32 ∷ 48 ∷ 49 ∷ 41 ∷ 10 ∷ 40 ∷ 99 ∷ 108 ∷ 117 ∷ 101 ∷ 32 ∷ 48 ∷ 32 ∷ 48 ∷ 32 ∷ 50 ∷ 49 ∷ 52 ∷ 55 ∷ 52 ∷ 56 ∷
     51 ∷ 54 ∷ 52 ∷ 55 ∷ 41 ∷ 10 ∷ 40 ∷ 99 ∷ 104 ∷ 101 ∷ 99 ∷ 107 ∷ 41 ∷ 10 ∷ 41 ∷ 10 ∷ []
 
-abbrev pub draftPage : Sheet
-draftPage =
+abbrev pub draft_page : Sheet
+draft_page =
     record {
       height = 1;
       width = 2;
@@ -49,15 +49,15 @@ draftPage =
       calls = Check ∷ [];
     }
 
-both-accepted : (judgementOf sample ≡ accepted samplePage) × (judgementOf draft ≡ accepted draftPage)
-unfolding strip also onto give lead followed either or_else both map_r andOn times many rep digit mayFollow numberOn
-    number withDigit digitsOn digits size row clue side decideCall call close sheet onPage sameCell cluesFit whole
-    page_of all any sizeRight rowsFit low twoColours judgeSheet judgeRead judgementOf
+both-accepted : (judgement_of sample ≡ accepted sample_page) × (judgement_of draft ≡ accepted draft_page)
+unfolding strip also onto give lead followed either or_else both map_r and_on times many rep digit may_follow number_on
+    number with_digit digits_on digits size row clue side decide_call call close sheet on_page same_cell clues_fit whole
+    page_of all any size_right rows_fit low two_colours judge_sheet judge_read judgement_of
 both-accepted = (refl, refl)
 
-pub sample-accepted : judgementOf sample ≡ accepted samplePage
+pub sample-accepted : judgement_of sample ≡ accepted sample_page
 sample-accepted = both-accepted.0
 
 -- "Such a page is to be loaded like any other"
-pub draft-accepted : judgementOf draft ≡ accepted draftPage
+pub draft-accepted : judgement_of draft ≡ accepted draft_page
 draft-accepted = both-accepted.1

@@ -10,33 +10,33 @@ use Rattle.std.proofs.lemmas.List.Edits.{sets}
 use Rattle.std.proofs.Math.Seq.{set_out}
 use Rattle.lists.specs.Lists.{flat_map}
 use Rattle.lists.specs.Table.{table}
-use Rattle.lists.specs.TableLaws.{length-table, getD-table, table_is}
+use Rattle.lists.specs.TableLaws.{length-table, get_d-table, table_is}
 use Rattle.lists.specs.Stores.{sets-out}
 use Rattle.page.specs.declared.filling.Laid.{Laid}
 use Rattle.page.specs.declared.Clue.{Clue}
 use Rattle.page.specs.Grammar.{clue}
-use Rattle.page.specs.Places.{digitAt, digitsIn}
+use Rattle.page.specs.Places.{digit_at, digits_in}
 use Rattle.page.specs.PageText.{ClueFit, clue-prints}
 use Rattle.page.specs.Judge.{placed}
 
 pub record Lays (a : Laid) (ds : List ℕ) (b : Laid) : Type 0 where
   pub on : (more : List ℕ) → sets b.cells b.count more ≡ sets a.cells a.count (ds ++ more)
 
-pub digits-cons : (s : List ℕ) (a e : ℕ) → a < e → digitsIn s a e ≡ digitAt s a ∷ digitsIn s (a + 1) e
-unfolding digitsIn
+pub digits-cons : (s : List ℕ) (a e : ℕ) → a < e → digits_in s a e ≡ digit_at s a ∷ digits_in s (a + 1) e
+unfolding digits_in
 digits-cons s a e h =
-    sym (table_is (e - a) (λ i. digitAt s (a + i)) 0 (digitAt s a ∷ table (e - (a + 1)) (λ i. digitAt s (a + 1 + i)))
-    (let k = length-table (e - (a + 1)) (λ i. digitAt s (a + 1 + i)) in omega arith) each)
+    sym (table_is (e - a) (λ i. digit_at s (a + i)) 0 (digit_at s a ∷ table (e - (a + 1)) (λ i. digit_at s (a + 1 + i)))
+    (let k = length-table (e - (a + 1)) (λ i. digit_at s (a + 1 + i)) in omega arith) each)
   where
     each : (i : ℕ) → i < e - a
-        → get_or (digitAt s a ∷ table (e - (a + 1)) (λ i. digitAt s (a + 1 + i))) i 0 ≡ digitAt s (a + i)
+        → get_or (digit_at s a ∷ table (e - (a + 1)) (λ i. digit_at s (a + 1 + i))) i 0 ≡ digit_at s (a + i)
     each zero l = let k : a + 0 ≡ a = omega arith in rw k
     each (suc i) l =
         let k : a + 1 + i ≡ a + suc i = omega arith in
-        getD-table (e - (a + 1)) (λ i. digitAt s (a + 1 + i)) i 0 (omega arith) ∙ ap (digitAt s) k
+        get_d-table (e - (a + 1)) (λ i. digit_at s (a + 1 + i)) i 0 (omega arith) ∙ ap (digit_at s) k
 
-pub filled-past : (s : List ℕ) (a e : ℕ) → e ≤ a → digitsIn s a e ≡ []
-unfolding digitsIn table
+pub filled-past : (s : List ℕ) (a e : ℕ) → e ≤ a → digits_in s a e ≡ []
+unfolding digits_in table
 filled-past s a e h = let k : e - a ≡ 0 = omega arith in rw k
 
 -- the digits ds are laid after a as `out` has them, but for those of `rest`
@@ -46,18 +46,18 @@ pub record Laying (a : Laid) (ds : List ℕ) (out : Laid) (rest : List ℕ) : Ty
 pub laying-none : (a : Laid) (ds : List ℕ) → Laying a ds a ds
 laying-none a ds = record { on = λ more. refl }
 
-module _ {a : Laid} {ds : List ℕ} {out : Laid} (s : List ℕ) (p e : ℕ) (l : Laying a ds out (digitsIn s p e)) where
+module _ {a : Laid} {ds : List ℕ} {out : Laid} (s : List ℕ) (p e : ℕ) (l : Laying a ds out (digits_in s p e)) where
   pub laying-full : length out.cells ≤ out.count → Lays a ds out
   laying-full h =
       record {
         on = λ more.
             sets-out out.cells out.count more h ∙
-            sym (sets-out out.cells out.count (digitsIn s p e ++ more) h) ∙ l.on more;
+            sym (sets-out out.cells out.count (digits_in s p e ++ more) h) ∙ l.on more;
       }
 
   pub laying-more : p < e
-      → Laying a ds (record { cells = set out.cells out.count (digitAt s p); count = out.count + 1 })
-      (digitsIn s (p + 1) e)
+      → Laying a ds (record { cells = set out.cells out.count (digit_at s p); count = out.count + 1 })
+      (digits_in s (p + 1) e)
   laying-more h = record { on = λ more. rw (add-one out.count) (rw (digits-cons s p e h) at (l.on more)) }
 
   pub laying-end : e ≤ p → Lays a ds out

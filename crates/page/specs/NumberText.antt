@@ -2,7 +2,7 @@
 --
 --   AllDigits ds        every number of ds is one of 0 to 9
 --   RowFit ds           that, and there is one at least
---   digitBytes ds       the digits as bytes
+--   digit_bytes ds      the digits as bytes
 use Rattle.std.proofs.Math.Path.{◌≡◌, refl, ap}
 use Rattle.std.specs.Prelude.{Bool, ◌&&◌, ◌⊎◌, leb}
 use Rattle.std.proofs.Math.Bool.{true, false, cond}
@@ -14,31 +14,31 @@ use native.Mathlib.Omega.{arith}
 use Rattle.std.proofs.Math.Dec.{ltb, eqb}
 use borrow.Author.Tests.{lt-ltb, le-ltb, le-leb, eq-eqb, ne_eqb, eqb-true, leb-true, ltb-true, ltb-false}
 use Rattle.lists.specs.Booleans.{and_left, and_right}
-use Rattle.page.specs.Parsers.{number, numberOn, mayFollow, digit, digits, digitsOn, withDigit}
-use Rattle.page.specs.Decimal.{decimalIn, decimal}
+use Rattle.page.specs.Parsers.{number, number_on, may_follow, digit, digits, digits_on, with_digit}
+use Rattle.page.specs.Decimal.{decimal_in, decimal}
 use Rattle.page.specs.ParserLaws.{may, digit_low, digit-high}
 use Rattle.page.specs.Printed.{Prints}
 
 -- any number above n will do for k
-pub decimal-enough : (k m n : ℕ) → n < k → n < m → decimalIn k n ≡ decimalIn m n
-unfolding decimalIn
+pub decimal-enough : (k m n : ℕ) → n < k → n < m → decimal_in k n ≡ decimal_in m n
+unfolding decimal_in
 decimal-enough zero m n h l = absurd (omega arith)
 decimal-enough (suc k) zero n h l = absurd (omega arith)
 decimal-enough (suc k) (suc m) n h l = go (decimal-enough k m (n / 10)) (ltb n 10) refl
   where
-    go : (n / 10 < k → n / 10 < m → decimalIn k (n / 10) ≡ decimalIn m (n / 10)) → (x : Bool) → ltb n 10 ≡ x
-        → decimalIn (suc k) n ≡ decimalIn (suc m) n
+    go : (n / 10 < k → n / 10 < m → decimal_in k (n / 10) ≡ decimal_in m (n / 10)) → (x : Bool) → ltb n 10 ≡ x
+        → decimal_in (suc k) n ≡ decimal_in (suc m) n
     go ih true e = rw e
     go ih false e =
         let g : 10 ≤ n = ltb-false n 10 e in
         rw (e, ih (omega arith) (omega arith))
 
 pub decimal-one : (d : ℕ) → d < 10 → decimal d ≡ (48 + d) ∷ []
-unfolding decimal decimalIn
+unfolding decimal decimal_in
 decimal-one d l = rw (lt-ltb d 10 l)
 
 pub decimal-more : (v d : ℕ) → 0 < v → d < 10 → decimal (v * 10 + d) ≡ decimal v ++ ((48 + d) ∷ [])
-unfolding decimal decimalIn
+unfolding decimal decimal_in
 decimal-more v d h l =
     let q : (v * 10 + d) / 10 ≡ v = omega arith in
     let m : (v * 10 + d) % 10 ≡ d = omega arith in
@@ -60,8 +60,8 @@ record Follows (v b : ℕ) : Type 0 where
   first : 0 < v
   most : v * 10 + (b - 48) ≤ 2147483647
 
-follows : (v b : ℕ) → mayFollow v b ≡ true → Follows v b
-unfolding mayFollow
+follows : (v b : ℕ) → may_follow v b ≡ true → Follows v b
+unfolding may_follow
 follows v b e =
     let q : leb b 57 && (ltb 0 v && leb (v * 10 + (b - 48)) 2147483647) ≡ true = and_right (leb 48 b) _ e in
     let r : ltb 0 v && leb (v * 10 + (b - 48)) 2147483647 ≡ true = and_right (leb b 57) _ q in
@@ -78,14 +78,14 @@ module _ (stop : ℕ) (apart : 57 < stop ⊎ stop < 48) where
   no_digit b h l q = ⊎_elim (λ w. omega arith) (λ w. omega arith) apart
 
   pub read-decimal : (k n : ℕ) (u : List ℕ) → n < k → n ≤ 2147483647
-      → number stop (decimalIn k n ++ u) ≡ numberOn stop n u
-  unfolding decimalIn number numberOn
+      → number stop (decimal_in k n ++ u) ≡ number_on stop n u
+  unfolding decimal_in number number_on
   read-decimal zero n u h l = absurd (omega arith)
   read-decimal (suc k) n u h l = go (read-decimal k (n / 10) ((48 + n % 10) ∷ u)) (ltb n 10) refl
     where
-      go : (n / 10 < k → n / 10 ≤ 2147483647 → number stop (decimalIn k (n / 10) ++ ((48 + n % 10) ∷ u))
-          ≡ numberOn stop (n / 10) ((48 + n % 10) ∷ u))
-          → (x : Bool) → ltb n 10 ≡ x → number stop (decimalIn (suc k) n ++ u) ≡ numberOn stop n u
+      go : (n / 10 < k → n / 10 ≤ 2147483647 → number stop (decimal_in k (n / 10) ++ ((48 + n % 10) ∷ u))
+          ≡ number_on stop (n / 10) ((48 + n % 10) ∷ u))
+          → (x : Bool) → ltb n 10 ≡ x → number stop (decimal_in (suc k) n ++ u) ≡ number_on stop n u
       go ih true e =
           let g : n < 10 = ltb-true n 10 e in
           let m : 48 + n - 48 ≡ n = omega arith in
@@ -105,21 +105,21 @@ module _ (stop : ℕ) (apart : 57 < stop ⊎ stop < 48) where
           )
 
   number-complete : (n : ℕ) (t : List ℕ) → n ≤ 2147483647 → number stop ((decimal n ++ (stop ∷ [])) ++ t) ≡ some (n, t)
-  unfolding decimal numberOn
+  unfolding decimal number_on
   number-complete n t l = rw (append_assoc, read-decimal (suc n) n (stop ∷ t) (omega arith) l, eq-eqb stop stop refl)
 
   -- what is read on after v spells n
   abbrev Spelt : ℕ → List ℕ → ℕ → List ℕ → Type 0
   Spelt v s n t = (decimal v ++ s ≡ decimal n ++ (stop ∷ t)) × (n ≤ 2147483647)
 
-  on-sound : (s : List ℕ) (v n : ℕ) (t : List ℕ) → v ≤ 2147483647 → numberOn stop v s ≡ some (n, t) → Spelt v s n t
-  unfolding numberOn
+  on-sound : (s : List ℕ) (v n : ℕ) (t : List ℕ) → v ≤ 2147483647 → number_on stop v s ≡ some (n, t) → Spelt v s n t
+  unfolding number_on
   on-sound [] v n t l e = let z : ◌≡◌ {A = ℕ} 0 1 = cc in absurd (omega arith)
   on-sound (b ∷ s) v n t l e = go (on-sound s (v * 10 + (b - 48)) n t) (eqb b stop) refl e
     where
-      more : (v * 10 + (b - 48) ≤ 2147483647 → numberOn stop (v * 10 + (b - 48)) s ≡ some (n, t)
+      more : (v * 10 + (b - 48) ≤ 2147483647 → number_on stop (v * 10 + (b - 48)) s ≡ some (n, t)
           → Spelt (v * 10 + (b - 48)) s n t)
-          → (y : Bool) → mayFollow v b ≡ y → cond y (numberOn stop (v * 10 + (b - 48)) s) none ≡ some (n, t)
+          → (y : Bool) → may_follow v b ≡ y → cond y (number_on stop (v * 10 + (b - 48)) s) none ≡ some (n, t)
           → Spelt v (b ∷ s) n t
       more ih true h k =
           let m : Follows v b = follows v b h in
@@ -130,10 +130,10 @@ module _ (stop : ℕ) (apart : 57 < stop ⊎ stop < 48) where
           (rw (w, f, append_assoc) at u.0, u.1)
       more ih false h k = let z : ◌≡◌ {A = ℕ} 0 1 = cc in absurd (omega arith)
 
-      go : (v * 10 + (b - 48) ≤ 2147483647 → numberOn stop (v * 10 + (b - 48)) s ≡ some (n, t)
+      go : (v * 10 + (b - 48) ≤ 2147483647 → number_on stop (v * 10 + (b - 48)) s ≡ some (n, t)
           → Spelt (v * 10 + (b - 48)) s n t)
           → (x : Bool) → eqb b stop ≡ x
-          → cond x (some (v, s)) (cond (mayFollow v b) (numberOn stop (v * 10 + (b - 48)) s) none) ≡ some (n, t)
+          → cond x (some (v, s)) (cond (may_follow v b) (number_on stop (v * 10 + (b - 48)) s) none) ≡ some (n, t)
           → Spelt v (b ∷ s) n t
       go ih true h k =
           let q : b ≡ stop = eqb-true b stop h in
@@ -141,7 +141,7 @@ module _ (stop : ℕ) (apart : 57 < stop ⊎ stop < 48) where
           let r : v ≡ n = ap (λ (p : ℕ × List ℕ). p.0) m in
           let o : s ≡ t = ap (λ (p : ℕ × List ℕ). p.1) m in
           (cc, omega arith)
-      go ih false h k = more ih (mayFollow v b) refl k
+      go ih false h k = more ih (may_follow v b) refl k
 
   number-sound : (s : List ℕ) (n : ℕ) (t : List ℕ) → number stop s ≡ some (n, t)
       → (s ≡ (decimal n ++ (stop ∷ [])) ++ t) × (n ≤ 2147483647)
@@ -149,7 +149,7 @@ module _ (stop : ℕ) (apart : 57 < stop ⊎ stop < 48) where
   number-sound [] n t e = let z : ◌≡◌ {A = ℕ} 0 1 = cc in absurd (omega arith)
   number-sound (b ∷ s) n t e = go (digit b) refl e
     where
-      go : (x : Bool) → digit b ≡ x → cond x (numberOn stop (b - 48) s) none ≡ some (n, t)
+      go : (x : Bool) → digit b ≡ x → cond x (number_on stop (b - 48) s) none ≡ some (n, t)
           → (b ∷ s ≡ (decimal n ++ (stop ∷ [])) ++ t) × (n ≤ 2147483647)
       go true h k =
           let p : 48 ≤ b = digit_low b h in
@@ -170,13 +170,13 @@ unfoldable pub RowFit : List ℕ → Type 0
 RowFit [] = ⊥
 RowFit (d ∷ ds) = (d ≤ 9) × AllDigits ds
 
-unfoldable pub digitBytes : List ℕ → List ℕ
-digitBytes [] = []
-digitBytes (d ∷ ds) = (48 + d) ∷ digitBytes ds
+unfoldable pub digit_bytes : List ℕ → List ℕ
+digit_bytes [] = []
+digit_bytes (d ∷ ds) = (48 + d) ∷ digit_bytes ds
 
 module _ (stop : ℕ) (apart : 57 < stop ⊎ stop < 48) where
-  digits-on-complete : (ds t : List ℕ) → AllDigits ds → digitsOn stop (digitBytes ds ++ (stop ∷ t)) ≡ some (ds, t)
-  unfolding AllDigits digitsOn withDigit digitBytes
+  digits-on-complete : (ds t : List ℕ) → AllDigits ds → digits_on stop (digit_bytes ds ++ (stop ∷ t)) ≡ some (ds, t)
+  unfolding AllDigits digits_on with_digit digit_bytes
   digits-on-complete [] t f = rw (eq-eqb stop stop refl)
   digits-on-complete (d ∷ ds) t f =
       let h : d ≤ 9 = f.0 in
@@ -190,12 +190,12 @@ module _ (stop : ℕ) (apart : 57 < stop ⊎ stop < 48) where
 
   -- the bytes s spell the digits ds up to the stop, before t
   abbrev Row : List ℕ → List ℕ → List ℕ → Type 0
-  Row s ds t = (s ≡ digitBytes ds ++ (stop ∷ t)) × AllDigits ds
+  Row s ds t = (s ≡ digit_bytes ds ++ (stop ∷ t)) × AllDigits ds
 
   digit-sound : (b : ℕ) (o : Option (List ℕ × List ℕ)) (s a t : List ℕ) → digit b ≡ true
-      → ((ds u : List ℕ) → o ≡ some (ds, u) → Row s ds u) → withDigit (b - 48) o ≡ some (a, t)
+      → ((ds u : List ℕ) → o ≡ some (ds, u) → Row s ds u) → with_digit (b - 48) o ≡ some (a, t)
       → Row (b ∷ s) a t × RowFit a
-  unfolding withDigit AllDigits RowFit digitBytes
+  unfolding with_digit AllDigits RowFit digit_bytes
   digit-sound b none s a t h f e = let z : ◌≡◌ {A = ℕ} 0 1 = cc in absurd (omega arith)
   digit-sound b (some x) s a t h f e =
       let m : ◌≡◌ {A = List ℕ × List ℕ} ((b - 48) ∷ x.0, x.1) (a, t) = cc in
@@ -208,47 +208,47 @@ module _ (stop : ℕ) (apart : 57 < stop ⊎ stop < 48) where
       let l : b - 48 ≤ 9 = omega arith in
       ((rw (← ma, ← mt, k) (ap (λ (y : List ℕ). b ∷ y) v.0), rw (← ma) (l, v.1)), rw (← ma) (l, v.1))
 
-  digits-on-sound : (s a t : List ℕ) → digitsOn stop s ≡ some (a, t) → Row s a t
-  unfolding digitsOn AllDigits digitBytes
+  digits-on-sound : (s a t : List ℕ) → digits_on stop s ≡ some (a, t) → Row s a t
+  unfolding digits_on AllDigits digit_bytes
   digits-on-sound [] a t e = let z : ◌≡◌ {A = ℕ} 0 1 = cc in absurd (omega arith)
   digits-on-sound (b ∷ s) a t e = go (digits-on-sound s) (eqb b stop) (digit b) refl refl e
     where
-      go : ((a t : List ℕ) → digitsOn stop s ≡ some (a, t) → Row s a t) → (x y : Bool) → eqb b stop ≡ x → digit b ≡ y
-          → cond x (some ([], s)) (cond y (withDigit (b - 48) (digitsOn stop s)) none) ≡ some (a, t) → Row (b ∷ s) a t
+      go : ((a t : List ℕ) → digits_on stop s ≡ some (a, t) → Row s a t) → (x y : Bool) → eqb b stop ≡ x → digit b ≡ y
+          → cond x (some ([], s)) (cond y (with_digit (b - 48) (digits_on stop s)) none) ≡ some (a, t) → Row (b ∷ s) a t
       go ih true y h k e =
           let m : ◌≡◌ {A = List ℕ × List ℕ} ([], s) (a, t) = cc in
           let ma : [] ≡ a = ap (λ (y : List ℕ × List ℕ). y.0) m in
           let mt : s ≡ t = ap (λ (y : List ℕ × List ℕ). y.1) m in
           let q : b ≡ stop = eqb-true b stop h in
           (rw (← ma, ← mt, q), rw (← ma) tt)
-      go ih false true h k e = (digit-sound b (digitsOn stop s) s a t k ih e).0
+      go ih false true h k e = (digit-sound b (digits_on stop s) s a t k ih e).0
       go ih false false h k e = let z : ◌≡◌ {A = ℕ} 0 1 = cc in absurd (omega arith)
 
-  digits-complete : (ds t : List ℕ) → RowFit ds → digits stop ((digitBytes ds ++ (stop ∷ [])) ++ t) ≡ some (ds, t)
-  unfolding digits withDigit RowFit digitBytes
+  digits-complete : (ds t : List ℕ) → RowFit ds → digits stop ((digit_bytes ds ++ (stop ∷ [])) ++ t) ≡ some (ds, t)
+  unfolding digits with_digit RowFit digit_bytes
   digits-complete [] t f = absurd f
   digits-complete (d ∷ ds) t f =
       let h : d ≤ 9 = f.0 in
       let m : 48 + d - 48 ≡ d = omega arith in
       rw (
         digit-yes (48 + d) (omega arith) (omega arith),
-        append_assoc (digitBytes ds) (stop ∷ []) t,
+        append_assoc (digit_bytes ds) (stop ∷ []) t,
         digits-on-complete ds t f.1,
         m,
       )
 
   digits-sound : (s a t : List ℕ) → digits stop s ≡ some (a, t)
-      → (s ≡ (digitBytes a ++ (stop ∷ [])) ++ t) × RowFit a
+      → (s ≡ (digit_bytes a ++ (stop ∷ [])) ++ t) × RowFit a
   unfolding digits
   digits-sound [] a t e = let z : ◌≡◌ {A = ℕ} 0 1 = cc in absurd (omega arith)
   digits-sound (b ∷ s) a t e = go (digit b) refl e
     where
-      go : (y : Bool) → digit b ≡ y → cond y (withDigit (b - 48) (digitsOn stop s)) none ≡ some (a, t)
-          → (b ∷ s ≡ (digitBytes a ++ (stop ∷ [])) ++ t) × RowFit a
+      go : (y : Bool) → digit b ≡ y → cond y (with_digit (b - 48) (digits_on stop s)) none ≡ some (a, t)
+          → (b ∷ s ≡ (digit_bytes a ++ (stop ∷ [])) ++ t) × RowFit a
       go true h k =
-          let v : Row (b ∷ s) a t × RowFit a = digit-sound b (digitsOn stop s) s a t h (digits-on-sound s) k in
+          let v : Row (b ∷ s) a t × RowFit a = digit-sound b (digits_on stop s) s a t h (digits-on-sound s) k in
           (rw append_assoc v.0.0, v.1)
       go false h k = let z : ◌≡◌ {A = ℕ} 0 1 = cc in absurd (omega arith)
 
-  pub digits-prints : Prints (digits stop) (λ ds. digitBytes ds ++ (stop ∷ [])) RowFit
+  pub digits-prints : Prints (digits stop) (λ ds. digit_bytes ds ++ (stop ∷ [])) RowFit
   digits-prints = record { sound = digits-sound; complete = digits-complete }

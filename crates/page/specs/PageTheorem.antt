@@ -9,44 +9,44 @@ use Rattle.std.proofs.Common.{sym, ap, ◌∙◌, subst, append-nil, arith, le-l
 use Rattle.std.proofs.Math.Option.{Option, none, some}
 use Rattle.laws.specs.FlatLaws.{counts}
 use Rattle.board.specs.ConditionLaws.{size_is}
-use Rattle.page.specs.Grammar.{Sheet, cluesFit, sheet, whole, page_of}
-use Rattle.page.specs.PageText.{showSheet, SheetFit, sheet-prints}
-use Rattle.page.specs.Judge.{accepted, judgeRead, judgementOf, coloursOf, cluesOf}
-use Rattle.page.specs.Judge.{colourArray, clueArray}
+use Rattle.page.specs.Grammar.{Sheet, clues_fit, sheet, whole, page_of}
+use Rattle.page.specs.PageText.{show_sheet, SheetFit, sheet-prints}
+use Rattle.page.specs.Judge.{accepted, judge_read, judgement_of, colours_of, clues_of}
+use Rattle.page.specs.Judge.{colour_array, clue_array}
 use Rattle.page.specs.JudgeLaws.{right, formed}
 use Rattle.page.specs.PuzzleLaws.{Makes, makes, colours-length, colours-front, clues-length, clues-front}
 
 pub record Spells (s : List ℕ) (p : Sheet) : Type 0 where
   pub short : length s ≤ 65536
-  pub text : s ≡ showSheet p
+  pub text : s ≡ show_sheet p
   pub fit : SheetFit p
-  pub clues : cluesFit p.height p.width p.clues ≡ true
+  pub clues : clues_fit p.height p.width p.clues ≡ true
 
 pub page-complete : (s : List ℕ) (p : Sheet) → Spells s p → page_of s ≡ some p
 unfolding page_of whole
 page-complete s p k =
     let e : sheet s ≡ some (p, []) =
-    ap sheet (k.text ∙ sym (append-nil (showSheet p))) ∙ sheet-prints.complete p [] k.fit in
+    ap sheet (k.text ∙ sym (append-nil (show_sheet p))) ∙ sheet-prints.complete p [] k.fit in
     rw (le-leb (length s) 65536 k.short, e, k.clues)
 
 pub page-sound : (s : List ℕ) (p : Sheet) → page_of s ≡ some p → Spells s p
 unfolding page_of whole
 page-sound s p e = go (leb (length s) 65536) refl e
   where
-    fitting : (q : Sheet) (b : Bool) → cluesFit q.height q.width q.clues ≡ b → cond b (some q) none ≡ some p
-        → (q ≡ p) × (cluesFit p.height p.width p.clues ≡ true)
+    fitting : (q : Sheet) (b : Bool) → clues_fit q.height q.width q.clues ≡ b → cond b (some q) none ≡ some p
+        → (q ≡ p) × (clues_fit p.height p.width p.clues ≡ true)
     fitting q true h k =
         let j : q ≡ p = cc in
-        (j, ap (λ (r : Sheet). cluesFit r.height r.width r.clues) (sym j) ∙ h)
+        (j, ap (λ (r : Sheet). clues_fit r.height r.width r.clues) (sym j) ∙ h)
     fitting q false h k = let z : ◌≡◌ {A = ℕ} 0 1 = cc in absurd (omega arith)
 
     on : (o : Option (Sheet × List ℕ)) → sheet s ≡ o → whole o ≡ some p → length s ≤ 65536 → Spells s p
     on none h k l = let z : ◌≡◌ {A = ℕ} 0 1 = cc in absurd (omega arith)
     on (some (q, [])) h k l =
-        let f = fitting q (cluesFit q.height q.width q.clues) refl k in
+        let f = fitting q (clues_fit q.height q.width q.clues) refl k in
         let j : sheet s ≡ some (p, []) = h ∙ ap (λ (r : Sheet). some (r, [])) f.0 in
         let t = sheet-prints.sound s p [] j in
-        record { short = l; text = t.0 ∙ append-nil (showSheet p); fit = t.1; clues = f.1 }
+        record { short = l; text = t.0 ∙ append-nil (show_sheet p); fit = t.1; clues = f.1 }
     on (some (q, b ∷ t)) h k l = let z : ◌≡◌ {A = ℕ} 0 1 = cc in absurd (omega arith)
 
     go : (b : Bool) → leb (length s) 65536 ≡ b → cond b (whole (sheet s)) none ≡ some p → Spells s p
@@ -57,14 +57,14 @@ pub record PagePuzzle (s : List ℕ) (p : Sheet) : Type 0 where
   pub spells : Spells s p
   pub makes : Makes p
   pub cells : p.height * p.width ≤ 1024
-  pub coloursLength : length (coloursOf p) ≡ p.height * p.width
-  pub cluesLength : length (cluesOf p) ≡ p.height * p.width
-  pub colours : take (p.height * p.width) (colourArray p.rows) ≡ coloursOf p
-  pub clues : take (p.height * p.width) (clueArray p.width p.clues) ≡ cluesOf p
+  pub colours_length : length (colours_of p) ≡ p.height * p.width
+  pub clues_length : length (clues_of p) ≡ p.height * p.width
+  pub colours : take (p.height * p.width) (colour_array p.rows) ≡ colours_of p
+  pub clues : take (p.height * p.width) (clue_array p.width p.clues) ≡ clues_of p
 
 -- an accepted page is well formed and makes a board, and its arrays begin with the puzzle's lists
-pub page-puzzle : (s : List ℕ) (p : Sheet) → judgementOf s ≡ accepted p → PagePuzzle s p
-unfolding judgementOf judgeRead
+pub page-puzzle : (s : List ℕ) (p : Sheet) → judgement_of s ≡ accepted p → PagePuzzle s p
+unfolding judgement_of judge_read
 page-puzzle s p e = go (page_of s) refl e
   where
     all : page_of s ≡ some p → Makes p → PagePuzzle s p
@@ -76,13 +76,13 @@ page-puzzle s p e = go (page_of s) refl e
           spells = k;
           makes = m;
           cells = n;
-          coloursLength = l;
-          cluesLength = clues-length p;
+          colours_length = l;
+          clues_length = clues-length p;
           colours = colours-front p (p.height * p.width) l n;
           clues = clues-front p k.clues m.size.broad n;
         }
 
-    go : (o : Option Sheet) → page_of s ≡ o → judgeRead o ≡ accepted p → PagePuzzle s p
+    go : (o : Option Sheet) → page_of s ≡ o → judge_read o ≡ accepted p → PagePuzzle s p
     go none h k = let z : ◌≡◌ {A = ℕ} 0 1 = cc in absurd (omega arith)
     go (some q) h k =
         let m = makes q p k in
@@ -91,5 +91,5 @@ page-puzzle s p e = go (page_of s) refl e
 
 -- a well formed page of a right size, right rows and two colours is accepted, whatever its clues: "Such a page is to be
 -- loaded like any other"
-pub page-accepts : (s : List ℕ) (p : Sheet) → page_of s ≡ some p → Makes p → judgementOf s ≡ accepted p
+pub page-accepts : (s : List ℕ) (p : Sheet) → page_of s ≡ some p → Makes p → judgement_of s ≡ accepted p
 page-accepts s p e m = formed s p e ∙ right p (size_is m.size) m.rows m.colours

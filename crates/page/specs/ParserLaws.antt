@@ -9,8 +9,8 @@ use Rattle.std.proofs.Math.Dec.{leb}
 use borrow.Author.Tests.{lt-ltb, le-ltb, le-leb, lt-leb, eq-eqb, ne_eqb, leb-true}
 use Rattle.lists.specs.Table.{table}
 use Rattle.lists.specs.Booleans.{and_left, and_right}
-use Rattle.page.specs.Parsers.{rest, strip, number, numberOn, mayFollow, withDigit, digitsOn, digits, digit}
-use Rattle.page.specs.Places.{digitAt, digitsIn}
+use Rattle.page.specs.Parsers.{rest, strip, number, number_on, may_follow, with_digit, digits_on, digits, digit}
+use Rattle.page.specs.Places.{digit_at, digits_in}
 
 -- what was answered says what the parser gives
 pub told_same : {R O : Type 0} (f : R → O) {r k : R} {o : O} → f r ≡ o → r ≡ k → o ≡ f k
@@ -66,8 +66,8 @@ module _ (word s : List ℕ) (i p : ℕ) where
 
 -- what may follow a number
 module _ (v b : ℕ) where
-  pub may-not : digit b ≡ false → mayFollow v b ≡ false
-  unfolding mayFollow digit
+  pub may-not : digit b ≡ false → may_follow v b ≡ false
+  unfolding may_follow digit
   may-not e = go (leb 48 b) (leb b 57) e
     where
       go : (x y : Bool) → x && y ≡ false → x && (y && (ltb 0 v && leb (v * 10 + (b - 48)) 2147483647)) ≡ false
@@ -84,36 +84,36 @@ module _ (v b : ℕ) where
     unfolding digit
     high = and_right (leb 48 b) (leb b 57) d
 
-    pub may-zero : v ≡ 0 → mayFollow v b ≡ false
-    unfolding mayFollow
+    pub may-zero : v ≡ 0 → may_follow v b ≡ false
+    unfolding may_follow
     may-zero z = rw (low, high, le-ltb 0 v (omega arith))
 
-    pub may-large : 0 < v → 2147483647 < v * 10 + (b - 48) → mayFollow v b ≡ false
-    unfolding mayFollow
+    pub may-large : 0 < v → 2147483647 < v * 10 + (b - 48) → may_follow v b ≡ false
+    unfolding may_follow
     may-large z g = rw (low, high, lt-ltb 0 v z, lt-leb (v * 10 + (b - 48)) 2147483647 g)
 
-    pub may : 0 < v → v * 10 + (b - 48) ≤ 2147483647 → mayFollow v b ≡ true
-    unfolding mayFollow
+    pub may : 0 < v → v * 10 + (b - 48) ≤ 2147483647 → may_follow v b ≡ true
+    unfolding may_follow
     may z g = rw (low, high, lt-ltb 0 v z, le-leb (v * 10 + (b - 48)) 2147483647 g)
 
 -- numbers
 module _ (s : List ℕ) (p stop v : ℕ) where
-  pub on-past : length s ≤ p → numberOn stop v (rest s p) ≡ none
-  unfolding numberOn
+  pub on-past : length s ≤ p → number_on stop v (rest s p) ≡ none
+  unfolding number_on
   on-past h = rw (rest-past s p h)
 
-  pub on-stop : p < length s → get_or s p 0 ≡ stop → numberOn stop v (rest s p) ≡ some (v, rest s (p + 1))
-  unfolding numberOn
+  pub on-stop : p < length s → get_or s p 0 ≡ stop → number_on stop v (rest s p) ≡ some (v, rest s (p + 1))
+  unfolding number_on
   on-stop h e = rw (rest_more s p h, eq-eqb (get_or s p 0) stop e)
 
-  pub on-not : p < length s → (get_or s p 0 ≡ stop → ⊥) → mayFollow v (get_or s p 0) ≡ false
-      → numberOn stop v (rest s p) ≡ none
-  unfolding numberOn
+  pub on-not : p < length s → (get_or s p 0 ≡ stop → ⊥) → may_follow v (get_or s p 0) ≡ false
+      → number_on stop v (rest s p) ≡ none
+  unfolding number_on
   on-not h n m = rw (rest_more s p h, ne_eqb (get_or s p 0) stop n, m)
 
-  pub on-more : p < length s → (get_or s p 0 ≡ stop → ⊥) → mayFollow v (get_or s p 0) ≡ true
-      → numberOn stop v (rest s p) ≡ numberOn stop (v * 10 + (get_or s p 0 - 48)) (rest s (p + 1))
-  unfolding numberOn
+  pub on-more : p < length s → (get_or s p 0 ≡ stop → ⊥) → may_follow v (get_or s p 0) ≡ true
+      → number_on stop v (rest s p) ≡ number_on stop (v * 10 + (get_or s p 0 - 48)) (rest s (p + 1))
+  unfolding number_on
   on-more h n m = rw (rest_more s p h, ne_eqb (get_or s p 0) stop n, m)
 
 module _ (s : List ℕ) (p stop : ℕ) where
@@ -126,34 +126,34 @@ module _ (s : List ℕ) (p stop : ℕ) where
   number-not h e = rw (rest_more s p h, e)
 
   pub parse-number-first : p < length s → digit (get_or s p 0) ≡ true
-      → number stop (rest s p) ≡ numberOn stop (get_or s p 0 - 48) (rest s (p + 1))
+      → number stop (rest s p) ≡ number_on stop (get_or s p 0 - 48) (rest s (p + 1))
   unfolding number
   parse-number-first h e = rw (rest_more s p h, e)
 
 -- digits: those that were passed stand in front of what is read on
-pub digits-in-more : (s : List ℕ) (a p : ℕ) → a ≤ p → digitsIn s a (p + 1) ≡ digitsIn s a p ++ (digitAt s p ∷ [])
-unfolding digitsIn table
+pub digits-in-more : (s : List ℕ) (a p : ℕ) → a ≤ p → digits_in s a (p + 1) ≡ digits_in s a p ++ (digit_at s p ∷ [])
+unfolding digits_in table
 digits-in-more s a p h =
     let e : p + 1 - a ≡ suc (p - a) = omega arith in
     let f : a + (p - a) ≡ p = omega arith in
     rw (e, f)
 
-pub digits-in-none : (s : List ℕ) (a : ℕ) → digitsIn s a a ≡ []
-unfolding digitsIn table
+pub digits-in-none : (s : List ℕ) (a : ℕ) → digits_in s a a ≡ []
+unfolding digits_in table
 digits-in-none s a = let e : a - a ≡ 0 = omega arith in rw e
 
-unfoldable pub afterDigits : List ℕ → Option (List ℕ × List ℕ) → Option (List ℕ × List ℕ)
-afterDigits ds none = none
-afterDigits ds (some p) = some (ds ++ p.0, p.1)
+unfoldable pub after_digits : List ℕ → Option (List ℕ × List ℕ) → Option (List ℕ × List ℕ)
+after_digits ds none = none
+after_digits ds (some p) = some (ds ++ p.0, p.1)
 
-after-nil : (o : Option (List ℕ × List ℕ)) → afterDigits [] o ≡ o
-unfolding afterDigits
+after-nil : (o : Option (List ℕ × List ℕ)) → after_digits [] o ≡ o
+unfolding after_digits
 after-nil none = refl
 after-nil (some p) = refl
 
 after-digit : (ds : List ℕ) (d : ℕ) (o : Option (List ℕ × List ℕ))
-    → afterDigits ds (withDigit d o) ≡ afterDigits (ds ++ (d ∷ [])) o
-unfolding afterDigits withDigit
+    → after_digits ds (with_digit d o) ≡ after_digits (ds ++ (d ∷ [])) o
+unfolding after_digits with_digit
 after-digit ds d none = refl
 after-digit ds d (some p) = rw append_assoc
 
@@ -167,40 +167,40 @@ module _ (s : List ℕ) (p stop : ℕ) where
   digits-not h e = rw (rest_more s p h, e)
 
   pub digits-first : p < length s → digit (get_or s p 0) ≡ true
-      → digits stop (rest s p) ≡ afterDigits (digitsIn s p (p + 1)) (digitsOn stop (rest s (p + 1)))
-  unfolding digits digitAt
+      → digits stop (rest s p) ≡ after_digits (digits_in s p (p + 1)) (digits_on stop (rest s (p + 1)))
+  unfolding digits digit_at
   digits-first h e =
       rw (
         digits-in-more s p p (omega arith),
         digits-in-none s p,
-        ← after-digit [] (get_or s p 0 - 48) (digitsOn stop (rest s (p + 1))),
+        ← after-digit [] (get_or s p 0 - 48) (digits_on stop (rest s (p + 1))),
         rest_more s p h,
         e,
       )
       (sym (after-nil _))
 
-  pub digits-past : (ds : List ℕ) → length s ≤ p → afterDigits ds (digitsOn stop (rest s p)) ≡ none
-  unfolding digitsOn afterDigits
+  pub digits-past : (ds : List ℕ) → length s ≤ p → after_digits ds (digits_on stop (rest s p)) ≡ none
+  unfolding digits_on after_digits
   digits-past ds h = rw (rest-past s p h)
 
   pub digits-stop : (ds : List ℕ) → p < length s → get_or s p 0 ≡ stop
-      → afterDigits ds (digitsOn stop (rest s p)) ≡ some (ds, rest s (p + 1))
-  unfolding digitsOn afterDigits
+      → after_digits ds (digits_on stop (rest s p)) ≡ some (ds, rest s (p + 1))
+  unfolding digits_on after_digits
   digits-stop ds h e = rw (rest_more s p h, eq-eqb (get_or s p 0) stop e, append-nil)
 
   pub digits-bad : (ds : List ℕ) → p < length s → (get_or s p 0 ≡ stop → ⊥) → digit (get_or s p 0) ≡ false
-      → afterDigits ds (digitsOn stop (rest s p)) ≡ none
-  unfolding digitsOn afterDigits
+      → after_digits ds (digits_on stop (rest s p)) ≡ none
+  unfolding digits_on after_digits
   digits-bad ds h n e = rw (rest_more s p h, ne_eqb (get_or s p 0) stop n, e)
 
   pub digits_more : (a : ℕ) → a ≤ p → p < length s → (get_or s p 0 ≡ stop → ⊥) → digit (get_or s p 0) ≡ true
-      → afterDigits (digitsIn s a p) (digitsOn stop (rest s p))
-      ≡ afterDigits (digitsIn s a (p + 1)) (digitsOn stop (rest s (p + 1)))
-  unfolding digitsOn digitAt
+      → after_digits (digits_in s a p) (digits_on stop (rest s p))
+      ≡ after_digits (digits_in s a (p + 1)) (digits_on stop (rest s (p + 1)))
+  unfolding digits_on digit_at
   digits_more a l h n e =
       rw (
         digits-in-more s a p l,
-        ← after-digit (digitsIn s a p) (get_or s p 0 - 48) (digitsOn stop (rest s (p + 1))),
+        ← after-digit (digits_in s a p) (get_or s p 0 - 48) (digits_on stop (rest s (p + 1))),
         rest_more s p h,
         ne_eqb (get_or s p 0) stop n,
         e,

@@ -11,17 +11,17 @@
 --   either r q          r, or q where r fails
 --   both r q            r, then q: the pair of their values
 --   map_r f r            r, with f of its value
---   andOn o s k         the value read in o before what k reads of the bytes left; no value and the bytes s where
+--   and_on o s k        the value read in o before what k reads of the bytes left; no value and the bytes s where
 --                       nothing was read
 --   times n r           r as often as it succeeds, n times at most: the values and the rest
 --   many r              r as often as it succeeds, up to the first failure: the values and the rest
 --   rep r q             any number of r, then q
 --   digit b             the byte b is one of 0 to 9
---   mayFollow v b       the byte b is a digit that may stand after the number v
---   numberOn stop v     the rest of a number that is v so far, and the byte stop after it
+--   may_follow v b      the byte b is a digit that may stand after the number v
+--   number_on stop v    the rest of a number that is v so far, and the byte stop after it
 --   number stop         a decimal number without leading zeros, at most 2147483647, and the byte stop after it
---   withDigit d o       d before the digits read in o
---   digitsOn stop       any number of digits, and the byte stop after them: the digits' values
+--   with_digit d o      d before the digits read in o
+--   digits_on stop      any number of digits, and the byte stop after them: the digits' values
 --   digits stop         one digit or more, and the byte stop after them: the digits' values
 use Rattle.std.specs.Prelude.{Bool, ◌&&◌, cond, List, [], ◌∷◌, ℕ, zero, suc, ◌+◌, ◌-◌, ◌*◌, length, drop, ltb, leb, eqb}
 use Rattle.std.proofs.Math.Option.{Option, none, some}
@@ -71,14 +71,14 @@ module _ {A B : Type 0} where
 
 module _ {A : Type 0} where
   -- nothing where the parser failed; else its value before what k reads of the rest
-  unfoldable pub andOn : Option (A × List ℕ) → List ℕ → (List ℕ → List A × List ℕ) → List A × List ℕ
-  andOn none s k = ([], s)
-  andOn (some p) s k = (p.0 ∷ (k p.1).0, (k p.1).1)
+  unfoldable pub and_on : Option (A × List ℕ) → List ℕ → (List ℕ → List A × List ℕ) → List A × List ℕ
+  and_on none s k = ([], s)
+  and_on (some p) s k = (p.0 ∷ (k p.1).0, (k p.1).1)
 
   -- r as often as it succeeds, n times at most
   unfoldable pub times : ℕ → Parser A → List ℕ → List A × List ℕ
   times zero r s = ([], s)
-  times (suc n) r s = andOn (r s) s (times n r)
+  times (suc n) r s = and_on (r s) s (times n r)
 
   -- a parser that takes a byte succeeds at most as often as there are bytes
   unfoldable pub many : Parser A → List ℕ → List A × List ℕ
@@ -92,30 +92,30 @@ unfoldable pub digit : ℕ → Bool
 digit b = leb 48 b && leb b 57
 
 -- a digit b may follow the number v: v is no leading zero, and the result is at most 2147483647
-unfoldable pub mayFollow : ℕ → ℕ → Bool
-mayFollow v b = leb 48 b && (leb b 57 && (ltb 0 v && leb (v * 10 + (b - 48)) 2147483647))
+unfoldable pub may_follow : ℕ → ℕ → Bool
+may_follow v b = leb 48 b && (leb b 57 && (ltb 0 v && leb (v * 10 + (b - 48)) 2147483647))
 
 -- the rest of a number that stood at v, up to the byte stop
-unfoldable pub numberOn : ℕ → ℕ → Parser ℕ
-numberOn stop v [] = none
-numberOn stop v (b ∷ s) =
-    cond (eqb b stop) (some (v, s)) (cond (mayFollow v b) (numberOn stop (v * 10 + (b - 48)) s) none)
+unfoldable pub number_on : ℕ → ℕ → Parser ℕ
+number_on stop v [] = none
+number_on stop v (b ∷ s) =
+    cond (eqb b stop) (some (v, s)) (cond (may_follow v b) (number_on stop (v * 10 + (b - 48)) s) none)
 
 unfoldable pub number : ℕ → Parser ℕ
 number stop [] = none
-number stop (b ∷ s) = cond (digit b) (numberOn stop (b - 48) s) none
+number stop (b ∷ s) = cond (digit b) (number_on stop (b - 48) s) none
 
 -- d before the digits that were read
-unfoldable pub withDigit : ℕ → Option (List ℕ × List ℕ) → Option (List ℕ × List ℕ)
-withDigit d none = none
-withDigit d (some p) = some (d ∷ p.0, p.1)
+unfoldable pub with_digit : ℕ → Option (List ℕ × List ℕ) → Option (List ℕ × List ℕ)
+with_digit d none = none
+with_digit d (some p) = some (d ∷ p.0, p.1)
 
 -- digits up to the byte stop
-unfoldable pub digitsOn : ℕ → Parser (List ℕ)
-digitsOn stop [] = none
-digitsOn stop (b ∷ s) =
-    cond (eqb b stop) (some ([], s)) (cond (digit b) (withDigit (b - 48) (digitsOn stop s)) none)
+unfoldable pub digits_on : ℕ → Parser (List ℕ)
+digits_on stop [] = none
+digits_on stop (b ∷ s) =
+    cond (eqb b stop) (some ([], s)) (cond (digit b) (with_digit (b - 48) (digits_on stop s)) none)
 
 unfoldable pub digits : ℕ → Parser (List ℕ)
 digits stop [] = none
-digits stop (b ∷ s) = cond (digit b) (withDigit (b - 48) (digitsOn stop s)) none
+digits stop (b ∷ s) = cond (digit b) (with_digit (b - 48) (digits_on stop s)) none

@@ -24,22 +24,22 @@ use Rattle.lists.specs.Flats.{length-flat}
 use Rattle.lists.specs.ListLaws.{all-mem}
 use Rattle.lists.specs.Appends.{all_append}
 use Rattle.rules.specs.Flat.{Sized}
-use Rattle.board.specs.Alien.{sizeRight}
+use Rattle.board.specs.Alien.{size_right}
 use Rattle.board.specs.ConditionLaws.{sized}
 use Rattle.page.specs.declared.Clue.{Clue}
-use Rattle.page.specs.Grammar.{Sheet, onPage, sameCell, cluesFit}
-use Rattle.page.specs.Judge.{Judgement, rejected, accepted, rowsFit, low, twoColours}
-use Rattle.page.specs.Judge.{judgeSheet, coloursOf, clueOn, cluesOf, colourArray, placed, clueArray}
+use Rattle.page.specs.Grammar.{Sheet, on_page, same_cell, clues_fit}
+use Rattle.page.specs.Judge.{Judgement, rejected, accepted, rows_fit, low, two_colours}
+use Rattle.page.specs.Judge.{judge_sheet, colours_of, clue_on, clues_of, colour_array, placed, clue_array}
 
 pub record Makes (p : Sheet) : Type 0 where
   pub size : Sized p.height p.width
-  pub rows : rowsFit p.height p.width p.rows ≡ true
-  pub colours : twoColours p.rows ≡ true
+  pub rows : rows_fit p.height p.width p.rows ≡ true
+  pub colours : two_colours p.rows ≡ true
 
 -- colours
-pub colours-length : (p : Sheet) → rowsFit p.height p.width p.rows ≡ true
-    → length (coloursOf p) ≡ p.height * p.width
-unfolding rowsFit coloursOf
+pub colours-length : (p : Sheet) → rows_fit p.height p.width p.rows ≡ true
+    → length (colours_of p) ≡ p.height * p.width
+unfolding rows_fit colours_of
 colours-length p e =
     let f : List ℕ → Bool = λ ds. eqb (length ds) p.width in
     let a : p.height ≡ length p.rows =
@@ -53,9 +53,9 @@ colours-length p e =
 abbrev blank : List ℕ
 blank = replicate 1024 0
 
-pub colours-front : (p : Sheet) (n : ℕ) → length (coloursOf p) ≡ n → n ≤ 1024
-    → take n (colourArray p.rows) ≡ coloursOf p
-unfolding coloursOf colourArray
+pub colours-front : (p : Sheet) (n : ℕ) → length (colours_of p) ≡ n → n ≤ 1024
+    → take n (colour_array p.rows) ≡ colours_of p
+unfolding colours_of colour_array
 colours-front p n e h =
     let ds : List ℕ = flat_map (λ ds. ds) p.rows in
     let k : length blank ≡ 1024 = length-replicate {A = ℕ} 1024 0 in
@@ -63,39 +63,39 @@ colours-front p n e h =
     rw q (take_at ds (drop (0 + length ds) blank) n e)
 
 -- every colour is 0 or 1
-pub colours-low : (rows : List (List ℕ)) → twoColours rows ≡ true → all low (flat_map (λ ds. ds) rows) ≡ true
-unfolding twoColours all flat_map
+pub colours-low : (rows : List (List ℕ)) → two_colours rows ≡ true → all low (flat_map (λ ds. ds) rows) ≡ true
+unfolding two_colours all flat_map
 colours-low [] e = refl
 colours-low (ds ∷ rows) e =
     all_append low ds (flat_map (λ ds. ds) rows)
     ∙ rw (and_left (all low ds) _ e, colours-low rows (and_right (all low ds) _ e))
 
 -- clues: a cell that no clue names keeps what it has
-absent : (z : ℤ) (c : Clue) (cs : List Clue) → any (sameCell c) cs ≡ false → clueOn z cs c.y c.x ≡ z
-unfolding any clueOn sameCell
+absent : (z : ℤ) (c : Clue) (cs : List Clue) → any (same_cell c) cs ≡ false → clue_on z cs c.y c.x ≡ z
+unfolding any clue_on same_cell
 absent z c [] e = refl
-absent z c (d ∷ ds) e = go (eqb c.y d.y && eqb c.x d.x) (any (sameCell c) ds) e (absent z c ds)
+absent z c (d ∷ ds) e = go (eqb c.y d.y && eqb c.x d.x) (any (same_cell c) ds) e (absent z c ds)
   where
-    go : (a b : Bool) → a || b ≡ false → (b ≡ false → clueOn z ds c.y c.x ≡ z)
-        → cond a (pos d.n) (clueOn z ds c.y c.x) ≡ z
+    go : (a b : Bool) → a || b ≡ false → (b ≡ false → clue_on z ds c.y c.x ≡ z)
+        → cond a (pos d.n) (clue_on z ds c.y c.x) ≡ z
     go true b q ih = let k : ◌≡◌ {A = ℕ} 0 1 = cc in absurd (omega arith)
     go false b q ih = ih q
 
 -- the clues' test, part by part
 record ClueFits (h w : ℕ) (c : Clue) (cs : List Clue) : Type 0 where
   inside : c.x < w
-  once : any (sameCell c) cs ≡ false
-  others : cluesFit h w cs ≡ true
+  once : any (same_cell c) cs ≡ false
+  others : clues_fit h w cs ≡ true
 
-fits : (h w : ℕ) (c : Clue) (cs : List Clue) → cluesFit h w (c ∷ cs) ≡ true → ClueFits h w c cs
-unfolding cluesFit onPage
+fits : (h w : ℕ) (c : Clue) (cs : List Clue) → clues_fit h w (c ∷ cs) ≡ true → ClueFits h w c cs
+unfolding clues_fit on_page
 fits h w c cs e =
-    let a : ltb c.y h && ltb c.x w ≡ true = and_left _ (not (any (sameCell c) cs) && cluesFit h w cs) e in
-    let b : not (any (sameCell c) cs) && cluesFit h w cs ≡ true = and_right (ltb c.y h && ltb c.x w) _ e in
+    let a : ltb c.y h && ltb c.x w ≡ true = and_left _ (not (any (same_cell c) cs) && clues_fit h w cs) e in
+    let b : not (any (same_cell c) cs) && clues_fit h w cs ≡ true = and_right (ltb c.y h && ltb c.x w) _ e in
     record {
       inside = ltb-true c.x w (and_right (ltb c.y h) _ a);
-      once = not-true (any (sameCell c) cs) (and_left _ (cluesFit h w cs) b);
-      others = and_right (not (any (sameCell c) cs)) _ b;
+      once = not-true (any (same_cell c) cs) (and_left _ (clues_fit h w cs) b);
+      others = and_right (not (any (same_cell c) cs)) _ b;
     }
   where
     not-true : (b : Bool) → not b ≡ true → b ≡ false
@@ -112,9 +112,9 @@ other a b y x n = go (ℕ_discrete a y) (ℕ_discrete b x)
     go (yes p) (yes q) = absurd (n p q)
 
 module _ (h w : ℕ) where
-  placed_at : (cs : List Clue) (m : List ℤ) (i : ℕ) → cluesFit h w cs ≡ true → i < length m
-      → get_or (placed w m cs) i (pos 0) ≡ clueOn (get_or m i (pos 0)) cs (i / w) (i % w)
-  unfolding placed clueOn
+  placed_at : (cs : List Clue) (m : List ℤ) (i : ℕ) → clues_fit h w cs ≡ true → i < length m
+      → get_or (placed w m cs) i (pos 0) ≡ clue_on (get_or m i (pos 0)) cs (i / w) (i % w)
+  unfolding placed clue_on
   placed_at [] m i e l = refl
   placed_at (c ∷ cs) m i e l =
       let f : ClueFits h w c cs = fits h w c cs e in
@@ -124,10 +124,10 @@ module _ (h w : ℕ) where
     where
       go : ClueFits h w c cs → Dec (i ≡ c.y * w + c.x)
           → get_or (placed w (set m (c.y * w + c.x) (pos c.n)) cs) i (pos 0)
-          ≡ clueOn (get_or (set m (c.y * w + c.x) (pos c.n)) i (pos 0)) cs (i / w) (i % w)
+          ≡ clue_on (get_or (set m (c.y * w + c.x) (pos c.n)) i (pos 0)) cs (i / w) (i % w)
           → get_or (placed w (set m (c.y * w + c.x) (pos c.n)) cs) i (pos 0)
           ≡ cond (eqb (i / w) c.y && eqb (i % w) c.x) (pos c.n)
-          (clueOn (get_or m i (pos 0)) cs (i / w) (i % w))
+          (clue_on (get_or m i (pos 0)) cs (i / w) (i % w))
       go f (yes q) ih =
           let a : i / w ≡ c.y = ap (λ (n : ℕ). n / w) q ∙ digits_div c.y f.inside in
           let b : i % w ≡ c.x = ap (λ (n : ℕ). n % w) q ∙ digits_mod c.y f.inside in
@@ -150,25 +150,25 @@ length-placed w (c ∷ cs) m =
 abbrev bare : List ℤ
 bare = replicate 1024 (negsuc 0)
 
-pub clues-length : (p : Sheet) → length (cluesOf p) ≡ p.height * p.width
-unfolding cluesOf
+pub clues-length : (p : Sheet) → length (clues_of p) ≡ p.height * p.width
+unfolding clues_of
 clues-length p = length-table (p.height * p.width) _
 
-pub clues-front : (p : Sheet) → cluesFit p.height p.width p.clues ≡ true → p.width ≤ 32
+pub clues-front : (p : Sheet) → clues_fit p.height p.width p.clues ≡ true → p.width ≤ 32
     → p.height * p.width ≤ 1024
-    → take (p.height * p.width) (clueArray p.width p.clues) ≡ cluesOf p
-unfolding clueArray cluesOf
+    → take (p.height * p.width) (clue_array p.width p.clues) ≡ clues_of p
+unfolding clue_array clues_of
 clues-front p e l s =
     let n : ℕ = p.height * p.width in
     let k : length bare ≡ 1024 = length-replicate 1024 (negsuc 0) in
     let j : length (placed p.width bare p.clues) ≡ length bare = length-placed p.width p.clues bare in
     rw (le-leb p.width 32 l)
-    (table_is n (λ i. clueOn (negsuc 0) p.clues (i / p.width) (i % p.width)) (pos 0) _
+    (table_is n (λ i. clue_on (negsuc 0) p.clues (i / p.width) (i % p.width)) (pos 0) _
     (length-take-le n (placed p.width bare p.clues) (omega arith))
     (λ i m.
     get_or-take n (placed p.width bare p.clues) i (pos 0) m ∙
     placed_at p.height p.width p.clues bare i e (omega arith) ∙
-    ap (λ (z : ℤ). clueOn z p.clues (i / p.width) (i % p.width))
+    ap (λ (z : ℤ). clue_on z p.clues (i / p.width) (i % p.width))
     (get_or-replicate 1024 i (negsuc 0) (pos 0) (omega arith))))
 
 -- an accepted page makes a board
@@ -177,11 +177,11 @@ cond-accepted : (b : Bool) (v : Judgement) (n : ℕ) (p : Sheet) → cond b v (r
 cond-accepted true v n p e = (refl, e)
 cond-accepted false v n p e = let z : ◌≡◌ {A = ℕ} 0 1 = cc in absurd (omega arith)
 
-pub makes : (p q : Sheet) → judgeSheet p ≡ accepted q → (p ≡ q) × Makes p
-unfolding judgeSheet
+pub makes : (p q : Sheet) → judge_sheet p ≡ accepted q → (p ≡ q) × Makes p
+unfolding judge_sheet
 makes p q e =
-    let a = cond-accepted (sizeRight p.height p.width) _ 1 q e in
-    let b = cond-accepted (rowsFit p.height p.width p.rows) _ 2 q a.1 in
-    let c = cond-accepted (twoColours p.rows) _ 3 q b.1 in
+    let a = cond-accepted (size_right p.height p.width) _ 1 q e in
+    let b = cond-accepted (rows_fit p.height p.width p.rows) _ 2 q a.1 in
+    let c = cond-accepted (two_colours p.rows) _ 3 q b.1 in
     let k : accepted p ≡ accepted q = c.1 in
     (cc, record { size = sized a.0; rows = b.0; colours = c.0 })

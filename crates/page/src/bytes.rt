@@ -1,7 +1,7 @@
 // Words, numbers and digits at a place of the bytes.
 ghost use Rattle.std.specs.Prelude.{◌≡◌, ◌≤◌};
-ghost use Rattle.page.specs.Parsers.{rest, strip, number, numberOn, digit, digits};
-ghost use Rattle.page.specs.Places.{leftFrom, gotNumber, gotDigits};
+ghost use Rattle.page.specs.Parsers.{rest, strip, number, number_on, digit, digits};
+ghost use Rattle.page.specs.Places.{left_from, got_number, got_digits};
 
 use crate::{Number, Place};
 use rules::index_byte;
@@ -18,7 +18,7 @@ fn is_digit(b: u8) -> bool
 
 // The place after the word, where it stands at `at`.
 pub fn word_at(s: &[u8], at: usize, word: &[u8]) -> Place
-    ensures { leftFrom s.now result ≡ strip word.now (rest s.now at) }
+    ensures { left_from s.now result ≡ strip word.now (rest s.now at) }
 {
     let mut p = at;
     let mut i = 0;
@@ -38,7 +38,7 @@ pub fn word_at(s: &[u8], at: usize, word: &[u8]) -> Place
 // The rest of a number that stood at `from`, up to the byte `stop`.
 fn number_on(s: &[u8], at: usize, stop: u8, from: usize) -> Number
     requires { from ≤ 2147483647 }
-    ensures { gotNumber s.now result ≡ numberOn stop from (rest s.now at) }
+    ensures { got_number s.now result ≡ number_on stop from (rest s.now at) }
 {
     let mut v = from;
     let mut p = at;
@@ -66,7 +66,7 @@ fn number_on(s: &[u8], at: usize, stop: u8, from: usize) -> Number
 
 // A number without leading zeros, at most 2147483647, and the byte `stop` after it.
 pub fn number_at(s: &[u8], at: usize, stop: u8) -> Number
-    ensures { gotNumber s.now result ≡ number stop (rest s.now at) }
+    ensures { got_number s.now result ≡ number stop (rest s.now at) }
 {
     if s.len() <= at {
         return Number::No;
@@ -80,7 +80,7 @@ pub fn number_at(s: &[u8], at: usize, stop: u8) -> Number
 
 // The place of the byte `stop` after one digit or more, and the place after it.
 pub fn digits_at(s: &[u8], at: usize, stop: u8) -> Number
-    ensures { gotDigits s.now at result ≡ digits stop (rest s.now at) }
+    ensures { got_digits s.now at result ≡ digits stop (rest s.now at) }
 {
     if s.len() <= at {
         return Number::No;

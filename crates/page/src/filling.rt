@@ -1,8 +1,8 @@
 // A page's colours and clues as arrays of 1,024 places.
 ghost use Rattle.std.specs.Prelude.{◌≡◌, ◌≤◌, negsuc, replicate};
 ghost use Rattle.page.specs.Grammar.{row, clue};
-ghost use Rattle.page.specs.Places.{all_from, digitsIn};
-ghost use Rattle.page.specs.Judge.{colourArray, placed};
+ghost use Rattle.page.specs.Places.{all_from, digits_in};
+ghost use Rattle.page.specs.Judge.{colour_array, placed};
 ghost use Rattle.page.specs.Filling.{Lays};
 
 use crate::{ClueRead, Row, fitness, lines};
@@ -17,7 +17,7 @@ pub struct Laid {
 
 // The digits from one place up to another, laid after those that were laid.
 fn with_digits(laid: Laid, s: &[u8], from: usize, to: usize) -> Laid
-    ensures { Lays laid (digitsIn s.now from to) result }
+    ensures { Lays laid (digits_in s.now from to) result }
 {
     let mut out = laid;
     let mut p = from;
@@ -35,7 +35,7 @@ fn with_digits(laid: Laid, s: &[u8], from: usize, to: usize) -> Laid
 
 // The digits of the rows from `at` on, one row after the other, then 0.
 pub fn colours(s: &[u8], at: usize) -> [u8; Board::CELL_LIMIT]
-    ensures { result ≡ colourArray (all_from row s.now at) }
+    ensures { result ≡ colour_array (all_from row s.now at) }
 {
     let mut laid = Laid {
         cells: [0u8; Board::CELL_LIMIT],

@@ -2,8 +2,8 @@
 ghost use Rattle.std.specs.Prelude.{◌≡◌, ◌-◌};
 ghost use Rattle.lists.specs.Lists.{all};
 ghost use Rattle.page.specs.Grammar.{row};
-ghost use Rattle.page.specs.Places.{all_from, digitAt, digitsIn, sheetAt, judgedOf};
-ghost use Rattle.page.specs.Judge.{rowsFit, low, twoColours, judgeSheet};
+ghost use Rattle.page.specs.Places.{all_from, digit_at, digits_in, sheet_at, judged_of};
+ghost use Rattle.page.specs.Judge.{rows_fit, low, two_colours, judge_sheet};
 
 use crate::{Judged, Parts, Row, lines};
 
@@ -19,7 +19,7 @@ fn places(from: usize, to: usize) -> usize
 
 // The value of the digit at a place.
 pub fn digit_at(s: &[u8], at: usize) -> u8
-    ensures { result ≡ digitAt s.now at }
+    ensures { result ≡ digit_at s.now at }
 {
     if at < s.len() {
         let b = s[at];
@@ -33,7 +33,7 @@ pub fn digit_at(s: &[u8], at: usize) -> u8
 
 // Whether there are h rows from `at` on, each of w digits.
 fn rows_fit(s: &[u8], at: usize, h: usize, w: usize) -> bool
-    ensures { result ≡ rowsFit h w (all_from row s.now at) }
+    ensures { result ≡ rows_fit h w (all_from row s.now at) }
 {
     let mut left = h;
     let mut p = at;
@@ -55,7 +55,7 @@ fn rows_fit(s: &[u8], at: usize, h: usize, w: usize) -> bool
 
 // Whether the digits from one place up to another are 0 or 1.
 fn digits_low(s: &[u8], from: usize, to: usize) -> bool
-    ensures { result ≡ all low (digitsIn s.now from to) }
+    ensures { result ≡ all low (digits_in s.now from to) }
 {
     let mut p = from;
     while p < to {
@@ -69,7 +69,7 @@ fn digits_low(s: &[u8], from: usize, to: usize) -> bool
 
 // Whether every digit of the rows from `at` on is 0 or 1.
 fn two_colours(s: &[u8], at: usize) -> bool
-    ensures { result ≡ twoColours (all_from row s.now at) }
+    ensures { result ≡ two_colours (all_from row s.now at) }
 {
     let mut p = at;
     while p < s.len() {
@@ -87,7 +87,7 @@ fn two_colours(s: &[u8], at: usize) -> bool
 
 // The judgement of a well formed page: 1, 2, 3, or accepted.
 pub fn judge_parts(s: &[u8], p: Parts) -> Judged
-    ensures { judgedOf s.now result ≡ judgeSheet (sheetAt s.now p) }
+    ensures { judged_of s.now result ≡ judge_sheet (sheet_at s.now p) }
 {
     let h = p.height;
     let w = p.width;

@@ -3,8 +3,8 @@
 ghost use Rattle.std.specs.Prelude.{◌≡◌};
 ghost use Rattle.page.specs.Parsers.{rest};
 ghost use Rattle.page.specs.Grammar.{call};
-ghost use Rattle.page.specs.Judge.{judgementOf, colourArray, clueArray};
-ghost use Rattle.page.specs.Places.{sheetAt, judgedOf, gotCall};
+ghost use Rattle.page.specs.Judge.{judgement_of, colour_array, clue_array};
+ghost use Rattle.page.specs.Places.{sheet_at, judged_of, got_call};
 
 use board::Board;
 use rules::Call;
@@ -99,7 +99,7 @@ pub enum Judged {
 
 // The judgement of a page's bytes: 10, 1, 2, 3, in this order, or accepted.
 pub fn judge(s: &[u8]) -> Judged
-    ensures { judgedOf s.now result ≡ judgementOf s.now }
+    ensures { judged_of s.now result ≡ judgement_of s.now }
 {
     let Form::Good(p) = whole::form_of(s) else {
         return Judged::Refused(10);
@@ -109,14 +109,14 @@ pub fn judge(s: &[u8]) -> Judged
 
 // The colours of a page whose parts are p, row by row, then 0.
 pub fn colours(s: &[u8], p: Parts) -> [u8; Board::CELL_LIMIT]
-    ensures { result ≡ colourArray (sheetAt s.now p).rows }
+    ensures { result ≡ colour_array (sheet_at s.now p).rows }
 {
     filling::colours(s, p.rows)
 }
 
 // The clues of a page whose parts are p, row by row, -1 where there is none.
 pub fn clues(s: &[u8], p: Parts) -> [i32; Board::CELL_LIMIT]
-    ensures { result ≡ clueArray p.width (sheetAt s.now p).clues }
+    ensures { result ≡ clue_array p.width (sheet_at s.now p).clues }
 {
     if p.width <= Board::SIDE_LIMIT {
         return filling::clues(s, p.clues, p.width);
@@ -126,7 +126,7 @@ pub fn clues(s: &[u8], p: Parts) -> [i32; Board::CELL_LIMIT]
 
 // The call at a place, and the place of the next. The calls of a page begin at its parts' place `calls`.
 pub fn call_at(s: &[u8], at: usize) -> CallRead
-    ensures { gotCall s.now result ≡ call (rest s.now at) }
+    ensures { got_call s.now result ≡ call (rest s.now at) }
 {
     lines::call_at(s, at)
 }

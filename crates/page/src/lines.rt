@@ -1,15 +1,15 @@
 // One line of a page at a place of the bytes: the size, a row, a clue, a call.
 ghost use Rattle.std.specs.Prelude.{◌≡◌};
 ghost use Rattle.page.specs.Parsers.{rest};
-ghost use Rattle.page.specs.Grammar.{size, row, clue, decideCall, call};
-ghost use Rattle.page.specs.Places.{gotSize, gotRow, gotClue, gotCall};
+ghost use Rattle.page.specs.Grammar.{size, row, clue, decide_call, call};
+ghost use Rattle.page.specs.Places.{got_size, got_row, got_clue, got_call};
 
 use crate::{CallRead, Clue, ClueRead, Number, Place, Row, Size, bytes};
 use rules::{Call, Literal, Side};
 
 // `(size h w)`
 pub fn size_at(s: &[u8], at: usize) -> Size
-    ensures { gotSize s.now result ≡ size (rest s.now at) }
+    ensures { got_size s.now result ≡ size (rest s.now at) }
 {
     let Place::At(a) = bytes::word_at(s, at, b"(size ") else {
         return Size::No;
@@ -28,7 +28,7 @@ pub fn size_at(s: &[u8], at: usize) -> Size
 
 // `(row digits)`
 pub fn row_at(s: &[u8], at: usize) -> Row
-    ensures { gotRow s.now result ≡ row (rest s.now at) }
+    ensures { got_row s.now result ≡ row (rest s.now at) }
 {
     let Place::At(from) = bytes::word_at(s, at, b"(row ") else {
         return Row::No;
@@ -44,7 +44,7 @@ pub fn row_at(s: &[u8], at: usize) -> Row
 
 // `(clue y x n)`
 pub fn clue_at(s: &[u8], at: usize) -> ClueRead
-    ensures { gotClue s.now result ≡ clue (rest s.now at) }
+    ensures { got_clue s.now result ≡ clue (rest s.now at) }
 {
     let Place::At(a) = bytes::word_at(s, at, b"(clue ") else {
         return ClueRead::No;
@@ -66,7 +66,7 @@ pub fn clue_at(s: &[u8], at: usize) -> ClueRead
 
 // `(decide b s)`
 fn decide_at(s: &[u8], at: usize) -> CallRead
-    ensures { gotCall s.now result ≡ decideCall (rest s.now at) }
+    ensures { got_call s.now result ≡ decide_call (rest s.now at) }
 {
     let Place::At(a) = bytes::word_at(s, at, b"(decide ") else {
         return CallRead::No;
@@ -89,7 +89,7 @@ fn decide_at(s: &[u8], at: usize) -> CallRead
 
 // A call's line: `(undo)`, `(check)` or a decide.
 pub fn call_at(s: &[u8], at: usize) -> CallRead
-    ensures { gotCall s.now result ≡ call (rest s.now at) }
+    ensures { got_call s.now result ≡ call (rest s.now at) }
 {
     let Place::At(a) = bytes::word_at(s, at, b"(undo)\n") else {
         let Place::At(b) = bytes::word_at(s, at, b"(check)\n") else {

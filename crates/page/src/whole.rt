@@ -3,14 +3,14 @@
 ghost use Rattle.std.specs.Prelude.{◌≡◌};
 ghost use Rattle.lists.specs.Lists.{any};
 ghost use Rattle.page.specs.Parsers.{rest};
-ghost use Rattle.page.specs.Grammar.{clue, onPage, sameCell, cluesFit, page_of};
-ghost use Rattle.page.specs.Places.{leftFrom, all_from, afterLine, end_of, formOf};
+ghost use Rattle.page.specs.Grammar.{clue, on_page, same_cell, clues_fit, page_of};
+ghost use Rattle.page.specs.Places.{left_from, all_from, after_line, end_of, form_of};
 
 use crate::{CallRead, Clue, ClueRead, Form, Line, Parts, Place, Row, Size, bytes, lines};
 
 // The place after the line at `at`, if a line of that kind stands there.
 fn line_end(s: &[u8], at: usize, line: Line) -> Place
-    ensures { leftFrom s.now result ≡ afterLine line (rest s.now at) }
+    ensures { left_from s.now result ≡ after_line line (rest s.now at) }
 {
     match line {
         Line::Row => {
@@ -50,7 +50,7 @@ fn lines_end(s: &[u8], at: usize, line: Line) -> usize
 
 // Whether two clues name one cell.
 fn same_cell(c: Clue, d: Clue) -> bool
-    ensures { result ≡ sameCell c d }
+    ensures { result ≡ same_cell c d }
 {
     if c.y == d.y {
         return c.x == d.x;
@@ -60,7 +60,7 @@ fn same_cell(c: Clue, d: Clue) -> bool
 
 // Whether a clue is on the page of h rows and w columns.
 fn on_page(c: Clue, h: usize, w: usize) -> bool
-    ensures { result ≡ onPage h w c }
+    ensures { result ≡ on_page h w c }
 {
     if c.y < h {
         return c.x < w;
@@ -70,7 +70,7 @@ fn on_page(c: Clue, h: usize, w: usize) -> bool
 
 // Whether one of the clues from `at` on names the cell of c.
 fn clue_again(s: &[u8], at: usize, c: Clue) -> bool
-    ensures { result ≡ any (sameCell c) (all_from clue s.now at) }
+    ensures { result ≡ any (same_cell c) (all_from clue s.now at) }
 {
     let mut p = at;
     while p < s.len() {
@@ -87,7 +87,7 @@ fn clue_again(s: &[u8], at: usize, c: Clue) -> bool
 
 // Whether the clues from `at` on are on the page, and none is given twice.
 fn clues_fit(s: &[u8], at: usize, h: usize, w: usize) -> bool
-    ensures { result ≡ cluesFit h w (all_from clue s.now at) }
+    ensures { result ≡ clues_fit h w (all_from clue s.now at) }
 {
     let mut p = at;
     while p < s.len() {
@@ -108,7 +108,7 @@ fn clues_fit(s: &[u8], at: usize, h: usize, w: usize) -> bool
 
 // The parts of a page, if the bytes are well formed.
 pub fn form_of(s: &[u8]) -> Form
-    ensures { formOf s.now result ≡ page_of s.now }
+    ensures { form_of s.now result ≡ page_of s.now }
 {
     if 65536 < s.len() {
         return Form::Bad;

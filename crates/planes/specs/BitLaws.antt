@@ -8,7 +8,7 @@ use Rattle.std.proofs.Math.Arith.{digits_div, digits_mod, lt-one}
 use Rattle.std.proofs.Math.Pow.{pow-lt}
 use Rattle.std.proofs.lemmas.Nat.{shl-shr, and_shr, or_shr}
 use Rattle.std.specs.Int.Bits.{bit_and, bit_or, and_step, or_step, shifted_even, shifted_half}
-use Rattle.lists.specs.Tests.{anyBelow}
+use Rattle.lists.specs.Tests.{any_below}
 use Rattle.lists.specs.TestLaws.{any-cong, any-first}
 use Rattle.lists.specs.Count.{bit}
 use Rattle.lists.specs.CountLaws.{bit-under, bit_is}
@@ -136,8 +136,8 @@ not-zero w =
         ne_eqb (suc w / 2) 0 (λ (e : suc w / 2 ≡ 0). omega arith)
         ∙ sym (ne_eqb (suc w) 0 (λ (e : suc w ≡ 0). omega arith))
 
-pub some-bit : (k w : ℕ) → w < 2 ^ k → anyBelow k (bit_at w) ≡ not (eqb w 0)
-unfolding anyBelow
+pub some-bit : (k w : ℕ) → w < 2 ^ k → any_below k (bit_at w) ≡ not (eqb w 0)
+unfolding any_below
 some-bit zero w h = let e : w ≡ 0 = lt-one h in rw e
 some-bit (suc k) w h =
     any-first k (bit_at w)

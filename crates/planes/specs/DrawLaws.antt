@@ -15,7 +15,7 @@ use Rattle.lists.specs.Arithmetic.{le-or-lt, eq-or-not}
 use Rattle.rules.specs.Flat.{Sized}
 use Rattle.laws.specs.FlatLaws.{counts, spot}
 use Rattle.planes.specs.RowLaws.{row_fits}
-use Rattle.planes.specs.Planes.{clearAt, clearRow, lineWord, planeRow, planeWord, planesOf}
+use Rattle.planes.specs.Planes.{clear_at, clear_row, line_word, plane_row, plane_word, planes_of}
 
 -- the bounds of a doubled row's cells and borders
 pub record Line (h w y : ℕ) : Type 0 where
@@ -37,39 +37,39 @@ line-in {h} {w} y s l =
     }
 
 module _ (h w : ℕ) (cs bs : List ℕ) where
-  row_low : (c a b n : ℕ) → n ≤ 32 → clearRow cs bs c a b n < 4294967296
-  unfolding clearRow
-  row_low c a b n l = row_fits n 0 (λ x. clearAt cs bs (c + x) (c + x + a) (b + x)) l
+  row_low : (c a b n : ℕ) → n ≤ 32 → clear_row cs bs c a b n < 4294967296
+  unfolding clear_row
+  row_low c a b n l = row_fits n 0 (λ x. clear_at cs bs (c + x) (c + x + a) (b + x)) l
 
-  line_low : (r : ℕ) → w ≤ 32 → lineWord h w cs bs r < 4294967296
-  unfolding lineWord
+  line_low : (r : ℕ) → w ≤ 32 → line_word h w cs bs r < 4294967296
+  unfolding line_word
   line_low r l = go (eqb (r % 2) 1)
     where
-      go : (b : Bool) → cond b (clearRow cs bs (r / 2 * w) w (h * (w - 1) + r / 2 * w) w)
-          (clearRow cs bs (r / 2 * w) 1 (r / 2 * (w - 1)) (w - 1)) < 4294967296
+      go : (b : Bool) → cond b (clear_row cs bs (r / 2 * w) w (h * (w - 1) + r / 2 * w) w)
+          (clear_row cs bs (r / 2 * w) 1 (r / 2 * (w - 1)) (w - 1)) < 4294967296
       go true = row_low (r / 2 * w) w (h * (w - 1) + r / 2 * w) w l
       go false = row_low (r / 2 * w) 1 (r / 2 * (w - 1)) (w - 1) (omega arith)
 
   pub record Drawing (n : ℕ) (p : List ℕ) : Type 0 where
     pub size : length p ≡ 192
-    pub rows : (r : ℕ) → get_or p r 0 ≡ planeRow h w cs bs n r
+    pub rows : (r : ℕ) → get_or p r 0 ≡ plane_row h w cs bs n r
 
-  row-none : (r : ℕ) → planeRow h w cs bs 0 r ≡ 0
-  unfolding planeRow
+  row-none : (r : ℕ) → plane_row h w cs bs 0 r ≡ 0
+  unfolding plane_row
   row-none r =
       ⊎_elim
       (λ (l : 64 ≤ r). rw (le-leb 64 r l, le-ltb r (64 + 0) (omega arith)))
       (λ (l : r < 64). rw (lt-leb 64 r l))
       (le-or-lt 64 r)
 
-  row_here : (n : ℕ) → planeRow h w cs bs (n + 1) (64 + n) ≡ lineWord h w cs bs n * 4294967296
-  unfolding planeRow
+  row_here : (n : ℕ) → plane_row h w cs bs (n + 1) (64 + n) ≡ line_word h w cs bs n * 4294967296
+  unfolding plane_row
   row_here n =
       let e : 64 + n - 64 ≡ n = omega arith in
       rw (le-leb 64 (64 + n) (omega arith), lt-ltb (64 + n) (64 + (n + 1)) (omega arith), e)
 
-  row_other : (n r : ℕ) → r ≢ 64 + n → planeRow h w cs bs n r ≡ planeRow h w cs bs (n + 1) r
-  unfolding planeRow
+  row_other : (n r : ℕ) → r ≢ 64 + n → plane_row h w cs bs n r ≡ plane_row h w cs bs (n + 1) r
+  unfolding plane_row
   row_other n r o =
       ⊎_elim
       (λ (l : 64 + n ≤ r). rw (le-ltb r (64 + n) l, le-ltb r (64 + (n + 1)) (omega arith)))
@@ -80,7 +80,7 @@ module _ (h w : ℕ) (cs bs : List ℕ) where
   draw-start e =
       rw e (record { size = length-replicate 192 zero; rows = λ r. zeros 192 r ∙ sym (row-none r) })
 
-  pub draw-more : (n : ℕ) {p : List ℕ} (v : ℕ) → n < 63 → w ≤ 32 → v ≡ lineWord h w cs bs n → Drawing n p
+  pub draw-more : (n : ℕ) {p : List ℕ} (v : ℕ) → n < 63 → w ≤ 32 → v ≡ line_word h w cs bs n → Drawing n p
       → Drawing (n + 1) (set p (64 + n) ((v * 4294967296) % 18446744073709551616))
   draw-more n {p} v l m e d =
       let g : (v * 4294967296) % 18446744073709551616 ≡ v * 4294967296 =
@@ -100,12 +100,12 @@ module _ (h w : ℕ) (cs bs : List ℕ) where
             (eq-or-not r (64 + n));
       })
 
-  pub draw-end : (n : ℕ) {p : List ℕ} → n ≤ 2 * h - 1 → 2 * h - 1 ≤ n → Drawing n p → p ≡ planesOf h w cs bs
-  unfolding planesOf planeWord
+  pub draw-end : (n : ℕ) {p : List ℕ} → n ≤ 2 * h - 1 → 2 * h - 1 ≤ n → Drawing n p → p ≡ planes_of h w cs bs
+  unfolding planes_of plane_word
   draw-end n {p} l m d =
       let e : n ≡ 2 * h - 1 = omega arith in
-      table_is 192 (planeWord h w cs bs) 0 p d.size (λ r k. d.rows r ∙ rw e)
+      table_is 192 (plane_word h w cs bs) 0 p d.size (λ r k. d.rows r ∙ rw e)
 
-pub planes-long : (h w : ℕ) (cs bs : List ℕ) {p : List ℕ} → p ≡ planesOf h w cs bs → length p ≡ 192
-unfolding planesOf
-planes-long h w cs bs e = ap length e ∙ length-table 192 (planeWord h w cs bs)
+pub planes-long : (h w : ℕ) (cs bs : List ℕ) {p : List ℕ} → p ≡ planes_of h w cs bs → length p ≡ 192
+unfolding planes_of
+planes-long h w cs bs e = ap length e ∙ length-table 192 (plane_word h w cs bs)

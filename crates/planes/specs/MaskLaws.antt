@@ -19,7 +19,7 @@ use Rattle.rules.specs.Flat.{Sized}
 use Rattle.groups.specs.Parts.{part_of}
 use Rattle.planes.specs.Bits.{bit_at}
 use Rattle.planes.specs.BitLaws.{bit-zero, bit-with}
-use Rattle.planes.specs.Masks.{cellIs, Masked, originsIn}
+use Rattle.planes.specs.Masks.{cell_is, Masked, origins_in}
 
 pub place_in : {h w : ℕ} (c : ℕ) → Sized h w → c < h * w → (c / w < 32) × (c % w < 32)
 place_in {h} {w} c s l =
@@ -46,12 +46,12 @@ module _ (w : ℕ) where
             ap (λ (k : ℕ). bit_at k x) (get_or-set_other m 32 y v 0 (λ (e : y ≡ 32). omega arith)) ∙ d.each y x l;
       }
 
-  cell_row : (y x c : ℕ) → y ≡ c / w → eqb x (c % w) ≡ cellIs w y x c
-  unfolding cellIs
+  cell_row : (y x c : ℕ) → y ≡ c / w → eqb x (c % w) ≡ cell_is w y x c
+  unfolding cell_is
   cell_row y x c e = rw (eq-eqb (c / w) y (sym e)) (eqb_swap x (c % w))
 
-  cell_other : (y x c : ℕ) → y ≢ c / w → false ≡ cellIs w y x c
-  unfolding cellIs
+  cell_other : (y x c : ℕ) → y ≢ c / w → false ≡ cell_is w y x c
+  unfolding cell_is
   cell_other y x c e = rw (ne_eqb (c / w) y (λ (d : c / w ≡ y). e (sym d)))
 
   -- one cell more
@@ -72,26 +72,26 @@ module _ (w : ℕ) where
             ∙ (bit-with (get_or m (c / w) 0) (c % w) x q
             ∙ (ap₂ (λ (a b : Bool). a || b)
             (ap (λ (k : ℕ). bit_at (get_or m k 0) x) (sym e) ∙ d.each y x l)
-            (cell_row y x c e ∙ sym (or-false (cellIs w y x c)))
-            ∙ sym (any_append (cellIs w y x) xs (c ∷ []))))))
+            (cell_row y x c e ∙ sym (or-false (cell_is w y x c)))
+            ∙ sym (any_append (cell_is w y x) xs (c ∷ []))))))
             (λ (e : y ≢ c / w).
             ap (λ (k : ℕ). bit_at k x) (get_or-set_other m (c / w) y v 0 e)
             ∙ (d.each y x l
-            ∙ (sym (or-false (any (cellIs w y x) xs))
-            ∙ (ap (λ (b : Bool). any (cellIs w y x) xs || b)
-            (cell_other y x c e ∙ sym (or-false (cellIs w y x c)))
-            ∙ sym (any_append (cellIs w y x) xs (c ∷ []))))))
+            ∙ (sym (or-false (any (cell_is w y x) xs))
+            ∙ (ap (λ (b : Bool). any (cell_is w y x) xs || b)
+            (cell_other y x c e ∙ sym (or-false (cell_is w y x c)))
+            ∙ sym (any_append (cell_is w y x) xs (c ∷ []))))))
             (eq-or-not y (c / w));
       }
 
   -- the bit_at of a cell
-  cell-here : (c : ℕ) → cellIs w (c / w) (c % w) c ≡ true
-  unfolding cellIs
+  cell-here : (c : ℕ) → cell_is w (c / w) (c % w) c ≡ true
+  unfolding cell_is
   cell-here c = rw (eq-eqb (c / w) (c / w) refl, eq-eqb (c % w) (c % w) refl)
 
   pub masked-here : {xs m : List ℕ} (c : ℕ) → c / w < 32 → c ∈ xs → Masked w xs m
       → bit_at (get_or m (c / w) 0) (c % w) ≡ true
-  masked-here c l i k = k.each (c / w) (c % w) l ∙ holds-any (cellIs w (c / w) (c % w)) i (cell-here c)
+  masked-here c l i k = k.each (c / w) (c % w) l ∙ holds-any (cell_is w (c / w) (c % w)) i (cell-here c)
 
 -- the cells of a group, one after the other
 module _ (w : ℕ) (cells : List ℕ) (from : ℕ) (xs : List ℕ) where
@@ -107,14 +107,14 @@ module _ (w : ℕ) (cells : List ℕ) (from : ℕ) (xs : List ℕ) where
 
 -- the cells of some groups
 module _ (w : ℕ) (cells offs mates : List ℕ) (from : ℕ) where
-  pub mates-none : {m : List ℕ} → Masked w [] m → Masked w (originsIn cells offs (part mates from from)) m
-  unfolding originsIn flat_map
+  pub mates-none : {m : List ℕ} → Masked w [] m → Masked w (origins_in cells offs (part mates from from)) m
+  unfolding origins_in flat_map
   mates-none d = rw (part_none mates from from (omega arith)) d
 
   pub mates-more : {m : List ℕ} (i : ℕ) → from ≤ i → i < length mates
-      → Masked w (originsIn cells offs (part mates from i) ++ part_of cells offs (get_or mates i 0)) m
-      → Masked w (originsIn cells offs (part mates from (i + 1))) m
-  unfolding originsIn flat_map
+      → Masked w (origins_in cells offs (part mates from i) ++ part_of cells offs (get_or mates i 0)) m
+      → Masked w (origins_in cells offs (part mates from (i + 1))) m
+  unfolding origins_in flat_map
   mates-more i l k d =
       rw (
         part-split mates from i (i + 1) l (omega arith),

@@ -7,31 +7,31 @@ use native.Mathlib.Omega.{arith}
 use borrow.Author.Tests.{lt-ltb, le-ltb, le-leb, lt-leb, eq-eqb, ne_eqb}
 use Rattle.std.proofs.Math.Arith.{digits_lt, digits_div, digits_mod}
 use Rattle.rules.specs.Page.{Puzzle, State}
-use Rattle.rules.specs.Rules.{oneColour}
-use Rattle.rules.specs.Codes.{coloursIn, statesIn, unclued}
-use Rattle.rules.specs.Flat.{flat, flatReads, flatReadsAt, rightOf, belowOf, flatFirst, flatSecond, cell_at}
+use Rattle.rules.specs.Rules.{one_colour}
+use Rattle.rules.specs.Codes.{colours_in, states_in, unclued}
+use Rattle.rules.specs.Flat.{flat, flat_reads, flat_reads_at, right_of, below_of, flat_first, flat_second, cell_at}
 use Rattle.laws.specs.CodeLaws.{wall-state, bit-same}
 use Rattle.planes.specs.declared.Reading.TheVariants.{Ends, Clear, Walled}
-use Rattle.planes.specs.Placing.{readRaised, reading_of, between}
+use Rattle.planes.specs.Placing.{read_raised, reading_of, between}
 
 -- what the border between two cells does
 module _ (cs bs : List ℕ) (from to b : ℕ) (two : (c : ℕ) → get_or cs c 0 ≤ 1) where
-  two-colours : beq (coloursIn cs from) (coloursIn cs to) ≡ eqb (get_or cs from 0) (get_or cs to 0)
-  unfolding coloursIn
+  two-colours : beq (colours_in cs from) (colours_in cs to) ≡ eqb (get_or cs from 0) (get_or cs to 0)
+  unfolding colours_in
   two-colours = bit-same (get_or cs from 0) (get_or cs to 0) (two from) (two to)
 
-  pub between_ends : (get_or cs from 0 ≡ get_or cs to 0 → ⊥) → Ends ≡ between (coloursIn cs) (statesIn bs) from to b
+  pub between_ends : (get_or cs from 0 ≡ get_or cs to 0 → ⊥) → Ends ≡ between (colours_in cs) (states_in bs) from to b
   unfolding between
   between_ends e = rw (two-colours, ne_eqb (get_or cs from 0) (get_or cs to 0) e)
 
   pub between-wall : get_or cs from 0 ≡ get_or cs to 0 → get_or bs b 0 ≡ 1
-      → Walled b ≡ between (coloursIn cs) (statesIn bs) from to b
-  unfolding between statesIn
+      → Walled b ≡ between (colours_in cs) (states_in bs) from to b
+  unfolding between states_in
   between-wall e v = rw (two-colours, eq-eqb (get_or cs from 0) (get_or cs to 0) e, v)
 
   pub between-clear : get_or cs from 0 ≡ get_or cs to 0 → (get_or bs b 0 ≡ 1 → ⊥)
-      → Clear ≡ between (coloursIn cs) (statesIn bs) from to b
-  unfolding between statesIn
+      → Clear ≡ between (colours_in cs) (states_in bs) from to b
+  unfolding between states_in
   between-clear e v =
       rw (two-colours, eq-eqb (get_or cs from 0) (get_or cs to 0) e, wall-state (get_or bs b 0), ne_eqb (get_or bs b 0) 1 v)
 
@@ -47,18 +47,18 @@ right-border h w y x p q = record { border = digits_lt p q; row = digits_div y q
 module _ (h w y x : ℕ) (cs : List ℕ) (s : ℕ → State) where
   -- the border right of a cell
   pub right-reading : y < h → x < w - 1
-      → reading_of (unclued h w cs) s (some (rightOf h w y x))
-      ≡ between (coloursIn cs) s (y * w + x) (y * w + x + 1) (y * (w - 1) + x)
-  unfolding reading_of oneColour flat flatFirst flatSecond cell_at rightOf between
+      → reading_of (unclued h w cs) s (some (right_of h w y x))
+      ≡ between (colours_in cs) s (y * w + x) (y * w + x + 1) (y * (w - 1) + x)
+  unfolding reading_of one_colour flat flat_first flat_second cell_at right_of between
   right-reading p q =
       let b = right-border h w y x p q in
       let e : y * w + x + 1 ≡ y * w + (x + 1) = omega arith in
       rw (lt-ltb (y * (w - 1) + x) (h * (w - 1)) b.border, b.row, b.column, e)
 
   -- the border below it
-  pub below-reading : reading_of (unclued h w cs) s (some (belowOf h w y x))
-      ≡ between (coloursIn cs) s (y * w + x) (y * w + x + w) (h * (w - 1) + (y * w + x))
-  unfolding reading_of oneColour flat flatFirst flatSecond belowOf between
+  pub below-reading : reading_of (unclued h w cs) s (some (below_of h w y x))
+      ≡ between (colours_in cs) s (y * w + x) (y * w + x + w) (h * (w - 1) + (y * w + x))
+  unfolding reading_of one_colour flat flat_first flat_second below_of between
   below-reading =
       let e : h * (w - 1) + (y * w + x) - h * (w - 1) ≡ y * w + x = omega arith in
       rw (le-ltb (h * (w - 1) + (y * w + x)) (h * (w - 1)) (omega arith), e)
@@ -69,37 +69,37 @@ off-ends Z s e = rw e
 
 -- what a raised place reads
 module _ (h w y x : ℕ) where
-  pub off-above : y < 64 → readRaised h w y x ≡ none
-  unfolding readRaised flatReads
+  pub off-above : y < 64 → read_raised h w y x ≡ none
+  unfolding read_raised flat_reads
   off-above p = rw (lt-ltb y 64 p)
 
-  pub off-left : 64 ≤ y → x < 64 → readRaised h w y x ≡ none
-  unfolding readRaised flatReads
+  pub off-left : 64 ≤ y → x < 64 → read_raised h w y x ≡ none
+  unfolding read_raised flat_reads
   off-left p q = rw (le-ltb y 64 p, lt-ltb x 64 q)
 
   module _ (p : 64 ≤ y) (q : 64 ≤ x) where
-    in-plane : readRaised h w y x ≡ flatReadsAt h w (y - 64) (x - 64)
-    unfolding readRaised flatReads
+    in-plane : read_raised h w y x ≡ flat_reads_at h w (y - 64) (x - 64)
+    unfolding read_raised flat_reads
     in-plane = rw (le-ltb y 64 p, le-ltb x 64 q)
 
-    pub off-below : 2 * (h - 1) < y - 64 → readRaised h w y x ≡ none
-    unfolding flatReadsAt
+    pub off-below : 2 * (h - 1) < y - 64 → read_raised h w y x ≡ none
+    unfolding flat_reads_at
     off-below o = in-plane ∙ rw (lt-leb (y - 64) (2 * (h - 1)) o)
 
-    pub off-right : y - 64 ≤ 2 * (h - 1) → 2 * (w - 1) < x - 64 → readRaised h w y x ≡ none
-    unfolding flatReadsAt
+    pub off-right : y - 64 ≤ 2 * (h - 1) → 2 * (w - 1) < x - 64 → read_raised h w y x ≡ none
+    unfolding flat_reads_at
     off-right m o = in-plane ∙ rw (le-leb (y - 64) (2 * (h - 1)) m, lt-leb (x - 64) (2 * (w - 1)) o)
 
     module _ (m : y - 64 ≤ 2 * (h - 1)) (n : x - 64 ≤ 2 * (w - 1)) where
-      pub reads-below : (y - 64) % 2 ≡ 1 → readRaised h w y x ≡ some (belowOf h w ((y - 64) / 2) ((x - 64) / 2))
-      unfolding flatReadsAt
+      pub reads-below : (y - 64) % 2 ≡ 1 → read_raised h w y x ≡ some (below_of h w ((y - 64) / 2) ((x - 64) / 2))
+      unfolding flat_reads_at
       reads-below o =
           in-plane
           ∙ rw (le-leb (y - 64) (2 * (h - 1)) m, le-leb (x - 64) (2 * (w - 1)) n, o)
 
       pub reads-right : ((y - 64) % 2 ≡ 1 → ⊥)
-          → readRaised h w y x ≡ some (rightOf h w ((y - 64) / 2) ((x - 64) / 2))
-      unfolding flatReadsAt
+          → read_raised h w y x ≡ some (right_of h w ((y - 64) / 2) ((x - 64) / 2))
+      unfolding flat_reads_at
       reads-right o =
           in-plane
           ∙ rw (le-leb (y - 64) (2 * (h - 1)) m, le-leb (x - 64) (2 * (w - 1)) n, ne_eqb ((y - 64) % 2) 1 o)

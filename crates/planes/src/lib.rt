@@ -4,12 +4,12 @@ ghost use Rattle.std.specs.Int.Bits.{bit_and};
 ghost use Rattle.lists.specs.Count.{bit};
 ghost use Rattle.lists.specs.Parts.{part};
 ghost use Rattle.rules.specs.Flat.{Sized};
-ghost use Rattle.groups.specs.Grouping.{cells_in, startsIn};
+ghost use Rattle.groups.specs.Grouping.{cells_in, starts_in};
 ghost use Rattle.reasons.specs.Arrays.{Cells};
 ghost use Rattle.shapes.specs.Raising.{Raised};
-ghost use Rattle.adjacent.specs.Mates.{matesIn, Beside};
-ghost use Rattle.planes.specs.Planes.{clearAt, clearRow, lineWord, planesOf};
-ghost use Rattle.planes.specs.Masks.{Masked, Sizes, Span, originsIn, clearWord, lineFits, maskFits};
+ghost use Rattle.adjacent.specs.Mates.{mates_in, Beside};
+ghost use Rattle.planes.specs.Planes.{clear_at, clear_row, line_word, planes_of};
+ghost use Rattle.planes.specs.Masks.{Masked, Sizes, Span, origins_in, clear_word, line_fits, mask_fits};
 
 use adjacent::Mates;
 use groups::{Grouping, cell_at, start_of};
@@ -35,7 +35,7 @@ fn clear<'a>(
     border: usize,
 ) -> u64
     requires { (from < 1024) × (to < 1024) × (border < 1984) }
-    ensures { result ≡ bit (clearAt colours.now borders.now from to border) }
+    ensures { result ≡ bit (clear_at colours.now borders.now from to border) }
 {
     if colours[from] != colours[to] {
         return 0;
@@ -57,7 +57,7 @@ fn clear_row<'a>(
     n: usize,
 ) -> u64
     requires { (n ≤ 32) × (cell + n + ahead ≤ 1024) × (border + n ≤ 1984) }
-    ensures { result ≡ clearRow colours.now borders.now cell ahead border n }
+    ensures { result ≡ clear_row colours.now borders.now cell ahead border n }
 {
     let mut acc: u64 = 0;
     let mut x = n;
@@ -71,7 +71,7 @@ fn clear_row<'a>(
 // The doubled row r of the page: odd, the borders below a row's cells; even, those right of them.
 fn line<'a>(h: usize, w: usize, colours: &'a [u8; 1024], borders: &'a [u8; 1984], r: usize) -> u64
     requires { Sized h w × (r < 2 * h - 1) }
-    ensures { result ≡ lineWord h w colours.now borders.now r }
+    ensures { result ≡ line_word h w colours.now borders.now r }
 {
     let y = r / 2;
     if r % 2 == 1 {
@@ -89,7 +89,7 @@ pub fn draw_planes<'a>(
     planes: &mut [u64; 192],
 )
     requires { Sized h w × (planes.old ≡ replicate 192 0) }
-    ensures { planes.new ≡ planesOf h w colours.now borders.now }
+    ensures { planes.new ≡ planes_of h w colours.now borders.now }
 {
     let count = 2 * h - 1;
     let mut r = 0;
@@ -153,8 +153,8 @@ pub fn draw_mask<'a>(
     mask: &mut [u64; 33],
 )
     requires { Sized h w × Beside h w potential.now mates.now × (length mask.old ≡ 33) }
-    ensures { Masked w (originsIn (cells_in potential.now) (startsIn potential.now)
-        (matesIn mates.now)) mask.new × (get_or mask.new 32 0 ≡ name) }
+    ensures { Masked w (origins_in (cells_in potential.now) (starts_in potential.now)
+        (mates_in mates.now)) mask.new × (get_or mask.new 32 0 ≡ name) }
 {
     let count = index(mates[1024]);
     clear_mask(mask);
@@ -192,7 +192,7 @@ pub fn line_left<'a>(
     n: usize,
 ) -> u64
     requires { (length planes.now ≡ 192) × (y < 32) × Raised turned.now n }
-    ensures { result ≡ clearWord planes.now y turned.now word n }
+    ensures { result ≡ clear_word planes.now y turned.now word n }
 {
     let mut acc = word;
     let mut j = 0;
@@ -209,7 +209,7 @@ pub fn line_left<'a>(
 // Whether a transform fits at one of the origins `word` of row y.
 fn line_fits<'a>(planes: &'a [u64; 192], word: u64, y: usize, turned: &'a Turned, n: usize) -> bool
     requires { (length planes.now ≡ 192) × (y < 32) × Raised turned.now n }
-    ensures { result ≡ lineFits planes.now y turned.now n word }
+    ensures { result ≡ line_fits planes.now y turned.now n word }
 {
     line_left(planes, word, y, turned, n) != 0
 }
@@ -255,7 +255,7 @@ pub fn mask_fits<'a>(
     n: usize,
 ) -> bool
     requires { Sizes h planes.now mask.now × Span h mask.now top end × Raised turned.now n }
-    ensures { result ≡ maskFits planes.now mask.now h turned.now n }
+    ensures { result ≡ mask_fits planes.now mask.now h turned.now n }
 {
     let mut y = top;
     while y < end {

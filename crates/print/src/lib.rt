@@ -6,7 +6,7 @@ ghost use Rattle.rules.specs.Book.{refused, answered};
 ghost use Rattle.page.specs.Decimal.{decimal};
 ghost use Rattle.page.specs.Grammar.{bracket, newline, end_word};
 ghost use Rattle.page.specs.PageText.{counted};
-ghost use Rattle.print.specs.Answers.{answersWord, conflictWord, showReply, codeText, text_of};
+ghost use Rattle.print.specs.Answers.{answers_word, conflict_word, show_reply, code_text, text_of};
 ghost use Rattle.print.specs.Lines.{Longer, LineHolds, Written};
 ghost use Rattle.print.specs.Chunks.{Put};
 
@@ -71,14 +71,14 @@ fn numbered(word: &[u8], n: usize) -> Line
 
 // `(pass n)` and its newline.
 pub fn pass_line(n: usize) -> Line
-    ensures { LineHolds result (showReply (answered (pass n))) }
+    ensures { LineHolds result (show_reply (answered (pass n))) }
 {
     numbered(b"(pass ", n)
 }
 
 // `(refused n)` and its newline.
 pub fn refused_line(n: usize) -> Line
-    ensures { LineHolds result (showReply (refused n)) }
+    ensures { LineHolds result (show_reply (refused n)) }
 {
     numbered(b"(refused ", n)
 }
@@ -97,14 +97,14 @@ fn word_line(word: &[u8]) -> Line
 
 // `(answers` and its newline: the output's first line.
 pub fn answers_line() -> Line
-    ensures { LineHolds result answersWord }
+    ensures { LineHolds result answers_word }
 {
     word_line(b"(answers\n")
 }
 
 // `(conflict`: what stands before the literals.
 pub fn conflict_start() -> Line
-    ensures { LineHolds result conflictWord }
+    ensures { LineHolds result conflict_word }
 {
     word_line(b"(conflict")
 }
@@ -128,7 +128,7 @@ fn side_letter(code: usize) -> u8
 
 // A space and the literal that reason memory holds as `code`.
 pub fn literal_text(code: u16) -> Line
-    ensures { LineHolds result (codeText code) }
+    ensures { LineHolds result (code_text code) }
 {
     let start = Line {
         bytes: [0u8; 32],

@@ -5,7 +5,7 @@ use Rattle.std.proofs.Common.{◌∙◌, arith, ne_eqb, eq-eqb, le-leb, length-t
 use Rattle.std.proofs.Math.Nat.{min-le_right}
 use Rattle.std.proofs.lemmas.Bool.{lt-leb}
 use Rattle.lists.specs.Sections.{section}
-use Rattle.board.specs.Board.{zeroBoard}
+use Rattle.board.specs.Board.{zero_board}
 use Rattle.board.specs.FreshLaws.{zero-alien}
 use Rattle.groups.specs.declared.Kind.{Kind}
 use Rattle.groups.specs.declared.Kind.TheVariants as kind
@@ -13,25 +13,25 @@ use Rattle.groups.specs.declared.Which.{Which}
 use Rattle.groups.specs.declared.Which.TheVariants.{Units, Potential}
 use Rattle.groups.specs.Asked.{asked_of}
 use Rattle.groups.specs.AskedLaws.{asked-alien}
-use Rattle.groups.specs.Grouping.{cells_in, start_in, groupCells}
-use Rattle.groups.specs.Parts.{partFrom}
-use Rattle.image.specs.Image.{rightLength, spelledBoard}
+use Rattle.groups.specs.Grouping.{cells_in, start_in, group_cells}
+use Rattle.groups.specs.Parts.{part_from}
+use Rattle.image.specs.Image.{right_length, spelled_board}
 use Rattle.image.specs.RoundLaws.{long-is}
 use Rattle.reasons.specs.Memory.{WordsWritten}
-use Rattle.probe.specs.ProbeAsked.{askedIn, partIn, AskedTold}
+use Rattle.probe.specs.ProbeAsked.{asked_in, part_in, AskedTold}
 
 -- ---- the two cases of an image's length
 module _ (s : List ℕ) (k : Kind) where
-  pub asked-other : (length s ≡ 11082 → ⊥) → asked_of zeroBoard k ≡ askedIn s k
-  unfolding askedIn rightLength
-  asked-other e = sym (asked-alien zeroBoard k zero-alien) ∙ rw (ne_eqb (length s) 11082 e)
+  pub asked-other : (length s ≡ 11082 → ⊥) → asked_of zero_board k ≡ asked_in s k
+  unfolding asked_in right_length
+  asked-other e = sym (asked-alien zero_board k zero-alien) ∙ rw (ne_eqb (length s) 11082 e)
 
-  pub asked-right : length s ≡ 11082 → asked_of (spelledBoard s) k ≡ askedIn s k
-  unfolding askedIn
+  pub asked-right : length s ≡ 11082 → asked_of (spelled_board s) k ≡ asked_in s k
+  unfolding asked_in
   asked-right e = rw (long-is s e)
 
 -- ---- a part is no longer than its list
-part-le : (grouping : List ℕ) (g : ℕ) → length (groupCells grouping g) ≤ 1024
+part-le : (grouping : List ℕ) (g : ℕ) → length (group_cells grouping g) ≤ 1024
 unfolding section
 part-le grouping g =
     let from = start_in grouping g in
@@ -45,10 +45,10 @@ part-le grouping g =
       length-take 1024 (drop 1024 grouping),
     )
 
-pub part-few : (s : List ℕ) (which : Which) (g : ℕ) → length (partIn s which g) ≤ 1024
-unfolding partIn partFrom
-part-few s Units g = part-le (askedIn s kind.Units).groups g
-part-few s Potential g = part-le (askedIn s kind.Potential).groups g
+pub part-few : (s : List ℕ) (which : Which) (g : ℕ) → length (part_in s which g) ≤ 1024
+unfolding part_in part_from
+part-few s Units g = part-le (asked_in s kind.Units).groups g
+part-few s Potential g = part-le (asked_in s kind.Potential).groups g
 
 -- ---- the cases of what is given
 module _ {f n : ℕ} {m words : List ℕ} (e : n ≡ f) where

@@ -6,30 +6,30 @@ use Prim.Native.Nat.{ℕ, zero, suc, ◌+◌}
 use Rattle.rules.specs.declared.Literal.{Literal}
 use Rattle.rules.specs.declared.Call.TheVariants.{Preview}
 use Rattle.board.specs.declared.Board.{Board}
-use Rattle.calls.specs.Answers.{answerNumber, previewAnswer, previewMemory, call_of, callMemory}
+use Rattle.calls.specs.Answers.{answer_number, preview_answer, preview_memory, call_of, call_memory}
 use Rattle.calls.specs.AnswerLaws.{length-call}
 use Rattle.calls.specs.NumberLaws.{InRange, call-range}
-use Rattle.probe.specs.ProbePreviews.{previewsNumber, previewsMemory}
+use Rattle.probe.specs.ProbePreviews.{previews_number, previews_memory}
 
 module _ (b : Board) (l : Literal) where
-  pub preview-in-range : (m : List ℕ) → InRange (previewAnswer b l (length m))
+  pub preview-in-range : (m : List ℕ) → InRange (preview_answer b l (length m))
   unfolding call_of
   preview-in-range m = call-range b (Preview l) m
 
-  preview-length : (m : List ℕ) → length (previewMemory b l m) ≡ length m
-  unfolding callMemory
+  preview-length : (m : List ℕ) → length (preview_memory b l m) ≡ length m
+  unfolding call_memory
   preview-length m = length-call b (Preview l) m
 
-  pub previews-length : (times : ℕ) (m : List ℕ) → length (previewsMemory b l times m) ≡ length m
-  unfolding previewsMemory
+  pub previews-length : (times : ℕ) (m : List ℕ) → length (previews_memory b l times m) ≡ length m
+  unfolding previews_memory
   previews-length zero m = refl
-  previews-length (suc times) m = preview-length (previewsMemory b l times m) ∙ previews-length times m
+  previews-length (suc times) m = preview-length (previews_memory b l times m) ∙ previews-length times m
 
   pub previews-memory-more : (i : ℕ) (m : List ℕ)
-      → previewMemory b l (previewsMemory b l i m) ≡ previewsMemory b l (i + 1) m
-  unfolding previewsMemory
+      → preview_memory b l (previews_memory b l i m) ≡ previews_memory b l (i + 1) m
+  unfolding previews_memory
   previews-memory-more i m = rw (add-one i)
 
-  pub previews-number-more : (n i : ℕ) → answerNumber (previewAnswer b l n) ≡ previewsNumber b l n (i + 1)
-  unfolding previewsNumber
+  pub previews-number-more : (n i : ℕ) → answer_number (preview_answer b l n) ≡ previews_number b l n (i + 1)
+  unfolding previews_number
   previews-number-more n i = rw (add-one i)

@@ -5,31 +5,31 @@ use borrow.Author.Tests.{eq-eqb, ne_eqb}
 use Rattle.std.proofs.lemmas.List.Edits.{sets}
 use Rattle.rules.specs.declared.Call.{Call}
 use Rattle.rules.specs.declared.Tally.{Tally}
-use Rattle.rules.specs.Book.{sameTally}
+use Rattle.rules.specs.Book.{same_tally}
 use Rattle.board.specs.declared.Board.{Board}
-use Rattle.calls.specs.Answers.{answerNumber}
+use Rattle.calls.specs.Answers.{answer_number}
 use Rattle.calls.specs.NumberLaws.{InRange, call-range}
-use Rattle.calls.specs.Counted.{countedOf, countedMemory}
+use Rattle.calls.specs.Counted.{counted_of, counted_memory}
 use Rattle.calls.specs.CountedLaws.{counted_same, counted-other}
-use Rattle.image.specs.Image.{tallyCounts}
-use Rattle.probe.specs.ProbeRecords.{tallyFrom, recordNumber, recordWords, recordMemory}
+use Rattle.image.specs.Image.{tally_counts}
+use Rattle.probe.specs.ProbeRecords.{tally_from, record_number, record_words, record_memory}
 
-pub counted-range : (b : Board) (c : Call) (t : Tally) (m : List ℕ) → InRange (countedOf b c t m).stepped.answer
-counted-range b c t m = go (sameTally t b.tally) refl
+pub counted-range : (b : Board) (c : Call) (t : Tally) (m : List ℕ) → InRange (counted_of b c t m).stepped.answer
+counted-range b c t m = go (same_tally t b.tally) refl
   where
-    go : (x : Bool) → sameTally t b.tally ≡ x → InRange (countedOf b c t m).stepped.answer
+    go : (x : Bool) → same_tally t b.tally ≡ x → InRange (counted_of b c t m).stepped.answer
     go true e = rw (counted_same b c t m e).0 (call-range b c m)
     go false e = rw (counted-other b c t m e).0 (omega arith)
 
 module _ (b : Board) (c : Call) (ws m : List ℕ) where
   pub record-other : (length ws ≡ 3 → ⊥)
-      → (5 ≡ recordNumber b c ws m) × (ws ≡ recordWords b c ws m) × (m ≡ recordMemory b c ws m)
-  unfolding recordNumber recordWords recordMemory
+      → (5 ≡ record_number b c ws m) × (ws ≡ record_words b c ws m) × (m ≡ record_memory b c ws m)
+  unfolding record_number record_words record_memory
   record-other f = let e = ne_eqb (length ws) 3 f in (rw e, rw e, rw e)
 
   pub record-three : length ws ≡ 3
-      → (answerNumber (countedOf b c (tallyFrom ws) m).stepped.answer ≡ recordNumber b c ws m)
-      × (sets ws 0 (tallyCounts (countedOf b c (tallyFrom ws) m).tally) ≡ recordWords b c ws m)
-      × (countedMemory b c (tallyFrom ws) m ≡ recordMemory b c ws m)
-  unfolding recordNumber recordWords recordMemory
+      → (answer_number (counted_of b c (tally_from ws) m).stepped.answer ≡ record_number b c ws m)
+      × (sets ws 0 (tally_counts (counted_of b c (tally_from ws) m).tally) ≡ record_words b c ws m)
+      × (counted_memory b c (tally_from ws) m ≡ record_memory b c ws m)
+  unfolding record_number record_words record_memory
   record-three h = let e = eq-eqb (length ws) 3 h in (rw e, rw e, rw e)

@@ -3,10 +3,10 @@
 // memory, and where it has under 16,384 places a call gives 65,535 and leaves it.
 ghost use Rattle.std.specs.Prelude.{◌≡◌, length};
 ghost use Rattle.board.specs.Board.{number_of};
-ghost use Rattle.groups.specs.Grouping.{groupCells};
-ghost use Rattle.groups.specs.Parts.{partFrom};
+ghost use Rattle.groups.specs.Grouping.{group_cells};
+ghost use Rattle.groups.specs.Parts.{part_from};
 ghost use Rattle.probe.specs.Probe.{kind_of};
-ghost use Rattle.probe.specs.ProbeAsked.{whichOf, askedIn, partIn, AskedTold};
+ghost use Rattle.probe.specs.ProbeAsked.{which_of, asked_in, part_in, AskedTold};
 
 use crate::{ROOM, UNFIT, kind_of};
 use board::Board;
@@ -15,7 +15,7 @@ use reasons::hand_out;
 
 // 0 is the unit list, any other number the potential list.
 fn which_of(which: u32) -> Which
-    ensures { result ≡ whichOf which }
+    ensures { result ≡ which_of which }
 {
     if which == 0 {
         Which::Units
@@ -26,7 +26,7 @@ fn which_of(which: u32) -> Which
 
 // What the board that the image s spells gives, asked for its groups of one kind.
 fn asked_in(s: &[u8], kind: Kind) -> BoardGroups
-    ensures { result ≡ askedIn s.now kind }
+    ensures { result ≡ asked_in s.now kind }
 {
     if s.len() != image::LENGTH {
         // the all-zero board is alien
@@ -38,8 +38,8 @@ fn asked_in(s: &[u8], kind: Kind) -> BoardGroups
 // The groups of one kind, as `probe_groups` writes them; of an alien image the refusal's number, and the memory stays.
 #[unsafe(no_mangle)]
 pub extern "C" fn probe_asked(s: &[u8], kind: u32, memory: &mut [u16]) -> usize
-    ensures { AskedTold (number_of (askedIn s.now (kind_of kind)).outcome) memory.old
-        (askedIn s.now (kind_of kind)).groups memory.new result }
+    ensures { AskedTold (number_of (asked_in s.now (kind_of kind)).outcome) memory.old
+        (asked_in s.now (kind_of kind)).groups memory.new result }
 {
     let a = asked_in(s, kind_of(kind));
     let outcome = a.outcome;
@@ -57,8 +57,8 @@ pub extern "C" fn probe_asked(s: &[u8], kind: u32, memory: &mut [u16]) -> usize
 // The cells of group g of the units or of the potential units, each given as a grouping.
 fn part_in<'a>(units: &'a [u16], potential: &'a [u16], which: Which, g: usize) -> &'a [u16]
     requires { (length units.now ≡ 3074) × (length potential.now ≡ 3074) }
-    ensures { result.now ≡ partFrom which (groupCells units.now g)
-        (groupCells potential.now g) }
+    ensures { result.now ≡ part_from which (group_cells units.now g)
+        (group_cells potential.now g) }
 {
     groups::part(
         &units[1024..2048],
@@ -74,7 +74,7 @@ fn part_in<'a>(units: &'a [u16], potential: &'a [u16], which: Which, g: usize) -
 // alien image.
 #[unsafe(no_mangle)]
 pub extern "C" fn probe_part(s: &[u8], which: u32, g: usize, memory: &mut [u16]) -> usize
-    ensures { AskedTold 0 memory.old (partIn s.now (whichOf which) g) memory.new
+    ensures { AskedTold 0 memory.old (part_in s.now (which_of which) g) memory.new
         result }
 {
     if memory.len() < ROOM {

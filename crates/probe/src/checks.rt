@@ -1,14 +1,14 @@
 // For tests alone: many checks in one call, to be compared with the published Rust and timed. A literal is its code: 2
 // times the border, plus 1 for wall.
 ghost use Rattle.std.specs.Prelude.{◌≡◌, map, length};
-ghost use Rattle.board.specs.Alien.{boardOf};
-ghost use Rattle.board.specs.Board.{number_of, decideOf};
-ghost use Rattle.board.specs.Accepted.{decidesOf};
-ghost use Rattle.calls.specs.Answers.{literalOf, answerNumber, checkAnswer, checkMemory};
+ghost use Rattle.board.specs.Alien.{board_of};
+ghost use Rattle.board.specs.Board.{number_of, decide_of};
+ghost use Rattle.board.specs.Accepted.{decides_of};
+ghost use Rattle.calls.specs.Answers.{literal_of, answer_number, check_answer, check_memory};
 ghost use Rattle.calls.specs.NumberLaws.{InRange};
-ghost use Rattle.probe.specs.Probe.{boardFrom};
-ghost use Rattle.probe.specs.ProbeChecks.{checksNumber, checksMemory, decidesMemory};
-ghost use Rattle.probe.specs.ProbeChecks.{checkedNumber, checkedMemory};
+ghost use Rattle.probe.specs.Probe.{board_from};
+ghost use Rattle.probe.specs.ProbeChecks.{checks_number, checks_memory, decides_memory};
+ghost use Rattle.probe.specs.ProbeChecks.{checked_number, checked_memory};
 
 use crate::board_from;
 use board::{Board, Outcome};
@@ -17,7 +17,7 @@ use rules::{Literal, Side, Tally, index};
 
 // The literal with the code n.
 pub fn literal(n: usize) -> Literal
-    ensures { result ≡ literalOf n }
+    ensures { result ≡ literal_of n }
 {
     if n % 2 == 1 {
         return Literal {
@@ -60,10 +60,10 @@ fn decide_next<'a>(
     kept: Kept,
     code: u16,
 ) -> Kept
-    ensures { boardOf h w colours.now clues.now borders.new stack.new
+    ensures { board_of h w colours.now clues.now borders.new stack.new
         result.count result.tally
-        ≡ (decideOf (boardOf h w colours.now clues.now borders.old
-        stack.old kept.count kept.tally) (literalOf code)).board }
+        ≡ (decide_of (board_of h w colours.now clues.now borders.old
+        stack.old kept.count kept.tally) (literal_of code)).board }
 {
     let l = literal(index(code));
     let count = kept.count;
@@ -89,7 +89,7 @@ fn refusal(o: Outcome) -> usize
 // The number of an answer.
 pub fn number(a: Answer) -> usize
     requires { InRange a }
-    ensures { result ≡ answerNumber a }
+    ensures { result ≡ answer_number a }
 {
     match a {
         Answer::Done => 0,
@@ -110,9 +110,9 @@ fn check_once<'a>(
     kept: Kept,
     memory: &mut [u16],
 ) -> usize
-    ensures { (result ≡ answerNumber (checkAnswer (boardOf h w colours.now clues.now borders.now
+    ensures { (result ≡ answer_number (check_answer (board_of h w colours.now clues.now borders.now
         stack.now kept.count kept.tally) (length memory.old)))
-        × (memory.new ≡ checkMemory (boardOf h w colours.now clues.now
+        × (memory.new ≡ check_memory (board_of h w colours.now clues.now
         borders.now stack.now kept.count kept.tally) memory.old) }
 {
     let count = kept.count;
@@ -133,9 +133,9 @@ fn checks<'a>(
     memory: &mut [u16],
     times: usize,
 ) -> usize
-    ensures { (result ≡ checksNumber (boardOf h w colours.now clues.now borders.now
+    ensures { (result ≡ checks_number (board_of h w colours.now clues.now borders.now
         stack.now kept.count kept.tally) (length memory.old) times)
-        × (memory.new ≡ checksMemory (boardOf h w colours.now clues.now
+        × (memory.new ≡ checks_memory (board_of h w colours.now clues.now
         borders.now stack.now kept.count kept.tally) times memory.old) }
 {
     let mut last: usize = 0;
@@ -161,11 +161,11 @@ fn decided<'a>(
     each: usize,
     memory: &mut [u16],
 ) -> Kept
-    ensures { (boardOf h w colours.now clues.now borders.new stack.new result.count
-        result.tally ≡ decidesOf (boardOf h w colours.now clues.now borders.old
-        stack.old kept.count kept.tally) (map literalOf codes.now))
-        × (memory.new ≡ decidesMemory each (boardOf h w colours.now clues.now
-        borders.old stack.old kept.count kept.tally) (map literalOf codes.now)
+    ensures { (board_of h w colours.now clues.now borders.new stack.new result.count
+        result.tally ≡ decides_of (board_of h w colours.now clues.now borders.old
+        stack.old kept.count kept.tally) (map literal_of codes.now))
+        × (memory.new ≡ decides_memory each (board_of h w colours.now clues.now
+        borders.old stack.old kept.count kept.tally) (map literal_of codes.now)
         memory.old) }
 {
     let mut now = kept;
@@ -191,9 +191,9 @@ pub extern "C" fn probe_checks(
     times: usize,
     memory: &mut [u16],
 ) -> usize
-    ensures { (result ≡ checkedNumber h w colours.now clues.now codes.now times
+    ensures { (result ≡ checked_number h w colours.now clues.now codes.now times
         (length memory.old))
-        × (memory.new ≡ checkedMemory h w colours.now clues.now codes.now each
+        × (memory.new ≡ checked_memory h w colours.now clues.now codes.now each
         times memory.old) }
 {
     let made = Board::fresh(h, w, colours, clues);
@@ -227,8 +227,8 @@ pub extern "C" fn probe_checks(
 // So many checks of the board that the image s spells: the number of the last answer, 0 if there was none.
 #[unsafe(no_mangle)]
 pub extern "C" fn probe_board_checks(s: &[u8], times: usize, memory: &mut [u16]) -> usize
-    ensures { (result ≡ checksNumber (boardFrom s.now) (length memory.old) times)
-        × (memory.new ≡ checksMemory (boardFrom s.now) times memory.old) }
+    ensures { (result ≡ checks_number (board_from s.now) (length memory.old) times)
+        × (memory.new ≡ checks_memory (board_from s.now) times memory.old) }
 {
     let b = board_from(s);
     let kept = kept_by(b);

@@ -6,9 +6,9 @@ ghost use Rattle.std.specs.Prelude.{◌≡◌, ◌≤◌, length};
 ghost use Rattle.rules.specs.Flat.{Sized};
 ghost use Rattle.rules.specs.Groups.{entry};
 ghost use Rattle.groups.specs.Grouping.{array_of, Filled};
-ghost use Rattle.probe.specs.Probe.{boardFrom, places_of, probeFits, kind_of, kindGroups};
+ghost use Rattle.probe.specs.Probe.{board_from, places_of, probe_fits, kind_of, kind_groups};
 ghost use Rattle.image.specs.Image.{side_of};
-ghost use Rattle.probe.specs.Probe.{reasonWords, pathWords, ProbeAnswered};
+ghost use Rattle.probe.specs.Probe.{reason_words, path_words, ProbeAnswered};
 ghost use Rattle.reasons.specs.Memory.{WordsWritten};
 
 use board::Board;
@@ -29,7 +29,7 @@ const UNFIT: usize = 65535;
 
 // The board that the image s spells; the all-zero board, which is alien, where s has another length.
 fn board_from(s: &[u8]) -> Board
-    ensures { result ≡ boardFrom s.now }
+    ensures { result ≡ board_from s.now }
 {
     if s.len() != image::LENGTH {
         return Board::zero();
@@ -78,7 +78,7 @@ fn borders_in(s: &[u8]) -> [u8; Board::BORDER_LIMIT]
 
 // Whether the size is a page's, and the memory is large enough.
 fn fits(h: usize, w: usize, room: usize) -> bool
-    ensures { result ≡ probeFits h w room }
+    ensures { result ≡ probe_fits h w room }
 {
     if board::cell_count(h, w) < 1 {
         return false;
@@ -102,7 +102,7 @@ fn kind_of(kind: u32) -> Kind
 // The groups of one kind.
 fn grouped(h: usize, w: usize, colours: &[u8], borders: &[u8], kind: u32) -> Grouping
     requires { Sized h w }
-    ensures { Filled (kindGroups h w colours.now borders.now kind) result }
+    ensures { Filled (kind_groups h w colours.now borders.now kind) result }
 {
     let c = colours_in(colours);
     let b = borders_in(borders);
@@ -122,7 +122,7 @@ fn put_reason(
 ) -> usize
     requires { Sized h w × (16384 ≤ length memory.old) }
     ensures { WordsWritten memory.old
-        (reasonWords h w colours.now borders.now kind
+        (reason_words h w colours.now borders.now kind
         (side_of side) group) memory.new result }
 {
     let grouping = grouped(h, w, colours, borders, kind);
@@ -145,7 +145,7 @@ fn put_reason(
 // Writes the path from cell a to cell b, each border once.
 fn put_path(memory: &mut [u16], h: usize, w: usize, borders: &[u8], a: usize, b: usize) -> usize
     requires { Sized h w × (16384 ≤ length memory.old) }
-    ensures { WordsWritten memory.old (pathWords h w borders.now a b) memory.new
+    ensures { WordsWritten memory.old (path_words h w borders.now a b) memory.new
         result }
 {
     let states = borders_in(borders);
@@ -166,7 +166,7 @@ pub extern "C" fn probe_groups(
     memory: &mut [u16],
 ) -> usize
     ensures { ProbeAnswered h w memory.old
-        (array_of (kindGroups h w colours.now borders.now kind)) memory.new result }
+        (array_of (kind_groups h w colours.now borders.now kind)) memory.new result }
 {
     if fits(h, w, memory.len()) {
         let grouping = grouped(h, w, colours, borders, kind);
@@ -188,7 +188,7 @@ pub extern "C" fn probe_reason(
     memory: &mut [u16],
 ) -> usize
     ensures { ProbeAnswered h w memory.old
-        (reasonWords h w colours.now borders.now
+        (reason_words h w colours.now borders.now
         kind (side_of side) group) memory.new result }
 {
     if fits(h, w, memory.len()) {
@@ -207,7 +207,7 @@ pub extern "C" fn probe_path(
     b: usize,
     memory: &mut [u16],
 ) -> usize
-    ensures { ProbeAnswered h w memory.old (pathWords h w borders.now a b)
+    ensures { ProbeAnswered h w memory.old (path_words h w borders.now a b)
         memory.new result }
 {
     if fits(h, w, memory.len()) {

@@ -1,9 +1,9 @@
 // For tests alone: many previews of one literal in one call, to be compared with the book and timed. The board is given
 // as an image; an image of another length is alien.
 ghost use Rattle.std.specs.Prelude.{◌≡◌, length};
-ghost use Rattle.calls.specs.Answers.{literalOf};
-ghost use Rattle.probe.specs.Probe.{boardFrom};
-ghost use Rattle.probe.specs.ProbePreviews.{previewsNumber, previewsMemory};
+ghost use Rattle.calls.specs.Answers.{literal_of};
+ghost use Rattle.probe.specs.Probe.{board_from};
+ghost use Rattle.probe.specs.ProbePreviews.{previews_number, previews_memory};
 
 use crate::board_from;
 use crate::checks::{literal, number};
@@ -13,8 +13,8 @@ use rules::Literal;
 // So many previews of a literal on one board, whose arrays are lent: the number of the last answer, 0 if there was
 // none.
 fn previews(board: Board, l: Literal, times: usize, memory: &mut [u16]) -> usize
-    ensures { (result ≡ previewsNumber board l (length memory.old) times)
-        × (memory.new ≡ previewsMemory board l times memory.old) }
+    ensures { (result ≡ previews_number board l (length memory.old) times)
+        × (memory.new ≡ previews_memory board l times memory.old) }
 {
     let tally = board.tally;
     let mut last: usize = 0;
@@ -42,8 +42,8 @@ fn previews(board: Board, l: Literal, times: usize, memory: &mut [u16]) -> usize
 // if there was none.
 #[unsafe(no_mangle)]
 pub extern "C" fn probe_previews(s: &[u8], code: usize, times: usize, memory: &mut [u16]) -> usize
-    ensures { (result ≡ previewsNumber (boardFrom s.now) (literalOf code) (length memory.old) times)
-        × (memory.new ≡ previewsMemory (boardFrom s.now) (literalOf code) times
+    ensures { (result ≡ previews_number (board_from s.now) (literal_of code) (length memory.old) times)
+        × (memory.new ≡ previews_memory (board_from s.now) (literal_of code) times
         memory.old) }
 {
     previews(board_from(s), literal(code), times, memory)

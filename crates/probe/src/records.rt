@@ -2,10 +2,10 @@
 // of another length is alien. The image is not written.
 ghost use Rattle.std.specs.Prelude.{◌≡◌, length};
 ghost use Rattle.std.proofs.lemmas.List.Edits.{sets};
-ghost use Rattle.calls.specs.Answers.{literalOf};
-ghost use Rattle.image.specs.Image.{tallyCounts};
-ghost use Rattle.probe.specs.Probe.{boardFrom};
-ghost use Rattle.probe.specs.ProbeRecords.{callWith, recordNumber, recordWords, recordMemory};
+ghost use Rattle.calls.specs.Answers.{literal_of};
+ghost use Rattle.image.specs.Image.{tally_counts};
+ghost use Rattle.probe.specs.Probe.{board_from};
+ghost use Rattle.probe.specs.ProbeRecords.{call_with, record_number, record_words, record_memory};
 
 use crate::board_from;
 use crate::checks::{literal, number};
@@ -16,7 +16,7 @@ const ALIEN: usize = 5;
 
 // 0 is a decide of the literal with this code, 1 an undo, 2 a check, any other number a preview of the literal.
 fn call_with(which: usize, code: usize) -> Call
-    ensures { result ≡ callWith which (literalOf code) }
+    ensures { result ≡ call_with which (literal_of code) }
 {
     let l = literal(code);
     if which == 0 {
@@ -34,7 +34,7 @@ fn call_with(which: usize, code: usize) -> Call
 // Stores the three counts.
 fn put_tally(words: &mut [usize], t: Tally)
     requires { length words.old ≡ 3 }
-    ensures { words.new ≡ sets words.old 0 (tallyCounts t) }
+    ensures { words.new ≡ sets words.old 0 (tally_counts t) }
 {
     words[0] = t.undecided;
     words[1] = t.walls;
@@ -51,11 +51,11 @@ pub extern "C" fn probe_counted(
     words: &mut [usize],
     memory: &mut [u16],
 ) -> usize
-    ensures { (result ≡ recordNumber (boardFrom s.now) (callWith which (literalOf code)) words.old
+    ensures { (result ≡ record_number (board_from s.now) (call_with which (literal_of code)) words.old
         memory.old)
-        × (words.new ≡ recordWords (boardFrom s.now) (callWith which (literalOf code))
+        × (words.new ≡ record_words (board_from s.now) (call_with which (literal_of code))
         words.old memory.old)
-        × (memory.new ≡ recordMemory (boardFrom s.now) (callWith which (literalOf code))
+        × (memory.new ≡ record_memory (board_from s.now) (call_with which (literal_of code))
         words.old memory.old) }
 {
     if words.len() != 3 {

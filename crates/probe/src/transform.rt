@@ -1,7 +1,7 @@
 // For tests alone: the transforms of a board's units. The board is given as an image.
 ghost use Rattle.std.specs.Prelude.{◌≡◌, length, set};
 ghost use Rattle.std.proofs.lemmas.List.Edits.{sets};
-ghost use Rattle.probe.specs.ProbeTransform.{countsOf, answer_in, memoryIn};
+ghost use Rattle.probe.specs.ProbeTransform.{counts_of, answer_in, memory_in};
 
 use board::Outcome;
 use transforms::Transformed;
@@ -18,7 +18,7 @@ fn put_count(counts: &mut [usize], i: usize, n: usize)
 // Stores an answer: the outcome's number, how many transforms the unit has, how many cells and how many connections the
 // one asked for has.
 fn put_counts(counts: &mut [usize], a: Transformed)
-    ensures { counts.new ≡ sets counts.old 0 (countsOf a) }
+    ensures { counts.new ≡ sets counts.old 0 (counts_of a) }
 {
     let outcome = a.outcome;
     put_count(counts, 0, board::number(outcome) as usize);
@@ -37,8 +37,8 @@ pub extern "C" fn probe_transform(
     memory: &mut [i32],
 )
     ensures { (counts.new ≡ sets counts.old 0
-        (countsOf (answer_in s.now u k (length memory.old))))
-        × (memory.new ≡ memoryIn s.now u k memory.old) }
+        (counts_of (answer_in s.now u k (length memory.old))))
+        × (memory.new ≡ memory_in s.now u k memory.old) }
 {
     if s.len() != image::LENGTH {
         put_counts(

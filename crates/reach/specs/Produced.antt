@@ -10,21 +10,21 @@ use Rattle.rules.specs.declared.Literal.{Literal}
 use Rattle.board.specs.declared.Board.{Board}
 use Rattle.board.specs.declared.Outcome.TheVariants.{Done}
 use Rattle.board.specs.declared.Returned.{Returned}
-use Rattle.board.specs.Board.{returned, fresh_of, decideOf, undoOf, SmallClues}
+use Rattle.board.specs.Board.{returned, fresh_of, decide_of, undo_of, SmallClues}
 
 pub data Produced : Board → Type 0 where
   made : (h w : ℕ) (cs : List ℕ) (ks : List ℤ) (b : Board) → SmallClues ks → fresh_of h w cs ks ≡ returned Done b
       → Produced b
-  afterDecide : (b : Board) (l : Literal) (d : Board) → Produced b → decideOf b l ≡ returned Done d → Produced d
-  afterUndo : (b d : Board) → Produced b → undoOf b ≡ returned Done d → Produced d
+  after_decide : (b : Board) (l : Literal) (d : Board) → Produced b → decide_of b l ≡ returned Done d → Produced d
+  after_undo : (b d : Board) → Produced b → undo_of b ≡ returned Done d → Produced d
 
 pub data Move : Type 0 where
   decide : Literal → Move
   undo : Move
 
 abbrev pub move_of : Board → Move → Returned
-move_of b (decide l) = decideOf b l
-move_of b undo = undoOf b
+move_of b (decide l) = decide_of b l
+move_of b undo = undo_of b
 
 pub data Leads : Board → List Move → Board → Type 0 where
   stop : {b : Board} → Leads b [] b

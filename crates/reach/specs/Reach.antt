@@ -17,32 +17,32 @@ use Rattle.rules.specs.Book.{tally_of}
 use Rattle.laws.specs.CodeLaws.{side-of}
 use Rattle.board.specs.declared.Board.{Board}
 use Rattle.board.specs.declared.Outcome.TheVariants.{Done}
-use Rattle.board.specs.Alien.{coloursRight, clueRight, cluesRight, stacked, tallyIn, cellCountOf, borderCountOf}
-use Rattle.board.specs.Alien.{boardOf, boardWith, isAlien}
-use Rattle.board.specs.Board.{freshBoard, returned, tallyMore, tallyLess, pushed, fresh_of, decideOf, SmallClues, Typed}
+use Rattle.board.specs.Alien.{colours_right, clue_right, clues_right, stacked, tally_in, cell_count_of, border_count_of}
+use Rattle.board.specs.Alien.{board_of, board_with, is_alien}
+use Rattle.board.specs.Board.{fresh_board, returned, tally_more, tally_less, pushed, fresh_of, decide_of, SmallClues, Typed}
 use Rattle.board.specs.ConditionLaws.{size_is, stacked-none}
 use Rattle.board.specs.Cases.{fresh-done, decide-done}
 use Rattle.board.specs.NativeLaws.{Native, native-has, native-of, cells_fit, borders-fit}
 use Rattle.board.specs.TallyLaws.{tally-fresh}
-use Rattle.board.specs.DecideLaws.{poppedAt, tally-again, popped-native, popped-typed, decide-keeps, undo-keeps}
+use Rattle.board.specs.DecideLaws.{popped_at, tally-again, popped-native, popped-typed, decide-keeps, undo-keeps}
 use Rattle.board.specs.DecideLaws.{decided-typed, undone-typed}
 use Rattle.board.specs.FreshLaws.{made-is, made-keeps, made-typed}
 use Rattle.board.specs.ViewLaws.{entry-held, code-small}
-use Rattle.reach.specs.Produced.{Produced, made, afterDecide, afterUndo, Move, decide, undo, move_of, Leads, stop}
+use Rattle.reach.specs.Produced.{Produced, made, after_decide, after_undo, Move, decide, undo, move_of, Leads, stop}
 use Rattle.reach.specs.Produced.{next, Reached}
 
 -- ---- what is produced is not alien
-pub produced-known : (b : Board) → Produced b → (isAlien b ≡ false) × Typed b
+pub produced-known : (b : Board) → Produced b → (is_alien b ≡ false) × Typed b
 produced-known b (made h w cs ks _ s e) = (made-keeps (made-is e), made-typed (made-is e) s)
-produced-known b (afterDecide c l _ p e) =
+produced-known b (after_decide c l _ p e) =
     let r = produced-known c p in (decide-keeps c l r.1.borders r.1.stack e, decided-typed c l r.1 e)
-produced-known b (afterUndo c _ p e) =
+produced-known b (after_undo c _ p e) =
     let r = produced-known c p in (undo-keeps c r.1 e, undone-typed c r.1 e)
 
 -- ---- a board with an empty stack is a fresh one
 module _ (b : Board) (N : Native b) (T : Typed b) (e : b.count ≡ 0) where
   cells : ℕ
-  cells = cellCountOf b
+  cells = cell_count_of b
 
   cs : List ℕ
   cs = take cells b.colours
@@ -71,43 +71,43 @@ module _ (b : Board) (N : Native b) (T : Typed b) (e : b.count ≡ 0) where
       go (no h) = let l = ks-long in rw (get_or-eq_default (take cells b.clues) (pos 0) {n = i} (omega arith))
 
   border-zero : (x : ℕ) → get_or b.borders x 0 ≡ 0
-  border-zero x = go (dec_lt x (borderCountOf b))
+  border-zero x = go (dec_lt x (border_count_of b))
     where
-      go : Dec (x < borderCountOf b) → get_or b.borders x 0 ≡ 0
+      go : Dec (x < border_count_of b) → get_or b.borders x 0 ≡ 0
       go (yes h) =
           eqb-true (get_or b.borders x 0) 0
           (N.held x h
           ∙ ap not (ap (λ j. stacked b.stack j x) e ∙ stacked-none b.stack x))
-      go (no h) = N.noBorder x (omega arith)
+      go (no h) = N.no_border x (omega arith)
 
-  tally-fresh-is : tally_of (borderCountOf b) 0 0 ≡ b.tally
+  tally-fresh-is : tally_of (border_count_of b) 0 0 ≡ b.tally
   tally-fresh-is =
       sym
       (N.tally
-      ∙ ap (λ (bs : List ℕ). tallyIn bs (borderCountOf b))
+      ∙ ap (λ (bs : List ℕ). tally_in bs (border_count_of b))
       (replicate-is 0 1984 b.borders T.borders (λ x h. border-zero x))
-      ∙ tally-fresh 1984 (borderCountOf b))
+      ∙ tally-fresh 1984 (border_count_of b))
 
-  fresh-is : freshBoard b.height b.width cs ks ≡ b
+  fresh-is : fresh_board b.height b.width cs ks ≡ b
   unfolding cs ks cells
   fresh-is =
       let f = few in
       λ i.
-      boardOf b.height b.width (padded-take 0 1024 cells b.colours T.colours f N.noColour i)
-      (padded-take (pos 0) 1024 cells b.clues T.clues f N.noClue i)
+      board_of b.height b.width (padded-take 0 1024 cells b.colours T.colours f N.no_colour i)
+      (padded-take (pos 0) 1024 cells b.clues T.clues f N.no_clue i)
       (sym (replicate-is 0 1984 b.borders T.borders (λ x h. border-zero x)) i)
-      (sym (replicate-is 0 1984 b.stack T.stack (λ j h. N.noEntry j (omega arith))) i) (sym e i)
+      (sym (replicate-is 0 1984 b.stack T.stack (λ j h. N.no_entry j (omega arith))) i) (sym e i)
       (tally-fresh-is i)
 
   accepted : fresh_of b.height b.width cs ks ≡ returned Done b
-  unfolding cs ks cells coloursRight cluesRight
+  unfolding cs ks cells colours_right clues_right
   accepted =
       let f = few in
       sym
       (fresh-done b.height b.width cs ks (size_is N.size) cs-long ks-long
       (all-every cells (λ i. leb (get_or cs i 0) 1)
       (λ i l. rw (get_or-take cells b.colours i 0 l) (le-leb (get_or b.colours i 0) 1 (N.colour i l))))
-      (all-every cells (λ i. clueRight (get_or ks i (pos 0)))
+      (all-every cells (λ i. clue_right (get_or ks i (pos 0)))
       (λ i l. rw (get_or-take cells b.clues i (pos 0) l) (N.clue i l))))
       ∙ ap (returned Done) fresh-is
 
@@ -122,55 +122,55 @@ module _ (b : Board) (N : Native b) (T : Typed b) (k : ℕ) (e : b.count ≡ k +
   literal : Literal
   literal = record { border = last; side = side_in (get_or b.borders last 0) }
 
-  repushed : pushed (poppedAt b k) last (code_of (side_in (get_or b.borders last 0))) ≡ b
+  repushed : pushed (popped_at b k) last (code_of (side_in (get_or b.borders last 0))) ≡ b
   unfolding last
   repushed =
       let v = get_or b.borders last 0 in
       let p = side-of v (code-small b N last) (entry-held b N k (omega arith)) in
       λ i.
-      boardWith b
+      board_with b
       ((set-set b.borders last 0 (code_of (side_in v))
       ∙ ap (λ y. set b.borders last y) p
       ∙ set-get_or b.borders last 0) i)
       ((set-set b.stack k 0 last ∙ set-get_or b.stack k 0) i) (sym e i)
-      ((ap (λ y. tallyMore (tallyLess b.tally (side_in v)) (side_in y)) p
+      ((ap (λ y. tally_more (tally_less b.tally (side_in v)) (side_in y)) p
       ∙ tally-again b N T.borders T.stack k e) i)
 
-  redecided : decideOf (poppedAt b k) literal ≡ returned Done b
+  redecided : decide_of (popped_at b k) literal ≡ returned Done b
   unfolding last literal
   redecided =
       let g = T.borders in
       let m = borders-fit b N in
       let l = N.entry k (omega arith) in
       sym
-      (decide-done (poppedAt b k) literal (native-of (poppedAt b k) (popped-native b N T.borders T.stack k e)) l
+      (decide-done (popped_at b k) literal (native-of (popped_at b k) (popped-native b N T.borders T.stack k e)) l
       (get_or-set_same b.borders last 0 0 (omega arith)))
       ∙ ap (returned Done) repushed
 
-produced-at : (k : ℕ) (b : Board) → b.count ≡ k → isAlien b ≡ false → Typed b → Produced b
+produced-at : (k : ℕ) (b : Board) → b.count ≡ k → is_alien b ≡ false → Typed b → Produced b
 produced-at zero b e t T = bare b (native-has b t) T e
 produced-at (suc k) b e t T =
     let f : b.count ≡ k + 1 = omega arith in
     let N = native-has b t in
-    afterDecide (poppedAt b k) (literal b N T k f) b
-    (produced-at k (poppedAt b k) refl (native-of (poppedAt b k) (popped-native b N T.borders T.stack k f))
+    after_decide (popped_at b k) (literal b N T k f) b
+    (produced-at k (popped_at b k) refl (native-of (popped_at b k) (popped-native b N T.borders T.stack k f))
     (popped-typed b N T.borders T.stack k f T))
     (redecided b N T k f)
 
 -- ---- what is not alien is produced
-pub known-produced : (b : Board) → Typed b → isAlien b ≡ false → Produced b
+pub known-produced : (b : Board) → Typed b → is_alien b ≡ false → Produced b
 known-produced b T t = produced-at b.count b refl t T
 
 -- 5 for "a board .. that decides and undos cannot produce from a fresh board", exactly
-pub alien-exactly : (b : Board) → Typed b → (isAlien b ≡ true) ↔ (Produced b → ⊥)
+pub alien-exactly : (b : Board) → Typed b → (is_alien b ≡ true) ↔ (Produced b → ⊥)
 alien-exactly b T =
-    (λ a p. false≢true (sym (produced-known b p).0 ∙ a), λ n. go (isAlien b) refl n)
+    (λ a p. false≢true (sym (produced-known b p).0 ∙ a), λ n. go (is_alien b) refl n)
   where
-    go : (t : Bool) → isAlien b ≡ t → (Produced b → ⊥) → isAlien b ≡ true
+    go : (t : Bool) → is_alien b ≡ t → (Produced b → ⊥) → is_alien b ≡ true
     go true q n = q
     go false q n = absurd (n (known-produced b T q))
 
-pub known-exactly : (b : Board) → Typed b → (isAlien b ≡ false) ↔ Produced b
+pub known-exactly : (b : Board) → Typed b → (is_alien b ≡ false) ↔ Produced b
 known-exactly b T = (known-produced b T, λ p. (produced-known b p).0)
 
 -- ---- the same by an accepted puzzle and one list of moves
@@ -206,13 +206,13 @@ produced-reached b (made h w cs ks _ s e) =
       moves = [];
       run = stop;
     }
-produced-reached b (afterDecide c l _ p e) = reached-more (decide l) (produced-reached c p) e
-produced-reached b (afterUndo c _ p e) = reached-more undo (produced-reached c p) e
+produced-reached b (after_decide c l _ p e) = reached-more (decide l) (produced-reached c p) e
+produced-reached b (after_undo c _ p e) = reached-more undo (produced-reached c p) e
 
 run-produced : {a b : Board} {ms : List Move} → Produced a → Leads a ms b → Produced b
 run-produced p stop = p
-run-produced p (next {m = decide l} e r) = run-produced (afterDecide _ l _ p e) r
-run-produced p (next {m = undo} e r) = run-produced (afterUndo _ _ p e) r
+run-produced p (next {m = decide l} e r) = run-produced (after_decide _ l _ p e) r
+run-produced p (next {m = undo} e r) = run-produced (after_undo _ _ p e) r
 
 pub reached-produced : (b : Board) → Reached b → Produced b
 reached-produced b r = run-produced (made _ _ _ _ _ r.small r.accepted) r.run

@@ -4,18 +4,18 @@ use Rattle.std.proofs.Common.{sym, ◌∙◌, arith}
 use Rattle.std.proofs.Math.Path.{ap, fun_ext}
 use Prim.Native.Nat.{ℕ, ◌+◌, ◌<◌}
 use Rattle.rules.specs.Flat.{Sized, flat}
-use Rattle.rules.specs.Codes.{cluesIn, statesIn, coloursIn, puzzleIn}
+use Rattle.rules.specs.Codes.{clues_in, states_in, colours_in, puzzle_in}
 use Rattle.rules.specs.Groups.{numbers, members}
 use Rattle.rules.specs.Reasons.{inside, edge}
-use Rattle.rules.specs.Check.{insideBlock, edge_of}
+use Rattle.rules.specs.Check.{inside_block, edge_of}
 use Rattle.laws.specs.FlatLaws.{counts}
 use Rattle.groups.specs.declared.Kind.TheVariants.{Blocks, Potential}
 use Rattle.groups.specs.Parts.{Groups, groups_of, part_of}
 use Rattle.groups.specs.Grouping.{Filled}
 use Rattle.groups.specs.PartLaws.{ids-entry, ids-length, groups-le, cells-long, part-members, cells-lt}
-use Rattle.groups.specs.Pages.{groupsIn}
+use Rattle.groups.specs.Pages.{groups_in}
 use Rattle.groups.specs.PageLaws.{cells-some, cells-few, starts-step, starts-few, kind-ids, rises, ends}
-use Rattle.reasons.specs.Arrays.{GroupAt, insideIn, edgeIn, Cells}
+use Rattle.reasons.specs.Arrays.{GroupAt, inside_in, edge_in, Cells}
 
 module _ {h w : ℕ} (z : Sized h w) (link : ℕ → Bool) where
   abbrev groups : Groups
@@ -56,12 +56,12 @@ module _ {h w : ℕ} (z : Sized h w) (link : ℕ → Bool) where
 module _ {h w : ℕ} (z : Sized h w) (cs : List ℕ) (ks : List ℤ) (bs : List ℕ) where
   -- Inside of a block and Edge of a potential unit, from the arrays
   pub inside_is : (B : ℕ)
-      → insideIn h w bs (groupsIn Blocks h w cs bs).ids B ≡ insideBlock (puzzleIn h w cs ks) (statesIn bs) B
-  unfolding insideIn insideBlock
-  inside_is B = ap (λ (f : ℕ → ℕ). inside (flat h w) (statesIn bs) f B) (kind-ids z cs (cluesIn ks) bs Blocks)
+      → inside_in h w bs (groups_in Blocks h w cs bs).ids B ≡ inside_block (puzzle_in h w cs ks) (states_in bs) B
+  unfolding inside_in inside_block
+  inside_is B = ap (λ (f : ℕ → ℕ). inside (flat h w) (states_in bs) f B) (kind-ids z cs (clues_in ks) bs Blocks)
 
-  pub edge-is : edgeIn h w cs bs (groupsIn Potential h w cs bs).ids ≡ edge_of (puzzleIn h w cs ks) (statesIn bs)
-  unfolding edgeIn edge_of
+  pub edge-is : edge_in h w cs bs (groups_in Potential h w cs bs).ids ≡ edge_of (puzzle_in h w cs ks) (states_in bs)
+  unfolding edge_in edge_of
   edge-is =
-      fun_ext (λ P. ap (λ (f : ℕ → ℕ). edge (flat h w) (coloursIn cs) (statesIn bs) f P)
-      (kind-ids z cs (cluesIn ks) bs Potential))
+      fun_ext (λ P. ap (λ (f : ℕ → ℕ). edge (flat h w) (colours_in cs) (states_in bs) f P)
+      (kind-ids z cs (clues_in ks) bs Potential))

@@ -33,16 +33,16 @@ use Rattle.lists.specs.PartLaws.{part_none, part-more}
 use Rattle.lists.specs.UpToLaws.{up_none, up_more}
 use Rattle.rules.specs.declared.Literal.{Literal}
 use Rattle.rules.specs.Page.{Contains}
-use Rattle.rules.specs.Codes.{statesIn, literalCode}
-use Rattle.rules.specs.Check.{bordersNamed, once}
+use Rattle.rules.specs.Codes.{states_in, literal_code}
+use Rattle.rules.specs.Check.{borders_named, once}
 use Rattle.laws.specs.StateLaws.{has}
 use Rattle.laws.specs.CodeLaws.{decided-below}
-use Rattle.laws.specs.OnceLaws.{once-mem, once-borders, once-same, named-few, onceBy, by-border}
-use Rattle.reasons.specs.Memory.{Work, workAt, named_in, naming, named_by, namedAll, Spare, Wrote}
+use Rattle.laws.specs.OnceLaws.{once-mem, once-borders, once-same, named-few, once_by, by-border}
+use Rattle.reasons.specs.Memory.{Work, work_at, named_in, naming, named_by, named_all, Spare, Wrote}
 use Rattle.reasons.specs.Memory.{WordsWritten}
 
-all_append : (p : Work) (a b : List Literal) → namedAll p (a ++ b) ≡ namedAll (namedAll p a) b
-unfolding namedAll
+all_append : (p : Work) (a b : List Literal) → named_all p (a ++ b) ≡ named_all (named_all p a) b
+unfolding named_all
 all_append p [] b = refl
 all_append p (l ∷ a) b = all_append (named_by p l) a b
 
@@ -104,24 +104,24 @@ spare-front m h = record { long = omega (arith, length-take-le 1984 m h); room =
 
 -- ---- Wrote
 pub naming-none : {m : List ℕ} {i : ℕ} → Spare m i → Wrote m i [] m i
-unfolding namedAll
+unfolding named_all
 naming-none S = record { is = refl; long = refl; spare = S }
 
 module _ (m : List ℕ) (i : ℕ) (l : Literal) (S : Spare m i) where
   pub naming-full : 1984 ≤ i → Wrote m i (l ∷ []) m i
-  unfolding namedAll named_by
+  unfolding named_all named_by
   naming-full h =
       record { is = rw (le-leb 1984 i h, or-true (named_in m l.border)); long = refl; spare = S }
 
   pub naming-old : named_in m l.border ≡ true → Wrote m i (l ∷ []) m i
-  unfolding namedAll named_by
+  unfolding named_all named_by
   naming-old q = record { is = rw q; long = refl; spare = S }
 
   pub naming-new : i < 1984 → named_in m l.border ≡ false
-      → Wrote m i (l ∷ []) (named m i l.border (literalCode l)) (i + 1)
-  unfolding namedAll named_by
+      → Wrote m i (l ∷ []) (named m i l.border (literal_code l)) (i + 1)
+  unfolding named_all named_by
   naming-new h q =
-      let k = length-set (naming m l.border) i (literalCode l) ∙ length-naming m l.border in
+      let k = length-set (naming m l.border) i (literal_code l) ∙ length-naming m l.border in
       record {
         is = rw (q, lt-leb 1984 i h);
         long = k;
@@ -132,7 +132,7 @@ module _ {m : List ℕ} {i : ℕ} {ls : List Literal} {m' : List ℕ} {j : ℕ} 
   pub naming-more : {ls' : List Literal} {m'' : List ℕ} {k : ℕ} → Wrote m' j ls' m'' k → Wrote m i (ls ++ ls') m'' k
   naming-more {ls'} b =
       record {
-        is = b.is ∙ ap (λ p. namedAll p ls') a.is ∙ sym (all_append (workAt m i) ls ls');
+        is = b.is ∙ ap (λ p. named_all p ls') a.is ∙ sym (all_append (work_at m i) ls ls');
         long = b.long ∙ a.long;
         spare = b.spare;
       }
@@ -173,9 +173,9 @@ unfoldable front : Work → List ℕ
 front p = take p.next p.memory
 
 written_once : (m : List ℕ) (i : ℕ) (ls : List Literal) → length m ≡ 3968
-    → ((l : Literal) → l ∈ ls → l.border < 1984) → i + length (onceBy (named_in m) ls) ≤ 1984
-    → front (namedAll (workAt m i) ls) ≡ take i m ++ map literalCode (onceBy (named_in m) ls)
-unfolding namedAll named_by onceBy front
+    → ((l : Literal) → l ∈ ls → l.border < 1984) → i + length (once_by (named_in m) ls) ≤ 1984
+    → front (named_all (work_at m i) ls) ≡ take i m ++ map literal_code (once_by (named_in m) ls)
+unfolding named_all named_by once_by front
 written_once m i [] long below room = sym (append-nil (take i m))
 written_once m i (l ∷ ls) long below room =
     go (below l (Memᴰ.head refl)) (named_in m l.border) refl room
@@ -183,84 +183,84 @@ written_once m i (l ∷ ls) long below room =
     (λ e. written_once m1 (i + 1) ls e (λ k n. below k (Memᴰ.tail n)))
   where
     m1 : List ℕ
-    m1 = named m i l.border (literalCode l)
+    m1 = named m i l.border (literal_code l)
 
     go : l.border < 1984 → (x : Bool) → named_in m l.border ≡ x
-        → i + length (cond x (onceBy (named_in m) ls) (l ∷ onceBy (λ y. named_in m y || eqb l.border y) ls)) ≤ 1984
-        → (i + length (onceBy (named_in m) ls) ≤ 1984
-        → front (namedAll (workAt m i) ls) ≡ take i m ++ map literalCode (onceBy (named_in m) ls))
-        → (length m1 ≡ 3968 → (i + 1) + length (onceBy (named_in m1) ls) ≤ 1984
-        → front (namedAll (workAt m1 (i + 1)) ls) ≡ take (i + 1) m1 ++ map literalCode (onceBy (named_in m1) ls))
-        → front (namedAll (cond (x || leb 1984 i) (workAt m i) (workAt m1 (i + 1))) ls)
-        ≡ take i m ++ map literalCode (cond x (onceBy (named_in m) ls)
-        (l ∷ onceBy (λ y. named_in m y || eqb l.border y) ls))
+        → i + length (cond x (once_by (named_in m) ls) (l ∷ once_by (λ y. named_in m y || eqb l.border y) ls)) ≤ 1984
+        → (i + length (once_by (named_in m) ls) ≤ 1984
+        → front (named_all (work_at m i) ls) ≡ take i m ++ map literal_code (once_by (named_in m) ls))
+        → (length m1 ≡ 3968 → (i + 1) + length (once_by (named_in m1) ls) ≤ 1984
+        → front (named_all (work_at m1 (i + 1)) ls) ≡ take (i + 1) m1 ++ map literal_code (once_by (named_in m1) ls))
+        → front (named_all (cond (x || leb 1984 i) (work_at m i) (work_at m1 (i + 1))) ls)
+        ≡ take i m ++ map literal_code (cond x (once_by (named_in m) ls)
+        (l ∷ once_by (λ y. named_in m y || eqb l.border y) ls))
     go h true q r old new = old r
     go h false q r old new =
         let hi : i < 1984 = omega arith in
         let n = length-naming m l.border in
-        let t : take (i + 1) m1 ≡ take i m ++ (literalCode l ∷ []) =
+        let t : take (i + 1) m1 ≡ take i m ++ (literal_code l ∷ []) =
         ap (λ k. take k m1) (add-one i)
-        ∙ take-suc-set (naming m l.border) i (literalCode l) (omega (arith, n, long))
-        ∙ ap (λ k. k ++ (literalCode l ∷ [])) (take-naming m i l.border (omega arith)) in
+        ∙ take-suc-set (naming m l.border) i (literal_code l) (omega (arith, n, long))
+        ∙ ap (λ k. k ++ (literal_code l ∷ [])) (take-naming m i l.border (omega arith)) in
         let f : named_in m1 ≡ (λ y. named_in m y || eqb l.border y) =
-        λ j y. named-at m i l.border (literalCode l) y long hi h j in
+        λ j y. named-at m i l.border (literal_code l) y long hi h j in
         rw (lt-leb 1984 i hi)
-        (new (length-set (naming m l.border) i (literalCode l) ∙ n ∙ long) (rw f (omega arith))
-        ∙ ap₂ (λ (a : List ℕ) (g : ℕ → Bool). a ++ map literalCode (onceBy g ls)) t f
-        ∙ append_assoc (take i m) (literalCode l ∷ []) _)
+        (new (length-set (naming m l.border) i (literal_code l) ∙ n ∙ long) (rw f (omega arith))
+        ∙ ap₂ (λ (a : List ℕ) (g : ℕ → Bool). a ++ map literal_code (once_by g ls)) t f
+        ∙ append_assoc (take i m) (literal_code l ∷ []) _)
 
 -- memory without places for the borders has every literal
 written_all : (m : List ℕ) (i : ℕ) (ls : List Literal) → length m ≡ 1984 → i + length ls ≤ 1984
-    → namedAll (workAt m i) ls ≡ workAt (sets m i (map literalCode ls)) (i + length ls)
-unfolding namedAll named_by
-written_all m i [] long room = let e : i ≡ i + 0 = omega arith in ap (workAt m) e
+    → named_all (work_at m i) ls ≡ work_at (sets m i (map literal_code ls)) (i + length ls)
+unfolding named_all named_by
+written_all m i [] long room = let e : i ≡ i + 0 = omega arith in ap (work_at m) e
 written_all m i (l ∷ ls) long room =
     let e : i + 1 ≡ suc i = add-one i in
     let k : suc i + length ls ≡ i + suc (length ls) = omega arith in
     rw (named-out m l.border (omega arith), lt-leb 1984 i (omega arith), naming-out m l.border (omega arith), e)
-    (written_all (set m i (literalCode l)) (suc i) ls (length-set m i (literalCode l) ∙ long) (omega arith)
-    ∙ ap (workAt _) k)
+    (written_all (set m i (literal_code l)) (suc i) ls (length-set m i (literal_code l) ∙ long) (omega arith)
+    ∙ ap (work_at _) k)
 
 -- a reason that holds on the board whose borders bs spells
-module _ (bs : List ℕ) (long : length bs ≡ 1984) (ls : List Literal) (c : Contains (statesIn bs) ls) where
+module _ (bs : List ℕ) (long : length bs ≡ 1984) (ls : List Literal) (c : Contains (states_in bs) ls) where
   below : (l : Literal) → l ∈ ls → l.border < 1984
   below l m =
-      let h = decided-below bs l.border l.side (has (statesIn bs) ls c l m) in omega (arith, long)
+      let h = decided-below bs l.border l.side (has (states_in bs) ls c l m) in omega (arith, long)
 
   -- from working memory that is 0
   module _ {after : List ℕ} {n : ℕ} (W : Wrote (replicate 3968 0) 0 ls after n) where
-    by-literal : onceBy (named_in (replicate 3968 0)) ls ≡ once ls
+    by-literal : once_by (named_in (replicate 3968 0)) ls ≡ once ls
     unfolding named_in
     by-literal =
-        by-border (statesIn bs) (named_in (replicate 3968 0)) ls c
+        by-border (states_in bs) (named_in (replicate 3968 0)) ls c
         ∙ filter-all _ (once ls)
         (λ k m.
         ap (λ (v : ℕ). not (not (eqb v 0)))
         (get_or-replicate {A = ℕ} 3968 (1984 + k.border) 0 0 (omega (arith, below k (once-mem ls m)))))
 
-    once-written : take n after ≡ map literalCode (once ls)
+    once-written : take n after ≡ map literal_code (once ls)
     unfolding front
     once-written =
-        let few = named-few 1984 (once ls) (once-borders (statesIn bs) ls c) (λ l m. below l (once-mem ls m)) in
+        let few = named-few 1984 (once ls) (once-borders (states_in bs) ls c) (λ l m. below l (once-mem ls m)) in
         ap front W.is
         ∙ written_once (replicate 3968 0) 0 ls (length-replicate {A = ℕ} 3968 0) below (rw by-literal (omega arith))
-        ∙ ap (map literalCode) by-literal
+        ∙ ap (map literal_code) by-literal
 
     pub once-handed : {m out : List ℕ} {k : ℕ} → WordsWritten m (take n after) out k
-        → WordsWritten m (map literalCode (once ls)) out k
+        → WordsWritten m (map literal_code (once ls)) out k
     once-handed w = rw (← once-written) w
 
   -- into the first 1,984 places of lent memory, where no border is named twice
-  pub plain-handed : {m after : List ℕ} {n : ℕ} → 1984 ≤ length m → Distinct (bordersNamed ls)
-      → Wrote (take 1984 m) 0 ls after n → WordsWritten m (map literalCode (once ls)) (after ++ drop 1984 m) n
+  pub plain-handed : {m after : List ℕ} {n : ℕ} → 1984 ≤ length m → Distinct (borders_named ls)
+      → Wrote (take 1984 m) 0 ls after n → WordsWritten m (map literal_code (once ls)) (after ++ drop 1984 m) n
   plain-handed {m} {after} h d W =
       let k = length-take-le 1984 m h in
       let few = named-few 1984 ls d below in
       let e = W.is ∙ written_all (take 1984 m) 0 ls k (omega arith) in
-      let fits : length (map literalCode ls) ≤ length (take 1984 m) = omega (arith, length-map ls literalCode) in
+      let fits : length (map literal_code ls) ≤ length (take 1984 m) = omega (arith, length-map ls literal_code) in
       rw (once-same ls d) (record {
         memory = ap (λ (p : Work). p.memory ++ drop 1984 m) e
-            ∙ sym (sets-front (take 1984 m) (drop 1984 m) (map literalCode ls) fits)
-            ∙ ap (λ (l : List ℕ). sets l 0 (map literalCode ls)) (take-append-drop 1984 m);
-        count = ap (λ (p : Work). p.next) e ∙ omega (arith, length-map ls literalCode);
+            ∙ sym (sets-front (take 1984 m) (drop 1984 m) (map literal_code ls) fits)
+            ∙ ap (λ (l : List ℕ). sets l 0 (map literal_code ls)) (take-append-drop 1984 m);
+        count = ap (λ (p : Work). p.next) e ∙ omega (arith, length-map ls literal_code);
       })

@@ -15,23 +15,23 @@ use Rattle.lists.specs.CountLaws.{count_none, count-le}
 use Rattle.lists.specs.Arithmetic.{if-same}
 use Rattle.lists.specs.Stores.{slice-push}
 use Rattle.rules.specs.declared.Literal.{Literal}
-use Rattle.rules.specs.Page.{Page, State, Hop, isOpen, open_at}
+use Rattle.rules.specs.Page.{Page, State, Hop, is_open, open_at}
 use Rattle.rules.specs.Flat.{flat}
-use Rattle.rules.specs.Codes.{statesIn}
-use Rattle.rules.specs.Reasons.{Found, Search, isFound, visitIf, look, hunt, trace, path}
+use Rattle.rules.specs.Codes.{states_in}
+use Rattle.rules.specs.Reasons.{Found, Search, is_found, visit_if, look, hunt, trace, path}
 use Rattle.reasons.specs.Memory.{Spare, Wrote}
 use Rattle.reasons.specs.MemoryLaws.{naming-none, naming-more}
-use Rattle.reasons.specs.Arrays.{isFlagged}
-use Rattle.reasons.specs.Search.{pathIn, Lined, Holds, Looked, Ended}
+use Rattle.reasons.specs.Arrays.{is_flagged}
+use Rattle.reasons.specs.Search.{path_in, Lined, Holds, Looked, Ended}
 use Rattle.reasons.specs.SearchLaws.{trace-other, found-other, count_set, unflagged}
 
 -- what is found stays found, and so does its way back: so the search may stop early
 module _ (a : ℕ) where
   abbrev Kept : Search → Search → ℕ → Type 0
-  Kept t u c = (isFound a u.found c ≡ true) × (trace u.found c ≡ trace t.found c)
+  Kept t u c = (is_found a u.found c ≡ true) × (trace u.found c ≡ trace t.found c)
 
-  keep-visit : (v : Bool) (x : ℕ) (k : Hop) (t : Search) (c : ℕ) → (v ≡ true → isFound a t.found k.to ≡ false)
-      → isFound a t.found c ≡ true → Kept t (visitIf v x k t) c
+  keep-visit : (v : Bool) (x : ℕ) (k : Hop) (t : Search) (c : ℕ) → (v ≡ true → is_found a t.found k.to ≡ false)
+      → is_found a t.found c ≡ true → Kept t (visit_if v x k t) c
   keep-visit true x k t c n e =
       let other : c ≡ k.to → ⊥ = λ q. false-true (n refl) (rw q at e) in
       (found-other t.found k.to k.border x a c other ∙ e, trace-other t.found k.to k.border x c other)
@@ -43,18 +43,18 @@ module _ (a : ℕ) where
   fresh false true e = false-true refl e
 
   module _ (G : Page) (s : ℕ → State) where
-    look-keeps : (x : ℕ) (hs : List Hop) (t : Search) (c : ℕ) → isFound a t.found c ≡ true
+    look-keeps : (x : ℕ) (hs : List Hop) (t : Search) (c : ℕ) → is_found a t.found c ≡ true
         → Kept t (look G s a x hs t) c
     unfolding look
     look-keeps x [] t c e = (e, refl)
     look-keeps x (k ∷ hs) t c e =
-        let v = isOpen (s k.border) && not (isFound a t.found k.to) in
-        let one : Kept t (visitIf v x k t) c =
-        keep-visit v x k t c (fresh (isOpen (s k.border)) (isFound a t.found k.to)) e in
-        let rest = look-keeps x hs (visitIf v x k t) c one.0 in
+        let v = is_open (s k.border) && not (is_found a t.found k.to) in
+        let one : Kept t (visit_if v x k t) c =
+        keep-visit v x k t c (fresh (is_open (s k.border)) (is_found a t.found k.to)) e in
+        let rest = look-keeps x hs (visit_if v x k t) c one.0 in
         (rest.0, rest.1 ∙ one.1)
 
-    pub hunt-keeps : (k : ℕ) (q : List ℕ) (f : List Found) (c : ℕ) → isFound a f c ≡ true
+    pub hunt-keeps : (k : ℕ) (q : List ℕ) (f : List Found) (c : ℕ) → is_found a f c ≡ true
         → trace (hunt G s k a q f) c ≡ trace f c
     unfolding hunt
     hunt-keeps zero q f c e = refl
@@ -79,17 +79,17 @@ module _ (G : Page) (s : ℕ → State) (a : ℕ) where
 
 module _ (h w : ℕ) (bs : List ℕ) (a b : ℕ) where
   pub path-is : a < h * w → b < h * w
-      → pathIn h w bs a b ≡ trace (hunt (flat h w) (statesIn bs) (h * w) a (a ∷ []) []) b
-  unfolding pathIn path flat
+      → path_in h w bs a b ≡ trace (hunt (flat h w) (states_in bs) (h * w) a (a ∷ []) []) b
+  unfolding path_in path flat
   path-is p q = rw (lt-ltb a (h * w) p, lt-ltb b (h * w) q)
 
   -- none for a cell that is not on the page
-  pub path-off-a : h * w ≤ a → pathIn h w bs a b ≡ []
-  unfolding pathIn path flat
+  pub path-off-a : h * w ≤ a → path_in h w bs a b ≡ []
+  unfolding path_in path flat
   path-off-a p = rw (le-ltb a (h * w) p)
 
-  pub path-off-b : h * w ≤ b → pathIn h w bs a b ≡ []
-  unfolding pathIn path flat
+  pub path-off-b : h * w ≤ b → path_in h w bs a b ≡ []
+  unfolding path_in path flat
   path-off-b p = rw (and-fails (ltb a (h * w)) (ltb b (h * w)) (le-ltb b (h * w) p))
 
 -- the start
@@ -121,7 +121,7 @@ module _ (n a : ℕ) (Z Y P O : List ℕ) (bz : BlankList Z) (by : BlankList Y) 
         small = hn;
         full =
             count_set Y n a ha (omega (arith, by.long)) (nothing a ha)
-            ∙ rw (count_none n (isFlagged Y) (λ i q. unflagged Y i (nothing i q)));
+            ∙ rw (count_none n (is_flagged Y) (λ i q. unflagged Y i (nothing i q)));
         lined = λ i q. let e : i ≡ 0 = omega arith in rw (e, get_or-set_same Z 0 a 0 lz) ha;
         seen =
             λ i q. let e : i ≡ 0 = omega arith in rw (e, get_or-set_same Z 0 a 0 lz) (get_or-set_same Y a 1 0 ly);
@@ -131,7 +131,7 @@ module _ (n a : ℕ) (Z Y P O : List ℕ) (bz : BlankList Z) (by : BlankList Y) 
   only-first c q e r = nothing c q (sym (get_or-set_other Y a c 1 0 r) ∙ e)
 
   holds-start : Holds n a 0 (set Z 0 a) P O (set Y a 1) 1 (record { queue = a ∷ []; found = [] })
-  unfolding isFound any trace isFlagged
+  unfolding is_found any trace is_flagged
   holds-start =
       let lz : 0 < length Z = omega (arith, bz.long) in
       let ly : a < length Y = omega (arith, by.long) in
@@ -157,8 +157,8 @@ pub record Going (h w : ℕ) (bs : List ℕ) (a head : ℕ) (Q P O F : List ℕ)
   pub below : head ≤ tail
   pub lined : Lined (h * w) Q P O F tail
   pub holds : Holds (h * w) a head Q P O F tail searched
-  pub rest : hunt (flat h w) (statesIn bs) (h * w - head) a searched.queue searched.found
-      ≡ hunt (flat h w) (statesIn bs) (h * w) a (a ∷ []) []
+  pub rest : hunt (flat h w) (states_in bs) (h * w - head) a searched.queue searched.found
+      ≡ hunt (flat h w) (states_in bs) (h * w) a (a ∷ []) []
 
 module _ (h w : ℕ) (bs : List ℕ) (a : ℕ) where
   pub going_start : (Z Y P O : List ℕ) → BlankList Z → BlankList Y → a < h * w → h * w ≤ 1024 → length P ≡ 1024
@@ -175,11 +175,11 @@ module _ (h w : ℕ) (bs : List ℕ) (a : ℕ) where
 
 module _ {h w : ℕ} {bs : List ℕ} {a head : ℕ} {Q P O F : List ℕ} {tail : ℕ} (g : Going h w bs a head Q P O F tail) where
   -- the way back of a cell that is found stays
-  found-way : (c : ℕ) → c < h * w → get_or F c 0 ≡ 1 → trace g.searched.found c ≡ pathIn h w bs a c
-  unfolding isFlagged
+  found-way : (c : ℕ) → c < h * w → get_or F c 0 ≡ 1 → trace g.searched.found c ≡ path_in h w bs a c
+  unfolding is_flagged
   found-way c hc e =
       sym
-      (hunt-keeps a (flat h w) (statesIn bs) (h * w - head) g.searched.queue g.searched.found c
+      (hunt-keeps a (flat h w) (states_in bs) (h * w - head) g.searched.queue g.searched.found c
       (g.holds.flag c hc ∙ eq-eqb _ _ e))
       ∙ rw (path-is h w bs a c g.holds.inside hc) (ap (λ (f : List Found). trace f c) g.rest)
 
@@ -202,9 +202,9 @@ module _ {h w : ℕ} {bs : List ℕ} {a head : ℕ} {Q P O F : List ℕ} {tail :
   end-late b hb q =
       let same : head ≡ tail = omega (arith, g.below) in
       let none : g.searched.queue ≡ [] = g.holds.line ∙ rw same (slice_empty tail Q) in
-      let over : g.searched.found ≡ hunt (flat h w) (statesIn bs) (h * w) a (a ∷ []) [] =
-      sym (hunt-done (flat h w) (statesIn bs) a (h * w - head) g.searched.found)
-      ∙ ap (λ (l : List ℕ). hunt (flat h w) (statesIn bs) (h * w - head) a l g.searched.found) (sym none)
+      let over : g.searched.found ≡ hunt (flat h w) (states_in bs) (h * w) a (a ∷ []) [] =
+      sym (hunt-done (flat h w) (states_in bs) a (h * w - head) g.searched.found)
+      ∙ ap (λ (l : List ℕ). hunt (flat h w) (states_in bs) (h * w - head) a l g.searched.found) (sym none)
       ∙ g.rest in
       record {
         Q = Q;
@@ -237,7 +237,7 @@ module _ {h w : ℕ} {bs : List ℕ} {a head : ℕ} {Q P O F : List ℕ} {tail :
         }
 
     pub going-left : head < h * w
-    going-left = omega (arith, g.lined.full, count-le (h * w) (isFlagged F))
+    going-left = omega (arith, g.lined.full, count-le (h * w) (is_flagged F))
 
     pub going_more : {Q' P' O' F' : List ℕ} {next : ℕ} → let c = get_or Q head 0 in
         Looked h w bs c ((flat h w).around c) Q P O F tail Q' P' O' F' next
@@ -247,23 +247,23 @@ module _ {h w : ℕ} {bs : List ℕ} {a head : ℕ} {Q P O F : List ℕ} {tail :
         let left = going-left in
         let fuel : h * w - head ≡ suc (h * w - (head + 1)) = omega arith in
         let room : tail ≤ length Q =
-        omega (arith, g.lined.full, count-le (h * w) (isFlagged F), g.lined.queues, g.lined.small) in
+        omega (arith, g.lined.full, count-le (h * w) (is_flagged F), g.lined.queues, g.lined.small) in
         let first : g.searched.queue ≡ c ∷ slice (head + 1) tail Q =
         g.holds.line ∙ rw (add-one head) (slice-cons head tail Q 0 more room) in
-        let run : hunt (flat h w) (statesIn bs) (suc (h * w - (head + 1))) a (c ∷ slice (head + 1) tail Q)
+        let run : hunt (flat h w) (states_in bs) (suc (h * w - (head + 1))) a (c ∷ slice (head + 1) tail Q)
         g.searched.found
-        ≡ hunt (flat h w) (statesIn bs) (h * w) a (a ∷ []) [] =
-        ap (λ (l : List ℕ). hunt (flat h w) (statesIn bs) (suc (h * w - (head + 1))) a l g.searched.found)
+        ≡ hunt (flat h w) (states_in bs) (h * w) a (a ∷ []) [] =
+        ap (λ (l : List ℕ). hunt (flat h w) (states_in bs) (suc (h * w - (head + 1))) a l g.searched.found)
         (sym first)
         ∙ rw fuel at g.rest in
         record {
-          searched = look (flat h w) (statesIn bs) a c ((flat h w).around c) popped;
+          searched = look (flat h w) (states_in bs) a c ((flat h w).around c) popped;
           below = omega (arith, l.more);
           lined = l.lined;
           holds = l.holds a (head + 1) popped (omega arith) holds-pop;
           rest =
               sym
-              (hunt-step (flat h w) (statesIn bs) a (h * w - (head + 1)) c (slice (head + 1) tail Q)
+              (hunt-step (flat h w) (states_in bs) a (h * w - (head + 1)) c (slice (head + 1) tail Q)
               g.searched.found)
               ∙ run;
         }
@@ -276,7 +276,7 @@ pub record Tracing (h w : ℕ) (bs : List ℕ) (a b : ℕ) (P O F m : List ℕ) 
   pub old : get_or F c 0 ≡ 1
   pub done : List Literal
   pub wrote : Wrote m from done m' at
-  pub whole : done ++ trace ended.searched.found c ≡ pathIn h w bs a b
+  pub whole : done ++ trace ended.searched.found c ≡ path_in h w bs a b
 
 module _ {h w : ℕ} {bs : List ℕ} {a b : ℕ} {P O F : List ℕ} (e : Ended h w bs a b P O F) (hb : b < h * w)
     {m : List ℕ} {from : ℕ} (S : Spare m from) where
@@ -284,20 +284,20 @@ module _ {h w : ℕ} {bs : List ℕ} {a b : ℕ} {P O F : List ℕ} (e : Ended h
   tracing-start q =
       record { ended = e; inside = hb; old = q; done = []; wrote = naming-none S; whole = e.is }
 
-  pub tracing-none : (get_or F b 0 ≡ 1 → ⊥) → Wrote m from (pathIn h w bs a b) m from
+  pub tracing-none : (get_or F b 0 ≡ 1 → ⊥) → Wrote m from (path_in h w bs a b) m from
   tracing-none q = rw (← e.is, e.holds.none b hb q) (naming-none S)
 
 module _ {h w : ℕ} {bs : List ℕ} {a b : ℕ} {P O F m : List ℕ} {from c : ℕ} {m' : List ℕ} {at : ℕ}
     (t : Tracing h w bs a b P O F m from c m' at) where
-  pub tracing-end : c ≡ a → Wrote m from (pathIn h w bs a b) m' at
+  pub tracing-end : c ≡ a → Wrote m from (path_in h w bs a b) m' at
   tracing-end e =
       let z : trace t.ended.searched.found c ≡ [] = rw e t.ended.holds.root in
-      let all : t.done ≡ pathIn h w bs a b =
+      let all : t.done ≡ path_in h w bs a b =
       sym (append-nil t.done) ∙ ap (λ (l : List Literal). t.done ++ l) (sym z) ∙ t.whole in
       rw (← all) t.wrote
 
   module _ (ne : c ≡ a → ⊥) where
-    one : (t.done ++ (open_at (get_or O c 0) ∷ [])) ++ trace t.ended.searched.found (get_or P c 0) ≡ pathIn h w bs a b
+    one : (t.done ++ (open_at (get_or O c 0) ∷ [])) ++ trace t.ended.searched.found (get_or P c 0) ≡ path_in h w bs a b
     one =
         append_assoc t.done _ _
         ∙ ap (λ (l : List Literal). t.done ++ l) (sym (t.ended.holds.step c t.inside t.old ne))
@@ -310,7 +310,7 @@ module _ {h w : ℕ} {bs : List ℕ} {a b : ℕ} {P O F m : List ℕ} {from c : 
     tracing-kin = t.ended.holds.kin c t.inside t.old ne
 
     -- the way from the finder is shorter
-    pub tracing-less : length (pathIn h w bs a (get_or P c 0)) < length (pathIn h w bs a c)
+    pub tracing-less : length (path_in h w bs a (get_or P c 0)) < length (path_in h w bs a c)
     tracing-less =
         let k = t.ended.holds in
         let up = t.ended.ways (get_or P c 0) tracing-kin (k.older c t.inside t.old ne) in

@@ -1,10 +1,10 @@
 // Inside, Edge and Path, written into a reason's memory, each border once.
 ghost use Rattle.std.specs.Prelude.{◌≡◌, not, cond, [], ◌∷◌, ◌+◌, ◌*◌, ◌<◌, ◌≤◌, length};
 ghost use Rattle.rules.specs.Flat.{Sized};
-ghost use Rattle.rules.specs.Codes.{literalCode};
-ghost use Rattle.groups.specs.Grouping.{numbersIn};
+ghost use Rattle.rules.specs.Codes.{literal_code};
+ghost use Rattle.groups.specs.Grouping.{numbers_in};
 ghost use Rattle.reasons.specs.Memory.{named_in, naming, Spare, Wrote, WordsWritten};
-ghost use Rattle.reasons.specs.Arrays.{GroupAt, Stepped, noFlags, insideIn, edgeIn};
+ghost use Rattle.reasons.specs.Arrays.{GroupAt, Stepped, no_flags, inside_in, edge_in};
 
 use crate::scans::{open_cell, scan_walls};
 use groups::{Grouping, cell_at, start_of};
@@ -37,7 +37,7 @@ impl Neighbour {
 // What reason memory holds for a literal.
 fn code(literal: Literal) -> u16
     requires { literal.border < 1984 }
-    ensures { result ≡ literalCode literal }
+    ensures { result ≡ literal_code literal }
 {
     let twice = (2 * literal.border) as u16;
     let side = literal.side;
@@ -140,9 +140,9 @@ pub fn edge<'a>(
     flagged: &mut [u8; 1024],
 ) -> usize
     requires { Sized h w × (length borders.now ≡ 1984) × (length colours.now ≡ 1024)
-        × GroupAt h w grouping.now g × Spare memory.old start × (flagged.old ≡ noFlags) }
-    ensures { Wrote memory.old start (edgeIn h w colours.now borders.now
-        (numbersIn grouping.now) g) memory.new result × (flagged.new ≡ noFlags) }
+        × GroupAt h w grouping.now g × Spare memory.old start × (flagged.old ≡ no_flags) }
+    ensures { Wrote memory.old start (edge_in h w colours.now borders.now
+        (numbers_in grouping.now) g) memory.new result × (flagged.new ≡ no_flags) }
 {
     flagged[g] = 1;
     let at = scan_walls(
@@ -164,8 +164,8 @@ pub fn inside<'a>(
 ) -> usize
     requires { Sized h w × (length borders.now ≡ 1984) × GroupAt h w grouping.now g
         × Spare memory.old start }
-    ensures { Wrote memory.old start (insideIn h w borders.now
-        (numbersIn grouping.now) g) memory.new result }
+    ensures { Wrote memory.old start (inside_in h w borders.now
+        (numbers_in grouping.now) g) memory.new result }
 {
     let from = start_of(grouping, g);
     let count = start_of(grouping, g + 1) - from;

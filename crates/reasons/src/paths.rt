@@ -1,11 +1,11 @@
 // Path: breadth first over open borders, written back from its end; and the reason of a wall.
 ghost use Rattle.std.specs.Prelude.{◌≡◌, [], ◌∷◌, ◌++◌, ◌+◌, ◌*◌, ◌/◌, ◌%◌, ◌<◌, length, get_or, replicate};
-ghost use Rattle.rules.specs.Page.{wallAt};
+ghost use Rattle.rules.specs.Page.{wall_at};
 ghost use Rattle.rules.specs.Flat.{Sized, flat};
 ghost use Rattle.rules.specs.Groups.{entry};
 ghost use Rattle.reasons.specs.Memory.{Spare, Wrote};
-ghost use Rattle.reasons.specs.Arrays.{hopAt};
-ghost use Rattle.reasons.specs.Search.{pathIn, Lined, Looked, Ended};
+ghost use Rattle.reasons.specs.Arrays.{hop_at};
+ghost use Rattle.reasons.specs.Search.{path_in, Lined, Looked, Ended};
 
 use crate::{append, beside};
 use rules::{Literal, Side, index};
@@ -28,7 +28,7 @@ fn visit(
 ) -> usize
     requires { Sized h w × (length borders.now ≡ 1984) × (c < h * w) × (get_or found.old c 0 ≡ 1)
         × Lined (h * w) queue.old parent.old over.old found.old tail × (y ≡ c / w) × (x ≡ c % w) }
-    ensures { Looked h w borders.now c (hopAt h w (c / w) (c % w) d) queue.old
+    ensures { Looked h w borders.now c (hop_at h w (c / w) (c % w) d) queue.old
         parent.old over.old found.old tail queue.new parent.new
         over.new found.new result }
 {
@@ -125,7 +125,7 @@ fn trace_back<'a>(
 ) -> usize
     requires { Sized h w × (b < h * w) × Ended h w borders.now a b parent.now over.now found.now
         × Spare memory.old from }
-    ensures { Wrote memory.old from (pathIn h w borders.now a b) memory.new result }
+    ensures { Wrote memory.old from (path_in h w borders.now a b) memory.new result }
 {
     if found[b] != 1 {
         return from;
@@ -158,7 +158,7 @@ pub fn path(
 ) -> usize
     requires { Sized h w × (length borders.now ≡ 1984)
         × Spare memory.old from }
-    ensures { Wrote memory.old from (pathIn h w borders.now a b) memory.new result }
+    ensures { Wrote memory.old from (path_in h w borders.now a b) memory.new result }
 {
     if h * w <= a {
         return from;
@@ -196,7 +196,7 @@ pub fn wall_reason(
 ) -> usize
     requires { Sized h w × (length borders.now ≡ 1984) × (border < 1984)
         × Spare memory.old 0 }
-    ensures { Wrote memory.old 0 (pathIn h w borders.now a b ++ (wallAt border ∷ []))
+    ensures { Wrote memory.old 0 (path_in h w borders.now a b ++ (wall_at border ∷ []))
         memory.new result }
 {
     let at = path(memory, 0, h, w, borders, a, b);

@@ -1,16 +1,16 @@
 // What Inside lists for a cell, and the walls of a group that a scan keeps: to groups that are not flagged.
 ghost use Rattle.std.specs.Prelude.{◌≡◌, true, ◌&&◌, [], ◌*◌, ◌<◌, length};
 ghost use Rattle.std.specs.Bool.{beq};
-ghost use Rattle.lists.specs.Lists.{keepIf};
+ghost use Rattle.lists.specs.Lists.{keep_if};
 ghost use Rattle.rules.specs.Flat.{Sized, flat};
-ghost use Rattle.rules.specs.Codes.{statesIn, coloursIn};
+ghost use Rattle.rules.specs.Codes.{states_in, colours_in};
 ghost use Rattle.rules.specs.Groups.{entry};
-ghost use Rattle.rules.specs.Reasons.{gather, insideAt};
+ghost use Rattle.rules.specs.Reasons.{gather, inside_at};
 ghost use Rattle.rules.specs.declared.Side.TheVariants.{Wall, Open};
-ghost use Rattle.groups.specs.Grouping.{numbersIn, groupCells};
+ghost use Rattle.groups.specs.Grouping.{numbers_in, group_cells};
 ghost use Rattle.reasons.specs.Memory.{Spare, Wrote};
-ghost use Rattle.reasons.specs.Arrays.{Arrays, GroupAt, InArrays, hopOf, hopsIn, isFlagged};
-ghost use Rattle.reasons.specs.Arrays.{openKept, wallKept, scanAt, scanOf};
+ghost use Rattle.reasons.specs.Arrays.{Arrays, GroupAt, InArrays, hop_of, hops_in, is_flagged};
+ghost use Rattle.reasons.specs.Arrays.{open_kept, wall_kept, scan_at, scan_of};
 
 use crate::{Neighbour, append, beside};
 use groups::{Grouping, cell_at, group_of, start_of};
@@ -19,7 +19,7 @@ use rules::{Literal, Side};
 // Appends a literal at the place `at`, where `kept`; otherwise nothing is written. Gives the next place.
 fn append_if(memory: &mut [u16], at: usize, kept: bool, literal: Literal) -> usize
     requires { Spare memory.old at × (kept ≡ true → literal.border < 1984) }
-    ensures { Wrote memory.old at (keepIf kept literal []) memory.new result }
+    ensures { Wrote memory.old at (keep_if kept literal []) memory.new result }
 {
     if kept {
         return append(memory, at, literal);
@@ -30,7 +30,7 @@ fn append_if(memory: &mut [u16], at: usize, kept: bool, literal: Literal) -> usi
 // The cells c and to have one colour.
 fn one_colour(colours: &[u8; 1024], c: usize, to: usize) -> bool
     requires { (length colours.now ≡ 1024) × (c < 1024) × (to < 1024) }
-    ensures { result ≡ beq (coloursIn colours.now c) (coloursIn colours.now to) }
+    ensures { result ≡ beq (colours_in colours.now c) (colours_in colours.now to) }
 {
     if colours[c] == 1 {
         return colours[to] == 1;
@@ -41,7 +41,7 @@ fn one_colour(colours: &[u8; 1024], c: usize, to: usize) -> bool
 // The group is flagged. A number past the last flag has no flag.
 fn is_flagged(flagged: &[u8; 1024], group: usize) -> bool
     requires { length flagged.now ≡ 1024 }
-    ensures { result ≡ isFlagged flagged.now group }
+    ensures { result ≡ is_flagged flagged.now group }
 {
     if group < 1024 {
         return flagged[group] == 1;
@@ -51,9 +51,9 @@ fn is_flagged(flagged: &[u8; 1024], group: usize) -> bool
 
 // The border to the neighbour n is open, and n is in the group g. False if there is no neighbour.
 fn open_kept<'a>(borders: &'a [u8; 1984], grouping: &'a Grouping, g: usize, n: Neighbour) -> bool
-    requires { Arrays borders.now (numbersIn grouping.now) × (n.some ≡ true → InArrays n) }
-    ensures { result ≡ (n.some && openKept (statesIn borders.now)
-        (entry (numbersIn grouping.now)) g (hopOf n)) }
+    requires { Arrays borders.now (numbers_in grouping.now) × (n.some ≡ true → InArrays n) }
+    ensures { result ≡ (n.some && open_kept (states_in borders.now)
+        (entry (numbers_in grouping.now)) g (hop_of n)) }
 {
     if !n.some {
         return false;
@@ -77,11 +77,11 @@ fn wall_kept<'a>(
     c: usize,
     n: Neighbour,
 ) -> bool
-    requires { Arrays borders.now (numbersIn grouping.now) × (length colours.now ≡ 1024)
+    requires { Arrays borders.now (numbers_in grouping.now) × (length colours.now ≡ 1024)
         × (length flagged.now ≡ 1024)
         × (c < 1024) × (n.some ≡ true → InArrays n) }
-    ensures { result ≡ (n.some && wallKept (coloursIn colours.now) (statesIn borders.now)
-        (entry (numbersIn grouping.now)) same (isFlagged flagged.now) c (hopOf n)) }
+    ensures { result ≡ (n.some && wall_kept (colours_in colours.now) (states_in borders.now)
+        (entry (numbers_in grouping.now)) same (is_flagged flagged.now) c (hop_of n)) }
 {
     if !n.some {
         return false;
@@ -106,10 +106,10 @@ fn open_hop<'a>(
     g: usize,
     n: Neighbour,
 ) -> usize
-    requires { Arrays borders.now (numbersIn grouping.now) × (n.some ≡ true → InArrays n)
+    requires { Arrays borders.now (numbers_in grouping.now) × (n.some ≡ true → InArrays n)
         × Spare memory.old from }
-    ensures { Wrote memory.old from (gather Open (openKept (statesIn borders.now)
-        (entry (numbersIn grouping.now)) g) (hopsIn n)) memory.new result }
+    ensures { Wrote memory.old from (gather Open (open_kept (states_in borders.now)
+        (entry (numbers_in grouping.now)) g) (hops_in n)) memory.new result }
 {
     let kept = open_kept(borders, grouping, g, n);
     append_if(
@@ -135,13 +135,13 @@ fn wall_hop<'a>(
     c: usize,
     n: Neighbour,
 ) -> usize
-    requires { Arrays borders.now (numbersIn grouping.now) × (length colours.now ≡ 1024)
+    requires { Arrays borders.now (numbers_in grouping.now) × (length colours.now ≡ 1024)
         × (length flagged.now ≡ 1024)
         × (c < 1024) × (n.some ≡ true → InArrays n) × Spare memory.old from }
-    ensures { Wrote memory.old from (gather Wall (wallKept (coloursIn colours.now)
-        (statesIn borders.now) (entry (numbersIn grouping.now)) same
-        (isFlagged flagged.now) c)
-        (hopsIn n)) memory.new result }
+    ensures { Wrote memory.old from (gather Wall (wall_kept (colours_in colours.now)
+        (states_in borders.now) (entry (numbers_in grouping.now)) same
+        (is_flagged flagged.now) c)
+        (hops_in n)) memory.new result }
 {
     let kept = wall_kept(colours, borders, grouping, same, flagged, c, n);
     append_if(
@@ -166,9 +166,9 @@ pub fn open_cell<'a>(
     g: usize,
     c: usize,
 ) -> usize
-    requires { Sized h w × Arrays borders.now (numbersIn grouping.now) × (c < h * w) × Spare memory.old from }
-    ensures { Wrote memory.old from (insideAt (flat h w) (statesIn borders.now)
-        (entry (numbersIn grouping.now)) g c) memory.new result }
+    requires { Sized h w × Arrays borders.now (numbers_in grouping.now) × (c < h * w) × Spare memory.old from }
+    ensures { Wrote memory.old from (inside_at (flat h w) (states_in borders.now)
+        (entry (numbers_in grouping.now)) g c) memory.new result }
 {
     // a call for each direction and no loop, so that each is compiled for its direction
     let y = c / w;
@@ -192,10 +192,10 @@ fn wall_cell<'a>(
     flagged: &'a [u8; 1024],
     c: usize,
 ) -> usize
-    requires { Sized h w × Arrays borders.now (numbersIn grouping.now) × (length colours.now ≡ 1024)
+    requires { Sized h w × Arrays borders.now (numbers_in grouping.now) × (length colours.now ≡ 1024)
         × (length flagged.now ≡ 1024) × (c < h * w) × Spare memory.old from }
-    ensures { Wrote memory.old from (scanAt h w colours.now borders.now
-        (numbersIn grouping.now) same flagged.now c) memory.new result }
+    ensures { Wrote memory.old from (scan_at h w colours.now borders.now
+        (numbers_in grouping.now) same flagged.now c) memory.new result }
 {
     let y = c / w;
     let x = c % w;
@@ -226,8 +226,8 @@ pub fn scan_walls<'a>(
 ) -> usize
     requires { Sized h w × (length borders.now ≡ 1984) × (length colours.now ≡ 1024)
         × (length flagged.now ≡ 1024) × GroupAt h w grouping.now g × Spare memory.old start }
-    ensures { Wrote memory.old start (scanOf h w colours.now borders.now
-        (numbersIn grouping.now) same flagged.now (groupCells grouping.now g))
+    ensures { Wrote memory.old start (scan_of h w colours.now borders.now
+        (numbers_in grouping.now) same flagged.now (group_cells grouping.now g))
         memory.new result }
 {
     let from = start_of(grouping, g);

@@ -10,8 +10,8 @@
 --   State          what a border has: undecided, or decided with a side
 --   Has s l        the setting s contains the literal l; l holds on the board with the borders s
 --   Contains s r   every literal of r
---   isWall, isOpen, isUndecided   tests of a state
---   wallAt b, open_at b   the literal of border b with that side
+--   is_wall, is_open, is_undecided tests of a state
+--   wall_at b, open_at b  the literal of border b with that side
 --
 -- A board's borders and a full setting are one kind of thing, a function from border numbers to states.
 use Rattle.std.specs.Prelude.{◌≡◌, Bool, true, false, List, ℕ, ℤ, neg_ℤ, ◌+ℤ◌}
@@ -78,22 +78,22 @@ Has s l = s l.border ≡ decided l.side
 unfoldable pub Contains : (ℕ → State) → List Literal → Type 0
 Contains s r = (l : Literal) → l ∈ r → Has s l
 
-abbrev pub isWall : State → Bool
-isWall undecided = false
-isWall (decided Wall) = true
-isWall (decided Open) = false
+abbrev pub is_wall : State → Bool
+is_wall undecided = false
+is_wall (decided Wall) = true
+is_wall (decided Open) = false
 
-abbrev pub isOpen : State → Bool
-isOpen undecided = false
-isOpen (decided Wall) = false
-isOpen (decided Open) = true
+abbrev pub is_open : State → Bool
+is_open undecided = false
+is_open (decided Wall) = false
+is_open (decided Open) = true
 
-abbrev pub isUndecided : State → Bool
-isUndecided undecided = true
-isUndecided (decided x) = false
+abbrev pub is_undecided : State → Bool
+is_undecided undecided = true
+is_undecided (decided x) = false
 
-abbrev pub wallAt : ℕ → Literal
-wallAt b = record { border = b; side = Wall }
+abbrev pub wall_at : ℕ → Literal
+wall_at b = record { border = b; side = Wall }
 
 abbrev pub open_at : ℕ → Literal
 open_at b = record { border = b; side = Open }

@@ -1,13 +1,13 @@
 -- Reasons: Inside, Edge and Path.
 --
 --   gather side test hops         the literals of that side of the hops that pass the test
---   insideAt G s number g c       what Inside(G) lists for cell c
+--   inside_at G s number g c      what Inside(G) lists for cell c
 --   inside G s number g           Inside(G), G the group with the number g
 --   edge_at G colour s number g c  what Edge(P) lists for cell c
 --   edge G colour s number g      Edge(P), P the group with the number g
 --   Found, Search                 a cell that the search found; what a search has found and has still to look at
---   isFound a f x                 x is the start a, or one of the found cells f
---   visitIf test x h t            where the test holds, the search t with the cell that h leads to found from x
+--   is_found a f x                x is the start a, or one of the found cells f
+--   visit_if test x h t           where the test holds, the search t with the cell that h leads to found from x
 --   trace f x                     the literals from cell x back to the start, by the found cells f
 --   look G s a x hops t           the search t from a, once cell x has tried the hops
 --   hunt G s n a queue f          the cells found once the queue is empty, or n more cells are taken from it
@@ -20,7 +20,7 @@ use Rattle.lists.specs.Lists.{filter, flat_map, any}
 use Rattle.rules.specs.declared.Side.{Side}
 use Rattle.rules.specs.declared.Side.TheVariants.{Wall, Open}
 use Rattle.rules.specs.declared.Literal.{Literal}
-use Rattle.rules.specs.Page.{Page, State, isWall, isOpen, Hop, open_at}
+use Rattle.rules.specs.Page.{Page, State, is_wall, is_open, Hop, open_at}
 use Rattle.rules.specs.Groups.{members}
 
 unfoldable pub gather : Side → (Hop → Bool) → List Hop → List Literal
@@ -28,19 +28,19 @@ gather side test hops = map (λ h. record { border = h.border; side = side }) (f
 
 module _ (G : Page) (s : ℕ → State) (number : ℕ → ℕ) (g : ℕ) where
   -- "below then right, the border to a neighbour in G, where open"
-  unfoldable pub insideAt : ℕ → List Literal
-  insideAt c = gather Open (λ h. eqb (number h.to) g && isOpen (s h.border)) (G.ahead c)
+  unfoldable pub inside_at : ℕ → List Literal
+  inside_at c = gather Open (λ h. eqb (number h.to) g && is_open (s h.border)) (G.ahead c)
 
   -- "Inside(G): for each cell of G"
   unfoldable pub inside : List Literal
-  inside = flat_map insideAt (members G number g)
+  inside = flat_map inside_at (members G number g)
 
 module _ (G : Page) (colour : ℕ → Bool) (s : ℕ → State) (number : ℕ → ℕ) (g : ℕ) where
   -- "above, below, left, right, the border to a same-coloured neighbour outside P, where wall"
   unfoldable pub edge_at : ℕ → List Literal
   edge_at c =
       gather Wall
-      (λ h. beq (colour c) (colour h.to) && not (eqb (number h.to) g) && isWall (s h.border))
+      (λ h. beq (colour c) (colour h.to) && not (eqb (number h.to) g) && is_wall (s h.border))
       (G.around c)
 
   -- "Edge(P): for each cell of P"
@@ -58,16 +58,16 @@ pub record Search : Type 0 where
   pub queue : List ℕ
   pub found : List Found
 
-unfoldable pub isFound : ℕ → List Found → ℕ → Bool
-isFound a f x = eqb x a || any (λ e. eqb x e.cell) f
+unfoldable pub is_found : ℕ → List Found → ℕ → Bool
+is_found a f x = eqb x a || any (λ e. eqb x e.cell) f
 
-abbrev pub visitIf : Bool → ℕ → Hop → Search → Search
-visitIf true x h t =
+abbrev pub visit_if : Bool → ℕ → Hop → Search → Search
+visit_if true x h t =
     record {
       queue = t.queue ++ (h.to ∷ []);
       found = record { cell = h.to; over = h.border; from = x } ∷ t.found;
     }
-visitIf false x h t = t
+visit_if false x h t = t
 
 -- "literals are listed from b back to a": each cell's own finder was found before it
 unfoldable pub trace : List Found → ℕ → List Literal
@@ -78,7 +78,7 @@ module _ (G : Page) (s : ℕ → State) where
   -- "over open borders, trying above, below, left, right; first finder is the parent"
   unfoldable pub look : ℕ → ℕ → List Hop → Search → Search
   look a x [] t = t
-  look a x (h ∷ hs) t = look a x hs (visitIf (isOpen (s h.border) && not (isFound a t.found h.to)) x h t)
+  look a x (h ∷ hs) t = look a x hs (visit_if (is_open (s h.border) && not (is_found a t.found h.to)) x h t)
 
   -- "breadth first": a cell is taken from the queue, and what it finds goes to the end; each cell is taken once
   unfoldable pub hunt : ℕ → ℕ → List ℕ → List Found → List Found

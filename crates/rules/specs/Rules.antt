@@ -1,8 +1,8 @@
 -- Rules, by relations: what a solution is.
 --
 --   Joined G link c x   x is joined to c by hops over borders that pass the test link
---   oneColour Z b       the two cells of border b have one colour
---   joinsBlock, joinsUnit   the borders that join the cells of a block, of a unit
+--   one_colour Z b      the two cells of border b have one colour
+--   joins_block, joins_unit the borders that join the cells of a block, of a unit
 --   SameBlock x y, SameUnit x y   x and y are cells of one block, of one unit
 --   UnitHas x n         the unit of x has n cells
 --   Congruent x y       the unit of y is the unit of x turned or reflected, and shifted
@@ -12,32 +12,32 @@ use Rattle.std.specs.Bool.{beq}
 use Rattle.std.proofs.Math.Option.{some}
 use Rattle.lists.specs.Lists.{◌∈◌, Distinct}
 use Rattle.rules.specs.declared.Side.TheVariants.{Wall}
-use Rattle.rules.specs.Page.{Page, Puzzle, State, undecided, decided, isOpen, Hop, Point, ◌⊕◌}
+use Rattle.rules.specs.Page.{Page, Puzzle, State, undecided, decided, is_open, Hop, Point, ◌⊕◌}
 
 pub data Joined (G : Page) (link : ℕ → Bool) (c : ℕ) : ℕ → Type 0 where
   stay : {x : ℕ} → x ≡ c → Joined G link c x
   step : {x : ℕ} (h : Hop) → h ∈ G.around x → T (link h.border) → Joined G link c h.to → Joined G link c x
 
 -- the two cells of border b have one colour
-unfoldable pub oneColour : Puzzle → ℕ → Bool
-oneColour Z b = beq (Z.colour (Z.page.first b)) (Z.colour (Z.page.second b))
+unfoldable pub one_colour : Puzzle → ℕ → Bool
+one_colour Z b = beq (Z.colour (Z.page.first b)) (Z.colour (Z.page.second b))
 
 module _ (Z : Puzzle) (s : ℕ → State) where
   -- "joined by open borders"
-  unfoldable pub joinsBlock : ℕ → Bool
-  joinsBlock b = isOpen (s b)
+  unfoldable pub joins_block : ℕ → Bool
+  joins_block b = is_open (s b)
 
   -- "the same within one colour"
-  unfoldable pub joinsUnit : ℕ → Bool
-  joinsUnit b = isOpen (s b) && oneColour Z b
+  unfoldable pub joins_unit : ℕ → Bool
+  joins_unit b = is_open (s b) && one_colour Z b
 
   -- "A block is a set of cells joined by open borders, as large as possible"
   abbrev pub SameBlock : ℕ → ℕ → Type 0
-  SameBlock x y = Joined Z.page joinsBlock y x
+  SameBlock x y = Joined Z.page joins_block y x
 
   -- "a unit is the same within one colour"
   abbrev pub SameUnit : ℕ → ℕ → Type 0
-  SameUnit x y = Joined Z.page joinsUnit y x
+  SameUnit x y = Joined Z.page joins_unit y x
 
   -- a list without repeats of exactly the unit's cells has n elements
   pub record UnitHas (x n : ℕ) : Type 0 where
@@ -59,7 +59,7 @@ module _ (Z : Puzzle) (s : ℕ → State) where
     -- "A full setting makes each border wall or open"
     pub full : (b : ℕ) → b < Z.page.borders → s b ≡ undecided → ⊥
     -- "no wall between two cells of one block"
-    pub noWall : (x : ℕ) (h : Hop) → x < Z.page.cells → h ∈ Z.page.around x → SameBlock x h.to
+    pub no_wall : (x : ℕ) (h : Hop) → x < Z.page.cells → h ∈ Z.page.around x → SameBlock x h.to
         → s h.border ≡ decided Wall → ⊥
     -- "each block has exactly one unit of each colour": it has both colours ..
     pub both : (x : ℕ) (c : Bool) → x < Z.page.cells → (y : ℕ) × SameBlock x y × (Z.colour y ≡ c)

@@ -6,15 +6,15 @@
 --   read r p                the new coordinate of p that r gives
 --   apply t p               the place p turned by the row t
 --   row_of a t               what the row t has for the new coordinate along the axis a
---   composeRow r t          what r gives of a place that t has turned
+--   compose_row r t         what r gives of a place that t has turned
 --   compose a b             the row that does b, then a
 --   plus a, minus a         the old coordinate along a with its sign kept, with its sign changed
---   flatTurn r c            the row that gives the new row by r and the new column by c, and keeps the layer
+--   flat_turn r c           the row that gives the new row by r and the new column by c, and keeps the layer
 --   keep                    the row that changes nothing
 --   half, quarter, flip     the rows that 01 names
---   halfQuarter, flipHalf   the quarter followed by the half; the half followed by the flip
---   flipQuarter, flipHalfQuarter   the quarter followed by the flip; the quarter followed by the half, then the flip
---   flatTable               the eight rows of a flat page: signs and swaps of (y,x)
+--   half_quarter, flip_half the quarter followed by the half; the half followed by the flip
+--   flip_quarter, flip_half_quarter the quarter followed by the flip; the quarter followed by the half, then the flip
+--   flat_table              the eight rows of a flat page: signs and swaps of (y,x)
 use Rattle.std.specs.Prelude.{Bool, true, false, List, [], ◌∷◌, ℤ, neg_ℤ}
 use Rattle.std.specs.Bool.{xor}
 use Rattle.rules.specs.Page.{Point}
@@ -51,15 +51,15 @@ row_of layerward t = t.layers
 row_of rowward t = t.rows
 row_of columnward t = t.columns
 
-abbrev pub composeRow : Row → Turn → Row
-composeRow r t = record { axis = (row_of r.axis t).axis; minus = xor r.minus (row_of r.axis t).minus }
+abbrev pub compose_row : Row → Turn → Row
+compose_row r t = record { axis = (row_of r.axis t).axis; minus = xor r.minus (row_of r.axis t).minus }
 
 abbrev pub compose : Turn → Turn → Turn
 compose a b =
     record {
-      layers = composeRow a.layers b;
-      rows = composeRow a.rows b;
-      columns = composeRow a.columns b;
+      layers = compose_row a.layers b;
+      rows = compose_row a.rows b;
+      columns = compose_row a.columns b;
     }
 
 abbrev pub plus : Axis → Row
@@ -69,38 +69,38 @@ abbrev pub minus : Axis → Row
 minus a = record { axis = a; minus = true }
 
 -- a row of a flat page gives the new row and the new column; the layer stays
-abbrev pub flatTurn : Row → Row → Turn
-flatTurn r c = record { layers = plus layerward; rows = r; columns = c }
+abbrev pub flat_turn : Row → Row → Turn
+flat_turn r c = record { layers = plus layerward; rows = r; columns = c }
 
 abbrev pub keep : Turn
-keep = flatTurn (plus rowward) (plus columnward)
+keep = flat_turn (plus rowward) (plus columnward)
 
 -- "half: (−y,−x)"
 abbrev pub half : Turn
-half = flatTurn (minus rowward) (minus columnward)
+half = flat_turn (minus rowward) (minus columnward)
 
 -- "Quarter turn: (y,x) to (x,−y)"
 abbrev pub quarter : Turn
-quarter = flatTurn (plus columnward) (minus rowward)
+quarter = flat_turn (plus columnward) (minus rowward)
 
 -- "flip: (−y,x)"
 abbrev pub flip : Turn
-flip = flatTurn (minus rowward) (plus columnward)
+flip = flat_turn (minus rowward) (plus columnward)
 
-abbrev pub halfQuarter : Turn
-halfQuarter = flatTurn (minus columnward) (plus rowward)
+abbrev pub half_quarter : Turn
+half_quarter = flat_turn (minus columnward) (plus rowward)
 
-abbrev pub flipHalf : Turn
-flipHalf = flatTurn (plus rowward) (minus columnward)
+abbrev pub flip_half : Turn
+flip_half = flat_turn (plus rowward) (minus columnward)
 
-abbrev pub flipQuarter : Turn
-flipQuarter = flatTurn (minus columnward) (minus rowward)
+abbrev pub flip_quarter : Turn
+flip_quarter = flat_turn (minus columnward) (minus rowward)
 
-abbrev pub flipHalfQuarter : Turn
-flipHalfQuarter = flatTurn (plus columnward) (plus rowward)
+abbrev pub flip_half_quarter : Turn
+flip_half_quarter = flat_turn (plus columnward) (plus rowward)
 
 -- "eight rows of signs and swaps", in the order in which they are listed where all eight images differ:
 -- (y,x) (−y,−x) (−x,y) (x,−y), and each of them flipped: (−y,x) (y,−x) (x,y) (−x,−y)
-abbrev pub flatTable : List Turn
-flatTable =
-    keep ∷ half ∷ halfQuarter ∷ quarter ∷ flip ∷ flipHalf ∷ flipHalfQuarter ∷ flipQuarter ∷ []
+abbrev pub flat_table : List Turn
+flat_table =
+    keep ∷ half ∷ half_quarter ∷ quarter ∷ flip ∷ flip_half ∷ flip_half_quarter ∷ flip_quarter ∷ []

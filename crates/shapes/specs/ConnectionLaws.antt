@@ -9,60 +9,60 @@ use Rattle.std.proofs.Math.Arith.{digits_div, digits_mod}
 use Rattle.std.proofs.Math.Dec.{eqb}
 use Rattle.std.proofs.Math.IntN.{pos}
 use Rattle.lists.specs.Appends.{filter-append}
-use Rattle.lists.specs.Lists.{keepIf, filter}
+use Rattle.lists.specs.Lists.{keep_if, filter}
 use Rattle.lists.specs.Table.{table}
 use Rattle.lists.specs.TableLaws.{map-table}
 use Rattle.rules.specs.Page.{Point, ◌⊕◌, Hop}
-use Rattle.rules.specs.Flat.{flat, flatPlace, cell_at, hopIf, hopBelow, hopRight, aheadAt}
+use Rattle.rules.specs.Flat.{flat, flat_place, cell_at, hop_if, hop_below, hop_right, ahead_at}
 use Rattle.rules.specs.Groups.{entry, members}
-use Rattle.rules.specs.Shapes.{connectionsAt}
+use Rattle.rules.specs.Shapes.{connections_at}
 use Rattle.laws.specs.PointLaws.{point-eq}
-use Rattle.groups.specs.Grouping.{numbersIn}
-use Rattle.shapes.specs.Outlines.{rowsIn, columnsIn, cellCount}
-use Rattle.shapes.specs.Spots.{placeAt, spots, cellSpot, places, UnitAt}
-use Rattle.shapes.specs.Joints.{jointIf}
+use Rattle.groups.specs.Grouping.{numbers_in}
+use Rattle.shapes.specs.Outlines.{rows_in, columns_in, cell_count}
+use Rattle.shapes.specs.Spots.{place_at, spots, cell_spot, places, UnitAt}
+use Rattle.shapes.specs.Joints.{joint_if}
 
 -- one neighbour
-hop-joint : (p : ℕ → Bool) (f : ℕ → Point) (b : Bool) (B C Y X : ℕ) → (b ≡ true → f C ≡ placeAt Y X)
-    → map (λ h. f h.to) (filter (λ h. p h.to) (hopIf b B C)) ≡ jointIf (b && p C) Y X
-unfolding filter hopIf
+hop-joint : (p : ℕ → Bool) (f : ℕ → Point) (b : Bool) (B C Y X : ℕ) → (b ≡ true → f C ≡ place_at Y X)
+    → map (λ h. f h.to) (filter (λ h. p h.to) (hop_if b B C)) ≡ joint_if (b && p C) Y X
+unfolding filter hop_if
 hop-joint p f false B C Y X e = refl
 hop-joint p f true B C Y X e = go (p C)
   where
-    go : (q : Bool) → map {A = Hop} (λ h. f h.to) (keepIf q (record { border = B; to = C }) []) ≡ jointIf q Y X
+    go : (q : Bool) → map {A = Hop} (λ h. f h.to) (keep_if q (record { border = B; to = C }) []) ≡ joint_if q Y X
     go true = ap (λ z. z ∷ []) (e refl)
     go false = refl
 
 module _ (h w : ℕ) where
-  place_is : (c y x : ℕ) → c ≡ y * w + x → x < w → flatPlace h w c ≡ placeAt y x
-  unfolding flatPlace
+  place_is : (c y x : ℕ) → c ≡ y * w + x → x < w → flat_place h w c ≡ place_at y x
+  unfolding flat_place
   place_is c y x e l = rw (e, digits_div y l, digits_mod y l)
 
-  sum_is : (a b y x Y X : ℕ) → a + y ≡ Y → b + x ≡ X → placeAt a b ⊕ placeAt y x ≡ placeAt Y X
+  sum_is : (a b y x Y X : ℕ) → a + y ≡ Y → b + x ≡ X → place_at a b ⊕ place_at y x ≡ place_at Y X
   unfolding ◌⊕◌
   sum_is a b y x Y X d e = point-eq refl (ap pos d) (ap pos e)
 
   pub connections-at : (number : ℕ → ℕ) (g c y x : ℕ) → c ≡ y * w + x → x < w
-      → connectionsAt (flat h w) number g c
-      ≡ jointIf (ltb (y + 1) h && eqb (number (c + w)) g) (2 * y + 1) (2 * x)
-      ++ jointIf (ltb (x + 1) w && eqb (number (c + 1)) g) (2 * y) (2 * x + 1)
-  unfolding connectionsAt flat aheadAt hopBelow hopRight cell_at
+      → connections_at (flat h w) number g c
+      ≡ joint_if (ltb (y + 1) h && eqb (number (c + w)) g) (2 * y + 1) (2 * x)
+      ++ joint_if (ltb (x + 1) w && eqb (number (c + 1)) g) (2 * y) (2 * x + 1)
+  unfolding connections_at flat ahead_at hop_below hop_right cell_at
   connections-at number g c y x e l =
-      ap (λ hs. map (λ j. f j.to) (filter (λ j. p j.to) hs)) (ap₂ (aheadAt h w) row column)
-      ∙ (ap (map (λ j. f j.to)) (filter-append (λ j. p j.to) (hopBelow h w y x) (hopRight h w y x))
-      ∙ (map-append (λ j. f j.to) (filter (λ j. p j.to) (hopBelow h w y x))
-      (filter (λ j. p j.to) (hopRight h w y x))
+      ap (λ hs. map (λ j. f j.to) (filter (λ j. p j.to) hs)) (ap₂ (ahead_at h w) row column)
+      ∙ (ap (map (λ j. f j.to)) (filter-append (λ j. p j.to) (hop_below h w y x) (hop_right h w y x))
+      ∙ (map-append (λ j. f j.to) (filter (λ j. p j.to) (hop_below h w y x))
+      (filter (λ j. p j.to) (hop_right h w y x))
       ∙ ap₂ (λ a b. a ++ b)
       (hop-joint p f (ltb (y + 1) h) _ ((y + 1) * w + x) (2 * y + 1) (2 * x) below
-      ∙ ap (λ k. jointIf (ltb (y + 1) h && p k) (2 * y + 1) (2 * x)) under)
+      ∙ ap (λ k. joint_if (ltb (y + 1) h && p k) (2 * y + 1) (2 * x)) under)
       (hop-joint p f (ltb (x + 1) w) _ (y * w + (x + 1)) (2 * y) (2 * x + 1) right
-      ∙ ap (λ k. jointIf (ltb (x + 1) w && p k) (2 * y) (2 * x + 1)) beside)))
+      ∙ ap (λ k. joint_if (ltb (x + 1) w && p k) (2 * y) (2 * x + 1)) beside)))
     where
       p : ℕ → Bool
       p k = eqb (number k) g
 
       f : ℕ → Point
-      f k = flatPlace h w c ⊕ flatPlace h w k
+      f k = flat_place h w c ⊕ flat_place h w k
 
       row : c / w ≡ y
       row = rw (e, digits_div y l)
@@ -79,12 +79,12 @@ module _ (h w : ℕ) where
       beside : y * w + (x + 1) ≡ c + 1
       beside = omega (arith, e)
 
-      below : ltb (y + 1) h ≡ true → f ((y + 1) * w + x) ≡ placeAt (2 * y + 1) (2 * x)
+      below : ltb (y + 1) h ≡ true → f ((y + 1) * w + x) ≡ place_at (2 * y + 1) (2 * x)
       below t =
           ap₂ (λ a b. a ⊕ b) (place_is c y x e l) (place_is ((y + 1) * w + x) (y + 1) x refl l)
           ∙ sum_is y x (y + 1) x (2 * y + 1) (2 * x) (omega arith) (omega arith)
 
-      right : ltb (x + 1) w ≡ true → f (y * w + (x + 1)) ≡ placeAt (2 * y) (2 * x + 1)
+      right : ltb (x + 1) w ≡ true → f (y * w + (x + 1)) ≡ place_at (2 * y) (2 * x + 1)
       right t =
           ap₂ (λ a b. a ⊕ b) (place_is c y x e l)
           (place_is (y * w + (x + 1)) y (x + 1) refl (ltb-true (x + 1) w t))
@@ -94,15 +94,15 @@ module _ (h w : ℕ) where
 abbrev cell_of : ℕ → Point → ℕ
 cell_of w p = nat_abs p.row * w + nat_abs p.column
 
-cells-back : (h w : ℕ) (cs : List ℕ) → map (cell_of w) (map (flatPlace h w) cs) ≡ cs
-unfolding flatPlace
+cells-back : (h w : ℕ) (cs : List ℕ) → map (cell_of w) (map (flat_place h w) cs) ≡ cs
+unfolding flat_place
 cells-back h w [] = refl
 cells-back h w (c ∷ cs) = ap₂ (λ x xs. x ∷ xs) (div-add-mod' c w) (cells-back h w cs)
 
 pub unit_cells : {h w : ℕ} {units : List ℕ} {g : ℕ} {o : List ℕ} → UnitAt h w units g o
-    → members (flat h w) (entry (numbersIn units)) g
-    ≡ table (cellCount o) (λ i. get_or (rowsIn o) i 0 * w + get_or (columnsIn o) i 0)
+    → members (flat h w) (entry (numbers_in units)) g
+    ≡ table (cell_count o) (λ i. get_or (rows_in o) i 0 * w + get_or (columns_in o) i 0)
 unfolding places spots flat
 unit_cells {h} {w} {units} {g} {o} u =
-    sym (cells-back h w (members (flat h w) (entry (numbersIn units)) g))
-    ∙ (ap (map (cell_of w)) (sym u.here) ∙ map-table (cell_of w) (cellCount o) (cellSpot o))
+    sym (cells-back h w (members (flat h w) (entry (numbers_in units)) g))
+    ∙ (ap (map (cell_of w)) (sym u.here) ∙ map-table (cell_of w) (cell_count o) (cell_spot o))

@@ -3,12 +3,12 @@ use Rattle.std.specs.Prelude.{◌≡◌, refl, Bool, true, false, ℕ, ◌-◌, 
 use Rattle.std.proofs.Common.{sym, subst, arith, ltb→lt}
 use mathlib.Core.List.Memᴰ
 use Rattle.lists.specs.Lists.{◌∈◌, all}
-use Rattle.lists.specs.ListLaws.{all-mem, getD-mem}
+use Rattle.lists.specs.ListLaws.{all-mem, get_d-mem}
 use Rattle.lists.specs.Padded.{padded}
 use Rattle.rules.specs.Page.{Shape}
 use Rattle.shapes.specs.declared.Listed.{Listed}
 use Rattle.shapes.specs.Listing.{listing, Rows}
-use Rattle.shapes.specs.Rows.{fixes, flipListed, rows_by, rows_of}
+use Rattle.shapes.specs.Rows.{fixes, flip_listed, rows_by, rows_of}
 
 -- the listed rows
 row_low : (a b c : Bool) → T (all (λ r. ltb r 8) (padded 8 0 (rows_by a b c)))
@@ -24,7 +24,7 @@ pub listed-low : (t : Shape) {r : ℕ} → r ∈ rows_of t → r < 8
 unfolding rows_of
 listed-low t {r} m =
     ltb→lt r 8
-    (all-mem (λ r. ltb r 8) (padded 8 0 (rows_of t)) (row_low (fixes t 1) (fixes t 3) (flipListed t))
+    (all-mem (λ r. ltb r 8) (padded 8 0 (rows_of t)) (row_low (fixes t 1) (fixes t 3) (flip_listed t))
     (Memᴰ.append_left (replicate (8 - length (rows_of t)) 0) m))
 
 row-few : (a b c : Bool) → (1 ≤ length (rows_by a b c)) × (length (rows_by a b c) ≤ 8)
@@ -45,7 +45,7 @@ row-long false b false = refl
 
 pub rows-listed : (t : Shape) {r : Listed} → r ≡ listing (rows_of t) → Rows r
 unfolding rows_of
-rows-listed t e = subst Rows (sym e) (facts (fixes t 1) (fixes t 3) (flipListed t))
+rows-listed t e = subst Rows (sym e) (facts (fixes t 1) (fixes t 3) (flip_listed t))
   where
     facts : (a b c : Bool) → Rows (listing (rows_by a b c))
     facts a b c =
@@ -59,5 +59,5 @@ rows-listed t e = subst Rows (sym e) (facts (fixes t 1) (fixes t 3) (flipListed 
               λ j h.
               ltb→lt (get_or (padded 8 0 (rows_by a b c)) j 0) 8
               (all-mem (λ r. ltb r 8) (padded 8 0 (rows_by a b c)) (row_low a b c)
-              (getD-mem (padded 8 0 (rows_by a b c)) j 0 (omega (arith, f.1))));
+              (get_d-mem (padded 8 0 (rows_by a b c)) j 0 (omega (arith, f.1))));
         }

@@ -6,15 +6,15 @@ use Rattle.std.specs.Int.Signed.{mag, lt_z}
 use Rattle.std.specs.Int.{w8, w32}
 use Rattle.lists.specs.Booleans.{same_test, T-dec}
 use Rattle.rules.specs.Page.{Point}
-use Rattle.rules.specs.Turns.{Axis, layerward, rowward, columnward, Row, coordinate, signed, read, apply, flatTurn}
+use Rattle.rules.specs.Turns.{Axis, layerward, rowward, columnward, Row, coordinate, signed, read, apply, flat_turn}
 use Rattle.rules.specs.Shapes.{before, lessℤ, sameℤ}
 use Rattle.laws.specs.PointLaws.{point-eq}
 use Rattle.laws.specs.OrderLaws.{less-irrefl, less-total}
 use Rattle.laws.specs.SameLaws.{sameℤ→eq, sameℤ-refl}
 use Rattle.shapes.specs.declared.Pair.{Pair}
 use Rattle.shapes.specs.declared.Signs.{Signs}
-use Rattle.shapes.specs.Pairs.{pointAt, point_of, Small, Sign, BothSigns, turnBy, sign_of, signsOf}
-use Rattle.shapes.specs.Rows.{turnAt}
+use Rattle.shapes.specs.Pairs.{point_at, point_of, Small, Sign, BothSigns, turn_by, sign_of, signs_of}
+use Rattle.shapes.specs.Rows.{turn_at}
 
 pub one-times : (z : ℤ) → pos 1 *ℤ z ≡ z
 one-times (pos n) = ap pos (let e : 1 * n ≡ n = omega arith in e)
@@ -84,14 +84,14 @@ sign-times false z = one-times z
 
 -- every row is a row of a flat page, which swaps or not
 flat-turns : (swap down across : Bool) (y x : ℤ)
-    → point_of (turnBy (record { swap = swap; down = sign_of down; across = sign_of across }) y x)
-    ≡ apply (flatTurn (record { axis = cond swap columnward rowward; minus = down })
-    (record { axis = cond swap rowward columnward; minus = across })) (pointAt y x)
-unfolding apply turnBy
+    → point_of (turn_by (record { swap = swap; down = sign_of down; across = sign_of across }) y x)
+    ≡ apply (flat_turn (record { axis = cond swap columnward rowward; minus = down })
+    (record { axis = cond swap rowward columnward; minus = across })) (point_at y x)
+unfolding apply turn_by
 flat-turns true d a y x = point-eq refl (sign-times d x) (sign-times a y)
 flat-turns false d a y x = point-eq refl (sign-times d y) (sign-times a x)
 
-row-turns : (r : ℕ) (y x : ℤ) → point_of (turnBy (signsOf (turnAt r)) y x) ≡ apply (turnAt r) (pointAt y x)
+row-turns : (r : ℕ) (y x : ℤ) → point_of (turn_by (signs_of (turn_at r)) y x) ≡ apply (turn_at r) (point_at y x)
 row-turns zero y x = flat-turns false false false y x
 row-turns (suc zero) y x = flat-turns false true true y x
 row-turns (suc (suc zero)) y x = flat-turns true true false y x
@@ -103,12 +103,12 @@ row-turns (suc (suc (suc (suc (suc (suc (suc zero))))))) y x = flat-turns true t
 row-turns (suc (suc (suc (suc (suc (suc (suc (suc r)))))))) y x = flat-turns false false false y x
 
 -- what the code read from a row: signs, and the turn of the definition
-module _ (r : ℕ) {s : Signs} (e : s ≡ signsOf (turnAt r)) where
+module _ (r : ℕ) {s : Signs} (e : s ≡ signs_of (turn_at r)) where
   pub signs-read : BothSigns s
-  signs-read = rw e (record { down = sign-is (turnAt r).rows.minus; across = sign-is (turnAt r).columns.minus })
+  signs-read = rw e (record { down = sign-is (turn_at r).rows.minus; across = sign-is (turn_at r).columns.minus })
 
-  pub turns-read : (y x : ℤ) → point_of (turnBy s y x) ≡ apply (turnAt r) (pointAt y x)
-  turns-read y x = ap (λ q. point_of (turnBy q y x)) e ∙ row-turns r y x
+  pub turns-read : (y x : ℤ) → point_of (turn_by s y x) ≡ apply (turn_at r) (point_at y x)
+  turns-read y x = ap (λ q. point_of (turn_by q y x)) e ∙ row-turns r y x
 
 -- the order of two places, by the tests of the code
 pub less-test : (a b : ℤ) → lt_z a b ≡ lessℤ a b
@@ -117,10 +117,10 @@ less-test (pos a) (negsuc b) = refl
 less-test (negsuc a) (pos b) = refl
 less-test (negsuc a) (negsuc b) = refl
 
-pub before-yes : (y x b a : ℤ) → lessℤ y b ≡ true → before (pointAt y x) (pointAt b a) ≡ true
+pub before-yes : (y x b a : ℤ) → lessℤ y b ≡ true → before (point_at y x) (point_at b a) ≡ true
 before-yes y x b a e = rw e
 
-pub before-no : (y x b a : ℤ) → lessℤ y b ≡ false → lessℤ b y ≡ true → before (pointAt y x) (pointAt b a) ≡ false
+pub before-no : (y x b a : ℤ) → lessℤ y b ≡ false → lessℤ b y ≡ true → before (point_at y x) (point_at b a) ≡ false
 before-no y x b a e f = rw (e, different)
   where
     different : sameℤ y b ≡ false
@@ -129,7 +129,7 @@ before-no y x b a e f = rw (e, different)
         rw (less-irrefl b) at c) (λ t. absurd t)
 
 pub before-even : (y x b a : ℤ) → lessℤ y b ≡ false → lessℤ b y ≡ false
-    → before (pointAt y x) (pointAt b a) ≡ lessℤ x a
+    → before (point_at y x) (point_at b a) ≡ lessℤ x a
 before-even y x b a e f =
     let k : y ≡ b = less-total y b (rw e tt) (rw f tt) in
     rw (e, same)
@@ -150,12 +150,12 @@ pub read_back : {z : ℤ} (n : ℕ) → z ≡ pos n → n < 4096 → to_z w32 (o
 read_back {z} n e h = ap (λ k. to_z w32 (of_z w32 k)) e ∙ small-back (pos n) h
 
 pub before-known : (p q : Pair) {t : Bool} → SFits w32 p.y → SFits w32 p.x → SFits w32 q.y → SFits w32 q.x
-    → before (pointAt (to_z w32 (of_z w32 p.y)) (to_z w32 (of_z w32 p.x)))
-    (pointAt (to_z w32 (of_z w32 q.y)) (to_z w32 (of_z w32 q.x))) ≡ t
+    → before (point_at (to_z w32 (of_z w32 p.y)) (to_z w32 (of_z w32 p.x)))
+    (point_at (to_z w32 (of_z w32 q.y)) (to_z w32 (of_z w32 q.x))) ≡ t
     → before (point_of p) (point_of q) ≡ t
 before-known p q {t} a b c d e =
-    sym (ap₂ before (ap₂ pointAt (to_z-of_z {w = w32} {z = p.y} a) (to_z-of_z {w = w32} {z = p.x} b))
-    (ap₂ pointAt (to_z-of_z {w = w32} {z = q.y} c) (to_z-of_z {w = w32} {z = q.x} d)))
+    sym (ap₂ before (ap₂ point_at (to_z-of_z {w = w32} {z = p.y} a) (to_z-of_z {w = w32} {z = p.x} b))
+    (ap₂ point_at (to_z-of_z {w = w32} {z = q.y} c) (to_z-of_z {w = w32} {z = q.x} d)))
     ∙ e
 
 pub cond_yes : {A : Type 0} {t : Bool} (a b : A) → t ≡ true → a ≡ cond t a b

@@ -7,43 +7,43 @@ use Rattle.std.proofs.Math.ListN.{get_or, length-set}
 use Rattle.std.proofs.lemmas.List.{length-map}
 use Rattle.lists.specs.Lists.{◌∈◌, filter, range}
 use Rattle.lists.specs.SectionLaws.{section-set, section-low, section-high, front-set}
-use Rattle.lists.specs.ListLaws.{filter-mem, map-find, getD-mem}
+use Rattle.lists.specs.ListLaws.{filter-mem, map-find, get_d-mem}
 use Rattle.lists.specs.Table.{table}
 use Rattle.lists.specs.Ranges.{range-lt}
-use Rattle.lists.specs.TableLaws.{getD-table, table-cong, table-part, map-table}
+use Rattle.lists.specs.TableLaws.{get_d-table, table-cong, table-part, map-table}
 use Rattle.lists.specs.Maps.{get_d_map}
 use Rattle.rules.specs.Page.{Point}
-use Rattle.rules.specs.Flat.{Sized, flat, flatPlace}
+use Rattle.rules.specs.Flat.{Sized, flat, flat_place}
 use Rattle.rules.specs.Groups.{entry, members}
 use Rattle.laws.specs.PointLaws.{origin}
-use Rattle.groups.specs.Grouping.{numbersIn, cells_in, start_in, groupCells}
-use Rattle.shapes.specs.Outlines.{rowsIn, columnsIn, cellCount}
-use Rattle.shapes.specs.Spots.{placeAt, spotAt, spots, cellSpot, cellSpots, places, UnitAt}
+use Rattle.groups.specs.Grouping.{numbers_in, cells_in, start_in, group_cells}
+use Rattle.shapes.specs.Outlines.{rows_in, columns_in, cell_count}
+use Rattle.shapes.specs.Spots.{place_at, spot_at, spots, cell_spot, cell_spots, places, UnitAt}
 use Rattle.shapes.specs.SpotLaws.{length-spots}
 use Rattle.shapes.specs.Parts.{UnitPart, place_of, OutlinePlaced}
 
 -- the row and the column of one cell more are stored
 module _ (o : List ℕ) (i a b : ℕ) (h : i < 1024) where
-  pub row-stored : rowsIn (set (set o i a) (1024 + i) b) ≡ set (rowsIn o) i a
+  pub row-stored : rows_in (set (set o i a) (1024 + i) b) ≡ set (rows_in o) i a
   row-stored = section-high 0 1024 (set o i a) (1024 + i) b (omega arith) ∙ front-set 1024 o i a h
 
-  pub column-stored : columnsIn (set (set o i a) (1024 + i) b) ≡ set (columnsIn o) i b
+  pub column-stored : columns_in (set (set o i a) (1024 + i) b) ≡ set (columns_in o) i b
   column-stored =
       section-set 1024 1024 (set o i a) i b h ∙ ap (λ (l : List ℕ). set l i b) (section-low 1024 1024 o i a h)
 
 -- the outline as the loop leaves it, and then with the count of the cells
 module _ (units : List ℕ) (g w from n i : ℕ) (o : List ℕ) (p : UnitPart units g w) (d : from ≡ start_in units g)
     (c : n ≡ start_in units (g + 1) - start_in units g) (long : length o ≡ 6146) (m : n ≤ i)
-    (f : (j : ℕ) → j < i → get_or (rowsIn o) j 0 ≡ get_or (cells_in units) (from + j) 0 / w)
-    (k : (j : ℕ) → j < i → get_or (columnsIn o) j 0 ≡ get_or (cells_in units) (from + j) 0 % w) where
-  count-is : cellCount (set o 6144 n) ≡ n
+    (f : (j : ℕ) → j < i → get_or (rows_in o) j 0 ≡ get_or (cells_in units) (from + j) 0 / w)
+    (k : (j : ℕ) → j < i → get_or (columns_in o) j 0 ≡ get_or (cells_in units) (from + j) 0 % w) where
+  count-is : cell_count (set o 6144 n) ≡ n
   count-is = get_or-set_same o 6144 n 0 (omega arith)
 
-  pub placed-is : OutlinePlaced w (groupCells units g) (set o 6144 n)
+  pub placed-is : OutlinePlaced w (group_cells units g) (set o 6144 n)
   unfolding spots
   placed-is =
       let L = cells_in units in
-      let e : groupCells units g ≡ table n (λ j. get_or L (from + j) 0) =
+      let e : group_cells units g ≡ table n (λ j. get_or L (from + j) 0) =
       sym (table-part (start_in units g) (start_in units (g + 1) - start_in units g) 0 L
       (omega (arith, p.order, p.long, p.inside)))
       ∙ ap₂ (λ (k s : ℕ). table k (λ j. get_or L (s + j) 0)) (sym c) (sym d) in
@@ -51,27 +51,27 @@ module _ (units : List ℕ) (g w from n i : ℕ) (o : List ℕ) (p : UnitPart un
         long = length-set o 6144 n ∙ long;
         here =
             rw (count-is, section-high 0 1024 o 6144 n (omega arith), section-high 1024 1024 o 6144 n (omega arith))
-            (table-cong n (cellSpot o) (λ j. place_of w (get_or L (from + j) 0))
-            (λ j l. ap₂ placeAt (f j (omega arith)) (k j (omega arith)))
+            (table-cong n (cell_spot o) (λ j. place_of w (get_or L (from + j) 0))
+            (λ j l. ap₂ place_at (f j (omega arith)) (k j (omega arith)))
             ∙ sym (ap (map (place_of w)) e ∙ map-table (place_of w) n (λ j. get_or L (from + j) 0)));
       }
 
-  pub placed-count : cellCount (set o 6144 n) ≡ start_in units (g + 1) - start_in units g
+  pub placed-count : cell_count (set o 6144 n) ≡ start_in units (g + 1) - start_in units g
   placed-count = count-is ∙ c
 
-spot_of : (R C : List ℕ) (n i : ℕ) → i < n → get_or (spots R C n) i origin ≡ spotAt R C i
+spot_of : (R C : List ℕ) (n i : ℕ) → i < n → get_or (spots R C n) i origin ≡ spot_at R C i
 unfolding spots
-spot_of R C n i l = getD-table n (spotAt R C) i origin l
+spot_of R C n i l = get_d-table n (spot_at R C) i origin l
 
-pub mem-spots : (R C : List ℕ) (n i : ℕ) → i < n → spotAt R C i ∈ spots R C n
+pub mem-spots : (R C : List ℕ) (n i : ℕ) → i < n → spot_at R C i ∈ spots R C n
 mem-spots R C n i l =
-    Memᴰ.cast (sym (spot_of R C n i l)) (getD-mem (spots R C n) i origin (rw (length-spots R C n) l))
+    Memᴰ.cast (sym (spot_of R C n i l)) (get_d-mem (spots R C n) i origin (rw (length-spots R C n) l))
 
 -- the places of a group's part are the group's unit
-pub unit-at : (h w : ℕ) (units : List ℕ) (g : ℕ) (L o : List ℕ) → Sized h w → length (numbersIn units) ≡ 1024
-    → L ≡ members (flat h w) (entry (numbersIn units)) g → OutlinePlaced w L o → 1 ≤ cellCount o → cellCount o ≤ 1024
+pub unit-at : (h w : ℕ) (units : List ℕ) (g : ℕ) (L o : List ℕ) → Sized h w → length (numbers_in units) ≡ 1024
+    → L ≡ members (flat h w) (entry (numbers_in units)) g → OutlinePlaced w L o → 1 ≤ cell_count o → cell_count o ≤ 1024
     → UnitAt h w units g o
-unfolding places members flat flatPlace
+unfolding places members flat flat_place
 unit-at h w units g L o s long e p some most =
     record {
       sized = s;
@@ -84,43 +84,43 @@ unit-at h w units g L o s long e p some most =
             most = most;
             down =
                 λ i l.
-                let k : get_or (rowsIn o) i 0 ≡ get_or L i 0 / w = ap (λ q. nat_abs q.row) (at i l) in
+                let k : get_or (rows_in o) i 0 ≡ get_or L i 0 / w = ap (λ q. nat_abs q.row) (at i l) in
                 let d : get_or L i 0 / w < h = (div-lt_iff_lt-mul {k = w} (omega (arith, s.columns))).1 (cell i l) in
                 omega (arith, s.tall);
             across =
                 λ i l.
-                let k : get_or (columnsIn o) i 0 ≡ get_or L i 0 % w = ap (λ q. nat_abs q.column) (at i l) in
+                let k : get_or (columns_in o) i 0 ≡ get_or L i 0 % w = ap (λ q. nat_abs q.column) (at i l) in
                 let d : get_or L i 0 % w < w = mod-lt (get_or L i 0) (omega (arith, s.columns)) in
                 omega (arith, s.broad);
           };
     }
   where
-    count : length L ≡ cellCount o
+    count : length L ≡ cell_count o
     count =
         sym (length-map L (place_of w))
-        ∙ (ap length (sym p.here) ∙ length-spots (rowsIn o) (columnsIn o) (cellCount o))
+        ∙ (ap length (sym p.here) ∙ length-spots (rows_in o) (columns_in o) (cell_count o))
 
-    at : (i : ℕ) → i < cellCount o → cellSpot o i ≡ place_of w (get_or L i 0)
+    at : (i : ℕ) → i < cell_count o → cell_spot o i ≡ place_of w (get_or L i 0)
     at i l =
-        sym (spot_of (rowsIn o) (columnsIn o) (cellCount o) i l) ∙ (ap (λ l. get_or l i origin) p.here
+        sym (spot_of (rows_in o) (columns_in o) (cell_count o) i l) ∙ (ap (λ l. get_or l i origin) p.here
         ∙ get_d_map (place_of w) L i 0 origin (omega (arith, count)))
 
-    cell : (i : ℕ) → i < cellCount o → get_or L i 0 < h * w
+    cell : (i : ℕ) → i < cell_count o → get_or L i 0 < h * w
     cell i l =
-        range-lt (h * w) (filter-mem (λ x. eqb (entry (numbersIn units) x) g) (range (h * w))
-        (subst (λ (M : List ℕ). get_or L i 0 ∈ M) e (getD-mem L i 0 (omega (arith, count)))))
+        range-lt (h * w) (filter-mem (λ x. eqb (entry (numbers_in units) x) g) (range (h * w))
+        (subst (λ (M : List ℕ). get_or L i 0 ∈ M) e (get_d-mem L i 0 (omega (arith, count)))))
 
 -- each place of a unit is on the page
-pub unit-bounds : {h w : ℕ} {units : List ℕ} {g : ℕ} {o : List ℕ} (i : ℕ) → UnitAt h w units g o → i < cellCount o
-    → (get_or (rowsIn o) i 0 < h) × (get_or (columnsIn o) i 0 < w)
-unfolding places members flat flatPlace
+pub unit-bounds : {h w : ℕ} {units : List ℕ} {g : ℕ} {o : List ℕ} (i : ℕ) → UnitAt h w units g o → i < cell_count o
+    → (get_or (rows_in o) i 0 < h) × (get_or (columns_in o) i 0 < w)
+unfolding places members flat flat_place
 unit-bounds {h} {w} {units} {g} {o} i u l =
-    let number = entry (numbersIn units) in
-    let m : cellSpot o i ∈ cellSpots o = mem-spots (rowsIn o) (columnsIn o) (cellCount o) i l in
-    let c = map-find (flatPlace h w) (filter (λ x. eqb (number x) g) (range (h * w)))
-    (subst (λ (ps : List Point). cellSpot o i ∈ ps) u.here m) in
-    let k : get_or (rowsIn o) i 0 ≡ c.0 / w = ap (λ q. nat_abs q.row) c.2 in
-    let j : get_or (columnsIn o) i 0 ≡ c.0 % w = ap (λ q. nat_abs q.column) c.2 in
+    let number = entry (numbers_in units) in
+    let m : cell_spot o i ∈ cell_spots o = mem-spots (rows_in o) (columns_in o) (cell_count o) i l in
+    let c = map-find (flat_place h w) (filter (λ x. eqb (number x) g) (range (h * w)))
+    (subst (λ (ps : List Point). cell_spot o i ∈ ps) u.here m) in
+    let k : get_or (rows_in o) i 0 ≡ c.0 / w = ap (λ q. nat_abs q.row) c.2 in
+    let j : get_or (columns_in o) i 0 ≡ c.0 % w = ap (λ q. nat_abs q.column) c.2 in
     let b : c.0 < h * w = range-lt (h * w) (filter-mem (λ x. eqb (number x) g) (range (h * w)) c.1) in (
       rw k ((div-lt_iff_lt-mul {k = w} (omega (arith, u.sized.columns))).1 b),
       rw j (mod-lt c.0 (omega (arith, u.sized.columns))),

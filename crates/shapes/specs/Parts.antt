@@ -6,7 +6,7 @@
 use Rattle.std.specs.Prelude.{◌≡◌, List, map, ℕ, ◌+◌, ◌/◌, ◌%◌, ◌≤◌, ◌<◌, length}
 use Rattle.rules.specs.Page.{Point}
 use Rattle.groups.specs.Grouping.{cells_in, start_in}
-use Rattle.shapes.specs.Spots.{placeAt, cellSpots}
+use Rattle.shapes.specs.Spots.{place_at, cell_spots}
 
 pub record UnitPart (units : List ℕ) (g w : ℕ) : Type 0 where
   pub group : g < 1024
@@ -17,8 +17,8 @@ pub record UnitPart (units : List ℕ) (g w : ℕ) : Type 0 where
   pub broad : w ≤ 32
 
 abbrev pub place_of : ℕ → ℕ → Point
-place_of w c = placeAt (c / w) (c % w)
+place_of w c = place_at (c / w) (c % w)
 
 pub record OutlinePlaced (w : ℕ) (L o : List ℕ) : Type 0 where
   pub long : length o ≡ 6146
-  pub here : cellSpots o ≡ map (place_of w) L
+  pub here : cell_spots o ≡ map (place_of w) L

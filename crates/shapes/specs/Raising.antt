@@ -1,29 +1,29 @@
 -- Raising: a unit's connections turned and shifted, raised by 64, in one array of 4,096 numbers.
 --
---   ysIn t              the raised rows of the connections: places 0 to 2,047
---   xsIn t              their columns: places 2,048 to 4,095
+--   ys_in t             the raised rows of the connections: places 0 to 2,047
+--   xs_in t             their columns: places 2,048 to 4,095
 --   lowered v           the coordinate that stands in the array as v: coordinates are raised by 64
 --   raised y x          the place whose coordinates stand in the array as y and x
 --   RaisedAt t i        the raised connection i is small, and one of its coordinates is odd
 --   Raised t n          so are all n of them
---   raisedSpot t i      the place of the raised connection i
+--   raised_spot t i     the place of the raised connection i
 --   spelled t n         the places of the n connections
---   liftOf minus base a   the raised coordinate of a, its sign changed if minus, shifted by what base stands for
+--   lift_of minus base a  the raised coordinate of a, its sign changed if minus, shifted by what base stands for
 --   turn_of swap r c     the row of the table: whether the coordinates change places, and the signs of the new ones
---   movedBy g v js      the connections js turned by g and shifted by v
+--   moved_by g v js     the connections js turned by g and shifted by v
 --   Lifts minus base k  the coordinate k, turned and shifted, stays a byte, raised
 --   Turnable            so do all of a unit's connections
 use Rattle.std.specs.Prelude.{◌≡◌, Bool, true, false, cond, List, map, ℕ, ◌+◌, ◌-◌, ◌%◌, ◌≤◌, ◌<◌, ℤ, pos, ◌-ℤ◌, get_or}
 use Rattle.lists.specs.Lists.{range}
 use Rattle.lists.specs.Sections.{section}
 use Rattle.rules.specs.Page.{Point, ◌⊕◌}
-use Rattle.rules.specs.Turns.{Turn, rowward, columnward, flatTurn}
+use Rattle.rules.specs.Turns.{Turn, rowward, columnward, flat_turn}
 
-abbrev pub ysIn : List ℕ → List ℕ
-ysIn t = section 0 2048 t
+abbrev pub ys_in : List ℕ → List ℕ
+ys_in t = section 0 2048 t
 
-abbrev pub xsIn : List ℕ → List ℕ
-xsIn t = section 2048 2048 t
+abbrev pub xs_in : List ℕ → List ℕ
+xs_in t = section 2048 2048 t
 
 abbrev pub lowered : ℕ → ℤ
 lowered v = pos v -ℤ pos 64
@@ -33,30 +33,30 @@ raised y x = record { layer = pos 0; row = lowered y; column = lowered x }
 
 pub record RaisedAt (t : List ℕ) (i : ℕ) : Type 0 where
   pub place : i < 2048
-  pub row : get_or (ysIn t) i 0 < 128
-  pub column : get_or (xsIn t) i 0 < 128
-  pub odd : get_or (ysIn t) i 0 % 2 + get_or (xsIn t) i 0 % 2 ≡ 1
+  pub row : get_or (ys_in t) i 0 < 128
+  pub column : get_or (xs_in t) i 0 < 128
+  pub odd : get_or (ys_in t) i 0 % 2 + get_or (xs_in t) i 0 % 2 ≡ 1
 
 abbrev pub Raised : List ℕ → ℕ → Type 0
 Raised t n = (i : ℕ) → i < n → RaisedAt t i
 
-unfoldable pub raisedSpot : List ℕ → ℕ → Point
-raisedSpot t i = raised (get_or (ysIn t) i 0) (get_or (xsIn t) i 0)
+unfoldable pub raised_spot : List ℕ → ℕ → Point
+raised_spot t i = raised (get_or (ys_in t) i 0) (get_or (xs_in t) i 0)
 
 unfoldable pub spelled : List ℕ → ℕ → List Point
-spelled t n = map (raisedSpot t) (range n)
+spelled t n = map (raised_spot t) (range n)
 
-abbrev pub liftOf : Bool → ℕ → ℕ → ℕ
-liftOf true base a = base - a
-liftOf false base a = base + a
+abbrev pub lift_of : Bool → ℕ → ℕ → ℕ
+lift_of true base a = base - a
+lift_of false base a = base + a
 
 abbrev pub turn_of : Bool → Bool → Bool → Turn
 turn_of swap r c =
-    flatTurn (record { axis = cond swap columnward rowward; minus = r })
+    flat_turn (record { axis = cond swap columnward rowward; minus = r })
     (record { axis = cond swap rowward columnward; minus = c })
 
-unfoldable pub movedBy : (Point → Point) → Point → List Point → List Point
-movedBy g v js = map (λ j. g j ⊕ v) js
+unfoldable pub moved_by : (Point → Point) → Point → List Point → List Point
+moved_by g v js = map (λ j. g j ⊕ v) js
 
 pub record Lifts (minus : Bool) (base : ℕ) (k : ℕ) : Type 0 where
   pub small : k < 128

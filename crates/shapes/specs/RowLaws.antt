@@ -9,11 +9,11 @@ use Rattle.std.proofs.Math.Dec.{T}
 use Rattle.lists.specs.Lists.{any}
 use Rattle.lists.specs.Booleans.{same_test}
 use Rattle.rules.specs.Page.{Point, Shape}
-use Rattle.rules.specs.Turns.{Turn, apply, compose, keep, half, quarter, halfQuarter, flip}
-use Rattle.rules.specs.Shapes.{turned, same_shape, withHalf, quarters, withQuarter, withFlip, flatTransforms}
-use Rattle.laws.specs.SameLaws.{samePoints→eq, same-when}
+use Rattle.rules.specs.Turns.{Turn, apply, compose, keep, half, quarter, half_quarter, flip}
+use Rattle.rules.specs.Shapes.{turned, same_shape, with_half, quarters, with_quarter, with_flip, flat_transforms}
+use Rattle.laws.specs.SameLaws.{same_points→eq, same-when}
 use Rattle.laws.specs.ShapeLaws.{turned-cells, turned-compose}
-use Rattle.shapes.specs.Rows.{turnAt, image, fixes, flipListed, rotationRows, rows_by, rows_of}
+use Rattle.shapes.specs.Rows.{turn_at, image, fixes, flip_listed, rotation_rows, rows_by, rows_of}
 
 module _ (t : Shape) (settled : turned (apply keep) t ≡ t) where
   -- the cells turned by a
@@ -28,13 +28,13 @@ module _ (t : Shape) (settled : turned (apply keep) t ≡ t) where
   kept : C keep ≡ t.cells
   kept = ap (λ u. u.cells) settled
 
-  fixed : (r : ℕ) → T (fixes t r) → C keep ≡ C (turnAt r)
+  fixed : (r : ℕ) → T (fixes t r) → C keep ≡ C (turn_at r)
   unfolding fixes image
-  fixed r e = kept ∙ samePoints→eq t.cells (C (turnAt r)) e
+  fixed r e = kept ∙ same_points→eq t.cells (C (turn_at r)) e
 
-  fixing : (r : ℕ) → C keep ≡ C (turnAt r) → T (fixes t r)
+  fixing : (r : ℕ) → C keep ≡ C (turn_at r) → T (fixes t r)
   unfolding fixes image
-  fixing r e = same-when t.cells (C (turnAt r)) (sym kept ∙ e)
+  fixing r e = same-when t.cells (C (turn_at r)) (sym kept ∙ e)
 
   -- a shape that a quarter leaves as it is, a half leaves too
   quarter-half : T (fixes t 3) → T (fixes t 1)
@@ -42,16 +42,16 @@ module _ (t : Shape) (settled : turned (apply keep) t ≡ t) where
   quarter-half e = fixing 1 (fixed 3 e ∙ act quarter keep quarter (fixed 3 e))
 
   -- the flip is the image by a rotation r exactly if the reflection r + 4 leaves the shape
-  flip-same : (r : ℕ) (a : Turn) → compose a (turnAt r) ≡ keep → compose a flip ≡ turnAt (r + 4)
-      → compose (turnAt r) keep ≡ turnAt r → compose (turnAt r) (turnAt (r + 4)) ≡ flip
+  flip-same : (r : ℕ) (a : Turn) → compose a (turn_at r) ≡ keep → compose a flip ≡ turn_at (r + 4)
+      → compose (turn_at r) keep ≡ turn_at r → compose (turn_at r) (turn_at (r + 4)) ≡ flip
       → same_shape (image r t) (turned (apply flip) t) ≡ fixes t (r + 4)
   unfolding image
   flip-same r a i j k l =
-      same_test (same_shape (turned (apply (turnAt r)) t) (turned (apply flip) t)) (fixes t (r + 4))
+      same_test (same_shape (turned (apply (turn_at r)) t) (turned (apply flip) t)) (fixes t (r + 4))
       (λ e. fixing (r + 4)
-      (ap C (sym i) ∙ (act a (turnAt r) flip (samePoints→eq (C (turnAt r)) (C flip) e) ∙ ap C j)))
-      (λ e. same-when (C (turnAt r)) (C flip)
-      (ap C (sym k) ∙ (act (turnAt r) keep (turnAt (r + 4)) (fixed (r + 4) e) ∙ ap C l)))
+      (ap C (sym i) ∙ (act a (turn_at r) flip (same_points→eq (C (turn_at r)) (C flip) e) ∙ ap C j)))
+      (λ e. same-when (C (turn_at r)) (C flip)
+      (ap C (sym k) ∙ (act (turn_at r) keep (turn_at (r + 4)) (fixed (r + 4) e) ∙ ap C l)))
 
   flip0 : same_shape (image 0 t) (turned (apply flip) t) ≡ fixes t 4
   unfolding xor
@@ -67,13 +67,13 @@ module _ (t : Shape) (settled : turned (apply keep) t ≡ t) where
 
   flip3 : same_shape (image 3 t) (turned (apply flip) t) ≡ fixes t 7
   unfolding xor
-  flip3 = flip-same 3 halfQuarter refl refl refl refl
+  flip3 = flip-same 3 half_quarter refl refl refl refl
 
   -- what leaves the shape as it is, put before a row
-  moved : (r s : ℕ) (a : Turn) → compose (turnAt r) keep ≡ turnAt r → compose (turnAt r) a ≡ turnAt s → C keep ≡ C a
+  moved : (r s : ℕ) (a : Turn) → compose (turn_at r) keep ≡ turn_at r → compose (turn_at r) a ≡ turn_at s → C keep ≡ C a
       → fixes t r ≡ fixes t s
   moved r s a i j e =
-      let k : C (turnAt r) ≡ C (turnAt s) = ap C (sym i) ∙ (act (turnAt r) keep a e ∙ ap C j) in
+      let k : C (turn_at r) ≡ C (turn_at s) = ap C (sym i) ∙ (act (turn_at r) keep a e ∙ ap C j) in
       same_test (fixes t r) (fixes t s) (λ u. fixing s (fixed r u ∙ k)) (λ u. fixing r (fixed s u ∙ sym k))
 
   half-flip : T (fixes t 1) → fixes t 4 ≡ fixes t 5
@@ -92,8 +92,8 @@ module _ (t : Shape) (settled : turned (apply keep) t ≡ t) where
   abbrev images : List ℕ → List Shape
   images rs = map (λ r. image r t) rs
 
-  abbrev flipAmong : List Shape → Bool
-  flipAmong us = any (λ u. same_shape u (turned (apply flip) t)) us
+  abbrev flip_among : List Shape → Bool
+  flip_among us = any (λ u. same_shape u (turned (apply flip) t)) us
 
   image0 : image 0 t ≡ t
   unfolding image
@@ -103,8 +103,8 @@ module _ (t : Shape) (settled : turned (apply keep) t ≡ t) where
   unfolding image xor
   image2 = turned-compose half quarter t
 
-  rotations : (h q : Bool) → fixes t 1 ≡ h → fixes t 3 ≡ q → withQuarter t (withHalf t) ≡ images (rotationRows h q)
-  unfolding withQuarter withHalf quarters fixes image
+  rotations : (h q : Bool) → fixes t 1 ≡ h → fixes t 3 ≡ q → with_quarter t (with_half t) ≡ images (rotation_rows h q)
+  unfolding with_quarter with_half quarters fixes image
   rotations true true d e = rw (d, e) (ap (λ u. u ∷ []) (sym image0))
   rotations true false d e = rw (d, e) (ap (λ u. u ∷ image 3 t ∷ []) (sym image0))
   rotations false true d e = absurd (subst T d (quarter-half (rw e tt)))
@@ -112,8 +112,8 @@ module _ (t : Shape) (settled : turned (apply keep) t ≡ t) where
       rw (d, e) (ap₂ (λ u v. u ∷ image 1 t ∷ v ∷ image 3 t ∷ []) (sym image0) image2)
 
   -- the flip is among the rotations exactly if a reflection leaves the shape
-  among : (h q : Bool) → fixes t 1 ≡ h → fixes t 3 ≡ q → flipAmong (images (rotationRows h q)) ≡ flipListed t
-  unfolding any flipListed
+  among : (h q : Bool) → fixes t 1 ≡ h → fixes t 3 ≡ q → flip_among (images (rotation_rows h q)) ≡ flip_listed t
+  unfolding any flip_listed
   among true true d e =
       let i = half-flip (rw d tt) in
       let j = half-turn (rw d tt) in
@@ -141,8 +141,8 @@ module _ (t : Shape) (settled : turned (apply keep) t ≡ t) where
       or-four false false false true = refl
       or-four false false false false = refl
 
-  flipped : (h q : Bool) → map (turned (apply flip)) (images (rotationRows h q))
-      ≡ images (map (λ r. r + 4) (rotationRows h q))
+  flipped : (h q : Bool) → map (turned (apply flip)) (images (rotation_rows h q))
+      ≡ images (map (λ r. r + 4) (rotation_rows h q))
   unfolding image xor
   flipped true true = ap (λ u. u ∷ []) (turned-compose flip keep t)
   flipped true false =
@@ -150,45 +150,45 @@ module _ (t : Shape) (settled : turned (apply keep) t ≡ t) where
   flipped false q =
       ap₂ (λ u us. u ∷ us) (turned-compose flip keep t)
       (ap₂ (λ u us. u ∷ us) (turned-compose flip half t)
-      (ap₂ (λ u v. u ∷ v ∷ []) (turned-compose flip halfQuarter t) (turned-compose flip quarter t)))
+      (ap₂ (λ u v. u ∷ v ∷ []) (turned-compose flip half_quarter t) (turned-compose flip quarter t)))
 
-  pub transforms-rows : flatTransforms t ≡ map (λ r. image r t) (rows_of t)
-  unfolding flatTransforms withFlip rows_of
+  pub transforms-rows : flat_transforms t ≡ map (λ r. image r t) (rows_of t)
+  unfolding flat_transforms with_flip rows_of
   transforms-rows =
       rw (rotations (fixes t 1) (fixes t 3) refl refl, among (fixes t 1) (fixes t 3) refl refl)
-      (go (flipListed t))
+      (go (flip_listed t))
     where
-      go : (b : Bool) → let rs : List ℕ = rotationRows (fixes t 1) (fixes t 3) in
+      go : (b : Bool) → let rs : List ℕ = rotation_rows (fixes t 1) (fixes t 3) in
           cond b (images rs) (images rs ++ map (turned (apply flip)) (images rs))
           ≡ images (cond b rs (rs ++ map (λ r. r + 4) rs))
       go true = refl
       go false =
-          let rs : List ℕ = rotationRows (fixes t 1) (fixes t 3) in
+          let rs : List ℕ = rotation_rows (fixes t 1) (fixes t 3) in
           ap (λ us. images rs ++ us) (flipped (fixes t 1) (fixes t 3))
           ∙ sym (map-append (λ r. image r t) rs (map (λ r. r + 4) rs))
 
 -- the tests of the code, one law for each answer
 module _ (t : Shape) where
-  pub flip-first : fixes t 4 ≡ true → true ≡ flipListed t
-  unfolding flipListed
+  pub flip-first : fixes t 4 ≡ true → true ≡ flip_listed t
+  unfolding flip_listed
   flip-first a = rw a
 
-  pub flip-second : fixes t 4 ≡ false → fixes t 5 ≡ true → true ≡ flipListed t
-  unfolding flipListed
+  pub flip-second : fixes t 4 ≡ false → fixes t 5 ≡ true → true ≡ flip_listed t
+  unfolding flip_listed
   flip-second a b = rw (a, b)
 
-  pub flip-third : fixes t 4 ≡ false → fixes t 5 ≡ false → fixes t 6 ≡ true → true ≡ flipListed t
-  unfolding flipListed
+  pub flip-third : fixes t 4 ≡ false → fixes t 5 ≡ false → fixes t 6 ≡ true → true ≡ flip_listed t
+  unfolding flip_listed
   flip-third a b c = rw (a, b, c)
 
-  pub flip-fourth : fixes t 4 ≡ false → fixes t 5 ≡ false → fixes t 6 ≡ false → fixes t 7 ≡ flipListed t
-  unfolding flipListed
+  pub flip-fourth : fixes t 4 ≡ false → fixes t 5 ≡ false → fixes t 6 ≡ false → fixes t 7 ≡ flip_listed t
+  unfolding flip_listed
   flip-fourth a b c = rw (a, b, c)
 
-  pub rows-symmetric : {q f : Bool} → fixes t 1 ≡ true → q ≡ fixes t 3 → f ≡ flipListed t → rows_by true q f ≡ rows_of t
+  pub rows-symmetric : {q f : Bool} → fixes t 1 ≡ true → q ≡ fixes t 3 → f ≡ flip_listed t → rows_by true q f ≡ rows_of t
   unfolding rows_of
   rows-symmetric a b c = rw (a, b, c)
 
-  pub rows-plain : {f : Bool} → fixes t 1 ≡ false → f ≡ flipListed t → rows_by false false f ≡ rows_of t
+  pub rows-plain : {f : Bool} → fixes t 1 ≡ false → f ≡ flip_listed t → rows_by false false f ≡ rows_of t
   unfolding rows_of
   rows-plain a c = rw (a, c)

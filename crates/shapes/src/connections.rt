@@ -4,14 +4,14 @@ ghost use Rattle.rules.specs.Page.{◌⊕◌, opposite};
 ghost use Rattle.rules.specs.Flat.{Sized, flat};
 ghost use Rattle.rules.specs.Groups.{entry};
 ghost use Rattle.rules.specs.Turns.{apply};
-ghost use Rattle.rules.specs.Shapes.{connectionsAt};
-ghost use Rattle.groups.specs.Grouping.{numbersIn, start_in, groupCells};
-ghost use Rattle.shapes.specs.Rows.{turnAt};
-ghost use Rattle.shapes.specs.Outlines.{cellCount};
+ghost use Rattle.rules.specs.Shapes.{connections_at};
+ghost use Rattle.groups.specs.Grouping.{numbers_in, start_in, group_cells};
+ghost use Rattle.shapes.specs.Rows.{turn_at};
+ghost use Rattle.shapes.specs.Outlines.{cell_count};
 ghost use Rattle.shapes.specs.Parts.{UnitPart, OutlinePlaced};
-ghost use Rattle.shapes.specs.Joints.{jointIf, JointRoom, Grown, OutlineJoined, JointIn};
+ghost use Rattle.shapes.specs.Joints.{joint_if, JointRoom, Grown, OutlineJoined, JointIn};
 ghost use Rattle.shapes.specs.Pairs.{point_of, SmallPair};
-ghost use Rattle.shapes.specs.Spots.{jointSpot, UnitAt};
+ghost use Rattle.shapes.specs.Spots.{joint_spot, UnitAt};
 
 use crate::{Outline, Pair, apply, signed};
 use groups::{Grouping, group_of, start_of};
@@ -20,8 +20,8 @@ use rules::index;
 // Writes the rows and columns of the cells of unit `g` into an outline, and how many there are.
 pub fn places(units: &Grouping, g: usize, w: usize, outline: &mut Outline)
     requires { UnitPart units.now g w × (length outline.old ≡ 6146) }
-    ensures { OutlinePlaced w (groupCells units.now g) outline.new
-        × (cellCount outline.new ≡ start_in units.now (g + 1) - start_in units.now g) }
+    ensures { OutlinePlaced w (group_cells units.now g) outline.new
+        × (cell_count outline.new ≡ start_in units.now (g + 1) - start_in units.now g) }
 {
     let width = w as u16;
     let from = start_of(units, g);
@@ -48,9 +48,9 @@ fn join(
     outline: &mut Outline,
     k: usize,
 ) -> usize
-    requires { (length (numbersIn units.now) ≡ 1024) × (on ≡ true → to < 1024) × JointRoom outline.old k }
+    requires { (length (numbers_in units.now) ≡ 1024) × (on ≡ true → to < 1024) × JointRoom outline.old k }
     ensures { Grown outline.old k
-        (jointIf (on && eqb (entry (numbersIn units.now) to) g) y x) outline.new result }
+        (joint_if (on && eqb (entry (numbers_in units.now) to) g) y x) outline.new result }
 {
     if on {
         if group_of(units, to) == g {
@@ -73,10 +73,10 @@ fn joints_at(
     outline: &mut Outline,
     k: usize,
 ) -> usize
-    requires { Sized h w × (length (numbersIn units.now) ≡ 1024) × (y < h) × (x < w)
+    requires { Sized h w × (length (numbers_in units.now) ≡ 1024) × (y < h) × (x < w)
         × JointRoom outline.old (k + 1) }
     ensures { Grown outline.old k
-        (connectionsAt (flat h w) (entry (numbersIn units.now)) g (y * w + x)) outline.new result }
+        (connections_at (flat h w) (entry (numbers_in units.now)) g (y * w + x)) outline.new result }
 {
     let c = y * w + x;
     let row = 2 * y;
@@ -145,7 +145,7 @@ fn back_twice(p: Pair, m: Pair) -> Pair
 // Connection `j` of the unit's image by a row whose first cell is the image `m`.
 pub fn joint(row: usize, outline: &Outline, j: usize, m: Pair) -> Pair
     requires { (row < 8) × JointIn outline.now j × SmallPair m }
-    ensures { point_of result ≡ apply (turnAt row) (jointSpot outline.now j)
+    ensures { point_of result ≡ apply (turn_at row) (joint_spot outline.now j)
         ⊕ (opposite (point_of m) ⊕ opposite (point_of m)) }
 {
     back_twice(

@@ -5,12 +5,12 @@ ghost use Rattle.rules.specs.Flat.{Sized, flat};
 ghost use Rattle.rules.specs.Groups.{entry};
 ghost use Rattle.rules.specs.Turns.{apply};
 ghost use Rattle.rules.specs.Shapes.{before, shape_of};
-ghost use Rattle.groups.specs.Grouping.{numbersIn};
-ghost use Rattle.shapes.specs.Rows.{turnAt, fixes, flipListed, rows_by, rows_of};
+ghost use Rattle.groups.specs.Grouping.{numbers_in};
+ghost use Rattle.shapes.specs.Rows.{turn_at, fixes, flip_listed, rows_by, rows_of};
 ghost use Rattle.shapes.specs.Listing.{listing};
-ghost use Rattle.shapes.specs.Pairs.{pointAt, point_of, Small, SmallPair, BothSigns, turnBy, signsOf};
-ghost use Rattle.shapes.specs.Outlines.{rowsIn, columnsIn, cellCount, jointCount};
-ghost use Rattle.shapes.specs.Spots.{placeAt, cellSpots, leastImage, cellIn, hasCell, within, SpotIn, Spotted};
+ghost use Rattle.shapes.specs.Pairs.{point_at, point_of, Small, SmallPair, BothSigns, turn_by, signs_of};
+ghost use Rattle.shapes.specs.Outlines.{rows_in, columns_in, cell_count, joint_count};
+ghost use Rattle.shapes.specs.Spots.{place_at, cell_spots, least_image, cell_in, has_cell, within, SpotIn, Spotted};
 ghost use Rattle.shapes.specs.Spots.{UnitAt};
 
 use groups::{Grouping, group_of};
@@ -40,7 +40,7 @@ pub struct Signs {
 }
 
 // "Every transform is read from eight rows of signs and swaps": the one table, each row with what it makes of (y,x).
-// `signs_at` alone reads it, and its contract says that the rows are those of the definition's `flatTable`. So the
+// `signs_at` alone reads it, and its contract says that the rows are those of the definition's `flat_table`. So the
 // composition rules, which are tested over that table, are rules of this one: `compose-rows` (specs/TableLaws.antt) and
 // `table-rules` (laws/specs/TurnLaws.antt).
 const TABLE: [Signs; 8] = [
@@ -89,7 +89,7 @@ const TABLE: [Signs; 8] = [
 // Reads a row of the table, which is laid out for it: a loop reads its row once, before it begins.
 pub fn signs_at(row: usize) -> Signs
     requires { row < 8 }
-    ensures { result ≡ signsOf (turnAt row) }
+    ensures { result ≡ signs_of (turn_at row) }
 {
     TABLE[row]
 }
@@ -104,7 +104,7 @@ fn factor(sign: i8) -> i32
 // The place (y,x), its coordinates swapped or not, the new ones times a sign.
 pub fn turn(s: Signs, y: i32, x: i32) -> Pair
     requires { BothSigns s × Small y × Small x }
-    ensures { result ≡ turnBy s y x }
+    ensures { result ≡ turn_by s y x }
 {
     let down = factor(s.down);
     let across = factor(s.across);
@@ -124,7 +124,7 @@ pub fn turn(s: Signs, y: i32, x: i32) -> Pair
 // The place (y,x) turned by a row of the table.
 pub fn apply(row: usize, y: i32, x: i32) -> Pair
     requires { (row < 8) × Small y × Small x }
-    ensures { point_of result ≡ apply (turnAt row) (pointAt y x) }
+    ensures { point_of result ≡ apply (turn_at row) (point_at y x) }
 {
     turn(signs_at(row), y, x)
 }
@@ -138,7 +138,7 @@ fn signed(x: u16) -> i32
 
 // Whether (y,x) stands before (b,a), by row and then by column.
 fn before(y: i32, x: i32, b: i32, a: i32) -> bool
-    ensures { result ≡ before (pointAt y x) (pointAt b a) }
+    ensures { result ≡ before (point_at y x) (point_at b a) }
 {
     if y < b {
         return true;
@@ -158,14 +158,14 @@ fn earlier(p: Pair, q: Pair) -> Pair
 
 // How many cells the outline has.
 pub fn cell_count(outline: &Outline) -> usize
-    ensures { result ≡ cellCount outline.now }
+    ensures { result ≡ cell_count outline.now }
 {
     index(outline[6144])
 }
 
 // How many connections it has.
 pub fn joint_count(outline: &Outline) -> usize
-    ensures { result ≡ jointCount outline.now }
+    ensures { result ≡ joint_count outline.now }
 {
     index(outline[6145])
 }
@@ -173,8 +173,8 @@ pub fn joint_count(outline: &Outline) -> usize
 // The image of the outline's cell `i` by the row `s` of the table.
 fn moved(s: Signs, outline: &Outline, i: usize) -> Pair
     requires { BothSigns s × SpotIn outline.now i }
-    ensures { result ≡ turnBy s (pos (get_or (rowsIn outline.now) i 0))
-        (pos (get_or (columnsIn outline.now) i 0)) }
+    ensures { result ≡ turn_by s (pos (get_or (rows_in outline.now) i 0))
+        (pos (get_or (columns_in outline.now) i 0)) }
 {
     turn(s, signed(outline[i]), signed(outline[1024 + i]))
 }
@@ -182,7 +182,7 @@ fn moved(s: Signs, outline: &Outline, i: usize) -> Pair
 // The first in order of the images of the outline's cells by a row of the table.
 pub fn least(row: usize, outline: &Outline) -> Pair
     requires { (row < 8) × Spotted outline.now }
-    ensures { point_of result ≡ leastImage row (cellSpots outline.now) }
+    ensures { point_of result ≡ least_image row (cell_spots outline.now) }
 {
     let n = cell_count(outline);
     let s = signs_at(row);
@@ -197,8 +197,8 @@ pub fn least(row: usize, outline: &Outline) -> Pair
 
 // Whether (y,x) is a cell of the page and of unit `g`.
 fn cell_in(units: &Grouping, h: usize, w: usize, g: usize, y: usize, x: usize) -> bool
-    requires { Sized h w × (length (numbersIn units.now) ≡ 1024) }
-    ensures { result ≡ cellIn h w (entry (numbersIn units.now)) g y x }
+    requires { Sized h w × (length (numbers_in units.now) ≡ 1024) }
+    ensures { result ≡ cell_in h w (entry (numbers_in units.now)) g y x }
 {
     if h <= y {
         return false;
@@ -211,8 +211,8 @@ fn cell_in(units: &Grouping, h: usize, w: usize, g: usize, y: usize, x: usize) -
 
 // The same of signed coordinates.
 pub fn has_cell(units: &Grouping, h: usize, w: usize, g: usize, y: i32, x: i32) -> bool
-    requires { Sized h w × (length (numbersIn units.now) ≡ 1024) }
-    ensures { result ≡ hasCell h w (entry (numbersIn units.now)) g (pointAt y x) }
+    requires { Sized h w × (length (numbers_in units.now) ≡ 1024) }
+    ensures { result ≡ has_cell h w (entry (numbers_in units.now)) g (point_at y x) }
 {
     if y < 0 {
         return false;
@@ -225,8 +225,8 @@ pub fn has_cell(units: &Grouping, h: usize, w: usize, g: usize, y: i32, x: i32) 
 
 // The same of the place `p` shifted by `v`.
 fn lands(units: &Grouping, h: usize, w: usize, g: usize, p: Pair, v: Pair) -> bool
-    requires { Sized h w × (length (numbersIn units.now) ≡ 1024) × SmallPair p × SmallPair v }
-    ensures { result ≡ hasCell h w (entry (numbersIn units.now)) g (point_of p ⊕ point_of v) }
+    requires { Sized h w × (length (numbers_in units.now) ≡ 1024) × SmallPair p × SmallPair v }
+    ensures { result ≡ has_cell h w (entry (numbers_in units.now)) g (point_of p ⊕ point_of v) }
 {
     has_cell(units, h, w, g, p.y + v.y, p.x + v.x)
 }
@@ -234,7 +234,7 @@ fn lands(units: &Grouping, h: usize, w: usize, g: usize, p: Pair, v: Pair) -> bo
 // The shift that lays the place `m` on (y,x).
 fn shift(m: Pair, y: u16, x: u16) -> Pair
     requires { SmallPair m × (y < 32) × (x < 32) }
-    ensures { point_of result ≡ opposite (point_of m) ⊕ placeAt y x }
+    ensures { point_of result ≡ opposite (point_of m) ⊕ place_at y x }
 {
     Pair {
         y: signed(y) - m.y,
@@ -253,7 +253,7 @@ fn within<'a>(
     v: Pair,
 ) -> bool
     requires { (row < 8) × SmallPair v × UnitAt h w units.now g outline.now }
-    ensures { result ≡ within h w (entry (numbersIn units.now)) g outline.now row
+    ensures { result ≡ within h w (entry (numbers_in units.now)) g outline.now row
         (point_of v) }
 {
     let n = cell_count(outline);
@@ -280,7 +280,7 @@ pub fn fixes<'a>(
     row: usize,
 ) -> bool
     requires { (row < 8) × UnitAt h w units.now g outline.now }
-    ensures { result ≡ fixes (shape_of (flat h w) (entry (numbersIn units.now)) g) row }
+    ensures { result ≡ fixes (shape_of (flat h w) (entry (numbers_in units.now)) g) row }
 {
     let m = least(row, outline);
     let v = shift(m, outline[0], outline[1024]);
@@ -290,7 +290,7 @@ pub fn fixes<'a>(
 // Whether one of the four reflections leaves the shape of unit `g` as it is: then no flip is listed.
 fn flip_listed<'a>(units: &'a Grouping, h: usize, w: usize, g: usize, outline: &'a Outline) -> bool
     requires { UnitAt h w units.now g outline.now }
-    ensures { result ≡ flipListed (shape_of (flat h w) (entry (numbersIn units.now)) g) }
+    ensures { result ≡ flip_listed (shape_of (flat h w) (entry (numbers_in units.now)) g) }
 {
     if fixes(units, h, w, g, outline, 4) {
         return true;
@@ -360,7 +360,7 @@ pub fn list_rows<'a>(
     outline: &'a Outline,
 ) -> Listed
     requires { UnitAt h w units.now g outline.now }
-    ensures { result ≡ listing (rows_of (shape_of (flat h w) (entry (numbersIn units.now)) g)) }
+    ensures { result ≡ listing (rows_of (shape_of (flat h w) (entry (numbers_in units.now)) g)) }
 {
     let flipped = flip_listed(units, h, w, g, outline);
     if fixes(units, h, w, g, outline, 1) {

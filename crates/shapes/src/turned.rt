@@ -3,10 +3,10 @@ ghost use Rattle.std.specs.Prelude.{◌≡◌, ℕ, ◌+◌, ◌<◌, ◌≤◌,
 ghost use Rattle.std.specs.Int.Signed.{mag};
 ghost use Rattle.lists.specs.Sections.{section, Only};
 ghost use Rattle.rules.specs.Turns.{apply};
-ghost use Rattle.shapes.specs.Images.{raiseOf, imageJoints, Jointed};
-ghost use Rattle.shapes.specs.Outlines.{downIn, acrossIn, jointCount};
-ghost use Rattle.shapes.specs.Raising.{Lifts, Raised, Turnable, liftOf, movedBy, raised, spelled, turn_of};
-ghost use Rattle.shapes.specs.Spots.{Spotted, cellSpots, jointSpots};
+ghost use Rattle.shapes.specs.Images.{raise_of, image_joints, Jointed};
+ghost use Rattle.shapes.specs.Outlines.{down_in, across_in, joint_count};
+ghost use Rattle.shapes.specs.Raising.{Lifts, Raised, Turnable, lift_of, moved_by, raised, spelled, turn_of};
+ghost use Rattle.shapes.specs.Spots.{Spotted, cell_spots, joint_spots};
 
 use crate::{Outline, joint_count, least, signs_at};
 
@@ -17,7 +17,7 @@ pub type Turned = [u8; 4096];
 // A coordinate turned, shifted and raised: `base` is the shift, raised by 64.
 fn lift(minus: bool, k: u16, base: usize) -> u8
     requires { Lifts minus base k × (base < 128) }
-    ensures { result ≡ liftOf minus base k }
+    ensures { result ≡ lift_of minus base k }
 {
     let a = k as usize;
     if minus {
@@ -35,12 +35,12 @@ fn lift_all(
     turned: &mut Turned,
     to: usize,
 )
-    requires { (from + 2048 ≤ 6144) × (to + 2048 ≤ 4096) × (jointCount outline.now ≤ 2048) × (base < 128)
-        × ((i : ℕ) → i < jointCount outline.now → Lifts minus base (get_or (section from 2048 outline.now) i 0))
+    requires { (from + 2048 ≤ 6144) × (to + 2048 ≤ 4096) × (joint_count outline.now ≤ 2048) × (base < 128)
+        × ((i : ℕ) → i < joint_count outline.now → Lifts minus base (get_or (section from 2048 outline.now) i 0))
         × (length turned.old ≡ 4096) }
     ensures { Only to (to + 2048) turned.old turned.new
-        × ((i : ℕ) → i < jointCount outline.now → get_or (section to 2048 turned.new) i 0
-        ≡ liftOf minus base (get_or (section from 2048 outline.now) i 0)) }
+        × ((i : ℕ) → i < joint_count outline.now → get_or (section to 2048 turned.new) i 0
+        ≡ lift_of minus base (get_or (section from 2048 outline.now) i 0)) }
 {
     let n = joint_count(outline);
     let mut i = 0;
@@ -61,11 +61,11 @@ fn turn_joints(
     x: usize,
     turned: &mut Turned,
 )
-    requires { Turnable swap upward leftward y x (downIn outline.now) (acrossIn outline.now)
-        (jointCount outline.now) × (length turned.old ≡ 4096) }
-    ensures { Raised turned.new (jointCount outline.now)
-        × (spelled turned.new (jointCount outline.now)
-        ≡ movedBy (apply (turn_of swap upward leftward)) (raised y x) (jointSpots outline.now))
+    requires { Turnable swap upward leftward y x (down_in outline.now) (across_in outline.now)
+        (joint_count outline.now) × (length turned.old ≡ 4096) }
+    ensures { Raised turned.new (joint_count outline.now)
+        × (spelled turned.new (joint_count outline.now)
+        ≡ moved_by (apply (turn_of swap upward leftward)) (raised y x) (joint_spots outline.now))
         × (length turned.new ≡ 4096) }
 {
     if swap {
@@ -80,7 +80,7 @@ fn turn_joints(
 // The shift back by twice `v`, raised by 64.
 fn raise(v: i32) -> usize
     requires { mag v < 33 }
-    ensures { result ≡ raiseOf v }
+    ensures { result ≡ raise_of v }
 {
     (64 - (v + v)) as usize
 }
@@ -88,9 +88,9 @@ fn raise(v: i32) -> usize
 // Writes the connections of the unit's image by a row of the table, raised.
 pub fn turn_row(row: usize, outline: &Outline, turned: &mut Turned)
     requires { (row < 8) × Spotted outline.now × Jointed outline.now × (length turned.old ≡ 4096) }
-    ensures { Raised turned.new (jointCount outline.now)
-        × (spelled turned.new (jointCount outline.now)
-        ≡ imageJoints row (cellSpots outline.now) (jointSpots outline.now))
+    ensures { Raised turned.new (joint_count outline.now)
+        × (spelled turned.new (joint_count outline.now)
+        ≡ image_joints row (cell_spots outline.now) (joint_spots outline.now))
         × (length turned.new ≡ 4096) }
 {
     let m = least(row, outline);

@@ -1,25 +1,25 @@
 -- Found: what a check finds, and its memory afterwards.
 --
---   foundOf o           what the code answers for the hit o: how many literals its reason has, each once
+--   found_of o          what the code answers for the hit o: how many literals its reason has, each once
 --   written_by o m       the memory m with the hit's reason, each literal once, from its start; unchanged where nothing
 --                       was hit
---   blocksHit, wallsHit, unitsHit   the first hit of each step
---   earlyHit            the first hit of steps 1 and 2
+--   blocks_hit, walls_hit, units_hit the first hit of each step
+--   early_hit           the first hit of steps 1 and 2
 --   Answers o m after r   for the hit o the code answers r, and leaves the memory `after` where it was m
 --   Room cs bs m        the arrays of colours and borders are whole, and the memory has a place for each border
 use Rattle.std.specs.Prelude.{◌≡◌, List, ℕ, ◌≤◌, length}
 use Rattle.std.proofs.Math.Option.{Option, some, none}
-use Rattle.lists.specs.Lists.{firstHit, or_else, range}
+use Rattle.lists.specs.Lists.{first_hit, or_else, range}
 use Rattle.rules.specs.Page.{Puzzle, State}
 use Rattle.rules.specs.Codes.{put}
-use Rattle.rules.specs.Groups.{blockCount, unitCount}
-use Rattle.rules.specs.Check.{Reason, blockHit, wallHits, unitHit, once}
+use Rattle.rules.specs.Groups.{block_count, unit_count}
+use Rattle.rules.specs.Check.{Reason, block_hit, wall_hits, unit_hit, once}
 use Rattle.steps.specs.declared.Found.{Found}
 use Rattle.steps.specs.declared.Found.TheVariants.{Nothing, Reason as Given}
 
-unfoldable pub foundOf : Option Reason → Found
-foundOf none = Nothing
-foundOf (some r) = Given (length (once r))
+unfoldable pub found_of : Option Reason → Found
+found_of none = Nothing
+found_of (some r) = Given (length (once r))
 
 unfoldable pub written_by : Option Reason → List ℕ → List ℕ
 written_by none m = m
@@ -27,22 +27,22 @@ written_by (some r) m = put m 0 (once r)
 
 module _ (Z : Puzzle) (s : ℕ → State) where
   -- "Per block B"
-  unfoldable pub blocksHit : Option Reason
-  blocksHit = firstHit (blockHit Z s) (range (blockCount Z s))
+  unfoldable pub blocks_hit : Option Reason
+  blocks_hit = first_hit (block_hit Z s) (range (block_count Z s))
 
   -- "Row by row"
-  unfoldable pub wallsHit : Option Reason
-  wallsHit = firstHit (wallHits Z s) (range Z.page.cells)
+  unfoldable pub walls_hit : Option Reason
+  walls_hit = first_hit (wall_hits Z s) (range Z.page.cells)
 
-  unfoldable pub earlyHit : Option Reason
-  earlyHit = or_else blocksHit wallsHit
+  unfoldable pub early_hit : Option Reason
+  early_hit = or_else blocks_hit walls_hit
 
   -- "Per unit U"
-  unfoldable pub unitsHit : Option Reason
-  unitsHit = firstHit (unitHit Z s) (range (unitCount Z s))
+  unfoldable pub units_hit : Option Reason
+  units_hit = first_hit (unit_hit Z s) (range (unit_count Z s))
 
 pub record Answers (o : Option Reason) (m after : List ℕ) (r : Found) : Type 0 where
-  pub found : r ≡ foundOf o
+  pub found : r ≡ found_of o
   pub memory : after ≡ written_by o m
 
 -- "no border is named twice"

@@ -7,7 +7,7 @@ use Rattle.std.proofs.lemmas.List.{length-map}
 use Rattle.lists.specs.Lists.{or_else}
 use Rattle.rules.specs.Flat.{Sized, flat}
 use Rattle.rules.specs.Page.{Puzzle, Contains}
-use Rattle.rules.specs.Codes.{statesIn, puzzleIn, literalCode, put}
+use Rattle.rules.specs.Codes.{states_in, puzzle_in, literal_code, put}
 use Rattle.rules.specs.Check.{Reason, once}
 use Rattle.laws.specs.FlatLaws.{counts}
 use Rattle.laws.specs.FlatReasons.{bordered}
@@ -18,93 +18,93 @@ use Rattle.argument.specs.EarlyOnce.{NoTwice}
 use Rattle.argument.specs.FlatDemand.{flat-blocks-once, flat-walls-once}
 use Rattle.groups.specs.declared.Kind.TheVariants.{Blocks, Potential}
 use Rattle.groups.specs.Parts.{groups_of}
-use Rattle.groups.specs.Grouping.{numbersIn, Filled, Vacant}
+use Rattle.groups.specs.Grouping.{numbers_in, Filled, Vacant}
 use Rattle.groups.specs.PartLaws.{ids-length, filled-ids, filled-cells, filled-offs}
-use Rattle.groups.specs.Pages.{groupsIn}
+use Rattle.groups.specs.Pages.{groups_in}
 use Rattle.reasons.specs.Arrays.{Arrays, GroupAt}
 use Rattle.reasons.specs.Memory.{Wrote, WordsWritten}
 use Rattle.reasons.specs.MemoryLaws.{once-handed, plain-handed}
 use Rattle.blocks.specs.declared.Faulty.{Faulty}
-use Rattle.blocks.specs.Faults.{isFaultless}
-use Rattle.blocks.specs.Written.{faultUnit, faultyLiterals}
-use Rattle.blocks.specs.BlockHits.{faultyIn, block_at, fault-unit-at, one_hit, one_none}
+use Rattle.blocks.specs.Faults.{is_faultless}
+use Rattle.blocks.specs.Written.{fault_unit, faulty_literals}
+use Rattle.blocks.specs.BlockHits.{faulty_in, block_at, fault-unit-at, one_hit, one_none}
 use Rattle.walls.specs.declared.Breach.{Breach}
-use Rattle.walls.specs.Written.{breachLiterals}
-use Rattle.walls.specs.WallHits.{breachIn, two-hit, two_none}
+use Rattle.walls.specs.Written.{breach_literals}
+use Rattle.walls.specs.WallHits.{breach_in, two-hit, two_none}
 use Rattle.steps.specs.declared.Found.{Found}
 use Rattle.steps.specs.declared.Found.TheVariants.{Nothing, Reason as Given}
-use Rattle.steps.specs.Found.{foundOf, written_by, blocksHit, wallsHit, unitsHit, Answers}
+use Rattle.steps.specs.Found.{found_of, written_by, blocks_hit, walls_hit, units_hit, Answers}
 
 pub answers-none : {o : Option Reason} (m : List ℕ) → o ≡ none → Answers o m m Nothing
-unfolding foundOf written_by
+unfolding found_of written_by
 answers-none m e = record { found = rw e; memory = rw e }
 
 -- a hit's reason, each literal once, was written from the start of the memory
 answers-words : {o : Option Reason} {m after : List ℕ} {r : Reason} {k : ℕ} → o ≡ some r
-    → WordsWritten m (map literalCode (once r)) after k → Answers o m after (Given k)
-unfolding foundOf written_by put
+    → WordsWritten m (map literal_code (once r)) after k → Answers o m after (Given k)
+unfolding found_of written_by put
 answers-words {r = r} e w =
-    record { found = rw (e, w.count) (ap Given (length-map (once r) literalCode)); memory = rw e w.memory }
+    record { found = rw (e, w.count) (ap Given (length-map (once r) literal_code)); memory = rw e w.memory }
 
 -- by way of working memory, which has it so
 pub answers-some : {o : Option Reason} (bs : List ℕ) {m work after : List ℕ} {r : Reason} {n k : ℕ} → length bs ≡ 1984
-    → Each (Contains (statesIn bs)) o → o ≡ some r → Wrote (replicate 3968 0) 0 r work n
+    → Each (Contains (states_in bs)) o → o ≡ some r → Wrote (replicate 3968 0) 0 r work n
     → WordsWritten m (take n work) after k → Answers o m after (Given k)
 answers-some bs {r = r} l h e w p =
-    answers-words e (once-handed bs l r (each-some (Contains (statesIn bs)) r (rw e at h)) w p)
+    answers-words e (once-handed bs l r (each-some (Contains (states_in bs)) r (rw e at h)) w p)
 
 -- straight away, where the reason names no border twice
 pub answers-plain : {o : Option Reason} (bs : List ℕ) {m after : List ℕ} {r : Reason} {n : ℕ} → length bs ≡ 1984
-    → 1984 ≤ length m → Each (Contains (statesIn bs)) o → Each NoTwice o → o ≡ some r
+    → 1984 ≤ length m → Each (Contains (states_in bs)) o → Each NoTwice o → o ≡ some r
     → Wrote (take 1984 m) 0 r after n → Answers o m (after ++ drop 1984 m) (Given n)
 answers-plain bs {r = r} l room h d e w =
     answers-words e
-    (plain-handed bs l r (each-some (Contains (statesIn bs)) r (rw e at h)) room (each-some NoTwice r (rw e at d)) w)
+    (plain-handed bs l r (each-some (Contains (states_in bs)) r (rw e at h)) room (each-some NoTwice r (rw e at d)) w)
 
 -- every reason of a step holds on its board, and those of steps 1 and 2 name no border twice
 module _ {h w : ℕ} (z : Sized h w) (cs : List ℕ) (ks : List ℤ) (bs : List ℕ) where
   abbrev Z : Puzzle
-  Z = puzzleIn h w cs ks
+  Z = puzzle_in h w cs ks
 
-  forms : Forms Z (statesIn bs) (Contains (statesIn bs))
-  forms = held-forms Z (bordered z) (statesIn bs)
+  forms : Forms Z (states_in bs) (Contains (states_in bs))
+  forms = held-forms Z (bordered z) (states_in bs)
 
-  pub blocks-held : Each (Contains (statesIn bs)) (blocksHit Z (statesIn bs))
-  unfolding blocksHit
-  blocks-held = blocks-form Z (statesIn bs) _ forms.early
+  pub blocks-held : Each (Contains (states_in bs)) (blocks_hit Z (states_in bs))
+  unfolding blocks_hit
+  blocks-held = blocks-form Z (states_in bs) _ forms.early
 
-  pub walls-held : Each (Contains (statesIn bs)) (wallsHit Z (statesIn bs))
-  unfolding wallsHit
-  walls-held = walls-form Z (statesIn bs) _ forms.early
+  pub walls-held : Each (Contains (states_in bs)) (walls_hit Z (states_in bs))
+  unfolding walls_hit
+  walls-held = walls-form Z (states_in bs) _ forms.early
 
-  pub blocks-plain : Each NoTwice (blocksHit Z (statesIn bs))
-  unfolding blocksHit
-  blocks-plain = flat-blocks-once h w z.columns _ _ (statesIn bs)
+  pub blocks-plain : Each NoTwice (blocks_hit Z (states_in bs))
+  unfolding blocks_hit
+  blocks-plain = flat-blocks-once h w z.columns _ _ (states_in bs)
 
-  pub walls-plain : Each NoTwice (wallsHit Z (statesIn bs))
-  unfolding wallsHit
-  walls-plain = flat-walls-once h w z.columns _ _ (statesIn bs)
+  pub walls-plain : Each NoTwice (walls_hit Z (states_in bs))
+  unfolding walls_hit
+  walls-plain = flat-walls-once h w z.columns _ _ (states_in bs)
 
-  pub units-held : Each (Contains (statesIn bs)) (unitsHit Z (statesIn bs))
-  unfolding unitsHit
-  units-held = units-form Z (statesIn bs) _ forms
+  pub units-held : Each (Contains (states_in bs)) (units_hit Z (states_in bs))
+  unfolding units_hit
+  units-held = units-form Z (states_in bs) _ forms
 
 -- one search after another: the first one's hit stands, and where there was none the memory is still the old one
 pub answers-first : (a b : Option Reason) {m after : List ℕ} {r : Found} (n : ℕ) → r ≡ Given n → Answers a m after r
     → Answers (or_else a b) m after r
-unfolding foundOf or_else
+unfolding found_of or_else
 answers-first (some q) b n e t = t
 answers-first none b n e t = let z : ◌≡◌ {A = ℕ} 0 1 = (let u = t.found in cc) in absurd (omega arith)
 
 pub answers_next : (a b : Option Reason) {m mid after : List ℕ} {r : Found} → Answers a m mid Nothing
     → Answers b mid after r → Answers (or_else a b) m after r
-unfolding foundOf written_by or_else
+unfolding found_of written_by or_else
 answers_next none b t u = record { found = u.found; memory = u.memory ∙ ap (written_by b) t.memory }
 answers_next (some q) b t u = let z : ◌≡◌ {A = ℕ} 0 1 = (let v = t.found in cc) in absurd (omega arith)
 
 -- where nothing was found the memory is as it was
 pub answers-kept : (o : Option Reason) {m after : List ℕ} → Answers o m after Nothing → after ≡ m
-unfolding foundOf written_by
+unfolding found_of written_by
 answers-kept none a = a.memory
 answers-kept (some r) a = let z : ◌≡◌ {A = ℕ} 0 1 = (let v = a.found in cc) in absurd (omega arith)
 
@@ -123,7 +123,7 @@ module _ {h w : ℕ} (z : Sized h w) (link : ℕ → Bool) {g : List ℕ} (f : F
   unfolding flat
   few = (counts z).cells
 
-  pub arrays-of : {bs : List ℕ} → length bs ≡ 1984 → Arrays bs (numbersIn g)
+  pub arrays-of : {bs : List ℕ} → length bs ≡ 1984 → Arrays bs (numbers_in g)
   arrays-of l = record { borders = l; numbers = rw f.numbers (ids-length (flat h w) link one few) }
 
   pub vacant-of : Vacant (h * w) g
@@ -137,40 +137,40 @@ module _ {h w : ℕ} (z : Sized h w) (link : ℕ → Bool) {g : List ℕ} (f : F
 
 -- step 1: r is what first_faulty found
 module _ {h w : ℕ} (z : Sized h w) (cs : List ℕ) (ks : List ℤ) (bs : List ℕ) (r : Faulty)
-    (is : r ≡ faultyIn z cs ks bs) where
-  pub blocks-clear : isFaultless r.fault ≡ true → blocksHit (puzzleIn h w cs ks) (statesIn bs) ≡ none
-  unfolding blocksHit
-  blocks-clear e = one_none z cs ks bs (ap (λ (f : Faulty). isFaultless f.fault) (sym is) ∙ e)
+    (is : r ≡ faulty_in z cs ks bs) where
+  pub blocks-clear : is_faultless r.fault ≡ true → blocks_hit (puzzle_in h w cs ks) (states_in bs) ≡ none
+  unfolding blocks_hit
+  blocks-clear e = one_none z cs ks bs (ap (λ (f : Faulty). is_faultless f.fault) (sym is) ∙ e)
 
-  pub blocks-fault : isFaultless r.fault ≡ false
-      → blocksHit (puzzleIn h w cs ks) (statesIn bs)
-      ≡ some (faultyLiterals h w cs bs (groupsIn Blocks h w cs bs).ids (groupsIn Potential h w cs bs).ids r)
-  unfolding blocksHit
+  pub blocks-fault : is_faultless r.fault ≡ false
+      → blocks_hit (puzzle_in h w cs ks) (states_in bs)
+      ≡ some (faulty_literals h w cs bs (groups_in Blocks h w cs bs).ids (groups_in Potential h w cs bs).ids r)
+  unfolding blocks_hit
   blocks-fault e =
-      one_hit z cs ks bs (ap (λ (f : Faulty). isFaultless f.fault) (sym is) ∙ e)
-      ∙ ap (λ (f : Faulty). some (faultyLiterals h w cs bs (groupsIn Blocks h w cs bs).ids
-      (groupsIn Potential h w cs bs).ids f))
+      one_hit z cs ks bs (ap (λ (f : Faulty). is_faultless f.fault) (sym is) ∙ e)
+      ∙ ap (λ (f : Faulty). some (faulty_literals h w cs bs (groups_in Blocks h w cs bs).ids
+      (groups_in Potential h w cs bs).ids f))
       (sym is)
 
   -- the block and the potential unit that a fault names have their parts
-  pub fault-block : {blocks : List ℕ} → Filled (groupsIn Blocks h w cs bs) blocks → isFaultless r.fault ≡ false
+  pub fault-block : {blocks : List ℕ} → Filled (groups_in Blocks h w cs bs) blocks → is_faultless r.fault ≡ false
       → GroupAt h w blocks r.block
-  fault-block f e = rw is (block_at z cs ks bs f (ap (λ (f : Faulty). isFaultless f.fault) (sym is) ∙ e))
+  fault-block f e = rw is (block_at z cs ks bs f (ap (λ (f : Faulty). is_faultless f.fault) (sym is) ∙ e))
 
-  pub fault-unit : {potential : List ℕ} → Filled (groupsIn Potential h w cs bs) potential
-      → GroupAt h w potential (faultUnit r.fault)
+  pub fault-unit : {potential : List ℕ} → Filled (groups_in Potential h w cs bs) potential
+      → GroupAt h w potential (fault_unit r.fault)
   fault-unit f = rw is (fault-unit-at z cs ks bs f)
 
 -- step 2: b is what first_breach found
 module _ {h w : ℕ} (z : Sized h w) (cs : List ℕ) (ks : List ℤ) (bs : List ℕ) (b : Breach)
-    (is : b ≡ breachIn z cs ks bs) where
-  pub walls-clear : b.found ≡ false → wallsHit (puzzleIn h w cs ks) (statesIn bs) ≡ none
-  unfolding wallsHit
+    (is : b ≡ breach_in z cs ks bs) where
+  pub walls-clear : b.found ≡ false → walls_hit (puzzle_in h w cs ks) (states_in bs) ≡ none
+  unfolding walls_hit
   walls-clear e = two_none z cs ks bs (ap (λ (f : Breach). f.found) (sym is) ∙ e)
 
   pub walls-breach : b.found ≡ true
-      → wallsHit (puzzleIn h w cs ks) (statesIn bs) ≡ some (breachLiterals (flat h w) (statesIn bs) b)
-  unfolding wallsHit
+      → walls_hit (puzzle_in h w cs ks) (states_in bs) ≡ some (breach_literals (flat h w) (states_in bs) b)
+  unfolding walls_hit
   walls-breach e =
       two-hit z cs ks bs (ap (λ (f : Breach). f.found) (sym is) ∙ e)
-      ∙ ap (λ (f : Breach). some (breachLiterals (flat h w) (statesIn bs) f)) (sym is)
+      ∙ ap (λ (f : Breach). some (breach_literals (flat h w) (states_in bs) f)) (sym is)

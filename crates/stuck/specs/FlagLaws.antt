@@ -6,7 +6,7 @@ use Rattle.std.proofs.Common.{◌∙◌, arith, eq-eqb, ne_eqb, length-set, get_
 use Rattle.std.proofs.lemmas.List.{length-replicate}
 use Rattle.lists.specs.Lists.{any, filter, range}
 use Rattle.lists.specs.PaddedLaws.{zeros}
-use Rattle.lists.specs.TableLaws.{getD-table, length-table, table_is}
+use Rattle.lists.specs.TableLaws.{get_d-table, length-table, table_is}
 use Rattle.lists.specs.Parts.{part}
 use Rattle.lists.specs.Arithmetic.{if-same}
 use Rattle.lists.specs.Appends.{any_append}
@@ -14,7 +14,7 @@ use Rattle.lists.specs.PartLaws.{part_none, part-more}
 use Rattle.lists.specs.Count.{bit}
 use Rattle.lists.specs.CountLaws.{bit_is}
 use Rattle.lists.specs.Filters.{any-filter}
-use Rattle.reasons.specs.Arrays.{isFlagged}
+use Rattle.reasons.specs.Arrays.{is_flagged}
 use Rattle.stuck.specs.Writing.{flags_of}
 
 pub record Flagged (xs F : List ℕ) : Type 0 where
@@ -64,8 +64,8 @@ pub flagged-all : {xs F : List ℕ} → Flagged xs F → F ≡ flags_of xs
 unfolding flags_of
 flagged-all {xs} {F} f = table_is 1024 (λ q. bit (any (eqb q) xs)) 0 F f.long (λ i l. f.each i)
 
-pub flagged-is : (f : ℕ → Bool) (n q : ℕ) → n ≤ 1024 → q < n → isFlagged (flags_of (filter f (range n))) q ≡ f q
-unfolding isFlagged flags_of
+pub flagged-is : (f : ℕ → Bool) (n q : ℕ) → n ≤ 1024 → q < n → is_flagged (flags_of (filter f (range n))) q ≡ f q
+unfolding is_flagged flags_of
 flagged-is f n q few h =
-    rw (getD-table 1024 (λ x. bit (any (eqb x) (filter f (range n)))) q 0 (omega arith))
+    rw (get_d-table 1024 (λ x. bit (any (eqb x) (filter f (range n)))) q 0 (omega arith))
     (bit_is (any (eqb q) (filter f (range n))) ∙ any-filter f n q h)

@@ -16,16 +16,16 @@ use Rattle.std.proofs.Math.ListN.{get_or}
 use Rattle.lists.specs.Arithmetic.{eq-or-not}
 use Rattle.rules.specs.declared.Placement.{Placement}
 use Rattle.rules.specs.declared.Placement.TheVariants.{Fits, Blocked, Cannot}
-use Rattle.rules.specs.Flat.{Sized, belowOf, rightOf}
-use Rattle.rules.specs.Page.{wallAt}
+use Rattle.rules.specs.Flat.{Sized, below_of, right_of}
+use Rattle.rules.specs.Page.{wall_at}
 use Rattle.laws.specs.FlatLaws.{counts, spot}
-use Rattle.shapes.specs.Raising.{ysIn, xsIn}
-use Rattle.planes.specs.Placing.{readRaised}
+use Rattle.shapes.specs.Raising.{ys_in, xs_in}
+use Rattle.planes.specs.Placing.{read_raised}
 use Rattle.planes.specs.PlacingLaws.{reads-below, reads-right}
 use Rattle.planes.specs.Bits.{bit_at}
 use Rattle.planes.specs.DrawLaws.{line-in}
 use Rattle.planes.specs.MaskLaws.{place_in}
-use Rattle.stuck.specs.Survivors.{On, borderAt, wallOf, Lain, PlacesDrawn, backOf, placed_at, blockIn}
+use Rattle.stuck.specs.Survivors.{On, border_at, wall_of, Lain, PlacesDrawn, back_of, placed_at, block_in}
 
 abbrev pub Within : Placement → Type 0
 Within Fits = Unit {0}
@@ -34,15 +34,15 @@ Within Cannot = Unit {0}
 
 -- the border at a place of the page
 module _ {h w y x : ℕ} (o : On h w y x) where
-  pub border-below : (y - 64) % 2 ≡ 1 → borderAt h w y x ≡ belowOf h w ((y - 64) / 2) ((x - 64) / 2)
-  unfolding borderAt
+  pub border-below : (y - 64) % 2 ≡ 1 → border_at h w y x ≡ below_of h w ((y - 64) / 2) ((x - 64) / 2)
+  unfolding border_at
   border-below e = rw e
 
-  pub border-right : ((y - 64) % 2 ≡ 1 → ⊥) → borderAt h w y x ≡ rightOf h w ((y - 64) / 2) ((x - 64) / 2)
-  unfolding borderAt
+  pub border-right : ((y - 64) % 2 ≡ 1 → ⊥) → border_at h w y x ≡ right_of h w ((y - 64) / 2) ((x - 64) / 2)
+  unfolding border_at
   border-right e = rw (ne_eqb ((y - 64) % 2) 1 e)
 
-  pub reads-border : readRaised h w y x ≡ some (borderAt h w y x)
+  pub reads-border : read_raised h w y x ≡ some (border_at h w y x)
   reads-border =
       ⊎_elim
       (λ (e : (y - 64) % 2 ≡ 1).
@@ -51,8 +51,8 @@ module _ {h w y x : ℕ} (o : On h w y x) where
       reads-right h w y x o.top o.left o.bottom o.right e ∙ ap some (sym (border-right e)))
       (eq-or-not ((y - 64) % 2) 1)
 
-  pub border-low : Sized h w → borderAt h w y x < 1984
-  unfolding belowOf rightOf
+  pub border-low : Sized h w → border_at h w y x < 1984
+  unfolding below_of right_of
   border-low s =
       ⊎_elim
       (λ (e : (y - 64) % 2 ≡ 1).
@@ -66,25 +66,25 @@ module _ {h w y x : ℕ} (o : On h w y x) where
 -- one turn of the loop that reads from the end
 module _ (h w : ℕ) (bs ts : List ℕ) (y x : ℕ) where
   abbrev border : ℕ → ℕ
-  border j = borderAt h w (2 * y + get_or (ysIn ts) j 0) (2 * x + get_or (xsIn ts) j 0)
+  border j = border_at h w (2 * y + get_or (ys_in ts) j 0) (2 * x + get_or (xs_in ts) j 0)
 
-  pub back_none : {z : ℕ} → z ≡ 0 → backOf h w bs ts y x z ≡ Fits
-  unfolding backOf
+  pub back_none : {z : ℕ} → z ≡ 0 → back_of h w bs ts y x z ≡ Fits
+  unfolding back_of
   back_none e = rw e
 
   pub back-next : (z : ℕ) → 0 < z
-      → (get_or bs (borderAt h w (2 * y + get_or (ysIn ts) (z - 1) 0) (2 * x + get_or (xsIn ts) (z - 1) 0)) 0 ≡ 1 → ⊥)
-      → backOf h w bs ts y x z ≡ backOf h w bs ts y x (z - 1)
-  unfolding backOf wallOf
+      → (get_or bs (border_at h w (2 * y + get_or (ys_in ts) (z - 1) 0) (2 * x + get_or (xs_in ts) (z - 1) 0)) 0 ≡ 1 → ⊥)
+      → back_of h w bs ts y x z ≡ back_of h w bs ts y x (z - 1)
+  unfolding back_of wall_of
   back-next zero l e = absurd (omega arith)
   back-next (suc k) l e =
       let d : suc k - 1 ≡ k = omega arith in rw (d, ne_eqb (get_or bs (border k) 0) 1 (rw d at e))
 
   pub back-wall : (z : ℕ) → 0 < z
-      → get_or bs (borderAt h w (2 * y + get_or (ysIn ts) (z - 1) 0) (2 * x + get_or (xsIn ts) (z - 1) 0)) 0 ≡ 1
-      → backOf h w bs ts y x z
-      ≡ Blocked (borderAt h w (2 * y + get_or (ysIn ts) (z - 1) 0) (2 * x + get_or (xsIn ts) (z - 1) 0))
-  unfolding backOf wallOf
+      → get_or bs (border_at h w (2 * y + get_or (ys_in ts) (z - 1) 0) (2 * x + get_or (xs_in ts) (z - 1) 0)) 0 ≡ 1
+      → back_of h w bs ts y x z
+      ≡ Blocked (border_at h w (2 * y + get_or (ys_in ts) (z - 1) 0) (2 * x + get_or (xs_in ts) (z - 1) 0))
+  unfolding back_of wall_of
   back-wall zero l e = absurd (omega arith)
   back-wall (suc k) l e =
       let d : suc k - 1 ≡ k = omega arith in rw (d, eq-eqb (get_or bs (border k) 0) 1 (rw d at e))
@@ -110,7 +110,7 @@ module _ {w c : ℕ} (y x : ℕ) {y' x' : ℕ} (e : c ≡ y * w + x) where
 -- the placement there
 module _ (h w : ℕ) (bs rows ts : List ℕ) (n : ℕ) where
   pub placed-some : (y x : ℕ) → bit_at (get_or rows y 0) x ≡ true
-      → placed_at h w bs rows ts n y x ≡ backOf h w bs ts y x n
+      → placed_at h w bs rows ts n y x ≡ back_of h w bs ts y x n
   unfolding placed_at
   placed-some y x e = rw e
 
@@ -119,18 +119,18 @@ module _ (h w : ℕ) (bs rows ts : List ℕ) (n : ℕ) where
   drawn-places-none y x e = rw e
 
   back-within : Sized h w → (y x k : ℕ)
-      → ((j : ℕ) → j < k → On h w (2 * y + get_or (ysIn ts) j 0) (2 * x + get_or (xsIn ts) j 0))
-      → Within (backOf h w bs ts y x k)
-  unfolding backOf
+      → ((j : ℕ) → j < k → On h w (2 * y + get_or (ys_in ts) j 0) (2 * x + get_or (xs_in ts) j 0))
+      → Within (back_of h w bs ts y x k)
+  unfolding back_of
   back-within s y x zero o = tt
   back-within s y x (suc k) o =
-      go (wallOf h w bs (2 * y + get_or (ysIn ts) k 0) (2 * x + get_or (xsIn ts) k 0))
+      go (wall_of h w bs (2 * y + get_or (ys_in ts) k 0) (2 * x + get_or (xs_in ts) k 0))
       (back-within s y x k (λ j l. o j (omega arith))) (border-low (o k (omega arith)) s)
     where
-      go : (b : Bool) → Within (backOf h w bs ts y x k)
-          → borderAt h w (2 * y + get_or (ysIn ts) k 0) (2 * x + get_or (xsIn ts) k 0) < 1984
-          → Within (cond b (Blocked (borderAt h w (2 * y + get_or (ysIn ts) k 0) (2 * x + get_or (xsIn ts) k 0)))
-          (backOf h w bs ts y x k))
+      go : (b : Bool) → Within (back_of h w bs ts y x k)
+          → border_at h w (2 * y + get_or (ys_in ts) k 0) (2 * x + get_or (xs_in ts) k 0) < 1984
+          → Within (cond b (Blocked (border_at h w (2 * y + get_or (ys_in ts) k 0) (2 * x + get_or (xs_in ts) k 0)))
+          (back_of h w bs ts y x k))
       go true i l = l
       go false i l = i
 
@@ -140,17 +140,17 @@ module _ (h w : ℕ) (bs rows ts : List ℕ) (n : ℕ) where
   placed-within s o y x a b =
       go (bit_at (get_or rows y 0) x) (λ e. back-within s y x n (o.each y x a b e))
     where
-      go : (t : Bool) → (t ≡ true → Within (backOf h w bs ts y x n))
-          → Within (cond t (backOf h w bs ts y x n) Cannot)
+      go : (t : Bool) → (t ≡ true → Within (back_of h w bs ts y x n))
+          → Within (cond t (back_of h w bs ts y x n) Cannot)
       go true i = i refl
       go false i = tt
 
   module _ (o : ℕ) {q : Placement} (e : q ≡ placed_at h w bs rows ts n (o / w) (o % w)) where
-    pub block_one : {b : ℕ} → q ≡ Blocked b → blockIn h w bs rows ts n o ≡ wallAt b ∷ []
-    unfolding blockIn
+    pub block_one : {b : ℕ} → q ≡ Blocked b → block_in h w bs rows ts n o ≡ wall_at b ∷ []
+    unfolding block_in
     block_one d = rw (← e, d)
 
-    pub block_none : (q ≡ Fits) ⊎ (q ≡ Cannot) → blockIn h w bs rows ts n o ≡ []
-    unfolding blockIn
+    pub block_none : (q ≡ Fits) ⊎ (q ≡ Cannot) → block_in h w bs rows ts n o ≡ []
+    unfolding block_in
     block_none (inl d) = rw (← e, d)
     block_none (inr d) = rw (← e, d)

@@ -1,16 +1,16 @@
 // Step 3 of the check: the reason of a unit that fits nowhere, written into a reason's memory.
 ghost use Rattle.std.proofs.Math.Option.{Option};
 ghost use Rattle.std.specs.Prelude.{ℕ};
-ghost use Rattle.rules.specs.Codes.{cluedBy, statesIn, unclued};
-ghost use Rattle.rules.specs.Check.{unitReason};
-ghost use Rattle.groups.specs.Grouping.{cells_in, startsIn};
-ghost use Rattle.groups.specs.Pages.{Drawn, potentialIn};
+ghost use Rattle.rules.specs.Codes.{clued_by, states_in, unclued};
+ghost use Rattle.rules.specs.Check.{unit_reason};
+ghost use Rattle.groups.specs.Grouping.{cells_in, starts_in};
+ghost use Rattle.groups.specs.Pages.{Drawn, potential_in};
 ghost use Rattle.reasons.specs.Memory.{Spare, Wrote};
 ghost use Rattle.shapes.specs.Images.{Jointed};
-ghost use Rattle.shapes.specs.Spots.{Spotted, cellSpots, jointSpots};
+ghost use Rattle.shapes.specs.Spots.{Spotted, cell_spots, joint_spots};
 ghost use Rattle.shapes.specs.Listing.{Rows};
-ghost use Rattle.adjacent.specs.Mates.{matesIn, Beside};
-ghost use Rattle.stuck.specs.Writing.{Arranged, Imaged, StuckAt, blocksListed};
+ghost use Rattle.adjacent.specs.Mates.{mates_in, Beside};
+ghost use Rattle.stuck.specs.Writing.{Arranged, Imaged, StuckAt, blocks_listed};
 
 use crate::survivors::{block_mates, draw_colours, draw_places, survivors};
 use crate::unit_walls::walls_of;
@@ -44,9 +44,9 @@ fn block_rows<'a>(
         × Beside h w potential.now mates.now
         × Spare memory.old 0 }
     ensures { Wrote memory.old 0
-        (blocksListed (unclued h w colours.now) (statesIn borders.now)
-        (cells_in potential.now) (startsIn potential.now) (matesIn mates.now)
-        (cellSpots outline.now) (jointSpots outline.now) listed) memory.new result }
+        (blocks_listed (unclued h w colours.now) (states_in borders.now)
+        (cells_in potential.now) (starts_in potential.now) (mates_in mates.now)
+        (cell_spots outline.now) (joint_spots outline.now) listed) memory.new result }
 {
     let mut same = [0u64; 192];
     draw_colours(h, w, colours, &mut same);
@@ -93,7 +93,7 @@ fn write_unit<'a>(
         × Imaged h w colours.now borders.now units.now outline.now listed u
         × Spare memory.old 0 }
     ensures { (c : ℕ → Option ℕ) → Wrote memory.old 0
-        (unitReason (cluedBy h w colours.now c) (statesIn borders.now) u p)
+        (unit_reason (clued_by h w colours.now c) (states_in borders.now) u p)
         memory.new result }
 {
     let blocked = block_rows(
@@ -117,8 +117,8 @@ pub fn write_stuck<'a>(
     requires { StuckAt h w colours.now borders.now units.now potential.now u
         × Spare memory.old 0 }
     ensures { (c : ℕ → Option ℕ) → Wrote memory.old 0
-        (unitReason (cluedBy h w colours.now c) (statesIn borders.now) u
-        (potentialIn (cluedBy h w colours.now c) (statesIn borders.now) u))
+        (unit_reason (clued_by h w colours.now c) (states_in borders.now) u
+        (potential_in (clued_by h w colours.now c) (states_in borders.now) u))
         memory.new result }
 {
     let p = group_of(potential, cell_at(units, start_of(units, u)));

@@ -4,17 +4,17 @@ ghost use Rattle.std.specs.Prelude.{◌≡◌, ℕ, ◌+◌, ◌*◌, ◌/◌, �
 ghost use Rattle.lists.specs.Lists.{flat_map};
 ghost use Rattle.lists.specs.Parts.{part};
 ghost use Rattle.rules.specs.Flat.{Sized};
-ghost use Rattle.groups.specs.Grouping.{cells_in, startsIn};
+ghost use Rattle.groups.specs.Grouping.{cells_in, starts_in};
 ghost use Rattle.groups.specs.Parts.{part_of};
 ghost use Rattle.reasons.specs.Arrays.{Cells};
 ghost use Rattle.reasons.specs.Memory.{Spare, Wrote};
-ghost use Rattle.shapes.specs.Raising.{ysIn, xsIn, Raised};
-ghost use Rattle.adjacent.specs.Mates.{matesIn, Beside};
+ghost use Rattle.shapes.specs.Raising.{ys_in, xs_in, Raised};
+ghost use Rattle.adjacent.specs.Mates.{mates_in, Beside};
 ghost use Rattle.planes.specs.Bits.{bit_at};
 ghost use Rattle.planes.specs.Masks.{Sizes};
-ghost use Rattle.planes.specs.Planes.{planesOf};
-ghost use Rattle.stuck.specs.Survivors.{On, Survived, Lain, PlacesDrawn, noWalls, borderAt, backOf, placed_at};
-ghost use Rattle.stuck.specs.Survivors.{blockIn};
+ghost use Rattle.planes.specs.Planes.{planes_of};
+ghost use Rattle.stuck.specs.Survivors.{On, Survived, Lain, PlacesDrawn, no_walls, border_at, back_of, placed_at};
+ghost use Rattle.stuck.specs.Survivors.{block_in};
 
 use adjacent::Mates;
 use groups::{Grouping, cell_at, start_of};
@@ -26,7 +26,7 @@ use shapes::turned::Turned;
 // Draws the planes of a page's colours into memory that is 0: a border is clear if it joins one colour.
 pub fn draw_colours(h: usize, w: usize, colours: &[u8; 1024], planes: &mut [u64; 192])
     requires { Sized h w × (planes.old ≡ replicate 192 0) }
-    ensures { planes.new ≡ planesOf h w colours.now noWalls }
+    ensures { planes.new ≡ planes_of h w colours.now no_walls }
 {
     let none = [0u8; 1984];
     draw_planes(h, w, colours, &none, planes);
@@ -84,7 +84,7 @@ fn has(word: u64, x: usize) -> bool
 // The border at the doubled place (y, x) of the page; both coordinates are raised by 64.
 fn border_at(h: usize, w: usize, y: usize, x: usize) -> usize
     requires { Sized h w × On h w y x }
-    ensures { result ≡ borderAt h w y x }
+    ensures { result ≡ border_at h w y x }
 {
     let down = (y - 64) / 2;
     let across = (x - 64) / 2;
@@ -105,8 +105,8 @@ fn laid_back<'a>(
     x: usize,
 ) -> Placement
     requires { Sized h w × Raised turned.now n × (y < 32) × (x < 32)
-        × ((j : ℕ) → j < n → On h w (2 * y + get_or (ysIn turned.now) j 0) (2 * x + get_or (xsIn turned.now) j 0)) }
-    ensures { result ≡ backOf h w borders.now turned.now y x n }
+        × ((j : ℕ) → j < n → On h w (2 * y + get_or (ys_in turned.now) j 0) (2 * x + get_or (xs_in turned.now) j 0)) }
+    ensures { result ≡ back_of h w borders.now turned.now y x n }
 {
     let mut j = n;
     while j > 0 {
@@ -162,7 +162,7 @@ fn block_at<'a>(
     requires { Sized h w × Raised turned.now n × Lain h w rows.now turned.now n
         × PlacesDrawn h w places.now × (o < h * w) × Spare memory.old at }
     ensures { Wrote memory.old at
-        (blockIn h w borders.now rows.now turned.now n o)
+        (block_in h w borders.now rows.now turned.now n o)
         memory.new result }
 {
     let place = places[o] as usize;
@@ -199,7 +199,7 @@ fn block_group<'a>(
         × PlacesDrawn h w places.now × Cells h w (cells_in potential.now) from to
         × Spare memory.old start }
     ensures { Wrote memory.old start
-        (flat_map (blockIn h w borders.now rows.now turned.now n)
+        (flat_map (block_in h w borders.now rows.now turned.now n)
         (part (cells_in potential.now) from to)) memory.new result }
 {
     let mut at = start;
@@ -240,9 +240,9 @@ pub fn block_mates<'a>(
     requires { Sized h w × Raised turned.now n × Lain h w rows.now turned.now n × PlacesDrawn h w places.now
         × Beside h w potential.now mates.now × Spare memory.old start }
     ensures { Wrote memory.old start
-        (flat_map (λ Q. flat_map (blockIn h w borders.now rows.now turned.now n)
-        (part_of (cells_in potential.now) (startsIn potential.now) Q))
-        (matesIn mates.now)) memory.new result }
+        (flat_map (λ Q. flat_map (block_in h w borders.now rows.now turned.now n)
+        (part_of (cells_in potential.now) (starts_in potential.now) Q))
+        (mates_in mates.now)) memory.new result }
 {
     let count = index(mates[1024]);
     let mut at = start;

@@ -1,11 +1,11 @@
 // The walls in the reason of a unit: those of its potential unit, of the adjacent ones, and to the others.
 ghost use Rattle.std.specs.Prelude.{◌≡◌, length};
 ghost use Rattle.rules.specs.Flat.{Sized};
-ghost use Rattle.groups.specs.Grouping.{numbersIn, groupCells};
-ghost use Rattle.reasons.specs.Arrays.{GroupAt, noFlags};
+ghost use Rattle.groups.specs.Grouping.{numbers_in, group_cells};
+ghost use Rattle.reasons.specs.Arrays.{GroupAt, no_flags};
 ghost use Rattle.reasons.specs.Memory.{Spare, Wrote};
-ghost use Rattle.adjacent.specs.Mates.{matesIn};
-ghost use Rattle.stuck.specs.Writing.{Low, Mated, flags_of, edgesIn, farIn, wallsIn};
+ghost use Rattle.adjacent.specs.Mates.{mates_in};
+ghost use Rattle.stuck.specs.Writing.{Low, Mated, flags_of, edges_in, far_in, walls_in};
 
 use adjacent::Mates;
 use board::Board;
@@ -27,10 +27,10 @@ fn edges_of<'a>(
     flagged: &mut [u8; Board::CELL_LIMIT],
 ) -> usize
     requires { Sized h w × (length borders.now ≡ 1984) × (length colours.now ≡ 1024)
-        × Mated h w potential.now mates.now × Spare memory.old start × (flagged.old ≡ noFlags) }
+        × Mated h w potential.now mates.now × Spare memory.old start × (flagged.old ≡ no_flags) }
     ensures { Wrote memory.old start
-        (edgesIn h w colours.now borders.now (numbersIn potential.now)
-        (matesIn mates.now)) memory.new result × (flagged.new ≡ noFlags) }
+        (edges_in h w colours.now borders.now (numbers_in potential.now)
+        (mates_in mates.now)) memory.new result × (flagged.new ≡ no_flags) }
 {
     let count = index(mates[1024]);
     let mut at = start;
@@ -45,8 +45,8 @@ fn edges_of<'a>(
 
 // Flags each group in the list of mates, in flags that are 0.
 fn flag_mates(mates: &Mates, flagged: &mut [u8; Board::CELL_LIMIT])
-    requires { Low mates.now × (flagged.old ≡ noFlags) }
-    ensures { flagged.new ≡ flags_of (matesIn mates.now) }
+    requires { Low mates.now × (flagged.old ≡ no_flags) }
+    ensures { flagged.new ≡ flags_of (mates_in mates.now) }
 {
     let count = index(mates[1024]);
     let mut i = 0;
@@ -72,10 +72,10 @@ fn far_walls<'a>(
     flagged: &mut [u8; Board::CELL_LIMIT],
 ) -> usize
     requires { Sized h w × (length borders.now ≡ 1984) × (length colours.now ≡ 1024)
-        × GroupAt h w potential.now p × Low mates.now × Spare memory.old start × (flagged.old ≡ noFlags) }
+        × GroupAt h w potential.now p × Low mates.now × Spare memory.old start × (flagged.old ≡ no_flags) }
     ensures { Wrote memory.old start
-        (farIn h w colours.now borders.now (numbersIn potential.now)
-        (matesIn mates.now) (groupCells potential.now p)) memory.new result }
+        (far_in h w colours.now borders.now (numbers_in potential.now)
+        (mates_in mates.now) (group_cells potential.now p)) memory.new result }
 {
     flag_mates(mates, flagged);
     scan_walls(
@@ -100,8 +100,8 @@ pub fn walls_of<'a>(
         × Mated h w potential.now mates.now × GroupAt h w potential.now p
         × Spare memory.old start }
     ensures { Wrote memory.old start
-        (wallsIn h w colours.now borders.now (numbersIn potential.now) p
-        (matesIn mates.now) (groupCells potential.now p)) memory.new result }
+        (walls_in h w colours.now borders.now (numbers_in potential.now) p
+        (mates_in mates.now) (group_cells potential.now p)) memory.new result }
 {
     let mut flagged = [0u8; Board::CELL_LIMIT];
     let flags = &mut flagged;

@@ -5,12 +5,12 @@ ghost use Rattle.std.specs.Prelude.{◌≡◌, List, ◌++◌, ℕ, ◌+◌, ◌
 ghost use Rattle.rules.specs.Book.{refused};
 ghost use Rattle.board.specs.Board.{number_of};
 ghost use Rattle.page.specs.Grammar.{end_word, call};
-ghost use Rattle.page.specs.Judge.{judgementOf};
-ghost use Rattle.page.specs.Places.{sheetAt, all_from};
-ghost use Rattle.print.specs.Answers.{answersWord, showReply};
+ghost use Rattle.page.specs.Judge.{judgement_of};
+ghost use Rattle.page.specs.Places.{sheet_at, all_from};
+ghost use Rattle.print.specs.Answers.{answers_word, show_reply};
 ghost use Rattle.print.specs.Lines.{LineHolds};
-ghost use Rattle.transcript.specs.Left.{firstRun, goesOn, boardAt, judgedText, lines_from, literalsText, line_of};
-ghost use Rattle.transcript.specs.Left.{stageOf, left_at, stepsAt, firstMemory, Goes, Next};
+ghost use Rattle.transcript.specs.Left.{first_run, goes_on, board_at, judged_text, lines_from, literals_text, line_of};
+ghost use Rattle.transcript.specs.Left.{stage_of, left_at, steps_at, first_memory, Goes, Next};
 
 use board::{Board, Outcome};
 use calls::Answer;
@@ -40,7 +40,7 @@ pub struct Run {
 
 // The run of a page of which nothing is printed yet.
 pub fn first() -> Run
-    ensures { result ≡ firstRun }
+    ensures { result ≡ first_run }
 {
     Run {
         board: Board::zero(),
@@ -52,7 +52,7 @@ pub fn first() -> Run
 
 // Whether something is left to print.
 pub fn goes_on(run: Run) -> bool
-    ensures { result ≡ goesOn run.stage }
+    ensures { result ≡ goes_on run.stage }
 {
     let stage = run.stage;
     match stage {
@@ -67,7 +67,7 @@ pub fn goes_on(run: Run) -> bool
 
 // The board of a page whose parts are p.
 fn board_of(s: &[u8], p: Parts) -> Board
-    ensures { result ≡ boardAt (sheetAt s.now p) }
+    ensures { result ≡ board_at (sheet_at s.now p) }
 {
     let n = board::cell_count(p.height, p.width);
     let colours = page::colours(s, p);
@@ -79,7 +79,7 @@ fn board_of(s: &[u8], p: Parts) -> Board
 // The first line; then the page is judged.
 fn begin(s: &[u8], out: &mut [u8]) -> Run
     requires { 32 ≤ length out.old }
-    ensures { (m : List ℕ) → Goes s.now (answersWord ++ judgedText m (judgementOf s.now))
+    ensures { (m : List ℕ) → Goes s.now (answers_word ++ judged_text m (judgement_of s.now))
         (length s.now * 2000 + 3) out.old result m out.new }
 {
     let count = print::put_line(out, 0, print::answers_line());
@@ -106,7 +106,7 @@ fn begin(s: &[u8], out: &mut [u8]) -> Run
 
 // `(refused n)` and its newline, for a refused call.
 fn refusal(o: Outcome) -> Line
-    ensures { LineHolds result (showReply (refused (number_of o))) }
+    ensures { LineHolds result (show_reply (refused (number_of o))) }
 {
     let n = board::number(o);
     print::refused_line(n as usize)
@@ -129,7 +129,7 @@ fn line_of(a: Answer) -> Line
 
 // What is printed after that.
 fn stage_of(a: Answer) -> Stage
-    ensures { result ≡ stageOf a }
+    ensures { result ≡ stage_of a }
 {
     match a {
         Answer::Done => Stage::Calls,
@@ -144,7 +144,7 @@ fn turn(s: &[u8], board: Board, at: usize, memory: &mut [u16], out: &mut [u8]) -
     requires { 32 ≤ length out.old }
     ensures { Goes s.now (lines_from s.now board at memory.old)
         ((length s.now - at) * 2000 + 2) out.old result memory.new out.new
-        × (memory.new ≡ firstMemory board memory.old (all_from call s.now at)) }
+        × (memory.new ≡ first_memory board memory.old (all_from call s.now at)) }
 {
     let CallRead::Got(call, next) = page::call_at(s, at) else {
         return Run {
@@ -170,7 +170,7 @@ fn turn(s: &[u8], board: Board, at: usize, memory: &mut [u16], out: &mut [u8]) -
 // More literals of a reason; where none is left, the end of its line.
 fn reason(board: Board, at: usize, memory: &[u16], out: &mut [u8], from: usize, to: usize) -> Run
     requires { 32 ≤ length out.old }
-    ensures { (s : List ℕ) → Goes s (literalsText memory.now from to
+    ensures { (s : List ℕ) → Goes s (literals_text memory.now from to
         ++ (end_word ++ lines_from s board at memory.now))
         ((length s - at) * 2000 + 3 + (to - from)) out.old result memory.now
         out.new }
@@ -199,7 +199,7 @@ fn reason(board: Board, at: usize, memory: &[u16], out: &mut [u8], from: usize, 
 fn put(out: &mut [u8], line: Line, board: Board, at: usize, stage: Stage) -> Run
     requires { (32 ≤ length out.old) × (line.count ≤ 32) }
     ensures { (s m text : List ℕ) → LineHolds line text → Goes s (text ++ left_at s stage board at m)
-        (stepsAt s stage at + 1) out.old result m out.new }
+        (steps_at s stage at + 1) out.old result m out.new }
 {
     let count = print::put_line(out, 0, line);
     Run {

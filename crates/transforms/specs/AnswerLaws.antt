@@ -10,20 +10,20 @@ use Rattle.std.proofs.Math.Seq.{sets}
 use Rattle.lists.specs.Lists.{flat_map}
 use Rattle.lists.specs.Maps.{get_d_map}
 use Rattle.rules.specs.Page.{Shape}
-use Rattle.rules.specs.Rules.{oneColour, joinsUnit}
+use Rattle.rules.specs.Rules.{one_colour, joins_unit}
 use Rattle.rules.specs.Flat.{Sized, flat}
-use Rattle.rules.specs.Codes.{statesIn, unclued}
-use Rattle.rules.specs.Groups.{entry, unitCount}
-use Rattle.rules.specs.Shapes.{shape_of, flatTransforms}
-use Rattle.rules.specs.Check.{transformsOf}
+use Rattle.rules.specs.Codes.{states_in, unclued}
+use Rattle.rules.specs.Groups.{entry, unit_count}
+use Rattle.rules.specs.Shapes.{shape_of, flat_transforms}
+use Rattle.rules.specs.Check.{transforms_of}
 use Rattle.board.specs.declared.Board.{Board}
 use Rattle.board.specs.declared.Outcome.TheVariants.{Done, Alien, Short}
-use Rattle.board.specs.Alien.{isAlien}
-use Rattle.board.specs.View.{puzzleOf, statesOf}
+use Rattle.board.specs.Alien.{is_alien}
+use Rattle.board.specs.View.{puzzle_of, states_of}
 use Rattle.groups.specs.declared.Kind.TheVariants.{Units}
-use Rattle.groups.specs.Kinds.{joinsIn}
+use Rattle.groups.specs.Kinds.{joins_in}
 use Rattle.groups.specs.Parts.{groups_of}
-use Rattle.groups.specs.Grouping.{numbersIn, countIn, Filled}
+use Rattle.groups.specs.Grouping.{numbers_in, count_in, Filled}
 use Rattle.groups.specs.PageLaws.{kind-count}
 use Rattle.shapes.specs.declared.Listed.{Listed}
 use Rattle.shapes.specs.Listing.{listing}
@@ -31,8 +31,8 @@ use Rattle.shapes.specs.Rows.{image, rows_of}
 use Rattle.shapes.specs.UnitLaws.{transforms-flat}
 use Rattle.adjacent.specs.Homes.{UnitIn}
 use Rattle.adjacent.specs.HomeLaws.{own-part, own-transforms}
-use Rattle.transforms.specs.Transforms.{nothing, kth, words, room, transformed, kthAnswer, kthMemory, transformOf}
-use Rattle.transforms.specs.Transforms.{memoryAfter}
+use Rattle.transforms.specs.Transforms.{nothing, kth, words, room, transformed, kth_answer, kth_memory, transform_of}
+use Rattle.transforms.specs.Transforms.{memory_after}
 
 -- no transform
 module _ (ts : List Shape) (k : ℕ) (l : length ts ≤ k) where
@@ -40,12 +40,12 @@ module _ (ts : List Shape) (k : ℕ) (l : length ts ≤ k) where
   unfolding kth
   past = get_or-eq_default ts nothing l
 
-  pub past-answer : {n : ℕ} → n ≡ length ts → transformed Done n nothing ≡ kthAnswer ts k
-  unfolding kthAnswer
+  pub past-answer : {n : ℕ} → n ≡ length ts → transformed Done n nothing ≡ kth_answer ts k
+  unfolding kth_answer
   past-answer e = ap₂ (transformed Done) e (sym past)
 
-  pub past_memory : (m : List ℤ) → m ≡ kthMemory ts k m
-  unfolding kthMemory words flat_map
+  pub past_memory : (m : List ℤ) → m ≡ kth_memory ts k m
+  unfolding kth_memory words flat_map
   past_memory m = rw past
 
 -- a unit's listed rows
@@ -55,12 +55,12 @@ module _ (h w : ℕ) (ids : List ℕ) (g : ℕ) (index : 1 ≤ w) {t : Listed}
   shape = shape_of (flat h w) (entry ids) g
 
   abbrev ts : List Shape
-  ts = flatTransforms shape
+  ts = flat_transforms shape
 
   transforms-are : ts ≡ map (λ r. image r shape) (rows_of shape)
   transforms-are = transforms-flat h w (entry ids) g index
 
-  pub listed-count : t.count ≡ length (flatTransforms (shape_of (flat h w) (entry ids) g))
+  pub listed-count : t.count ≡ length (flat_transforms (shape_of (flat h w) (entry ids) g))
   listed-count =
       ap (λ (r : Listed). r.count) rows
       ∙ sym (ap length transforms-are ∙ length-map (rows_of shape) (λ r. image r shape))
@@ -79,66 +79,66 @@ module _ (h w : ℕ) (ids : List ℕ) (g : ℕ) (index : 1 ≤ w) {t : Listed}
     pub listed_answer : {n j : ℕ} → length (image (get_or t.rows k 0) (shape_of (flat h w) (entry ids) g)).cells ≡ n
         → length (image (get_or t.rows k 0) (shape_of (flat h w) (entry ids) g)).connections ≡ j
         → record { outcome = Done; listed = t.count; cells = n; connections = j }
-        ≡ kthAnswer (flatTransforms (shape_of (flat h w) (entry ids) g)) k
-    unfolding kthAnswer
+        ≡ kth_answer (flat_transforms (shape_of (flat h w) (entry ids) g)) k
+    unfolding kth_answer
     listed_answer {n} {j} a c =
         (λ i. record { outcome = Done; listed = listed-count i; cells = sym a i; connections = sym c i })
         ∙ ap (transformed Done (length ts)) (sym kth-image)
 
     pub listed-memory : (m : List ℤ) {m' : List ℤ}
         → m' ≡ sets m 0 (words (image (get_or t.rows k 0) (shape_of (flat h w) (entry ids) g)))
-        → m' ≡ kthMemory (flatTransforms (shape_of (flat h w) (entry ids) g)) k m
-    unfolding kthMemory
+        → m' ≡ kth_memory (flat_transforms (shape_of (flat h w) (entry ids) g)) k m
+    unfolding kth_memory
     listed-memory m e = e ∙ ap (λ s. sets m 0 (words s)) (sym kth-image)
 
 -- the units of a page
 module _ {h w : ℕ} (z : Sized h w) (cs bs : List ℕ) {units : List ℕ}
-    (all : Filled (groups_of (flat h w) (joinsIn Units h w cs bs)) units) (u : ℕ) where
+    (all : Filled (groups_of (flat h w) (joins_in Units h w cs bs)) units) (u : ℕ) where
   -- "A unit number that no unit has gives no transforms"
-  pub no-unit : countIn units ≤ u → transformsOf (unclued h w cs) (statesIn bs) u ≡ []
-  unfolding transformsOf
+  pub no-unit : count_in units ≤ u → transforms_of (unclued h w cs) (states_in bs) u ≡ []
+  unfolding transforms_of
   no-unit l =
-      rw (le-ltb u (unitCount (unclued h w cs) (statesIn bs))
+      rw (le-ltb u (unit_count (unclued h w cs) (states_in bs))
       (rw (all.count ∙ kind-count z cs (λ c. none) bs Units) at l))
 
-  module _ (l : u < countIn units) where
-    pub unit-transforms : transformsOf (unclued h w cs) (statesIn bs) u
-        ≡ flatTransforms (shape_of (flat h w) (entry (numbersIn units)) u)
+  module _ (l : u < count_in units) where
+    pub unit-transforms : transforms_of (unclued h w cs) (states_in bs) u
+        ≡ flat_transforms (shape_of (flat h w) (entry (numbers_in units)) u)
     unit-transforms = rw all.numbers (own-transforms z cs bs u (rw all.count at l))
 
     pub unit-part-in : UnitIn h w units u
-    unit-part-in = own-part z (joinsIn Units h w cs bs) all u (rw all.count at l)
+    unit-part-in = own-part z (joins_in Units h w cs bs) all u (rw all.count at l)
 
 -- a board's answer
 module _ (b : Board) (u k : ℕ) (m : List ℤ) where
   -- the transforms ask no clue
-  pub board-transforms : transformsOf (unclued b.height b.width b.colours) (statesIn b.borders) u
-      ≡ transformsOf (puzzleOf b) (statesOf b) u
-  unfolding transformsOf puzzleOf statesOf joinsUnit oneColour
+  pub board-transforms : transforms_of (unclued b.height b.width b.colours) (states_in b.borders) u
+      ≡ transforms_of (puzzle_of b) (states_of b) u
+  unfolding transforms_of puzzle_of states_of joins_unit one_colour
   board-transforms = refl
 
-  pub alien-answer : isAlien b ≡ true → transformed Alien 0 nothing ≡ transformOf b u k (length m)
-  unfolding transformOf
+  pub alien-answer : is_alien b ≡ true → transformed Alien 0 nothing ≡ transform_of b u k (length m)
+  unfolding transform_of
   alien-answer e = rw e
 
-  pub alien-memory : isAlien b ≡ true → m ≡ memoryAfter b u k m
-  unfolding memoryAfter
+  pub alien-memory : is_alien b ≡ true → m ≡ memory_after b u k m
+  unfolding memory_after
   alien-memory e = rw e
 
-  pub short-answer : isAlien b ≡ false → length m < room → transformed Short 0 nothing ≡ transformOf b u k (length m)
-  unfolding transformOf
+  pub short-answer : is_alien b ≡ false → length m < room → transformed Short 0 nothing ≡ transform_of b u k (length m)
+  unfolding transform_of
   short-answer e l = rw (e, lt-ltb (length m) room l)
 
-  pub short-memory : isAlien b ≡ false → length m < room → m ≡ memoryAfter b u k m
-  unfolding memoryAfter
+  pub short-memory : is_alien b ≡ false → length m < room → m ≡ memory_after b u k m
+  unfolding memory_after
   short-memory e l = rw (e, lt-ltb (length m) room l)
 
-  pub done-answer : isAlien b ≡ false → room ≤ length m
-      → kthAnswer (transformsOf (puzzleOf b) (statesOf b) u) k ≡ transformOf b u k (length m)
-  unfolding transformOf
+  pub done-answer : is_alien b ≡ false → room ≤ length m
+      → kth_answer (transforms_of (puzzle_of b) (states_of b) u) k ≡ transform_of b u k (length m)
+  unfolding transform_of
   done-answer e l = rw (e, le-ltb (length m) room l)
 
-  pub done-memory : isAlien b ≡ false → room ≤ length m
-      → kthMemory (transformsOf (puzzleOf b) (statesOf b) u) k m ≡ memoryAfter b u k m
-  unfolding memoryAfter
+  pub done-memory : is_alien b ≡ false → room ≤ length m
+      → kth_memory (transforms_of (puzzle_of b) (states_of b) u) k m ≡ memory_after b u k m
+  unfolding memory_after
   done-memory e l = rw (e, le-ltb (length m) room l)

@@ -16,35 +16,35 @@ use Rattle.lists.specs.Ranges.{mem-range}
 use Rattle.lists.specs.Maps.{map-map}
 use Rattle.lists.specs.UpToLaws.{up-filter}
 use Rattle.rules.specs.Page.{Point, ◌⊕◌, opposite}
-use Rattle.rules.specs.Flat.{flatPlace}
+use Rattle.rules.specs.Flat.{flat_place}
 use Rattle.rules.specs.Groups.{entry}
 use Rattle.rules.specs.Turns.{apply, compose, keep, plus, layerward}
-use Rattle.rules.specs.Shapes.{sort, shift_by, samePoint}
-use Rattle.laws.specs.SameLaws.{samePoint→eq, samePoint-refl}
+use Rattle.rules.specs.Shapes.{sort, shift_by, same_point}
+use Rattle.laws.specs.SameLaws.{same_point→eq, same_point-refl}
 use Rattle.laws.specs.PointLaws.{point-eq}
 use Rattle.laws.specs.TurnLaws.{apply-compose, apply-keep}
 use Rattle.laws.specs.SortLaws.{Ascending, mem-sort, sort-mem, sort-ascends, ascending-distinct, ascending-same}
 use Rattle.laws.specs.SortLaws.{shift-ascends}
 use Rattle.laws.specs.FlatShapes.{filter-ascends}
-use Rattle.groups.specs.Grouping.{numbersIn}
+use Rattle.groups.specs.Grouping.{numbers_in}
 use Rattle.shapes.specs.declared.Pair.{Pair}
 use Rattle.shapes.specs.declared.Signs.{Signs}
-use Rattle.shapes.specs.Pairs.{pointAt, point_of, Sign, BothSigns, turnBy}
+use Rattle.shapes.specs.Pairs.{point_at, point_of, Sign, BothSigns, turn_by}
 use Rattle.shapes.specs.PairLaws.{one-times, minus-times}
 use Rattle.shapes.specs.FixLaws.{row-inj}
-use Rattle.shapes.specs.Rows.{turnAt}
-use Rattle.shapes.specs.Outlines.{rowsIn, columnsIn, cellCount}
-use Rattle.shapes.specs.Spots.{hasCell, spots, cellSpot, cellSpots, NearSpot, UnitAt}
+use Rattle.shapes.specs.Rows.{turn_at}
+use Rattle.shapes.specs.Outlines.{rows_in, columns_in, cell_count}
+use Rattle.shapes.specs.Spots.{has_cell, spots, cell_spot, cell_spots, NearSpot, UnitAt}
 use Rattle.shapes.specs.SpotLaws.{near-image}
 use Rattle.shapes.specs.UnitLaws.{among-places, places-ascend}
-use Rattle.transforms.specs.Box.{undoneBy, reversed, corner, boxAt, boxSize, ofImage, boxCell, sweep}
+use Rattle.transforms.specs.Box.{undone_by, reversed, corner, box_at, box_size, of_image, box_cell, sweep}
 
 -- a row and the one that undoes it, either first; the layer stays
 abbrev Undoes : ℕ → Type 0
 Undoes r =
-    (compose (turnAt (undoneBy r)) (turnAt r) ≡ keep)
-    × (compose (turnAt r) (turnAt (undoneBy r)) ≡ keep)
-    × ((turnAt r).layers ≡ plus layerward)
+    (compose (turn_at (undone_by r)) (turn_at r) ≡ keep)
+    × (compose (turn_at r) (turn_at (undone_by r)) ≡ keep)
+    × ((turn_at r).layers ≡ plus layerward)
 
 undoes : (r : ℕ) → Undoes r
 unfolding xor
@@ -58,13 +58,13 @@ undoes (suc (suc (suc (suc (suc (suc zero)))))) = (refl, refl, refl)
 undoes (suc (suc (suc (suc (suc (suc (suc zero))))))) = (refl, refl, refl)
 undoes (suc (suc (suc (suc (suc (suc (suc (suc r)))))))) = (refl, refl, refl)
 
-pub undo-turn : (r : ℕ) (p : Point) → apply (turnAt (undoneBy r)) (apply (turnAt r) p) ≡ p
+pub undo-turn : (r : ℕ) (p : Point) → apply (turn_at (undone_by r)) (apply (turn_at r) p) ≡ p
 undo-turn r p =
-    sym (apply-compose (turnAt (undoneBy r)) (turnAt r) p) ∙ (ap (λ t. apply t p) (undoes r).0 ∙ apply-keep p)
+    sym (apply-compose (turn_at (undone_by r)) (turn_at r) p) ∙ (ap (λ t. apply t p) (undoes r).0 ∙ apply-keep p)
 
-turn-undo : (r : ℕ) (p : Point) → apply (turnAt r) (apply (turnAt (undoneBy r)) p) ≡ p
+turn-undo : (r : ℕ) (p : Point) → apply (turn_at r) (apply (turn_at (undone_by r)) p) ≡ p
 turn-undo r p =
-    sym (apply-compose (turnAt r) (turnAt (undoneBy r)) p) ∙ (ap (λ t. apply t p) (undoes r).1 ∙ apply-keep p)
+    sym (apply-compose (turn_at r) (turn_at (undone_by r)) p) ∙ (ap (λ t. apply t p) (undoes r).1 ∙ apply-keep p)
 
 -- the way back as the code has it
 sign-twice : (s z : ℤ) → Sign s → s *ℤ (s *ℤ z) ≡ z
@@ -79,17 +79,17 @@ signs-reversed {s} b = go s.swap
     go true = record { down = b.across; across = b.down }
     go false = record { down = b.down; across = b.across }
 
-pub turn-reversed : {s : Signs} → BothSigns s → (y x : ℤ) → let p : Pair = turnBy (reversed s) y x in
-    point_of (turnBy s p.y p.x) ≡ pointAt y x
-unfolding turnBy
+pub turn-reversed : {s : Signs} → BothSigns s → (y x : ℤ) → let p : Pair = turn_by (reversed s) y x in
+    point_of (turn_by s p.y p.x) ≡ point_at y x
+unfolding turn_by
 turn-reversed {s} b y x = go s.swap refl
   where
-    go : (t : Bool) → s.swap ≡ t → let p : Pair = turnBy (reversed s) y x in
-        point_of (turnBy s p.y p.x) ≡ pointAt y x
+    go : (t : Bool) → s.swap ≡ t → let p : Pair = turn_by (reversed s) y x in
+        point_of (turn_by s p.y p.x) ≡ point_at y x
     go true e = rw e (point-eq refl (sign-twice s.down y b.down) (sign-twice s.across x b.across))
     go false e = rw e (point-eq refl (sign-twice s.down y b.down) (sign-twice s.across x b.across))
 
-same-layer : (r : ℕ) (p : Point) → (apply (turnAt r) p).layer ≡ p.layer
+same-layer : (r : ℕ) (p : Point) → (apply (turn_at r) p).layer ≡ p.layer
 unfolding apply
 same-layer r p = rw (undoes r).2
 
@@ -104,8 +104,8 @@ raise (negsuc n) h =
     )
 
 -- a place near the page is in the box
-in-box : (p : Point) → p.layer ≡ pos 0 → NearSpot p → (i : ℕ) × (i < boxSize) × (boxAt i ≡ p)
-unfolding boxAt flatPlace ◌⊕◌
+in-box : (p : Point) → p.layer ≡ pos 0 → NearSpot p → (i : ℕ) × (i < box_size) × (box_at i ≡ p)
+unfolding box_at flat_place ◌⊕◌
 in-box p e n =
     let a = raise p.row n.row in
     let b = raise p.column n.column in (
@@ -116,26 +116,26 @@ in-box p e n =
 
 module _ {h w : ℕ} {units : List ℕ} {g : ℕ} {o : List ℕ} (u : UnitAt h w units g o) (r : ℕ) where
   abbrev number : ℕ → ℕ
-  number = entry (numbersIn units)
+  number = entry (numbers_in units)
 
   abbrev there : ℕ → Bool
-  there i = ofImage h w number g r (boxAt i)
+  there i = of_image h w number g r (box_at i)
 
   abbrev found : List Point
-  found = map boxAt (filter there (range boxSize))
+  found = map box_at (filter there (range box_size))
 
   abbrev P : List Point
-  P = cellSpots o
+  P = cell_spots o
 
   abbrev turn : Point → Point
-  turn = apply (turnAt r)
+  turn = apply (turn_at r)
 
   found-sorted : Ascending found
-  unfolding boxAt shift_by
+  unfolding box_at shift_by
   found-sorted =
-      subst Ascending (map-map (λ p. p ⊕ corner) (flatPlace 66 66) (filter there (range boxSize)))
-      (shift-ascends corner (map (flatPlace 66 66) (filter there (range boxSize)))
-      (filter-ascends 66 66 (omega arith) there boxSize))
+      subst Ascending (map-map (λ p. p ⊕ corner) (flat_place 66 66) (filter there (range box_size)))
+      (shift-ascends corner (map (flat_place 66 66) (filter there (range box_size)))
+      (filter-ascends 66 66 (omega arith) there box_size))
 
   images-sorted : Ascending (sort (map turn P))
   images-sorted =
@@ -144,45 +144,45 @@ module _ {h w : ℕ} {units : List ℕ} {g : ℕ} {o : List ℕ} (u : UnitAt h w
       (ascending-distinct P (subst Ascending (sym u.here) (places-ascend h w number g u.sized.columns))))
 
   -- a cell of the unit, on the page and among its places
-  own : (z : Point) → any (samePoint z) P ≡ hasCell h w number g z
-  own z = ap (any (samePoint z)) u.here ∙ among-places h w number g u.sized.columns z
+  own : (z : Point) → any (same_point z) P ≡ has_cell h w number g z
+  own z = ap (any (same_point z)) u.here ∙ among-places h w number g u.sized.columns z
 
   found-image : (z : Point) → z ∈ found → z ∈ sort (map turn P)
-  unfolding ofImage
+  unfolding of_image
   found-image z m =
-      let i = map-find boxAt (filter there (range boxSize)) m in
-      let t = filter-test there (range boxSize) i.1 in
-      let q = apply (turnAt (undoneBy r)) (boxAt i.0) in
-      let k = any-find (samePoint q) P (subst T (sym (own q)) t) in
-      let e : z ≡ turn k.0 = i.2 ∙ (sym (turn-undo r (boxAt i.0)) ∙ ap turn (samePoint→eq q k.0 k.2)) in
+      let i = map-find box_at (filter there (range box_size)) m in
+      let t = filter-test there (range box_size) i.1 in
+      let q = apply (turn_at (undone_by r)) (box_at i.0) in
+      let k = any-find (same_point q) P (subst T (sym (own q)) t) in
+      let e : z ≡ turn k.0 = i.2 ∙ (sym (turn-undo r (box_at i.0)) ∙ ap turn (same_point→eq q k.0 k.2)) in
       mem-sort (map turn P) (Memᴰ.cast e (mem-map turn k.1))
 
   image-found : (z : Point) → z ∈ sort (map turn P) → z ∈ found
-  unfolding ofImage spots
+  unfolding of_image spots
   image-found z m =
       let q = map-find turn P (sort-mem (map turn P) m) in
-      let j = table-find (cellCount o) (cellSpot o) q.1 in
+      let j = table-find (cell_count o) (cell_spot o) q.1 in
       let s = u.spotted in
-      let e : z ≡ turn (cellSpot o j.0) = q.2 ∙ ap turn j.2 in
-      let b = in-box (turn (cellSpot o j.0)) (same-layer r (cellSpot o j.0))
-      (near-image r (get_or (rowsIn o) j.0 0) (get_or (columnsIn o) j.0 0) (s.down j.0 j.1)
+      let e : z ≡ turn (cell_spot o j.0) = q.2 ∙ ap turn j.2 in
+      let b = in-box (turn (cell_spot o j.0)) (same-layer r (cell_spot o j.0))
+      (near-image r (get_or (rows_in o) j.0 0) (get_or (columns_in o) j.0 0) (s.down j.0 j.1)
       (s.across j.0 j.1)) in
-      let back : apply (turnAt (undoneBy r)) (boxAt b.0) ≡ q.0 =
-      ap (apply (turnAt (undoneBy r))) (b.2 ∙ ap turn (sym j.2)) ∙ undo-turn r q.0 in
-      let has : T (hasCell h w number g q.0) =
-      subst T (own q.0) (any-mem (samePoint q.0) P q.1 (samePoint-refl q.0)) in
+      let back : apply (turn_at (undone_by r)) (box_at b.0) ≡ q.0 =
+      ap (apply (turn_at (undone_by r))) (b.2 ∙ ap turn (sym j.2)) ∙ undo-turn r q.0 in
+      let has : T (has_cell h w number g q.0) =
+      subst T (own q.0) (any-mem (same_point q.0) P q.1 (same_point-refl q.0)) in
       Memᴰ.cast (e ∙ sym b.2)
-      (mem-map boxAt (mem-filter there (range boxSize) (mem-range boxSize b.1)
-      (subst (λ (p : Point). T (hasCell h w number g p)) (sym back) has)))
+      (mem-map box_at (mem-filter there (range box_size) (mem-range box_size b.1)
+      (subst (λ (p : Point). T (has_cell h w number g p)) (sym back) has)))
 
   found-is : found ≡ sort (map turn P)
   found-is = ascending-same found (sort (map turn P)) found-sorted images-sorted found-image image-found
 
   -- what the loop gathers
-  pub sweep-is : (m : Point) → sweep h w (entry (numbersIn units)) g r m boxSize
+  pub sweep-is : (m : Point) → sweep h w (entry (numbers_in units)) g r m box_size
       ≡ shift_by (opposite m) (sort (map turn P))
-  unfolding sweep boxCell shift_by
+  unfolding sweep box_cell shift_by
   sweep-is m =
-      up-filter (λ j. boxAt j ⊕ opposite m) there boxSize
-      ∙ (sym (map-map (λ p. p ⊕ opposite m) boxAt (filter there (range boxSize)))
+      up-filter (λ j. box_at j ⊕ opposite m) there box_size
+      ∙ (sym (map-map (λ p. p ⊕ opposite m) box_at (filter there (range box_size)))
       ∙ ap (shift_by (opposite m)) found-is)

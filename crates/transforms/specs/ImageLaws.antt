@@ -16,17 +16,17 @@ use Rattle.rules.specs.Groups.{entry}
 use Rattle.rules.specs.Turns.{apply}
 use Rattle.rules.specs.Shapes.{sort, shift_by, shape_of}
 use Rattle.laws.specs.SortLaws.{length-sort, length_shift}
-use Rattle.groups.specs.Grouping.{numbersIn}
-use Rattle.shapes.specs.Rows.{turnAt, image}
-use Rattle.shapes.specs.Outlines.{rowsIn, columnsIn, downIn, acrossIn, cellCount, jointCount}
-use Rattle.shapes.specs.Spots.{spotAt, spots, cellSpots, jointSpots, leastImage, UnitAt}
+use Rattle.groups.specs.Grouping.{numbers_in}
+use Rattle.shapes.specs.Rows.{turn_at, image}
+use Rattle.shapes.specs.Outlines.{rows_in, columns_in, down_in, across_in, cell_count, joint_count}
+use Rattle.shapes.specs.Spots.{spot_at, spots, cell_spots, joint_spots, least_image, UnitAt}
 use Rattle.shapes.specs.SpotLaws.{length-spots, spots-more}
 use Rattle.shapes.specs.UnitLaws.{image-places}
 use Rattle.shapes.specs.Joints.{OutlineJoined}
-use Rattle.shapes.specs.Images.{imageJoints}
+use Rattle.shapes.specs.Images.{image_joints}
 use Rattle.shapes.specs.ImageLaws.{image-is}
-use Rattle.transforms.specs.Transforms.{downAcross, words, WrotePoints}
-use Rattle.transforms.specs.Box.{boxAt, boxSize, ofImage, boxCell, sweep, movedBack}
+use Rattle.transforms.specs.Transforms.{down_across, words, WrotePoints}
+use Rattle.transforms.specs.Box.{box_at, box_size, of_image, box_cell, sweep, moved_back}
 use Rattle.transforms.specs.BoxLaws.{sweep-is}
 
 -- one place, and the next number's place
@@ -44,15 +44,15 @@ module _ (h w : ℕ) (number : ℕ → ℕ) (g r : ℕ) (m : Point) where
   cells = sweep h w number g r m
 
   abbrev cell : ℕ → List Point
-  cell = boxCell h w number g r m
+  cell = box_cell h w number g r m
 
-  pub cell-yes : (i : ℕ) → ofImage h w number g r (boxAt i) ≡ true → boxCell h w number g r m i
-      ≡ (boxAt i ⊕ opposite m) ∷ []
-  unfolding boxCell
+  pub cell-yes : (i : ℕ) → of_image h w number g r (box_at i) ≡ true → box_cell h w number g r m i
+      ≡ (box_at i ⊕ opposite m) ∷ []
+  unfolding box_cell
   cell-yes i e = rw e
 
-  pub cell-no : (i : ℕ) → ofImage h w number g r (boxAt i) ≡ false → boxCell h w number g r m i ≡ []
-  unfolding boxCell
+  pub cell-no : (i : ℕ) → of_image h w number g r (box_at i) ≡ false → box_cell h w number g r m i ≡ []
+  unfolding box_cell
   cell-no i e = rw e
 
   pub sweep-start : (l : List ℤ) → WrotePoints l 0 (sweep h w number g r m 0) l 0
@@ -60,87 +60,87 @@ module _ (h w : ℕ) (number : ℕ → ℕ) (g r : ℕ) (m : Point) where
   sweep-start l = loop-none cell
 
   pub sweep-step : {l l' l'' : List ℤ} {a b : ℕ} (i : ℕ) → WrotePoints l 0 (sweep h w number g r m i) l' a
-      → WrotePoints l' a (boxCell h w number g r m i) l'' b → WrotePoints l 0 (sweep h w number g r m (i + 1)) l'' b
+      → WrotePoints l' a (box_cell h w number g r m i) l'' b → WrotePoints l 0 (sweep h w number g r m (i + 1)) l'' b
   unfolding sweep
   sweep-step i x y = loop-more cell i x y
 
   pub sweep-room : {l l' : List ℤ} {a : ℕ} (i n : ℕ) → i < n → WrotePoints l 0 (sweep h w number g r m i) l' a
-      → 2 * length (sweep h w number g r m n) ≤ length l → a + 2 * length (boxCell h w number g r m i) ≤ length l'
+      → 2 * length (sweep h w number g r m n) ≤ length l → a + 2 * length (box_cell h w number g r m i) ≤ length l'
   unfolding sweep
   sweep-room i n k x e = omega (arith, points-next x, wrote-length x, up_fits cell n i k)
 
 -- the loop over the connections
 module _ (r : ℕ) (m : Point) (D A : List ℕ) where
   abbrev moves : ℕ → List Point
-  moves k = movedBack r m (spots D A k)
+  moves k = moved_back r m (spots D A k)
 
-  pub moved_length : (k : ℕ) → length (movedBack r m (spots D A k)) ≡ k
-  unfolding movedBack
+  pub moved_length : (k : ℕ) → length (moved_back r m (spots D A k)) ≡ k
+  unfolding moved_back
   moved_length k =
-      length_shift (opposite m ⊕ opposite m) (map (apply (turnAt r)) (spots D A k))
-      ∙ (length-map (spots D A k) (apply (turnAt r)) ∙ length-spots D A k)
+      length_shift (opposite m ⊕ opposite m) (map (apply (turn_at r)) (spots D A k))
+      ∙ (length-map (spots D A k) (apply (turn_at r)) ∙ length-spots D A k)
 
   moved_more : (j : ℕ) → moves (j + 1)
-      ≡ moves j ++ ((apply (turnAt r) (spotAt D A j) ⊕ (opposite m ⊕ opposite m)) ∷ [])
-  unfolding movedBack shift_by
+      ≡ moves j ++ ((apply (turn_at r) (spot_at D A j) ⊕ (opposite m ⊕ opposite m)) ∷ [])
+  unfolding moved_back shift_by
   moved_more j =
       let v = opposite m ⊕ opposite m in
-      ap (λ ps. map (λ p. p ⊕ v) (map (apply (turnAt r)) ps)) (spots-more D A j)
-      ∙ (ap (map (λ p. p ⊕ v)) (map-append (apply (turnAt r)) (spots D A j) (spotAt D A j ∷ []))
-      ∙ map-append (λ p. p ⊕ v) (map (apply (turnAt r)) (spots D A j)) (apply (turnAt r) (spotAt D A j) ∷ []))
+      ap (λ ps. map (λ p. p ⊕ v) (map (apply (turn_at r)) ps)) (spots-more D A j)
+      ∙ (ap (map (λ p. p ⊕ v)) (map-append (apply (turn_at r)) (spots D A j) (spot_at D A j ∷ []))
+      ∙ map-append (λ p. p ⊕ v) (map (apply (turn_at r)) (spots D A j)) (apply (turn_at r) (spot_at D A j) ∷ []))
 
-  pub moved-start : (l : List ℤ) (from : ℕ) → WrotePoints l from (movedBack r m (spots D A 0)) l from
-  unfolding movedBack shift_by spots table
+  pub moved-start : (l : List ℤ) (from : ℕ) → WrotePoints l from (moved_back r m (spots D A 0)) l from
+  unfolding moved_back shift_by spots table
   moved-start l from = wrote_none l from
 
   pub moved-step : {l l' l'' : List ℤ} {from a b : ℕ} {p : Point} (j : ℕ)
-      → WrotePoints l from (movedBack r m (spots D A j)) l' a
-      → p ≡ apply (turnAt r) (spotAt D A j) ⊕ (opposite m ⊕ opposite m) → WrotePoints l' a (p ∷ []) l'' b
-      → WrotePoints l from (movedBack r m (spots D A (j + 1))) l'' b
+      → WrotePoints l from (moved_back r m (spots D A j)) l' a
+      → p ≡ apply (turn_at r) (spot_at D A j) ⊕ (opposite m ⊕ opposite m) → WrotePoints l' a (p ∷ []) l'' b
+      → WrotePoints l from (moved_back r m (spots D A (j + 1))) l'' b
   moved-step j x e y = wrote-same (ap (λ q. moves j ++ (q ∷ [])) e ∙ sym (moved_more j)) (wrote-more x y)
 
   pub moved-room : {l l' : List ℤ} {from a : ℕ} (j k : ℕ) → j < k
-      → WrotePoints l from (movedBack r m (spots D A j)) l' a → from + 2 * k ≤ length l → a + 2 ≤ length l'
+      → WrotePoints l from (moved_back r m (spots D A j)) l' a → from + 2 * k ≤ length l → a + 2 ≤ length l'
   moved-room j k h x e = omega (arith, points-next x, wrote-length x, moved_length j)
 
 -- the image of a unit
 module _ {h w : ℕ} {units : List ℕ} {g : ℕ} {o : List ℕ} (u : UnitAt h w units g o) (r : ℕ) where
   abbrev shape : Shape
-  shape = shape_of (flat h w) (entry (numbersIn units)) g
+  shape = shape_of (flat h w) (entry (numbers_in units)) g
 
   abbrev images : List Point
-  images = map (apply (turnAt r)) (cellSpots o)
+  images = map (apply (turn_at r)) (cell_spots o)
 
-  spot-count : length (cellSpots o) ≡ cellCount o
-  spot-count = length-spots (rowsIn o) (columnsIn o) (cellCount o)
+  spot-count : length (cell_spots o) ≡ cell_count o
+  spot-count = length-spots (rows_in o) (columns_in o) (cell_count o)
 
-  cells_are : (image r shape).cells ≡ shift_by (opposite (leastImage r (cellSpots o))) (sort images)
+  cells_are : (image r shape).cells ≡ shift_by (opposite (least_image r (cell_spots o))) (sort images)
   cells_are =
-      image-places h w (entry (numbersIn units)) g u.sized.columns (cellSpots o) u.here
+      image-places h w (entry (numbers_in units)) g u.sized.columns (cell_spots o) u.here
       (rw spot-count u.spotted.some) r
 
-  pub cell-count : length (image r shape).cells ≡ cellCount o
+  pub cell-count : length (image r shape).cells ≡ cell_count o
   cell-count =
       ap length cells_are
-      ∙ (length_shift (opposite (leastImage r (cellSpots o))) (sort images)
-      ∙ (length-sort images ∙ (length-map (cellSpots o) (apply (turnAt r)) ∙ spot-count)))
+      ∙ (length_shift (opposite (least_image r (cell_spots o))) (sort images)
+      ∙ (length-sort images ∙ (length-map (cell_spots o) (apply (turn_at r)) ∙ spot-count)))
 
-  module _ {m : Point} (e : m ≡ leastImage r (cellSpots o)) where
-    pub swept : sweep h w (entry (numbersIn units)) g r m boxSize ≡ (image r shape).cells
+  module _ {m : Point} (e : m ≡ least_image r (cell_spots o)) where
+    pub swept : sweep h w (entry (numbers_in units)) g r m box_size ≡ (image r shape).cells
     swept = sweep-is u r m ∙ (ap (λ p. shift_by (opposite p) (sort images)) e ∙ sym cells_are)
 
     module _ (j : OutlineJoined h w units g o) where
-      pub moved : movedBack r m (jointSpots o) ≡ (image r shape).connections
-      unfolding movedBack imageJoints
-      moved = ap (λ p. movedBack r p (jointSpots o)) e ∙ sym (image-is u j r)
+      pub moved : moved_back r m (joint_spots o) ≡ (image r shape).connections
+      unfolding moved_back image_joints
+      moved = ap (λ p. moved_back r p (joint_spots o)) e ∙ sym (image-is u j r)
 
-      pub joint-count : length (image r shape).connections ≡ jointCount o
-      joint-count = ap length (sym moved) ∙ moved_length r m (downIn o) (acrossIn o) (jointCount o)
+      pub joint-count : length (image r shape).connections ≡ joint_count o
+      joint-count = ap length (sym moved) ∙ moved_length r m (down_in o) (across_in o) (joint_count o)
 
       -- both parts
       pub image-written : {l l' l'' : List ℤ} {a b : ℕ}
-          → WrotePoints l 0 (sweep h w (entry (numbersIn units)) g r m boxSize) l' a
-          → WrotePoints l' a (movedBack r m (jointSpots o)) l'' b → l'' ≡ sets l 0 (words (image r shape))
+          → WrotePoints l 0 (sweep h w (entry (numbers_in units)) g r m box_size) l' a
+          → WrotePoints l' a (moved_back r m (joint_spots o)) l'' b → l'' ≡ sets l 0 (words (image r shape))
       unfolding words
       image-written {l} x y =
-          (wrote-more x y).memory ∙ ap₂ (λ ps qs. sets l 0 (flat_map downAcross (ps ++ qs))) swept moved
+          (wrote-more x y).memory ∙ ap₂ (λ ps qs. sets l 0 (flat_map down_across (ps ++ qs))) swept moved

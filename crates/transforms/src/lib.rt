@@ -3,22 +3,22 @@ ghost use Rattle.std.specs.Prelude.{◌≡◌, [], ◌∷◌, ◌+◌, ◌*◌, 
 ghost use Rattle.std.proofs.lemmas.List.Edits.{sets};
 ghost use Rattle.rules.specs.Page.{◌⊕◌, opposite};
 ghost use Rattle.rules.specs.Flat.{Sized, flat};
-ghost use Rattle.rules.specs.Codes.{statesIn, unclued};
+ghost use Rattle.rules.specs.Codes.{states_in, unclued};
 ghost use Rattle.rules.specs.Groups.{entry};
 ghost use Rattle.rules.specs.Turns.{apply};
-ghost use Rattle.rules.specs.Check.{transformsOf};
-ghost use Rattle.rules.specs.Shapes.{shape_of, flatTransforms};
-ghost use Rattle.groups.specs.Grouping.{numbersIn};
+ghost use Rattle.rules.specs.Check.{transforms_of};
+ghost use Rattle.rules.specs.Shapes.{shape_of, flat_transforms};
+ghost use Rattle.groups.specs.Grouping.{numbers_in};
 ghost use Rattle.shapes.specs.Joints.{OutlineJoined};
-ghost use Rattle.shapes.specs.Pairs.{pointAt, point_of, Small, SmallPair};
+ghost use Rattle.shapes.specs.Pairs.{point_at, point_of, Small, SmallPair};
 ghost use Rattle.shapes.specs.Listing.{listing};
-ghost use Rattle.shapes.specs.Rows.{turnAt, image, rows_of};
-ghost use Rattle.shapes.specs.Outlines.{jointCount};
+ghost use Rattle.shapes.specs.Rows.{turn_at, image, rows_of};
+ghost use Rattle.shapes.specs.Outlines.{joint_count};
 ghost use Rattle.shapes.specs.Images.{Jointed};
-ghost use Rattle.shapes.specs.Spots.{jointSpots, UnitAt};
-ghost use Rattle.transforms.specs.Transforms.{nothing, words, transformed, kthAnswer, kthMemory, WrotePoints};
-ghost use Rattle.transforms.specs.Transforms.{transformOf, memoryAfter};
-ghost use Rattle.transforms.specs.Box.{boxAt, reversed, ofImage, boxCell, sweep, movedBack};
+ghost use Rattle.shapes.specs.Spots.{joint_spots, UnitAt};
+ghost use Rattle.transforms.specs.Transforms.{nothing, words, transformed, kth_answer, kth_memory, WrotePoints};
+ghost use Rattle.transforms.specs.Transforms.{transform_of, memory_after};
+ghost use Rattle.transforms.specs.Box.{box_at, reversed, of_image, box_cell, sweep, moved_back};
 
 use board::{Board, Outcome};
 use groups::{Grouping, Kind, count_of, groups_of};
@@ -60,7 +60,7 @@ fn put(memory: &mut [i32], at: usize, p: Pair) -> usize
 // Place `i` of the box: rows and columns from -33 to 32.
 fn box_place(i: usize) -> Pair
     requires { i < 4356 }
-    ensures { (point_of result ≡ boxAt i) × SmallPair result }
+    ensures { (point_of result ≡ box_at i) × SmallPair result }
 {
     Pair {
         y: (i / 66) as i32 - 33,
@@ -96,15 +96,15 @@ fn reversed(s: Signs) -> Signs
 // The place that a row of the table turns to (y,x).
 fn apply_back(row: usize, y: i32, x: i32) -> Pair
     requires { (row < 8) × Small y × Small x }
-    ensures { apply (turnAt row) (point_of result) ≡ pointAt y x }
+    ensures { apply (turn_at row) (point_of result) ≡ point_at y x }
 {
     turn(reversed(signs_at(row)), y, x)
 }
 
 // Whether the place `p` is a cell of the image of unit `g` by a row: whether the way back leads to a cell of the unit.
 fn of_image(units: &Grouping, h: usize, w: usize, g: usize, row: usize, p: Pair) -> bool
-    requires { (row < 8) × Sized h w × (length (numbersIn units.now) ≡ 1024) × SmallPair p }
-    ensures { result ≡ ofImage h w (entry (numbersIn units.now)) g row (point_of p) }
+    requires { (row < 8) × Sized h w × (length (numbers_in units.now) ≡ 1024) × SmallPair p }
+    ensures { result ≡ of_image h w (entry (numbers_in units.now)) g row (point_of p) }
 {
     let q = apply_back(row, p.y, p.x);
     has_cell(units, h, w, g, q.y, q.x)
@@ -122,10 +122,10 @@ fn put_cell(
     m: Pair,
     i: usize,
 ) -> usize
-    requires { (row < 8) × Sized h w × (length (numbersIn units.now) ≡ 1024) × SmallPair m × (i < 4356)
-        × (at + 2 * length (boxCell h w (entry (numbersIn units.now)) g row (point_of m) i) ≤ length memory.old) }
+    requires { (row < 8) × Sized h w × (length (numbers_in units.now) ≡ 1024) × SmallPair m × (i < 4356)
+        × (at + 2 * length (box_cell h w (entry (numbers_in units.now)) g row (point_of m) i) ≤ length memory.old) }
     ensures { WrotePoints memory.old at
-        (boxCell h w (entry (numbersIn units.now)) g row (point_of m) i) memory.new result }
+        (box_cell h w (entry (numbers_in units.now)) g row (point_of m) i) memory.new result }
 {
     let p = box_place(i);
     if of_image(units, h, w, g, row, p) {
@@ -145,10 +145,10 @@ fn put_cells(
     row: usize,
     m: Pair,
 ) -> usize
-    requires { (row < 8) × Sized h w × (length (numbersIn units.now) ≡ 1024) × SmallPair m
-        × (2 * length (sweep h w (entry (numbersIn units.now)) g row (point_of m) 4356) ≤ length memory.old) }
+    requires { (row < 8) × Sized h w × (length (numbers_in units.now) ≡ 1024) × SmallPair m
+        × (2 * length (sweep h w (entry (numbers_in units.now)) g row (point_of m) 4356) ≤ length memory.old) }
     ensures { WrotePoints memory.old 0
-        (sweep h w (entry (numbersIn units.now)) g row (point_of m) 4356) memory.new result }
+        (sweep h w (entry (numbers_in units.now)) g row (point_of m) 4356) memory.new result }
 {
     let mut at: usize = 0;
     let mut i: usize = 0;
@@ -163,9 +163,9 @@ fn put_cells(
 // Gives the next number's place.
 fn put_joints(memory: &mut [i32], start: usize, row: usize, outline: &Outline, m: Pair) -> usize
     requires { (row < 8) × Jointed outline.now × SmallPair m
-        × (start + 2 * jointCount outline.now ≤ length memory.old) }
+        × (start + 2 * joint_count outline.now ≤ length memory.old) }
     ensures { WrotePoints memory.old start
-        (movedBack row (point_of m) (jointSpots outline.now)) memory.new result }
+        (moved_back row (point_of m) (joint_spots outline.now)) memory.new result }
 {
     let k = joint_count(outline);
     let mut at = start;
@@ -191,7 +191,7 @@ fn put_image<'a>(
     requires { (row < 8) × UnitAt h w units.now g outline.now × OutlineJoined h w units.now g outline.now
         × (6144 ≤ length memory.old) }
     ensures { memory.new ≡ sets memory.old 0
-        (words (image row (shape_of (flat h w) (entry (numbersIn units.now)) g))) }
+        (words (image row (shape_of (flat h w) (entry (numbers_in units.now)) g))) }
 {
     let m = least(row, outline);
     let at = put_cells(&mut *memory, units, h, w, g, row, m);
@@ -222,11 +222,11 @@ fn put_listed<'a>(
     k: usize,
 ) -> Transformed
     requires { UnitAt h w units.now g outline.now × OutlineJoined h w units.now g outline.now
-        × (listed ≡ listing (rows_of (shape_of (flat h w) (entry (numbersIn units.now)) g)))
+        × (listed ≡ listing (rows_of (shape_of (flat h w) (entry (numbers_in units.now)) g)))
         × (6144 ≤ length memory.old) }
-    ensures { (result ≡ kthAnswer (flatTransforms (shape_of (flat h w) (entry (numbersIn units.now)) g)) k)
-        × (memory.new ≡ kthMemory (flatTransforms (shape_of (flat h w)
-        (entry (numbersIn units.now)) g)) k memory.old) }
+    ensures { (result ≡ kth_answer (flat_transforms (shape_of (flat h w) (entry (numbers_in units.now)) g)) k)
+        × (memory.new ≡ kth_memory (flat_transforms (shape_of (flat h w)
+        (entry (numbers_in units.now)) g)) k memory.old) }
 {
     if listed.count <= k {
         return none(Outcome::Done, listed.count);
@@ -252,10 +252,10 @@ fn put_transform<'a>(
     k: usize,
 ) -> Transformed
     requires { Sized h w × (6144 ≤ length memory.old) }
-    ensures { (result ≡ kthAnswer (transformsOf (unclued h w colours.now)
-        (statesIn borders.now) u) k)
-        × (memory.new ≡ kthMemory (transformsOf (unclued h w colours.now)
-        (statesIn borders.now) u) k memory.old) }
+    ensures { (result ≡ kth_answer (transforms_of (unclued h w colours.now)
+        (states_in borders.now) u) k)
+        × (memory.new ≡ kth_memory (transforms_of (unclued h w colours.now)
+        (states_in borders.now) u) k memory.old) }
 {
     let units = groups_of(h, w, colours, borders, Kind::Units);
     if count_of(&units) <= u {
@@ -271,8 +271,8 @@ fn put_transform<'a>(
 // Transform `k` of unit `u` of a board, counted from 0, written from the start of the memory. Refused, and none, where
 // the board is alien or the memory has under 6,144 numbers. None where no unit has the number, or no transform.
 pub fn transform(b: Board, u: usize, k: usize, memory: &mut [i32]) -> Transformed
-    ensures { (result ≡ transformOf b u k (length memory.old))
-        × (memory.new ≡ memoryAfter b u k memory.old) }
+    ensures { (result ≡ transform_of b u k (length memory.old))
+        × (memory.new ≡ memory_after b u k memory.old) }
 {
     if b.alien() {
         return none(Outcome::Alien, 0);

@@ -4,19 +4,19 @@ use Rattle.std.proofs.Common.{sym, ap, ◌∙◌}
 use Prim.Native.Nat.{ℕ, zero, suc, ◌+◌, ◌*◌, ◌/◌, ◌%◌, ◌<◌, ◌≤◌}
 use native.Mathlib.Omega.{arith}
 use Rattle.rules.specs.Page.{State}
-use Rattle.rules.specs.Flat.{Sized, flat, hopIf}
-use Rattle.rules.specs.Codes.{statesIn}
+use Rattle.rules.specs.Flat.{Sized, flat, hop_if}
+use Rattle.rules.specs.Codes.{states_in}
 use Rattle.rules.specs.Groups.{entry}
 use Rattle.laws.specs.FlatLaws.{row_of}
 use Rattle.reasons.specs.declared.Neighbour.{Neighbour}
-use Rattle.reasons.specs.Arrays.{Stepped, hopsIn, hopOf}
+use Rattle.reasons.specs.Arrays.{Stepped, hops_in, hop_of}
 use Rattle.reasons.specs.StepLaws.{step-any}
 use Rattle.walls.specs.declared.Breach.{Breach}
-use Rattle.walls.specs.Breaches.{noBreach, orBreach, isBreach, hopBreach, breachOn, breachFrom, firstBreach}
-use Rattle.walls.specs.WallCases.{breachAt, cell-split}
+use Rattle.walls.specs.Breaches.{no_breach, or_breach, is_breach, hop_breach, breach_on, breach_from, first_breach}
+use Rattle.walls.specs.WallCases.{breach_at, cell-split}
 
-or-small : (a b : Breach) → a.border < 1984 → b.border < 1984 → (orBreach a b).border < 1984
-unfolding orBreach
+or-small : (a b : Breach) → a.border < 1984 → b.border < 1984 → (or_breach a b).border < 1984
+unfolding or_breach
 or-small a b p q = go a.found
   where
     go : (v : Bool) → (cond v a b).border < 1984
@@ -24,38 +24,38 @@ or-small a b p q = go a.found
     go false = q
 
 hop-small : {h w y x d : ℕ} (s : ℕ → State) (block : ℕ → ℕ) (c : ℕ) (r : Neighbour) → Stepped h w y x d r
-    → (breachOn s block c (hopsIn r)).border < 1984
-unfolding hopsIn hopIf breachOn hopBreach
+    → (breach_on s block c (hops_in r)).border < 1984
+unfolding hops_in hop_if breach_on hop_breach
 hop-small s block c r p = go r.some refl
   where
     at : (v : Bool) → r.border < 1984
-        → (cond v (record { found = true; cell = c; border = r.border; to = r.to }) noBreach).border < 1984
+        → (cond v (record { found = true; cell = c; border = r.border; to = r.to }) no_breach).border < 1984
     at true q = q
     at false q = omega arith
 
-    go : (v : Bool) → r.some ≡ v → (breachOn s block c (hopIf v r.border r.to)).border < 1984
+    go : (v : Bool) → r.some ≡ v → (breach_on s block c (hop_if v r.border r.to)).border < 1984
     go true e =
-        or-small (hopBreach s block c (hopOf r)) noBreach (at (isBreach s block c (hopOf r)) (p.near e).fits.border)
+        or-small (hop_breach s block c (hop_of r)) no_breach (at (is_breach s block c (hop_of r)) (p.near e).fits.border)
         (omega arith)
     go false e = omega arith
 
 module _ {h w : ℕ} (z : Sized h w) (bs ids : List ℕ) where
-  cell-small : (c : ℕ) → c < h * w → (breachAt h w bs ids c).border < 1984
+  cell-small : (c : ℕ) → c < h * w → (breach_at h w bs ids c).border < 1984
   cell-small c q =
       let r = row_of h w c q in
       let n = step-any z r.row r.column 1 in
       let k = step-any z r.row r.column 3 in
-      let e = ap (breachAt h w bs ids) r.same
+      let e = ap (breach_at h w bs ids) r.same
       ∙ sym (cell-split h w (c / w) (c % w) r.row r.column bs ids n.0 k.0 n.1 k.1) in
       rw e (or-small _ _ (hop-small _ _ _ n.0 n.1) (hop-small _ _ _ k.0 k.1))
 
-  from-small : (k i : ℕ) → i + k ≤ h * w → (breachFrom (breachAt h w bs ids) k i).border < 1984
-  unfolding breachFrom
+  from-small : (k i : ℕ) → i + k ≤ h * w → (breach_from (breach_at h w bs ids) k i).border < 1984
+  unfolding breach_from
   from-small zero i l = omega arith
   from-small (suc k) i l =
-      or-small (breachAt h w bs ids i) (breachFrom (breachAt h w bs ids) k (suc i)) (cell-small i (omega arith))
+      or-small (breach_at h w bs ids i) (breach_from (breach_at h w bs ids) k (suc i)) (cell-small i (omega arith))
       (from-small k (suc i) (omega arith))
 
-  pub breach-small : (firstBreach (flat h w) (statesIn bs) (entry ids)).border < 1984
-  unfolding firstBreach breachAt flat
+  pub breach-small : (first_breach (flat h w) (states_in bs) (entry ids)).border < 1984
+  unfolding first_breach breach_at flat
   breach-small = from-small (h * w) 0 (omega arith)

@@ -2,15 +2,15 @@
 ghost use Rattle.std.specs.Prelude.{◌≡◌, true, ◌&&◌, ◌+◌, ◌*◌, ◌<◌, ◌≤◌, length, eqb};
 ghost use Rattle.lists.specs.Count.{bit};
 ghost use Rattle.rules.specs.Flat.{Sized, flat};
-ghost use Rattle.rules.specs.Codes.{statesIn};
+ghost use Rattle.rules.specs.Codes.{states_in};
 ghost use Rattle.rules.specs.Groups.{entry};
-ghost use Rattle.groups.specs.Grouping.{numbersIn};
-ghost use Rattle.reasons.specs.Arrays.{Arrays, InArrays, hopsIn, hopOf};
+ghost use Rattle.groups.specs.Grouping.{numbers_in};
+ghost use Rattle.reasons.specs.Arrays.{Arrays, InArrays, hops_in, hop_of};
 ghost use Rattle.reasons.specs.Memory.{Spare, Wrote};
-ghost use Rattle.walls.specs.Breaches.{noBreach, isBreach, breachOn, breachFrom, firstBreach};
-ghost use Rattle.walls.specs.WallCases.{breachAt};
+ghost use Rattle.walls.specs.Breaches.{no_breach, is_breach, breach_on, breach_from, first_breach};
+ghost use Rattle.walls.specs.WallCases.{breach_at};
 ghost use Rattle.walls.specs.Clean.{Apart};
-ghost use Rattle.walls.specs.Written.{breachLiterals};
+ghost use Rattle.walls.specs.Written.{breach_literals};
 
 use groups::{Grouping, group_of};
 use reasons::Neighbour;
@@ -26,10 +26,10 @@ pub struct Breach {
 
 // The border to the neighbour n of the cell c is wall, and n is in the block of c. False if there is no neighbour.
 fn is_breach<'a>(borders: &'a [u8; 1984], blocks: &'a Grouping, c: usize, n: Neighbour) -> bool
-    requires { Arrays borders.now (numbersIn blocks.now) × (c < 1024) × (n.some ≡ true → InArrays n) }
-    ensures { result ≡ (n.some && isBreach (statesIn borders.now)
-        (entry (numbersIn blocks.now)) c
-        (hopOf n)) }
+    requires { Arrays borders.now (numbers_in blocks.now) × (c < 1024) × (n.some ≡ true → InArrays n) }
+    ensures { result ≡ (n.some && is_breach (states_in borders.now)
+        (entry (numbers_in blocks.now)) c
+        (hop_of n)) }
 {
     if !n.some {
         return false;
@@ -44,7 +44,7 @@ fn is_breach<'a>(borders: &'a [u8; 1984], blocks: &'a Grouping, c: usize, n: Nei
 
 // Nothing found.
 fn nothing() -> Breach
-    ensures { result ≡ noBreach }
+    ensures { result ≡ no_breach }
 {
     Breach {
         found: false,
@@ -56,9 +56,9 @@ fn nothing() -> Breach
 
 // The breach over the border to the neighbour n of the cell c, if there is one.
 fn hop_breach<'a>(borders: &'a [u8; 1984], blocks: &'a Grouping, c: usize, n: Neighbour) -> Breach
-    requires { Arrays borders.now (numbersIn blocks.now) × (c < 1024) × (n.some ≡ true → InArrays n) }
-    ensures { result ≡ breachOn (statesIn borders.now) (entry (numbersIn blocks.now)) c
-        (hopsIn n) }
+    requires { Arrays borders.now (numbers_in blocks.now) × (c < 1024) × (n.some ≡ true → InArrays n) }
+    ensures { result ≡ breach_on (states_in borders.now) (entry (numbers_in blocks.now)) c
+        (hops_in n) }
 {
     if is_breach(borders, blocks, c, n) {
         return Breach {
@@ -80,8 +80,8 @@ fn cell_breach<'a>(
     y: usize,
     x: usize,
 ) -> Breach
-    requires { Sized h w × Arrays borders.now (numbersIn blocks.now) × (y < h) × (x < w) }
-    ensures { result ≡ breachAt h w borders.now (numbersIn blocks.now) (y * w + x) }
+    requires { Sized h w × Arrays borders.now (numbers_in blocks.now) × (y < h) × (x < w) }
+    ensures { result ≡ breach_at h w borders.now (numbers_in blocks.now) (y * w + x) }
 {
     let c = y * w + x;
     let below = hop_breach(borders, blocks, c, reasons::step(h, w, y, x, 1));
@@ -99,8 +99,8 @@ fn row_breach<'a>(
     blocks: &'a Grouping,
     y: usize,
 ) -> Breach
-    requires { Sized h w × Arrays borders.now (numbersIn blocks.now) × (y < h) }
-    ensures { result ≡ breachFrom (breachAt h w borders.now (numbersIn blocks.now)) w
+    requires { Sized h w × Arrays borders.now (numbers_in blocks.now) × (y < h) }
+    ensures { result ≡ breach_from (breach_at h w borders.now (numbers_in blocks.now)) w
         (y * w) }
 {
     let mut x = 0;
@@ -137,9 +137,9 @@ fn count_hits<'a>(
     d: usize,
     n: usize,
 ) -> u16
-    requires { Arrays borders.now (numbersIn blocks.now) × (at + n ≤ 1984) × (c + n ≤ 1024) × (d + n ≤ 1024) }
-    ensures { result ≡ 0 → Apart (statesIn borders.now)
-        (entry (numbersIn blocks.now)) at c d n }
+    requires { Arrays borders.now (numbers_in blocks.now) × (at + n ≤ 1984) × (c + n ≤ 1024) × (d + n ≤ 1024) }
+    ensures { result ≡ 0 → Apart (states_in borders.now)
+        (entry (numbers_in blocks.now)) at c d n }
 {
     let mut hits: u16 = 0;
     let mut i = 0;
@@ -152,9 +152,9 @@ fn count_hits<'a>(
 
 // Whether there is no breach: none over the borders below, and none over those on the right of each row.
 fn is_clean<'a>(h: usize, w: usize, borders: &'a [u8; 1984], blocks: &'a Grouping) -> bool
-    requires { Sized h w × Arrays borders.now (numbersIn blocks.now) }
-    ensures { result ≡ true → noBreach ≡ firstBreach (flat h w) (statesIn borders.now)
-        (entry (numbersIn blocks.now)) }
+    requires { Sized h w × Arrays borders.now (numbers_in blocks.now) }
+    ensures { result ≡ true → no_breach ≡ first_breach (flat h w) (states_in borders.now)
+        (entry (numbers_in blocks.now)) }
 {
     if count_hits(borders, blocks, h * (w - 1), 0, w, (h - 1) * w) != 0 {
         return false;
@@ -171,9 +171,9 @@ fn is_clean<'a>(h: usize, w: usize, borders: &'a [u8; 1984], blocks: &'a Groupin
 
 // The first breach, row by row.
 pub fn first_breach<'a>(h: usize, w: usize, borders: &'a [u8; 1984], blocks: &'a Grouping) -> Breach
-    requires { Sized h w × Arrays borders.now (numbersIn blocks.now) }
-    ensures { result ≡ firstBreach (flat h w) (statesIn borders.now)
-        (entry (numbersIn blocks.now)) }
+    requires { Sized h w × Arrays borders.now (numbers_in blocks.now) }
+    ensures { result ≡ first_breach (flat h w) (states_in borders.now)
+        (entry (numbers_in blocks.now)) }
 {
     if is_clean(h, w, borders, blocks) {
         return nothing();
@@ -199,7 +199,7 @@ pub fn write_breach(
 ) -> usize
     requires { Sized h w × (length borders.now ≡ 1984) × (breach.border < 1984)
         × Spare memory.old 0 }
-    ensures { Wrote memory.old 0 (breachLiterals (flat h w) (statesIn borders.now) breach)
+    ensures { Wrote memory.old 0 (breach_literals (flat h w) (states_in borders.now) breach)
         memory.new result }
 {
     reasons::paths::wall_reason(memory, h, w, borders, breach.cell, breach.to, breach.border)

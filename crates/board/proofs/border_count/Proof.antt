@@ -2,9 +2,9 @@
 use mathlib.Core.Path.{◌∙◌, sym}
 use native.Mathlib.Omega.{arith}
 use borrow.Author.Rules.{rules}
-use Rattle.rules.specs.Flat.{Sized, borderCount}
+use Rattle.rules.specs.Flat.{Sized, border_count}
 use Rattle.laws.specs.FlatLaws.{counts}
-use Rattle.board.specs.Alien.{bordersOf}
+use Rattle.board.specs.Alien.{borders_of}
 use Rattle.board.specs.ConditionLaws.{sized}
 use Rattle.board.proofs.border_count.Statement.{statement}
 use Rattle.board.proofs.border_count.Tie as tie
@@ -31,11 +31,11 @@ add-result : tie.Need-overflow-add-result
 add-result c = omega (arith, counts (size c))
 
 returns : tie.Need-returns
-unfolding bordersOf borderCount
+unfolding borders_of border_count
 returns c = rw (← c.before.size-right.ensures, c.if1.true)
 
 returns-2 : tie.Need-returns-2
-unfolding bordersOf
+unfolding borders_of
 returns-2 c = rw (← c.before.size-right.ensures, c.if1.false)
 
 pub border-count-spec : {M : Type 1} → statement M

@@ -5,8 +5,8 @@ use Prim.Native.Nat.{◌<◌}
 use native.Mathlib.Omega.{arith}
 use borrow.Author.Rules.{rules}
 use borrow.Author.Tests.{eq-eqb, ne_eqb}
-use Rattle.board.specs.Alien.{boardOf, borderCountOf, isAlien}
-use Rattle.board.specs.Board.{decideRefusal, number_of}
+use Rattle.board.specs.Alien.{board_of, border_count_of, is_alien}
+use Rattle.board.specs.Board.{decide_refusal, number_of}
 use Rattle.board.specs.Cases.{decide-alien, decide-free, decide-refused}
 use Rattle.board.specs.ConditionLaws.{borders-of, borders-of-le}
 use Rattle.board.specs.NativeLaws.{free-places, native-has}
@@ -18,21 +18,21 @@ use Rattle.board.proofs.decide_lent.Tie as tie
 abbrev lent : tie.Start → Board
 lent s =
     let a = s.args in
-    boardOf a.h a.w a.colours.now a.clues.now a.borders.now a.stack.now a.count
+    board_of a.h a.w a.colours.now a.clues.now a.borders.now a.stack.now a.count
     a.tally
 
-known : (c : tie.Else1) → isAlien (lent c.before.before.before.before) ≡ false
+known : (c : tie.Else1) → is_alien (lent c.before.before.before.before) ≡ false
 known c = sym c.before.is-alien.ensures ∙ c.if1.false
 
 -- how the tests end
 ends : (c : tie.After-decide-refusal)
     → let s = c.before.before.before.before.before.before.before.before in
-    c.decide-refusal.result ≡ decideRefusal (borderCountOf (lent s)) s.args.borders.now s.args.l.border
+    c.decide-refusal.result ≡ decide_refusal (border_count_of (lent s)) s.args.borders.now s.args.l.border
 ends c =
     let d = c.before.before.before in
     let a = d.before.before.before.before.before.args in
     c.decide-refusal.ensures
-    ∙ ap (λ m. decideRefusal m a.borders.now a.l.border)
+    ∙ ap (λ m. decide_refusal m a.borders.now a.l.border)
     (d.border-count.ensures ∙ borders-of (native-has _ (known d.before)).size)
 
 zero : (c : tie.Else2) → number_of c.before.before.decide-refusal.result ≡ 0

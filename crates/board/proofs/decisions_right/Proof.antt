@@ -3,8 +3,8 @@ use mathlib.Core.Bool.{true}
 use mathlib.Core.Path.{◌∙◌, ◌≡◌, refl, sym, ap}
 use native.Mathlib.Omega.{arith}
 use borrow.Author.Rules.{rules}
-use Rattle.rules.specs.Book.{sameTally}
-use Rattle.board.specs.Alien.{decisionsIn}
+use Rattle.rules.specs.Book.{same_tally}
+use Rattle.board.specs.Alien.{decisions_in}
 use Rattle.board.specs.Cases.{decisions-borders, decisions-many, decisions-entries, decisions-twice}
 use Rattle.board.specs.Cases.{decisions-wrong, decisions-tally}
 use Rattle.board.specs.ConditionLaws.{entries-low}
@@ -34,7 +34,7 @@ borders-right-requires c κs = search rules
 -- what the borders beside the flags say
 judged : (c : tie.After-borders-right)
     → let a = c.before.before.before.before.before.before.before.before.args in
-    c.borders-right.result ≡ decisionsIn a.total a.borders.now a.stack.now a.count
+    c.borders-right.result ≡ decisions_in a.total a.borders.now a.stack.now a.count
 judged c =
     let t = c.before.before in
     let f = t.before in
@@ -45,7 +45,7 @@ judged c =
 
 right : (c : tie.Then4)
     → let a = c.before.before.before.before.before.before.before.before.before.args in
-    decisionsIn a.total a.borders.now a.stack.now a.count ≡ true
+    decisions_in a.total a.borders.now a.stack.now a.count ≡ true
 right c = sym (judged c.before) ∙ c.if4.true
 
 tally-right-requires : tie.Need-tally-right-requires
@@ -59,7 +59,7 @@ returns-2 c =
     let t = c.before in
     let D = has-decisions _ _ _ _ (right t) in
     decisions-tally _ _ _ _ _ _ (right t)
-    (c.tally-right.ensures ∙ ap (sameTally _) (sym (walls-tell _ _ _ _ D)))
+    (c.tally-right.ensures ∙ ap (same_tally _) (sym (walls-tell _ _ _ _ D)))
 
 returns-3 : tie.Need-returns-3
 returns-3 c = decisions-wrong _ _ _ _ _ (sym (judged c.before) ∙ c.if4.false)

@@ -4,14 +4,14 @@ use mathlib.Core.Path.{◌∙◌, ◌≡◌, sym}
 use Prim.Native.Nat.{◌*◌}
 use native.Mathlib.Omega.{arith}
 use borrow.Author.Rules.{rules}
-use Rattle.rules.specs.Flat.{borderCount}
-use Rattle.board.specs.Alien.{sizeRight}
+use Rattle.rules.specs.Flat.{border_count}
+use Rattle.board.specs.Alien.{size_right}
 use Rattle.board.specs.Cases.{alien-cells, alien-decisions, alien-size, alien-unused}
 use Rattle.board.specs.ConditionLaws.{borders-of, borders-of-le, cells-of, cells-of-le, sized}
 use Rattle.board.proofs.is_alien.Statement.{statement}
 use Rattle.board.proofs.is_alien.Tie as tie
 
-size : (c : tie.Then1) → sizeRight c.before.before.args.h c.before.before.args.w ≡ true
+size : (c : tie.Then1) → size_right c.before.before.args.h c.before.before.args.w ≡ true
 size c = sym c.before.size-right.ensures ∙ c.if1.true
 
 -- the page's counts
@@ -20,7 +20,7 @@ cells : (c : tie.After-cell-count)
 cells c = c.cell-count.ensures ∙ cells-of (sized (size c.before))
 
 total : (c : tie.After-border-count)
-    → let a = c.before.before.before.before.args in c.border-count.result ≡ borderCount a.h a.w
+    → let a = c.before.before.before.before.args in c.border-count.result ≡ border_count a.h a.w
 total c = c.border-count.ensures ∙ borders-of (sized (size c.before.before))
 
 size-right-requires : tie.Need-size-right-requires

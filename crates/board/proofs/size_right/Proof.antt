@@ -1,19 +1,19 @@
 -- `size_right` meets its contract: each return rewrites with the tests that led to it.
 use borrow.Author.Tests.{le-leb, lt-leb}
-use Rattle.board.specs.Alien.{sizeRight}
+use Rattle.board.specs.Alien.{size_right}
 use Rattle.board.proofs.size_right.Statement.{statement}
 use Rattle.board.proofs.size_right.Tie as tie
 
 returns : tie.Need-returns
-unfolding sizeRight
+unfolding size_right
 returns c = simp (lt-leb _ _ c.if1.true)
 
 returns-2 : tie.Need-returns-2
-unfolding sizeRight
+unfolding size_right
 returns-2 c = simp (le-leb _ _ c.before.if1.false, lt-leb _ _ c.if2.true)
 
 returns-3 : tie.Need-returns-3
-unfolding sizeRight
+unfolding size_right
 returns-3 c = simp (
   le-leb _ _ c.before.before.if1.false,
   le-leb _ _ c.before.if2.false,
@@ -21,7 +21,7 @@ returns-3 c = simp (
 )
 
 returns-4 : tie.Need-returns-4
-unfolding sizeRight
+unfolding size_right
 returns-4 c = simp (
   le-leb _ _ c.before.before.if1.false,
   le-leb _ _ c.before.if2.false,

@@ -1,7 +1,7 @@
 -- `answer_tested` meets its contract: short memory, and memory with room for a reason.
 use mathlib.Core.Path.{◌∙◌}
 use Rattle.rules.specs.Check.{Verdict}
-use Rattle.calls.specs.Known.{foundIn}
+use Rattle.calls.specs.Known.{found_in}
 use Rattle.calls.specs.AnswerLaws.{found-short, found-long}
 use borrow.Author.Rules.{rules}
 use Rattle.calls.proofs.answer_tested.Statement.{statement}
@@ -11,7 +11,7 @@ use Rattle.calls.proofs.answer_tested.Tie as tie
 abbrev found : tie.Start → Verdict
 found s =
     let a = s.args in
-    foundIn a.h a.w a.colours.now a.clues.now a.borders.now
+    found_in a.h a.w a.colours.now a.clues.now a.borders.now
 
 returns : tie.Need-returns
 returns c = let s = c.before.before in found-short (found s) s.args.memory.now c.if1.true

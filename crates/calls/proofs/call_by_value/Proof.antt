@@ -2,7 +2,7 @@
 use mathlib.Core.Path.{◌∙◌, sym, ap}
 use borrow.Author.Rules.{rules}
 use Rattle.calls.specs.declared.Stepped.{Stepped}
-use Rattle.calls.specs.Counted.{countedBy}
+use Rattle.calls.specs.Counted.{counted_by}
 use Rattle.calls.specs.CountedLaws.{counted_same, counted-other}
 use Rattle.calls.proofs.call_by_value.Statement.{statement}
 use Rattle.calls.proofs.call_by_value.Tie as tie
@@ -24,7 +24,7 @@ returns c =
     let g = counted_same a.board a.asked a.given a.memory.now
     (sym d.before.same.ensures ∙ d.if1.true) in
     let r = k.call.ensures in
-    (ap (λ (s : Stepped). countedBy s s.board.tally) r.0 ∙ sym g.0, r.1 ∙ sym g.1)
+    (ap (λ (s : Stepped). counted_by s s.board.tally) r.0 ∙ sym g.0, r.1 ∙ sym g.1)
 
 returns-2 : tie.Need-returns-2
 returns-2 c =

@@ -3,8 +3,8 @@ use mathlib.Core.Path.{◌≡◌, refl, sym, ap, ◌∙◌}
 use mathlib.Core.Bool.{false}
 use lib.ListN.{length}
 use Rattle.rules.specs.Check.{Verdict}
-use Rattle.board.specs.Alien.{boardOf, isAlien}
-use Rattle.calls.specs.Answers.{foundAnswer, foundMemory}
+use Rattle.board.specs.Alien.{board_of, is_alien}
+use Rattle.calls.specs.Answers.{found_answer, found_memory}
 use Rattle.calls.specs.AnswerLaws.{check-alien, check-known}
 use Rattle.calls.specs.CheckLaws.{same-found}
 use borrow.Author.Rules.{rules}
@@ -12,7 +12,7 @@ use Rattle.calls.proofs.check_lent.Statement.{statement}
 use Rattle.calls.proofs.check_lent.Tie as tie
 
 known : (c : tie.Else1) → let a = c.before.before.before.args in
-    isAlien (boardOf a.h a.w a.colours.now a.clues.now a.borders.now a.stack.now a.count
+    is_alien (board_of a.h a.w a.colours.now a.clues.now a.borders.now a.stack.now a.count
     a.tally) ≡ false
 known c = sym c.before.is-alien.ensures ∙ c.if1.false
 
@@ -43,8 +43,8 @@ returns-2 c =
     let m = k.before.before.before.args.memory.now in
     let r = c.before.before.answer-tested.ensures in
     let g = check-known _ m (known k) in (
-      r.0 ∙ ap (λ (f : Verdict). foundAnswer f (length m)) (same-found _) ∙ g.0,
-      r.1 ∙ ap (λ (f : Verdict). foundMemory f m) (same-found _) ∙ g.1,
+      r.0 ∙ ap (λ (f : Verdict). found_answer f (length m)) (same-found _) ∙ g.0,
+      r.1 ∙ ap (λ (f : Verdict). found_memory f m) (same-found _) ∙ g.1,
     )
 
 pub check-lent-spec : {M : Type 1} → statement M

@@ -3,16 +3,16 @@ use mathlib.Core.Path.{◌≡◌, sym, ap, ◌∙◌}
 use native.Mathlib.Omega.{arith}
 use lib.ListN.{get_or}
 use Rattle.rules.specs.Check.{mates}
-use Rattle.rules.specs.Codes.{statesIn, unclued}
+use Rattle.rules.specs.Codes.{states_in, unclued}
 use Rattle.rules.specs.Flat.{flat}
 use Rattle.rules.specs.Groups.{entry}
 use Rattle.rules.specs.Shapes.{shape_of}
 use Rattle.laws.specs.FlatLaws.{counts}
-use Rattle.groups.specs.Grouping.{numbersIn, cells_in, startsIn}
+use Rattle.groups.specs.Grouping.{numbers_in, cells_in, starts_in}
 use Rattle.adjacent.specs.Mates.{OneOf}
 use Rattle.adjacent.specs.HomeLaws.{unit-few, unit-in, head-low, home_of}
 use Rattle.fitting.specs.CopyLaws.{soon-turned}
-use Rattle.fitting.specs.Fitting.{fitsTurned}
+use Rattle.fitting.specs.Fitting.{fits_turned}
 use Rattle.fitting.specs.HeldLaws.{mate-few, mate-cells}
 use Rattle.fitting.specs.ReadyLaws.{fits_home, fits-nowhere, single-unit}
 use Rattle.fitting.proofs.fits_at.Statement.{statement}
@@ -35,24 +35,24 @@ cell-at-requires c κs =
 
 -- the unit's first cell, its potential unit, and a potential unit adjacent to that
 cell-is : (c : tie.After-cell-at) → let s = c.before.before.before in
-    c.cell_at.result ≡ get_or (cells_in s.args.units.now) (get_or (startsIn s.args.units.now) s.args.u 0) 0
+    c.cell_at.result ≡ get_or (cells_in s.args.units.now) (get_or (starts_in s.args.units.now) s.args.u 0) 0
 cell-is c =
     let s = c.before.before.before in
     c.cell_at.ensures ∙ ap (λ i. get_or (cells_in s.args.units.now) i 0) c.before.before.start_of_lem.ensures
 
 home-is : (c : tie.After-group-of) → let s = c.before.before.before.before in
     c.Group-of.result
-    ≡ get_or (numbersIn s.args.potential.now)
-    (get_or (cells_in s.args.units.now) (get_or (startsIn s.args.units.now) s.args.u 0) 0) 0
+    ≡ get_or (numbers_in s.args.potential.now)
+    (get_or (cells_in s.args.units.now) (get_or (starts_in s.args.units.now) s.args.u 0) 0) 0
 home-is c =
     let s = c.before.before.before.before in
-    c.Group-of.ensures ∙ ap (λ i. get_or (numbersIn s.args.potential.now) i 0) (cell-is c.before)
+    c.Group-of.ensures ∙ ap (λ i. get_or (numbers_in s.args.potential.now) i 0) (cell-is c.before)
 
 one : (c : tie.After-near-mate) → let s = c.before.before.before.before.before.before in
     OneOf
-    (mates (unclued s.args.h s.args.w s.args.colours.now) (statesIn s.args.borders.now)
-    (get_or (numbersIn s.args.potential.now) (get_or (cells_in s.args.units.now)
-    (get_or (startsIn s.args.units.now) s.args.u 0) 0) 0))
+    (mates (unclued s.args.h s.args.w s.args.colours.now) (states_in s.args.borders.now)
+    (get_or (numbers_in s.args.potential.now) (get_or (cells_in s.args.units.now)
+    (get_or (starts_in s.args.units.now) s.args.u 0) 0) 0))
     c.near-mate.result
 one c = rw (home-is c.before.before) at c.near-mate.ensures.0
 
@@ -123,9 +123,9 @@ returns-3 c =
     let s = m.before.before.before.before.before.before in
     let q = (one m).some i.if1.false in (
       sym (sym (fits_home s.requires.0 s.args.u s.requires.1)
-          ∙ soon-turned (unclued s.args.h s.args.w s.args.colours.now) (statesIn s.args.borders.now)
-          (cells_in s.args.potential.now) (startsIn s.args.potential.now)
-          (shape_of (flat s.args.h s.args.w) (entry (numbersIn s.args.units.now)) s.args.u) q
+          ∙ soon-turned (unclued s.args.h s.args.w s.args.colours.now) (states_in s.args.borders.now)
+          (cells_in s.args.potential.now) (starts_in s.args.potential.now)
+          (shape_of (flat s.args.h s.args.w) (entry (numbers_in s.args.units.now)) s.args.u) q
           (mate-cells (home_of s.requires.0 s.args.u s.requires.1) q).order
           (sym c.before.copy-fits-soon.ensures ∙ c.if3.true)),
       m.near-mate.ensures.1,
@@ -153,10 +153,10 @@ returns-4 c =
     let s = p.before.before.before.before in
     let e = c.unit-fits.ensures in (
       e.0
-          ∙ (ap (λ q. fitsTurned (unclued s.args.h s.args.w s.args.colours.now)
-          (statesIn s.args.borders.now) (cells_in s.args.potential.now) (startsIn s.args.potential.now)
-          (mates (unclued s.args.h s.args.w s.args.colours.now) (statesIn s.args.borders.now) q)
-          (shape_of (flat s.args.h s.args.w) (entry (numbersIn s.args.units.now)) s.args.u)) (home-is p)
+          ∙ (ap (λ q. fits_turned (unclued s.args.h s.args.w s.args.colours.now)
+          (states_in s.args.borders.now) (cells_in s.args.potential.now) (starts_in s.args.potential.now)
+          (mates (unclued s.args.h s.args.w s.args.colours.now) (states_in s.args.borders.now) q)
+          (shape_of (flat s.args.h s.args.w) (entry (numbers_in s.args.units.now)) s.args.u)) (home-is p)
           ∙ fits_home s.requires.0 s.args.u s.requires.1),
       m.near-mate.ensures.1,
       e.1,

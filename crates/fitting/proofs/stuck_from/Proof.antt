@@ -2,13 +2,13 @@
 use mathlib.Core.Path.{refl, sym, ◌∙◌}
 use Prim.Native.Nat.{◌-◌}
 use native.Mathlib.Omega.{arith}
-use Rattle.rules.specs.Codes.{statesIn, unclued}
-use Rattle.groups.specs.Grouping.{countIn}
+use Rattle.rules.specs.Codes.{states_in, unclued}
+use Rattle.groups.specs.Grouping.{count_in}
 use Rattle.adjacent.specs.HomeLaws.{unit-few}
 use Rattle.fitting.specs.Fitting.{Scratch}
 use Rattle.fitting.specs.Held.{Nearby, Held}
 use Rattle.fitting.specs.HeldLaws.{held_start}
-use Rattle.fitting.specs.FirstStuck.{Passed, fitsUnit}
+use Rattle.fitting.specs.FirstStuck.{Passed, fits_unit}
 use Rattle.fitting.specs.FirstStuckLaws.{passed-done, passed_here, passed-next}
 use Rattle.fitting.proofs.stuck_from.Statement.{statement}
 use Rattle.fitting.proofs.stuck_from.Tie as tie
@@ -16,7 +16,7 @@ use Rattle.fitting.proofs.stuck_from.Tie as tie
 abbrev invariant-loop : tie.invariant-loop
 invariant-loop h w colours borders units potential from near₀ outline₀ turned₀ planes₀ mask₀ count u₀ near outline turned
     planes mask u =
-    Passed (fitsUnit (unclued h w colours) (statesIn borders)) (countIn units) u
+    Passed (fits_unit (unclued h w colours) (states_in borders)) (count_in units) u
     × Nearby h w colours borders near × Scratch outline turned
     × Held h w colours borders potential planes mask
 

@@ -6,8 +6,8 @@ use native.Mathlib.Omega.{arith}
 use borrow.Author.Rules.{rules}
 use borrow.Author.Tests.{ltb-false}
 use lib.ListN.{length}
-use Rattle.calls.specs.Known.{foundIn}
-use Rattle.image.specs.Image.{isShort}
+use Rattle.calls.specs.Known.{found_in}
+use Rattle.image.specs.Image.{is_short}
 use Rattle.image.specs.CheckLaws.{Checks, checks}
 use Rattle.image.proofs.answered.Statement.{statement}
 use Rattle.image.proofs.answered.Tie as tie
@@ -25,7 +25,7 @@ memory k = (start k).args.memory.now
 facts : (k : Checked) → let a = (start k).args in
     let r = k.before.before.answer-known in
     Checks (memory k) r.new.1.1.1.1.1.1.0
-    (foundIn a.h a.w a.colours.now a.clues.now a.borders.now) r.result
+    (found_in a.h a.w a.colours.now a.clues.now a.borders.now) r.result
 facts k =
     let p = (start k).requires in
     let r = k.before.before.answer-known.ensures in
@@ -50,7 +50,7 @@ enum-known-answer-2 : tie.Need-enum-known-answer-2
 enum-known-answer-2 c = search rules
 
 put-codes-requires : tie.Need-put-codes-requires
-unfolding isShort
+unfolding is_short
 put-codes-requires c κs =
     let k = c.before.before.before.before.before in
     let e = c.before.before.before.answer2.given.1 in

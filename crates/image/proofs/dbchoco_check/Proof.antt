@@ -7,10 +7,10 @@ use native.Mathlib.Omega.{arith}
 use borrow.Author.Rules.{rules}
 use lib.ListN.{length-replicate}
 use Rattle.board.specs.declared.Board.{Board}
-use Rattle.board.specs.Alien.{isAlien}
-use Rattle.calls.specs.Answers.{answerNumber, asAnswer}
-use Rattle.calls.specs.Known.{KnownBoard, foundIn}
-use Rattle.image.specs.Image.{isShort, bytesAfter, checkNumber, checkBytes}
+use Rattle.board.specs.Alien.{is_alien}
+use Rattle.calls.specs.Answers.{answer_number, as_answer}
+use Rattle.calls.specs.Known.{KnownBoard, found_in}
+use Rattle.image.specs.Image.{is_short, bytes_after, check_number, check_bytes}
 use Rattle.image.specs.CheckLaws.{other-number, other-bytes, alien-checked, short-checked, found-checked}
 use Rattle.image.proofs.dbchoco_check.Statement.{statement}
 use Rattle.image.proofs.dbchoco_check.Tie as tie
@@ -30,7 +30,7 @@ abbrev image : Left → List ℕ
 image e =
     e.before.before.before.before.before.before.before.before.before.before.before.before.before.before.before.args.image.now
 
-known : (e : Left) → isAlien (board e) ≡ false
+known : (e : Left) → is_alien (board e) ≡ false
 known e = sym e.before.before.before.before.is-alien.ensures ∙ e.before.before.before.if2.false
 
 board-known : (e : Left) → let b = board e in
@@ -39,14 +39,14 @@ board-known e =
     let b = board e in
     record { stack = b.stack; count = b.count; tally = b.tally; native = known e; stored = refl }
 
-room : (e : Left) → isShort (memory e) ≡ false
+room : (e : Left) → is_short (memory e) ≡ false
 room e = sym e.before.short.ensures ∙ e.if3.false
 
 -- what Check gives of the board is the answer of the check
 told : (e : Left) → let b = board e in
-    let f = foundIn b.height b.width b.colours b.clues b.borders in
-    (answerNumber (asAnswer f) ≡ checkNumber (image e) (memory e))
-    × (bytesAfter (memory e) f ≡ checkBytes (image e) (memory e))
+    let f = found_in b.height b.width b.colours b.clues b.borders in
+    (answer_number (as_answer f) ≡ check_number (image e) (memory e))
+    × (bytes_after (memory e) f ≡ check_bytes (image e) (memory e))
 told e =
     let i = e.before.before.before.before.before.before.before.before.before.before.before in
     found-checked _ _ i.before.if1.false _ i.board.ensures (known e) (room e)

@@ -5,7 +5,7 @@ use mathlib.Core.List.{List}
 use Prim.Native.Nat.{ℕ}
 use native.Mathlib.Omega.{arith}
 use borrow.Author.Rules.{rules}
-use Rattle.image.specs.Image.{Bytes, imageAlien}
+use Rattle.image.specs.Image.{Bytes, image_alien}
 use Rattle.image.specs.SeriesLaws.{long, alien-number, alien-stays}
 use Rattle.image.proofs.dbchoco_undo.Statement.{statement}
 use Rattle.image.proofs.dbchoco_undo.Tie as tie
@@ -17,7 +17,7 @@ image c = c.before.before.before.args.image.now
 bytes : (c : tie.After-alien) → Bytes (image c)
 bytes c = λ i. omega (arith, c.before.before.slice-known.given i)
 
-known : (c : tie.Else1) → imageAlien (image c.before) ≡ false
+known : (c : tie.Else1) → image_alien (image c.before) ≡ false
 known c = sym c.before.alien.ensures ∙ c.if1.false
 
 alien-requires : tie.Need-alien-requires

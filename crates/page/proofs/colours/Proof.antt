@@ -1,5 +1,5 @@
 -- `colours` meets its contract: the rows are those from the parts' place on.
-use Rattle.page.specs.Places.{sheetAt}
+use Rattle.page.specs.Places.{sheet_at}
 use borrow.Author.Rules.{rules}
 use Rattle.page.proofs.colours.Statement.{statement}
 use Rattle.page.proofs.colours.Tie as tie
@@ -8,7 +8,7 @@ colours-requires : tie.Need-colours-requires
 colours-requires c κs = search rules
 
 returns : tie.Need-returns
-unfolding sheetAt
+unfolding sheet_at
 returns c = c.colours.ensures
 
 pub colours-spec : {M : Type 1} → statement M

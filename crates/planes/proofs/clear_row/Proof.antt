@@ -4,15 +4,15 @@ use mathlib.Core.Bool.{Bool}
 use Prim.Native.Nat.{ℕ, ◌+◌, ◌-◌, ◌*◌, ◌≤◌, ◌<◌}
 use native.Mathlib.Omega.{arith}
 use Rattle.lists.specs.CountLaws.{bit-under}
-use Rattle.planes.specs.Bits.{rowFrom}
+use Rattle.planes.specs.Bits.{row_from}
 use Rattle.planes.specs.RowLaws.{row-start, row-end, row_more, row_fits}
-use Rattle.planes.specs.Planes.{clearAt, clearRow}
+use Rattle.planes.specs.Planes.{clear_at, clear_row}
 use Rattle.planes.proofs.clear_row.Statement.{statement}
 use Rattle.planes.proofs.clear_row.Tie as tie
 
 abbrev invariant-loop : tie.invariant-loop
 invariant-loop colours borders cell ahead border n acc₀ x₀ acc x =
-    (x ≤ n) × (acc ≡ rowFrom (n - x) x (λ i. clearAt colours borders (cell + i) (cell + i + ahead) (border + i)))
+    (x ≤ n) × (acc ≡ row_from (n - x) x (λ i. clear_at colours borders (cell + i) (cell + i + ahead) (border + i)))
     × (acc < 4294967296)
 
 abbrev decreases-loop : tie.decreases-loop
@@ -21,7 +21,7 @@ decreases-loop colours borders cell ahead border n acc₀ x₀ acc x = x
 -- the test of border i
 abbrev test : tie.Start invariant-loop decreases-loop → ℕ → Bool
 test s i =
-    clearAt s.args.colours.now s.args.borders.now (s.args.cell + i) (s.args.cell + i + s.args.ahead)
+    clear_at s.args.colours.now s.args.borders.now (s.args.cell + i) (s.args.cell + i + s.args.ahead)
     (s.args.border + i)
 
 loop-holds : tie.Need-loop-init invariant-loop decreases-loop
@@ -62,13 +62,13 @@ loop-again c =
     let s = l.before in
     let n = s.args.n in
     let x = l.loop.x - 1 in
-    let e : l.loop.acc * 2 + c.clear.result ≡ rowFrom (n - x) x (test s) =
+    let e : l.loop.acc * 2 + c.clear.result ≡ row_from (n - x) x (test s) =
     ap₂ (λ (a b : ℕ). a * 2 + b) l.loop.invariant.1 c.clear.ensures
     ∙ sym (row_more n x l.loop.x (test s) (omega arith) (omega arith) refl) in
     (omega arith, e, omega (arith, e, row_fits (n - x) x (test s) (omega arith)))
 
 returns : tie.Need-returns invariant-loop decreases-loop
-unfolding clearRow
+unfolding clear_row
 returns c =
     let l = c.before in
     let s = l.before in

@@ -6,19 +6,19 @@ use borrow.Author.Rules.{rules}
 use lib.ListN.{get_or}
 use lib.Seq.{get_or-set_same}
 use Rattle.lists.specs.Parts.{part}
-use Rattle.groups.specs.Grouping.{cells_in, startsIn, start_in}
+use Rattle.groups.specs.Grouping.{cells_in, starts_in, start_in}
 use Rattle.groups.specs.Parts.{part_of}
 use Rattle.reasons.specs.Arrays.{Cells}
-use Rattle.adjacent.specs.Mates.{mateCount}
+use Rattle.adjacent.specs.Mates.{mate_count}
 use Rattle.adjacent.specs.BesideLaws.{mates-reach}
-use Rattle.planes.specs.Masks.{Masked, originsIn}
+use Rattle.planes.specs.Masks.{Masked, origins_in}
 use Rattle.planes.specs.MaskLaws.{masked-none, masked-tag, mates-none, mates-more}
 use Rattle.planes.proofs.draw_mask.Statement.{statement}
 use Rattle.planes.proofs.draw_mask.Tie as tie
 
 abbrev invariant-loop : tie.invariant-loop
 invariant-loop h w potential mates name mask₀ count i₀ mask i =
-    (i ≤ mateCount mates) × Masked w (originsIn (cells_in potential) (startsIn potential) (part mates 0 i)) mask
+    (i ≤ mate_count mates) × Masked w (origins_in (cells_in potential) (starts_in potential) (part mates 0 i)) mask
 
 abbrev decreases-loop : tie.decreases-loop
 decreases-loop h w potential mates name mask₀ count i₀ mask i = count - i
@@ -33,14 +33,14 @@ clear-mask-requires : tie.Need-clear-mask-requires invariant-loop decreases-loop
 clear-mask-requires c κs = c.before.before.before.requires.2
 
 -- the count, read before the loop
-count-is : (c : tie.After-index invariant-loop decreases-loop) → c.index.result ≡ mateCount c.before.before.args.mates.now
+count-is : (c : tie.After-index invariant-loop decreases-loop) → c.index.result ≡ mate_count c.before.before.args.mates.now
 count-is c = c.index.ensures
 
 loop-holds : tie.Need-loop-init invariant-loop decreases-loop
 loop-holds c =
     let s = c.before.before.before.before in (
       omega arith,
-      mates-none s.args.w (cells_in s.args.potential.now) (startsIn s.args.potential.now)
+      mates-none s.args.w (cells_in s.args.potential.now) (starts_in s.args.potential.now)
           s.args.mates.now 0 (masked-none s.args.w c.clear-mask.ensures),
     )
 
@@ -48,7 +48,7 @@ loop-holds c =
 abbrev start : tie.In-loop invariant-loop decreases-loop → tie.Start invariant-loop decreases-loop
 start c = c.before.before.before.before.before.before
 
-next : (c : tie.In-loop invariant-loop decreases-loop) → c.before.loop.i < mateCount (start c).args.mates.now
+next : (c : tie.In-loop invariant-loop decreases-loop) → c.before.loop.i < mate_count (start c).args.mates.now
 next c = omega (arith, count-is c.before.before.before.before, c.loop-test.true)
 
 low : (c : tie.In-loop invariant-loop decreases-loop) → get_or (start c).args.mates.now c.before.loop.i 0 < 1024
@@ -99,7 +99,7 @@ loop-again c =
     let l = i.before in
     let s = start i in (
       omega (arith, next i),
-      mates-more s.args.w (cells_in s.args.potential.now) (startsIn s.args.potential.now)
+      mates-more s.args.w (cells_in s.args.potential.now) (starts_in s.args.potential.now)
           s.args.mates.now 0 l.loop.i (omega arith) (omega (arith, next i, mates-reach s.pre.1))
           ((rw (c.before.before.start-of2.ensures, c.before.before.before.start_of_lem.ensures) at
           c.flag-group.ensures.1) _ l.loop.invariant.1),
@@ -113,7 +113,7 @@ returns c =
     let l = c.before in
     let a = l.before.before.before in
     let s = a.before.before in
-    let e : l.loop.i ≡ mateCount s.args.mates.now =
+    let e : l.loop.i ≡ mate_count s.args.mates.now =
     omega (arith, c.loop-test.false, l.loop.invariant.0, count-is a) in (
       masked-tag s.args.w s.args.name (rw e at l.loop.invariant.1),
       get_or-set_same l.loop.mask 32 s.args.name 0 (omega (arith, l.loop.invariant.1.size)),

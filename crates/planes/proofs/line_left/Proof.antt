@@ -4,14 +4,14 @@ use Prim.Native.Nat.{◌+◌, ◌-◌, ◌≤◌}
 use native.Mathlib.Omega.{arith}
 use lib.ListN.{get_or}
 use Rattle.lists.specs.SectionLaws.{section-at, front_at}
-use Rattle.shapes.specs.Raising.{ysIn, xsIn, RaisedAt}
-use Rattle.planes.specs.Masks.{clearWord}
+use Rattle.shapes.specs.Raising.{ys_in, xs_in, RaisedAt}
+use Rattle.planes.specs.Masks.{clear_word}
 use Rattle.planes.specs.WordLaws.{clear_none, clear-more, word-left-none}
 use Rattle.planes.proofs.line_left.Statement.{statement}
 use Rattle.planes.proofs.line_left.Tie as tie
 
 abbrev invariant-loop : tie.invariant-loop
-invariant-loop planes word y turned n acc₀ j₀ acc j = (j ≤ n) × (acc ≡ clearWord planes y turned word j)
+invariant-loop planes word y turned n acc₀ j₀ acc j = (j ≤ n) × (acc ≡ clear_word planes y turned word j)
 
 abbrev decreases-loop : tie.decreases-loop
 decreases-loop planes word y turned n acc₀ j₀ acc j = n - j
@@ -36,11 +36,11 @@ small c = c.before.before.before.requires.2 c.before.before.loop.j c.before.loop
 
 -- the places read are those of its rows and columns
 down-at : (c : tie.Else1 invariant-loop decreases-loop) → let t = c.before.before.before.args.turned.now in
-    let j = c.before.before.loop.j in get_or t j 0 ≡ get_or (ysIn t) j 0
+    let j = c.before.before.loop.j in get_or t j 0 ≡ get_or (ys_in t) j 0
 down-at c = front_at 2048 _ _ (small c).place
 
 across-at : (c : tie.Else1 invariant-loop decreases-loop) → let t = c.before.before.before.args.turned.now in
-    let j = c.before.before.loop.j in get_or t (2048 + j) 0 ≡ get_or (xsIn t) j 0
+    let j = c.before.before.loop.j in get_or t (2048 + j) 0 ≡ get_or (xs_in t) j 0
 across-at c = section-at 2048 2048 _ _ (small c).place
 
 element-copy-out-step : tie.Need-element-copy-out-step invariant-loop decreases-loop

@@ -4,16 +4,16 @@ use mathlib.Core.Bool.{Bool, false}
 use Prim.Native.Nat.{ℕ, ◌-◌, ◌≤◌}
 use native.Mathlib.Omega.{arith}
 use lib.ListN.{get_or}
-use Rattle.lists.specs.Tests.{anyBelow}
+use Rattle.lists.specs.Tests.{any_below}
 use Rattle.lists.specs.TestLaws.{any_none, any_some, none_more, none_rest}
-use Rattle.planes.specs.Masks.{lineFits, maskFits}
+use Rattle.planes.specs.Masks.{line_fits, mask_fits}
 use Rattle.planes.specs.WordLaws.{fits-empty}
 use Rattle.planes.proofs.mask_fits.Statement.{statement}
 use Rattle.planes.proofs.mask_fits.Tie as tie
 
 abbrev invariant-loop : tie.invariant-loop
 invariant-loop planes mask h top end turned n y₀ y =
-    (y ≤ h) × (anyBelow y (λ i. lineFits planes i turned n (get_or mask i 0)) ≡ false)
+    (y ≤ h) × (any_below y (λ i. line_fits planes i turned n (get_or mask i 0)) ≡ false)
 
 abbrev decreases-loop : tie.decreases-loop
 decreases-loop planes mask h top end turned n y₀ y = h - y
@@ -21,7 +21,7 @@ decreases-loop planes mask h top end turned n y₀ y = h - y
 -- the test of a row, and that a row without origins fails it
 abbrev test : tie.Start invariant-loop decreases-loop → ℕ → Bool
 test s y =
-    lineFits s.args.planes.now y s.args.turned.now s.args.n (get_or s.args.mask.now y 0)
+    line_fits s.args.planes.now y s.args.turned.now s.args.n (get_or s.args.mask.now y 0)
 
 empty : (s : tie.Start invariant-loop decreases-loop) (y : ℕ) → get_or s.args.mask.now y 0 ≡ 0 → test s y ≡ false
 empty s y e = fits-empty s.args.planes.now y s.args.turned.now s.args.n e
@@ -45,7 +45,7 @@ line-fits-requires c κs =
     (s.requires.0.planes, omega (arith, s.requires.0.tall, s.requires.1.low.1, i.loop-test.true), s.requires.2)
 
 returns : tie.Need-returns invariant-loop decreases-loop
-unfolding maskFits
+unfolding mask_fits
 returns c =
     let i = c.before.before.before in
     let s = i.before.before in
@@ -73,7 +73,7 @@ loop-again c =
     )
 
 returns-2 : tie.Need-returns-2 invariant-loop decreases-loop
-unfolding maskFits
+unfolding mask_fits
 returns-2 c =
     let l = c.before in
     let s = l.before in

@@ -2,7 +2,7 @@
 use Prim.Native.Nat.{◌/◌}
 use native.Mathlib.Omega.{arith}
 use borrow.Author.Rules.{rules}
-use Rattle.print.specs.Answers.{codeText}
+use Rattle.print.specs.Answers.{code_text}
 use Rattle.print.specs.Lines.{holds_more, decimal-16}
 use Rattle.print.proofs.literal_text.Statement.{statement}
 use Rattle.print.proofs.literal_text.Tie as tie
@@ -27,7 +27,7 @@ with-byte-requires-2 c κs =
     )
 
 returns : tie.Need-returns
-unfolding codeText
+unfolding code_text
 returns c =
     let number = c.before.before in
     rw (← c.before.side-letter.ensures)

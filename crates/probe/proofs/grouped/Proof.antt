@@ -1,5 +1,5 @@
 -- The equations of the parts put together.
-use Rattle.probe.specs.Probe.{kindGroups}
+use Rattle.probe.specs.Probe.{kind_groups}
 use borrow.Author.Rules.{rules}
 use Rattle.probe.proofs.grouped.Statement.{statement}
 use Rattle.probe.proofs.grouped.Tie as tie
@@ -17,7 +17,7 @@ groups-of-requires : tie.Need-groups-of-requires
 groups-of-requires c κs = search rules
 
 returns : tie.Need-returns
-unfolding kindGroups
+unfolding kind_groups
 returns c =
     let b = c.before.before.before.before in
     rw (b.before.colours-in.ensures, b.borders-in.ensures, c.before.kind-of.ensures) at c.groups_of.ensures

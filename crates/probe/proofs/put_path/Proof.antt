@@ -2,7 +2,7 @@
 use native.Mathlib.Omega.{arith}
 use borrow.Author.Rules.{rules}
 use Rattle.reasons.specs.MemoryLaws.{spare-zeros, front_length, front_fits}
-use Rattle.probe.specs.Probe.{pathWords}
+use Rattle.probe.specs.Probe.{path_words}
 use Rattle.probe.specs.ProbeLaws.{places-length, path-held, literals}
 use Rattle.probe.proofs.put_path.Statement.{statement}
 use Rattle.probe.proofs.put_path.Tie as tie
@@ -33,7 +33,7 @@ same_length : tie.Need-same-length
 same_length c = search rules
 
 returns : tie.Need-returns
-unfolding pathWords
+unfolding path_words
 returns c =
     let e = c.before.before.before.before.before.before in
     let k = e.before.before.before in

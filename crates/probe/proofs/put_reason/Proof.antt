@@ -5,10 +5,10 @@ use borrow.Author.Tests.{eq-eqb, ne_eqb}
 use Rattle.rules.specs.declared.Side.{Side}
 use Rattle.rules.specs.declared.Side.TheVariants.{Wall, Open}
 use Rattle.rules.specs.Page.{Contains}
-use Rattle.rules.specs.Codes.{statesIn}
-use Rattle.reasons.specs.Arrays.{GroupAt, groupReason}
+use Rattle.rules.specs.Codes.{states_in}
+use Rattle.reasons.specs.Arrays.{GroupAt, group_reason}
 use Rattle.reasons.specs.MemoryLaws.{spare-zeros, front_length, front_fits}
-use Rattle.probe.specs.Probe.{places_of, kindGroups, reasonWords}
+use Rattle.probe.specs.Probe.{places_of, kind_groups, reason_words}
 use Rattle.image.specs.Image.{side_of}
 use Rattle.probe.specs.ProbeLaws.{places-length, group-is, no-reason, reason-held, literals}
 use borrow.Author.Rules.{rules}
@@ -30,9 +30,9 @@ group k =
 
 -- its Inside and Edge hold on the board
 held : (k : tie.After-borders-in) (side : Side) → let a = (begin k).args in
-    Contains (statesIn (places_of 1984 a.borders.now))
-    (groupReason a.h a.w (places_of 1024 a.colours.now) (places_of 1984 a.borders.now)
-    (kindGroups a.h a.w a.colours.now a.borders.now a.kind).ids side a.group)
+    Contains (states_in (places_of 1984 a.borders.now))
+    (group_reason a.h a.w (places_of 1024 a.colours.now) (places_of 1984 a.borders.now)
+    (kind_groups a.h a.w a.colours.now a.borders.now a.kind).ids side a.group)
 held k side =
     let s = begin k in
     reason-held s.pre.0 s.args.colours.now s.args.borders.now s.args.kind side s.args.group
@@ -78,7 +78,7 @@ same_length : tie.Need-same-length
 same_length c = search rules
 
 returns-2 : tie.Need-returns-2
-unfolding reasonWords
+unfolding reason_words
 returns-2 c =
     let i = c.before.before.before.before.before.before in
     let k = i.before.before.before.before.before in
@@ -119,7 +119,7 @@ same-length-2 : tie.Need-same-length-2
 same-length-2 c = search rules
 
 returns-3 : tie.Need-returns-3
-unfolding reasonWords
+unfolding reason_words
 returns-3 c =
     let e = c.before.before.before.before.before.before in
     let k = e.before.before.before.before.before.before.before.before in

@@ -3,8 +3,8 @@ use mathlib.Core.Path.{◌≡◌}
 use mathlib.Core.Bool.{true}
 use borrow.Author.Rules.{rules}
 use lib.ListN.{set}
-use Rattle.groups.specs.Grouping.{numbersIn, groupCells}
-use Rattle.reasons.specs.Arrays.{edgeIn, scanOf}
+use Rattle.groups.specs.Grouping.{numbers_in, group_cells}
+use Rattle.reasons.specs.Arrays.{edge_in, scan_of}
 use Rattle.reasons.specs.ScanLaws.{Alone, alone, flag-back, edge-scan}
 use Rattle.reasons.proofs.edge.Statement.{statement}
 use Rattle.reasons.proofs.edge.Tie as tie
@@ -13,9 +13,9 @@ flag : (s : tie.Start) → Alone (set s.args.flagged.now s.args.g 1) s.args.g
 flag s = alone s.args.flagged.now s.args.g s.requires.5 s.requires.3.few
 
 whole : (s : tie.Start) → let a = s.args in
-    edgeIn a.h a.w a.colours.now a.borders.now (numbersIn a.grouping.now) a.g
-    ≡ scanOf a.h a.w a.colours.now a.borders.now (numbersIn a.grouping.now) true
-    (set a.flagged.now a.g 1) (groupCells a.grouping.now a.g)
+    edge_in a.h a.w a.colours.now a.borders.now (numbers_in a.grouping.now) a.g
+    ≡ scan_of a.h a.w a.colours.now a.borders.now (numbers_in a.grouping.now) true
+    (set a.flagged.now a.g 1) (group_cells a.grouping.now a.g)
 whole s = let a = s.args in edge-scan a.colours.now a.borders.now s.requires.3.is (flag s)
 
 element-write-flagged : tie.Need-element-write-flagged

@@ -7,12 +7,12 @@ use lib.ListN.{get_or}
 use Rattle.lists.specs.UpTo.{up_to}
 use Rattle.rules.specs.declared.Literal.{Literal}
 use Rattle.rules.specs.Flat.{flat}
-use Rattle.rules.specs.Codes.{statesIn}
+use Rattle.rules.specs.Codes.{states_in}
 use Rattle.rules.specs.Groups.{entry}
-use Rattle.rules.specs.Reasons.{insideAt}
-use Rattle.groups.specs.Grouping.{numbersIn, cells_in, start_in}
+use Rattle.rules.specs.Reasons.{inside_at}
+use Rattle.groups.specs.Grouping.{numbers_in, cells_in, start_in}
 use Rattle.reasons.specs.Memory.{Wrote}
-use Rattle.reasons.specs.Arrays.{Cells, insideIn}
+use Rattle.reasons.specs.Arrays.{Cells, inside_in}
 use Rattle.reasons.specs.MemoryLaws.{turns-none, turns_more, turns-end}
 use Rattle.reasons.specs.ScanLaws.{part-cells, inside-part}
 use Rattle.reasons.proofs.inside.Statement.{statement}
@@ -22,7 +22,7 @@ abbrev invariant-loop : tie.invariant-loop
 invariant-loop memory₀ start h w borders grouping g from count at₀ i₀ memory at i =
     (i ≤ count)
     × Wrote memory₀ start
-    (up_to (λ k. insideAt (flat h w) (statesIn borders) (entry (numbersIn grouping)) g
+    (up_to (λ k. inside_at (flat h w) (states_in borders) (entry (numbers_in grouping)) g
     (get_or (cells_in grouping) (start_in grouping g + k) 0)) i) memory at
 
 abbrev decreases-loop : tie.decreases-loop
@@ -31,7 +31,7 @@ decreases-loop memory₀ start h w borders grouping g from count at₀ i₀ memo
 abbrev at : tie.Start invariant-loop decreases-loop → ℕ → List Literal
 at s k =
     let a = s.args in
-    insideAt (flat a.h a.w) (statesIn a.borders.now) (entry (numbersIn a.grouping.now)) a.g
+    inside_at (flat a.h a.w) (states_in a.borders.now) (entry (numbers_in a.grouping.now)) a.g
     (get_or (cells_in a.grouping.now) (start_in a.grouping.now a.g + k) 0)
 
 listed : (s : tie.Start invariant-loop decreases-loop) → let a = s.args in
@@ -40,7 +40,7 @@ listed : (s : tie.Start invariant-loop decreases-loop) → let a = s.args in
 listed s = part-cells s.requires.2.is
 
 whole : (s : tie.Start invariant-loop decreases-loop) → let a = s.args in
-    insideIn a.h a.w a.borders.now (numbersIn a.grouping.now) a.g
+    inside_in a.h a.w a.borders.now (numbers_in a.grouping.now) a.g
     ≡ up_to (at s) (start_in a.grouping.now (a.g + 1) - start_in a.grouping.now a.g)
 whole s = inside-part s.args.borders.now s.requires.2.is
 

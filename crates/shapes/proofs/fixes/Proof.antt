@@ -5,18 +5,18 @@ use borrow.Author.Rules.{rules}
 use lib.ListN.{get_or}
 use Rattle.lists.specs.SectionLaws.{section-at, front_at}
 use Rattle.rules.specs.Page.{◌⊕◌, opposite}
-use Rattle.shapes.specs.Outlines.{rowsIn, columnsIn}
-use Rattle.shapes.specs.Spots.{placeAt}
+use Rattle.shapes.specs.Outlines.{rows_in, columns_in}
+use Rattle.shapes.specs.Spots.{place_at}
 use Rattle.shapes.specs.SpotLaws.{near-least, near-small, shift_small}
 use Rattle.shapes.specs.UnitLaws.{within-fixes}
 use Rattle.shapes.proofs.fixes.Statement.{statement}
 use Rattle.shapes.proofs.fixes.Tie as tie
 
 -- the first cell's row and column
-row_at : (s : tie.Start) → get_or s.args.outline.now 0 0 ≡ get_or (rowsIn s.args.outline.now) 0 0
+row_at : (s : tie.Start) → get_or s.args.outline.now 0 0 ≡ get_or (rows_in s.args.outline.now) 0 0
 row_at s = front_at 1024 s.args.outline.now 0 (omega arith)
 
-column-at : (s : tie.Start) → get_or s.args.outline.now 1024 0 ≡ get_or (columnsIn s.args.outline.now) 0 0
+column-at : (s : tie.Start) → get_or s.args.outline.now 1024 0 ≡ get_or (columns_in s.args.outline.now) 0 0
 column-at s = section-at 1024 1024 s.args.outline.now 0 (omega arith)
 
 least-requires : tie.Need-least-requires
@@ -56,7 +56,7 @@ returns c =
     c.within.ensures
     ∙ within-fixes _ _ s.args.units.now _ s.args.outline.now s.args.row _ s.requires.1
     (rw (← row_at s, ← column-at s) (c.before.shift.ensures
-    ∙ ap (λ p. opposite p ⊕ placeAt (get_or s.args.outline.now 0 0) (get_or s.args.outline.now 1024 0))
+    ∙ ap (λ p. opposite p ⊕ place_at (get_or s.args.outline.now 0 0) (get_or s.args.outline.now 1024 0))
     c.before.before.before.before.least.ensures))
 
 pub fixes-spec : {M : Type 1} → statement M

@@ -3,10 +3,10 @@ use mathlib.Core.Path.{ap₂, ◌∙◌}
 use borrow.Author.Rules.{rules}
 use Rattle.rules.specs.Page.{◌⊕◌}
 use Rattle.rules.specs.Groups.{entry}
-use Rattle.groups.specs.Grouping.{numbersIn}
-use Rattle.shapes.specs.Pairs.{pointAt}
+use Rattle.groups.specs.Grouping.{numbers_in}
+use Rattle.shapes.specs.Pairs.{point_at}
 use Rattle.shapes.specs.PairLaws.{sum_fits, sum_back}
-use Rattle.shapes.specs.Spots.{hasCell}
+use Rattle.shapes.specs.Spots.{has_cell}
 use Rattle.shapes.proofs.lands.Statement.{statement}
 use Rattle.shapes.proofs.lands.Tie as tie
 
@@ -28,8 +28,8 @@ unfolding ◌⊕◌
 returns c =
     let s = c.before.before.before.before.before.before.before.before.before in
     c.has-cell.ensures
-    ∙ ap₂ (λ y x. hasCell s.args.h s.args.w (entry (numbersIn s.args.units.now)) s.args.g
-    (pointAt y x))
+    ∙ ap₂ (λ y x. has_cell s.args.h s.args.w (entry (numbers_in s.args.units.now)) s.args.g
+    (point_at y x))
     (sum_back s.args.p.y s.args.v.y s.requires.2.down s.requires.3.down)
     (sum_back s.args.p.x s.args.v.x s.requires.2.across s.requires.3.across)
 

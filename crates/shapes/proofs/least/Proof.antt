@@ -5,15 +5,15 @@ use native.Mathlib.Omega.{arith}
 use borrow.Author.Rules.{rules}
 use Rattle.shapes.specs.Pairs.{point_of}
 use Rattle.shapes.specs.PairLaws.{signs-read, turns-read}
-use Rattle.shapes.specs.Outlines.{rowsIn, columnsIn, cellCount}
-use Rattle.shapes.specs.Spots.{spots, leastImage}
+use Rattle.shapes.specs.Outlines.{rows_in, columns_in, cell_count}
+use Rattle.shapes.specs.Spots.{spots, least_image}
 use Rattle.shapes.specs.SpotLaws.{spot_in, least-one, earlier_more}
 use Rattle.shapes.proofs.least.Statement.{statement}
 use Rattle.shapes.proofs.least.Tie as tie
 
 abbrev invariant-loop : tie.invariant-loop
 invariant-loop row outline n s best₀ i₀ best i =
-    (1 ≤ i) × (i ≤ cellCount outline) × (point_of best ≡ leastImage row (spots (rowsIn outline) (columnsIn outline) i))
+    (1 ≤ i) × (i ≤ cell_count outline) × (point_of best ≡ least_image row (spots (rows_in outline) (columns_in outline) i))
 
 abbrev decreases-loop : tie.decreases-loop
 decreases-loop row outline n s best₀ i₀ best i = n - i
@@ -69,7 +69,7 @@ loop-again c =
 returns : tie.Need-returns invariant-loop decreases-loop
 returns c =
     let a = c.before.before.before.before in
-    let e : c.before.loop.i ≡ cellCount a.before.args.outline.now = omega (arith, a.cell-count.ensures) in
+    let e : c.before.loop.i ≡ cell_count a.before.args.outline.now = omega (arith, a.cell-count.ensures) in
     rw e at c.before.loop.invariant.2
 
 pub least-spec : {M : Type 1} → statement M

@@ -6,19 +6,19 @@ use borrow.Author.Rules.{rules}
 use lib.IntN.{pos}
 use lib.ListN.{get_or}
 use Rattle.lists.specs.SectionLaws.{section-at, front_at}
-use Rattle.shapes.specs.Outlines.{rowsIn, columnsIn}
-use Rattle.shapes.specs.Pairs.{turnBy}
+use Rattle.shapes.specs.Outlines.{rows_in, columns_in}
+use Rattle.shapes.specs.Pairs.{turn_by}
 use Rattle.shapes.specs.PairLaws.{read_back}
 use Rattle.shapes.proofs.moved.Statement.{statement}
 use Rattle.shapes.proofs.moved.Tie as tie
 
 -- the two places read are those of the cell's row and column
 row_at : (s : tie.Start) → get_or s.args.outline.now s.args.i 0
-    ≡ get_or (rowsIn s.args.outline.now) s.args.i 0
+    ≡ get_or (rows_in s.args.outline.now) s.args.i 0
 row_at s = front_at 1024 s.args.outline.now s.args.i s.requires.1.inside
 
 column-at : (s : tie.Start) → get_or s.args.outline.now (1024 + s.args.i) 0
-    ≡ get_or (columnsIn s.args.outline.now) s.args.i 0
+    ≡ get_or (columns_in s.args.outline.now) s.args.i 0
 column-at s = section-at 1024 1024 s.args.outline.now s.args.i s.requires.1.inside
 
 mul-signed : tie.Need-overflow-mul-signed
@@ -56,7 +56,7 @@ returns : tie.Need-returns
 returns c =
     let s = c.before.before.before.before.before in
     c.turn.ensures
-    ∙ ap₂ (turnBy s.args.s)
+    ∙ ap₂ (turn_by s.args.s)
     (read_back _ c.before.before.before.signed.ensures (omega (arith, row_at s, s.requires.1.down))
     ∙ ap pos (row_at s))
     (read_back _ c.before.signed2.ensures (omega (arith, column-at s, s.requires.1.across)) ∙ ap pos (column-at s))

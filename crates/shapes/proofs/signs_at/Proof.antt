@@ -1,10 +1,10 @@
--- `shapes::signs_at` meets its contract: the constant is the definition's table, each row read by `signsOf`.
+-- `shapes::signs_at` meets its contract: the constant is the definition's table, each row read by `signs_of`.
 use mathlib.Core.Bool.{false}
 use borrow.Author.Rules.{rules}
 use lib.IntN.{pos}
 use Rattle.lists.specs.Maps.{get_d_map}
-use Rattle.rules.specs.Turns.{keep, flatTable}
-use Rattle.shapes.specs.Pairs.{signsOf}
+use Rattle.rules.specs.Turns.{keep, flat_table}
+use Rattle.shapes.specs.Pairs.{signs_of}
 use Rattle.shapes.proofs.signs_at.Statement.{statement}
 use Rattle.shapes.proofs.signs_at.Tie as tie
 
@@ -16,7 +16,7 @@ array-copy-out-result c = search rules
 
 returns : tie.Need-returns
 returns c =
-    get_d_map signsOf flatTable c.before.args.row keep
+    get_d_map signs_of flat_table c.before.args.row keep
     (record { swap = false; down = pos 0; across = pos 0 }) c.before.requires
 
 pub signs-at-spec : {M : Type 1} → statement M

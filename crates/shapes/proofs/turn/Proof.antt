@@ -1,7 +1,7 @@
 -- `shapes::turn` meets its contract: a sign times a small number fits, and is read back as it was.
 use mathlib.Core.Path.{◌≡◌}
 use borrow.Author.Rules.{rules}
-use Rattle.shapes.specs.Pairs.{turnBy}
+use Rattle.shapes.specs.Pairs.{turn_by}
 use Rattle.shapes.specs.PairLaws.{sign-back, times-fits, times-back}
 use Rattle.shapes.proofs.turn.Statement.{statement}
 use Rattle.shapes.proofs.turn.Tie as tie
@@ -40,7 +40,7 @@ mul-t11 c =
     rw (across-is c.before) (times-fits s.args.s.across s.args.x s.requires.0.across s.requires.2)
 
 returns : tie.Need-returns
-unfolding turnBy
+unfolding turn_by
 returns c =
     let s = c.before.before.before.before.before in
     simp (
@@ -52,7 +52,7 @@ returns c =
     )
 
 returns-2 : tie.Need-returns-2
-unfolding turnBy
+unfolding turn_by
 returns-2 c =
     let s = c.before.before.before.before.before in
     simp (

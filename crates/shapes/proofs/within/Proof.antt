@@ -9,12 +9,12 @@ use Rattle.lists.specs.TestLaws.{all_none, all_more, all_end}
 use Rattle.rules.specs.Page.{◌⊕◌}
 use Rattle.rules.specs.Groups.{entry}
 use Rattle.rules.specs.Turns.{apply}
-use Rattle.groups.specs.Grouping.{numbersIn}
-use Rattle.shapes.specs.Outlines.{cellCount}
+use Rattle.groups.specs.Grouping.{numbers_in}
+use Rattle.shapes.specs.Outlines.{cell_count}
 use Rattle.shapes.specs.Pairs.{point_of}
 use Rattle.shapes.specs.PairLaws.{signs-read, turns-read}
-use Rattle.shapes.specs.Rows.{turnAt}
-use Rattle.shapes.specs.Spots.{cellSpot, hasCell}
+use Rattle.shapes.specs.Rows.{turn_at}
+use Rattle.shapes.specs.Spots.{cell_spot, has_cell}
 use Rattle.shapes.specs.SpotLaws.{spot_in, near-image, near-small}
 use Rattle.shapes.specs.UnitLaws.{landed, within-fails, within_all}
 use Rattle.shapes.proofs.within.Statement.{statement}
@@ -22,8 +22,8 @@ use Rattle.shapes.proofs.within.Tie as tie
 
 abbrev invariant-loop : tie.invariant-loop
 invariant-loop units h w g outline row v n s i₀ i =
-    (i ≤ cellCount outline)
-    × (all_below i (λ j. hasCell h w (entry (numbersIn units)) g (apply (turnAt row) (cellSpot outline j) ⊕ point_of v))
+    (i ≤ cell_count outline)
+    × (all_below i (λ j. has_cell h w (entry (numbers_in units)) g (apply (turn_at row) (cell_spot outline j) ⊕ point_of v))
     ≡ true)
 
 abbrev decreases-loop : tie.decreases-loop
@@ -47,8 +47,8 @@ moved-requires c κs = (
 
 -- the image of the cell
 image-is : (c : tie.After-moved invariant-loop decreases-loop) → point_of c.moved.result
-    ≡ apply (turnAt c.before.before.before.before.before.args.row)
-    (cellSpot c.before.before.before.before.before.args.outline.now c.before.before.loop.i)
+    ≡ apply (turn_at c.before.before.before.before.before.args.row)
+    (cell_spot c.before.before.before.before.before.args.outline.now c.before.before.loop.i)
 image-is c =
     let a = c.before.before.before in
     ap point_of c.moved.ensures ∙ turns-read a.before.before.args.row a.signs-at.ensures _ _
@@ -57,7 +57,7 @@ lands-requires : tie.Need-lands-requires invariant-loop decreases-loop
 lands-requires c κs =
     let s = c.before.before.before.before.before in
     let i = c.before.before.loop.i in
-    let l : i < cellCount s.args.outline.now =
+    let l : i < cell_count s.args.outline.now =
     omega (arith, c.before.before.before.before.cell-count.ensures) in
     let u = s.requires.2.spotted in (
       s.requires.2.sized,
@@ -86,7 +86,7 @@ returns : tie.Need-returns invariant-loop decreases-loop
 returns c =
     let n = c.before.before.before.before.before.before in
     let s = n.before in
-    sym (within-fails _ _ (numbersIn s.args.units.now) _ s.args.outline.now _ _
+    sym (within-fails _ _ (numbers_in s.args.units.now) _ s.args.outline.now _ _
     c.before.before.before.before.loop.i (omega (arith, n.cell-count.ensures))
     (landed _ _ _ _ (point_of c.before.before.moved.result) _ _ c.before.lands.ensures
     (image-is c.before.before) c.if1.false))
@@ -95,7 +95,7 @@ returns-2 : tie.Need-returns-2 invariant-loop decreases-loop
 returns-2 c =
     let n = c.before.before.before in
     let s = n.before in
-    sym (within_all _ _ (numbersIn s.args.units.now) _ s.args.outline.now _ _
+    sym (within_all _ _ (numbers_in s.args.units.now) _ s.args.outline.now _ _
     (all_end c.before.loop.i _ _ c.before.loop.invariant.0 (omega (arith, n.cell-count.ensures))
     c.before.loop.invariant.1))
 

@@ -2,11 +2,11 @@
 use mathlib.Core.Path.{◌≡◌, sym, ◌∙◌}
 use borrow.Author.Rules.{rules}
 use Rattle.groups.specs.declared.Kind.TheVariants.{Blocks, Potential}
-use Rattle.groups.specs.Kinds.{joinsIn}
+use Rattle.groups.specs.Kinds.{joins_in}
 use lib.Seq.{length-take-le}
 use Rattle.reasons.specs.MemoryLaws.{spare-front}
 use Rattle.blocks.specs.Bridges.{lists_of, parted-of}
-use Rattle.blocks.specs.BlockHits.{faultyIn}
+use Rattle.blocks.specs.BlockHits.{faulty_in}
 use Rattle.steps.specs.HitLaws.{answers-none, answers-plain, blocks-held, blocks-plain}
 use Rattle.steps.specs.HitLaws.{blocks-clear, blocks-fault, fault-block, fault-unit}
 use Rattle.steps.proofs.block_hit.Statement.{statement}
@@ -14,7 +14,7 @@ use Rattle.steps.proofs.block_hit.Tie as tie
 
 found : (c : tie.After-first-faulty) → let s = c.before.before in
     c.first-faulty.result
-    ≡ faultyIn s.requires.0 s.args.colours.now s.args.clues.now s.args.borders.now
+    ≡ faulty_in s.requires.0 s.args.colours.now s.args.clues.now s.args.borders.now
 found c =
     let p = c.before.before.requires in
     rw (p.2.cells, p.2.starts, p.2.count, p.3.numbers, p.3.starts) at c.first-faulty.ensures
@@ -23,7 +23,7 @@ first-faulty-requires : tie.Need-first-faulty-requires
 first-faulty-requires c κs =
     let p = c.before.requires in
     rw (p.2.cells, p.2.starts, p.2.count, p.3.numbers, p.3.starts)
-    (lists_of p.0 (joinsIn Blocks _ _ _ _), parted-of p.0 (joinsIn Potential _ _ _ _))
+    (lists_of p.0 (joins_in Blocks _ _ _ _), parted-of p.0 (joins_in Potential _ _ _ _))
 
 is-clear-requires : tie.Need-is-clear-requires
 is-clear-requires c κs = search rules

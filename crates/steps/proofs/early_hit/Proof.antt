@@ -6,13 +6,13 @@ use borrow.Author.Rules.{rules}
 use borrow.Author.Tests.{not-true, not-false}
 use lib.ListN.{length}
 use lib.Seq.{length-take-le}
-use Rattle.rules.specs.Codes.{statesIn, puzzleIn}
-use Rattle.groups.specs.Grouping.{numbersIn}
+use Rattle.rules.specs.Codes.{states_in, puzzle_in}
+use Rattle.groups.specs.Grouping.{numbers_in}
 use Rattle.reasons.specs.MemoryLaws.{spare-front}
-use Rattle.walls.specs.WallHits.{breachIn}
+use Rattle.walls.specs.WallHits.{breach_in}
 use Rattle.walls.specs.Bounds.{breach-small}
 use Rattle.steps.specs.declared.Found.TheVariants.{Nothing}
-use Rattle.steps.specs.Found.{blocksHit, earlyHit, Answers}
+use Rattle.steps.specs.Found.{blocks_hit, early_hit, Answers}
 use Rattle.steps.specs.HitLaws.{answers-first, answers_next, answers-told, answers-none, answers-plain}
 use Rattle.steps.specs.HitLaws.{answers-kept, walls-held, walls-plain, walls-clear, walls-breach, arrays-of}
 use Rattle.steps.proofs.early_hit.Statement.{statement}
@@ -20,7 +20,7 @@ use Rattle.steps.proofs.early_hit.Tie as tie
 
 found : (c : tie.After-first-breach) → let s = c.before.before.before.before.before.before.before.before in
     c.first-breach.result
-    ≡ breachIn s.requires.0 s.args.colours.now s.args.clues.now s.args.borders.now
+    ≡ breach_in s.requires.0 s.args.colours.now s.args.clues.now s.args.borders.now
 found c = rw c.before.before.before.before.before.before.before.before.requires.2.numbers at c.first-breach.ensures
 
 -- the memory that step 1 leaves
@@ -29,8 +29,8 @@ left c = c.before.before.before.before.block-hit.new.1.1.1.1.1.1.1.0
 
 -- step 1 found nothing
 nothing : (c : tie.After-enum-told) → let s = c.before.before.before.before.before.before.before in
-    Answers (blocksHit (puzzleIn s.args.h s.args.w s.args.colours.now s.args.clues.now)
-    (statesIn s.args.borders.now))
+    Answers (blocks_hit (puzzle_in s.args.h s.args.w s.args.colours.now s.args.clues.now)
+    (states_in s.args.borders.now))
     s.args.memory.now (left c) Nothing
 nothing c = answers-told c.enum_told.given.1 c.before.before.before.before.block-hit.ensures
 
@@ -51,7 +51,7 @@ same_length : tie.Need-same-length
 same_length c = search rules
 
 returns : tie.Need-returns
-unfolding earlyHit
+unfolding early_hit
 returns c = answers-first _ _ _ c.enum-told2.given.1 c.before.before.before.before.block-hit.ensures
 
 first-breach-requires : tie.Need-first-breach-requires
@@ -63,7 +63,7 @@ same-length-2 : tie.Need-same-length-2
 same-length-2 c = search rules
 
 returns-2 : tie.Need-returns-2
-unfolding earlyHit
+unfolding early_hit
 returns-2 c =
     let p = c.before.before.before.before.before.before.before.before.before.before.requires in
     answers_next _ _ (nothing c.before.before.before)
@@ -81,14 +81,14 @@ write-breach-requires c κs =
     let n = c.before.before.before.before in
     let s = n.before.before.before.before.before.before.before in
     let p = s.requires in
-    let small = breach-small p.0 s.args.borders.now (numbersIn s.args.blocks.now) in
+    let small = breach-small p.0 s.args.borders.now (numbers_in s.args.blocks.now) in
     (p.0, p.1.borders, rw c.before.before.before.first-breach.ensures small, spare-front (left n) (room n))
 
 same-length-3 : tie.Need-same-length-3
 same-length-3 c = search rules
 
 returns-3 : tie.Need-returns-3
-unfolding earlyHit
+unfolding early_hit
 returns-3 c =
     let w = c.before.before in
     let f = w.before.before.before.before in

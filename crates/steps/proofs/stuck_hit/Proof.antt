@@ -3,11 +3,11 @@ use mathlib.Core.Path.{◌≡◌}
 use mathlib.Core.Option.{none}
 use native.Mathlib.Omega.{arith}
 use borrow.Author.Rules.{rules}
-use Rattle.rules.specs.Codes.{statesIn, cluesIn, unclued}
+use Rattle.rules.specs.Codes.{states_in, clues_in, unclued}
 use Rattle.groups.specs.declared.Kind.TheVariants.{Units}
-use Rattle.groups.specs.Pages.{groupsIn}
+use Rattle.groups.specs.Pages.{groups_in}
 use Rattle.reasons.specs.MemoryLaws.{spare-zeros, front_length, front_fits}
-use Rattle.fitting.specs.FirstStuck.{fitsUnit, firstFail}
+use Rattle.fitting.specs.FirstStuck.{fits_unit, first_fail}
 use Rattle.steps.specs.HitLaws.{answers-none, answers-some, units-held}
 use Rattle.steps.specs.LateLaws.{units-clear, units-stuck}
 use Rattle.steps.proofs.stuck_hit.Statement.{statement}
@@ -16,8 +16,8 @@ use Rattle.steps.proofs.stuck_hit.Tie as tie
 -- the unit found, among the units of the page
 found : (c : tie.After-first-stuck) → let a = c.before.before.args in
     c.first-stuck.result
-    ≡ firstFail (fitsUnit (unclued a.h a.w a.colours.now) (statesIn a.borders.now))
-    (groupsIn Units a.h a.w a.colours.now a.borders.now).count
+    ≡ first_fail (fits_unit (unclued a.h a.w a.colours.now) (states_in a.borders.now))
+    (groups_in Units a.h a.w a.colours.now a.borders.now).count
 found c = rw c.before.before.requires.0.units.count at c.first-stuck.ensures
 
 first-stuck-requires : tie.Need-first-stuck-requires
@@ -75,7 +75,7 @@ returns-2 c =
     λ ks.
     answers-some _ p.1.borders (units-held z _ ks _)
     (units-stuck z _ _ _ (found n.before) ks (rw (n.count_of.ensures, p.0.units.count) at w.before.before.if1.false))
-    (w.write-stuck.ensures (cluesIn ks)) c.before.before.hand-out.ensures
+    (w.write-stuck.ensures (clues_in ks)) c.before.before.hand-out.ensures
 
 pub stuck-hit-spec : {M : Type 1} → statement M
 stuck-hit-spec =

@@ -5,19 +5,19 @@ use Prim.Native.Nat.{ℕ, zero, ◌≤◌, ◌-◌}
 use native.Mathlib.Omega.{arith}
 use lib.ListN.{length, get_or, length-replicate}
 use Rattle.lists.specs.UpTo.{up_to}
-use Rattle.rules.specs.Codes.{statesIn, unclued}
+use Rattle.rules.specs.Codes.{states_in, unclued}
 use Rattle.rules.specs.declared.Literal.{Literal}
-use Rattle.groups.specs.Grouping.{cells_in, startsIn}
+use Rattle.groups.specs.Grouping.{cells_in, starts_in}
 use Rattle.reasons.specs.Memory.{Wrote}
 use Rattle.reasons.specs.MemoryLaws.{turns-none, turns_more, turns-end}
 use Rattle.shapes.specs.Raising.{Raised, spelled}
-use Rattle.shapes.specs.Images.{imageJoints}
-use Rattle.shapes.specs.Spots.{cellSpots, jointSpots}
-use Rattle.adjacent.specs.Mates.{matesIn}
+use Rattle.shapes.specs.Images.{image_joints}
+use Rattle.shapes.specs.Spots.{cell_spots, joint_spots}
+use Rattle.adjacent.specs.Mates.{mates_in}
 use Rattle.planes.specs.DrawLaws.{planes-long}
-use Rattle.stuck.specs.Survivors.{noWalls}
+use Rattle.stuck.specs.Survivors.{no_walls}
 use Rattle.stuck.specs.BlockLaws.{lain-rows, blocks-row}
-use Rattle.stuck.specs.Writing.{blocksBy, blocksListed}
+use Rattle.stuck.specs.Writing.{blocks_by, blocks_listed}
 use Rattle.stuck.proofs.block_rows.Statement.{statement}
 use Rattle.stuck.proofs.block_rows.Tie as tie
 
@@ -25,9 +25,9 @@ abbrev invariant-loop : tie.invariant-loop
 invariant-loop memory₀ h w colours borders outline potential mates listed same mask spread turned₀ left₀ k count at₀ j₀ memory
     turned left at j =
     (j ≤ listed.count) × (length turned ≡ 4096) × (length left ≡ 32) × Wrote memory₀ 0
-    (up_to (λ i. blocksBy (unclued h w colours) (statesIn borders) (cells_in potential) (startsIn potential)
-    (matesIn mates)
-    (cellSpots outline) (jointSpots outline) (get_or listed.rows i 0)) j) memory at
+    (up_to (λ i. blocks_by (unclued h w colours) (states_in borders) (cells_in potential) (starts_in potential)
+    (mates_in mates)
+    (cell_spots outline) (joint_spots outline) (get_or listed.rows i 0)) j) memory at
 
 abbrev decreases-loop : tie.decreases-loop
 decreases-loop memory₀ h w colours borders outline potential mates listed same mask spread turned₀ left₀ k count at₀ j₀ memory
@@ -36,9 +36,9 @@ decreases-loop memory₀ h w colours borders outline potential mates listed same
 -- the blockers by the listed row i
 abbrev each : tie.Start invariant-loop decreases-loop → ℕ → List Literal
 each s i =
-    blocksBy (unclued s.args.h s.args.w s.args.colours.now) (statesIn s.args.borders.now)
-    (cells_in s.args.potential.now) (startsIn s.args.potential.now) (matesIn s.args.mates.now)
-    (cellSpots s.args.outline.now) (jointSpots s.args.outline.now) (get_or s.args.t6.rows i 0)
+    blocks_by (unclued s.args.h s.args.w s.args.colours.now) (states_in s.args.borders.now)
+    (cells_in s.args.potential.now) (starts_in s.args.potential.now) (mates_in s.args.mates.now)
+    (cell_spots s.args.outline.now) (joint_spots s.args.outline.now) (get_or s.args.t6.rows i 0)
 
 -- the start, as the loop's end sees it
 abbrev first : tie.After-joint-count invariant-loop decreases-loop → tie.Start invariant-loop decreases-loop
@@ -83,8 +83,8 @@ image-raised c = rw c.before.before.before.before.before.joint-count.ensures c.t
 image-spelled : (c : tie.After-turn-row invariant-loop decreases-loop) → let n = c.before.before.before.before.before in
     let a = (first n).args in
     spelled c.turn-row.new.1.1.0 n.joint-count.result
-    ≡ imageJoints (get_or a.t6.rows c.before.before.before.before.loop.j 0) (cellSpots a.outline.now)
-    (jointSpots a.outline.now)
+    ≡ image_joints (get_or a.t6.rows c.before.before.before.before.loop.j 0) (cell_spots a.outline.now)
+    (joint_spots a.outline.now)
 image-spelled c = ap (spelled c.turn-row.new.1.1.0)
     c.before.before.before.before.before.joint-count.ensures ∙ c.turn-row.ensures.1
 
@@ -104,7 +104,7 @@ survivors-requires c κs =
       record {
         tall = s.pre.1.sized.tall;
         planes =
-            planes-long s.args.h s.args.w s.args.colours.now noWalls
+            planes-long s.args.h s.args.w s.args.colours.now no_walls
             d.before.before.before.before.draw-colours.ensures;
         mask = d.before.before.draw-mask.ensures.0.size;
       },
@@ -142,7 +142,7 @@ loop-less : tie.Need-loop-smaller invariant-loop decreases-loop
 loop-less c = omega (arith, (test c).loop-test.true)
 
 loop-again : tie.Need-loop-preserved invariant-loop decreases-loop
-unfolding blocksBy
+unfolding blocks_by
 loop-again c =
     let m = c.before.before in
     let v = m.before.before.before.before.before in
@@ -166,7 +166,7 @@ same_length : tie.Need-same-length invariant-loop decreases-loop
 same_length c = c.before.loop.invariant.3.long
 
 returns : tie.Need-returns invariant-loop decreases-loop
-unfolding blocksListed
+unfolding blocks_listed
 returns c =
     let l = c.before in
     let s = first l.before in

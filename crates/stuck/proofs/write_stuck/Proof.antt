@@ -5,8 +5,8 @@ use native.Mathlib.Omega.{arith}
 use borrow.Author.Rules.{rules}
 use lib.ListN.{get_or, length-replicate}
 use Rattle.laws.specs.FlatLaws.{counts}
-use Rattle.groups.specs.Grouping.{numbersIn, cells_in}
-use Rattle.adjacent.specs.Homes.{homeIn}
+use Rattle.groups.specs.Grouping.{numbers_in, cells_in}
+use Rattle.adjacent.specs.Homes.{home_in}
 use Rattle.adjacent.specs.HomeLaws.{unit-part, unit-placed, home-few, home-cells, head-low}
 use Rattle.stuck.specs.AskedLaws.{unit-low, stuck-part, at_home, arranged, imaged, home-written}
 use Rattle.stuck.proofs.write_stuck.Statement.{statement}
@@ -32,11 +32,11 @@ group-of-requires c κs =
 
 -- the unit's potential unit
 home-is : (c : tie.After-group-of) → let s = c.before.before.before.before.args in
-    c.Group-of.result ≡ homeIn s.units.now s.potential.now s.u
+    c.Group-of.result ≡ home_in s.units.now s.potential.now s.u
 home-is c =
     let s = c.before.before.before.before in
     c.Group-of.ensures
-    ∙ ap (λ i. get_or (numbersIn s.args.potential.now) i 0)
+    ∙ ap (λ i. get_or (numbers_in s.args.potential.now) i 0)
     (c.before.cell_at.ensures
     ∙ ap (λ (i : ℕ). get_or (cells_in s.args.units.now) i 0) c.before.before.start_of_lem.ensures)
 

@@ -3,7 +3,7 @@ use borrow.Author.Rules.{rules}
 use Rattle.rules.specs.Flat.{flat}
 use Rattle.rules.specs.Groups.{entry}
 use Rattle.rules.specs.Shapes.{shape_of}
-use Rattle.groups.specs.Grouping.{numbersIn}
+use Rattle.groups.specs.Grouping.{numbers_in}
 use Rattle.shapes.specs.ImageLaws.{jointed}
 use Rattle.shapes.specs.ListingLaws.{rows-listed}
 use Rattle.stuck.specs.ReasonLaws.{own, beside, mated, reason-written}
@@ -15,7 +15,7 @@ block-rows-requires c κs =
     let s = c.before.before in
     let a = s.requires.0 in
     let b = s.requires.1 in (
-      rows-listed (shape_of (flat s.args.h s.args.w) (entry (numbersIn s.args.units.now)) s.args.u)
+      rows-listed (shape_of (flat s.args.h s.args.w) (entry (numbers_in s.args.units.now)) s.args.u)
           b.rows,
       a.drawn,
       b.cells.spotted,

@@ -4,10 +4,10 @@ use mathlib.Core.List.{List, ◌++◌}
 use Prim.Native.Nat.{ℕ}
 use native.Mathlib.Omega.{arith}
 use borrow.Author.Rules.{rules}
-use Rattle.page.specs.Places.{judgedOf}
+use Rattle.page.specs.Places.{judged_of}
 use Rattle.page.specs.ParserLaws.{told_same}
-use Rattle.print.specs.Answers.{answersWord}
-use Rattle.transcript.specs.Left.{left_at, stepsAt}
+use Rattle.print.specs.Answers.{answers_word}
+use Rattle.transcript.specs.Left.{left_at, steps_at}
 use Rattle.transcript.specs.LeftLaws.{put-goes, refused-left, accepted-left}
 use Rattle.transcript.proofs.begin.Statement.{statement}
 use Rattle.transcript.proofs.begin.Tie as tie
@@ -37,26 +37,26 @@ same_length : tie.Need-same-length
 same_length c = search rules
 
 returns : tie.Need-returns
-unfolding left_at judgedOf stepsAt
+unfolding left_at judged_of steps_at
 returns c = λ m.
     let d = c.before.before.before.before in
     put-goes _ _ d.before.before.before.before.answers-line.ensures
     d.before.before.before.put-line.ensures (search rules)
-    (ap (λ (t : List ℕ). answersWord ++ t)
-    (refused-left _ m _ (told_same (judgedOf _) d.judge.ensures c.before.before.judged.given.1)))
+    (ap (λ (t : List ℕ). answers_word ++ t)
+    (refused-left _ m _ (told_same (judged_of _) d.judge.ensures c.before.before.judged.given.1)))
     (omega arith)
 
 same-length-2 : tie.Need-same-length-2
 same-length-2 c = search rules
 
 returns-2 : tie.Need-returns-2
-unfolding left_at judgedOf stepsAt
+unfolding left_at judged_of steps_at
 returns-2 c = λ m.
     let d = c.before.before.before.before in
     put-goes _ _ d.before.before.before.before.answers-line.ensures
     d.before.before.before.put-line.ensures (search rules)
-    (ap (λ (t : List ℕ). answersWord ++ t)
-    (accepted-left _ m _ _ (told_same (judgedOf _) d.judge.ensures c.before.before.judged2.given.1)
+    (ap (λ (t : List ℕ). answers_word ++ t)
+    (accepted-left _ m _ _ (told_same (judged_of _) d.judge.ensures c.before.before.judged2.given.1)
     c.board-of.ensures))
     (omega arith)
 

@@ -1,10 +1,10 @@
 use mathlib.Core.Path.{sym, ap, ◌∙◌}
 use lib.Seq.{length-take-le}
 use Rattle.board.specs.declared.Returned.{Returned}
-use Rattle.page.specs.Places.{sheetAt}
+use Rattle.page.specs.Places.{sheet_at}
 -- `board_of` meets its contract: the arrays are cut to the page's cells.
 use native.Mathlib.Omega.{arith}
-use Rattle.transcript.specs.Left.{boardAt}
+use Rattle.transcript.specs.Left.{board_at}
 use Rattle.board.specs.ConditionLaws.{cells-of-le}
 use borrow.Author.Rules.{rules}
 use Rattle.transcript.proofs.board_of.Statement.{statement}
@@ -47,7 +47,7 @@ fresh-requires : tie.Need-fresh-requires
 fresh-requires c κs = search rules
 
 returns : tie.Need-returns
-unfolding boardAt sheetAt
+unfolding board_at sheet_at
 returns c =
     ap (λ (r : Returned). r.board) c.before.fresh.ensures
     ∙ rw (

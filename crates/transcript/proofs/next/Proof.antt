@@ -1,7 +1,7 @@
 -- `next` meets its contract, stage by stage.
 use mathlib.Core.Path.{refl}
 use borrow.Author.Rules.{rules}
-use Rattle.transcript.specs.Left.{left_at, stepsAt, memoryAt}
+use Rattle.transcript.specs.Left.{left_at, steps_at, memory_at}
 use Rattle.transcript.specs.declared.Stage.TheVariants.{Begin, Refused, Calls, Reason, Last}
 use Rattle.transcript.specs.LeftLaws.{next-goes, next-short, next-over}
 use Rattle.transcript.proofs.next.Statement.{statement}
@@ -53,7 +53,7 @@ same_length : tie.Need-same-length
 same_length c = search rules
 
 returns-2 : tie.Need-returns-2
-unfolding left_at stepsAt memoryAt
+unfolding left_at steps_at memory_at
 returns-2 c = next-goes _ _ _ _ Begin c.before.before.before.before.enum_told.given.1
     (search rules) refl
     (c.before.before.begin.ensures _)
@@ -62,7 +62,7 @@ same-length-2 : tie.Need-same-length-2
 same-length-2 c = search rules
 
 returns-3 : tie.Need-returns-3
-unfolding left_at stepsAt memoryAt
+unfolding left_at steps_at memory_at
 returns-3 c = next-goes _ _ _ _ (Refused _) c.before.before.before.before.before.before.stage.given.1
     (search rules) refl
     (c.before.before.put.ensures _ _ _ c.before.before.before.refused-line.ensures)
@@ -74,7 +74,7 @@ same-length-4 : tie.Need-same-length-4
 same-length-4 c = search rules
 
 returns-4 : tie.Need-returns-4
-unfolding left_at stepsAt memoryAt
+unfolding left_at steps_at memory_at
 returns-4 c = next-goes _ _ _ _ Calls c.before.before.before.before.before.before.before.enum-told2.given.1
     (search rules) c.before.before.before.before.turn.ensures.1
     c.before.before.before.before.turn.ensures.0
@@ -86,7 +86,7 @@ same-length-6 : tie.Need-same-length-6
 same-length-6 c = search rules
 
 returns-5 : tie.Need-returns-5
-unfolding left_at stepsAt memoryAt
+unfolding left_at steps_at memory_at
 returns-5 c = next-goes _ _ _ _ (Reason _ _) c.before.before.before.before.before.before.stage2.given.1
     (search rules) refl
     (c.before.before.reason.ensures _)
@@ -95,7 +95,7 @@ same-length-7 : tie.Need-same-length-7
 same-length-7 c = search rules
 
 returns-6 : tie.Need-returns-6
-unfolding left_at stepsAt memoryAt
+unfolding left_at steps_at memory_at
 returns-6 c = next-goes _ _ _ _ Last c.before.before.before.before.before.enum-told3.given.1
     (search rules) refl
     (c.before.before.put2.ensures _ _ _ c.before.before.before.end_line.ensures)

@@ -1,6 +1,6 @@
 -- `turn` meets its contract: no call is left, or the call's line begins.
 use borrow.Author.Rules.{rules}
-use Rattle.page.specs.Places.{gotCall}
+use Rattle.page.specs.Places.{got_call}
 use Rattle.page.specs.ParserLaws.{told_same}
 use Rattle.transcript.specs.LeftLaws.{turn_end, turn-goes}
 use Rattle.transcript.proofs.turn.Statement.{statement}
@@ -16,8 +16,8 @@ enum_told : tie.Need-enum-told
 enum_told c = search rules
 
 returns : tie.Need-returns
-unfolding gotCall
-returns c = turn_end _ _ _ _ _ (told_same (gotCall _) c.before.before.call_at.ensures c.enum_told.given.1)
+unfolding got_call
+returns c = turn_end _ _ _ _ _ (told_same (got_call _) c.before.before.call_at.ensures c.enum_told.given.1)
 
 call-requires : tie.Need-call-requires
 call-requires c κs = search rules
@@ -38,10 +38,10 @@ same-length-2 : tie.Need-same-length-2
 same-length-2 c = search rules
 
 returns-2 : tie.Need-returns-2
-unfolding gotCall
+unfolding got_call
 returns-2 c =
     let d = c.before.before.before.before.before.before.before.before.before in
-    turn-goes _ _ _ _ _ _ (told_same (gotCall _) d.before.before.before.before.before.call_at.ensures
+    turn-goes _ _ _ _ _ _ (told_same (got_call _) d.before.before.before.before.before.call_at.ensures
     d.before.before.before.call.given.1) d.call2.ensures
     c.before.before.before.before.before.stage-of.ensures c.before.before.before.Line-of.ensures
     c.before.before.put-line.ensures (search rules)

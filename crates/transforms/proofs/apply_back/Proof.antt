@@ -1,7 +1,7 @@
 -- `transforms::apply_back` meets its contract: the turn is by the row that was read, reversed.
 use mathlib.Core.Path.{sym, ap, ap₂, ◌∙◌}
 use borrow.Author.Rules.{rules}
-use Rattle.shapes.specs.Pairs.{point_of, turnBy}
+use Rattle.shapes.specs.Pairs.{point_of, turn_by}
 use Rattle.shapes.specs.PairLaws.{small-back, signs-read, turns-read}
 use Rattle.transforms.specs.BoxLaws.{signs-reversed, turn-reversed}
 use Rattle.transforms.proofs.apply_back.Statement.{statement}
@@ -28,11 +28,11 @@ returns c =
     let r = c.before.before.signs-at in
     let p = c.turn.result in
     let e = c.turn.ensures
-    ∙ (ap₂ (turnBy c.before.reversed.result) (small-back s.args.y s.requires.1)
+    ∙ (ap₂ (turn_by c.before.reversed.result) (small-back s.args.y s.requires.1)
     (small-back s.args.x s.requires.2)
-    ∙ ap (λ q. turnBy q s.args.y s.args.x) c.before.reversed.ensures) in
+    ∙ ap (λ q. turn_by q s.args.y s.args.x) c.before.reversed.ensures) in
     sym (turns-read s.args.row r.ensures p.y p.x)
-    ∙ (ap (λ q. point_of (turnBy r.result q.y q.x)) e
+    ∙ (ap (λ q. point_of (turn_by r.result q.y q.x)) e
     ∙ turn-reversed (signs-read s.args.row r.ensures) s.args.y s.args.x)
 
 pub apply-back-spec : {M : Type 1} → statement M

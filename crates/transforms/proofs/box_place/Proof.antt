@@ -9,11 +9,11 @@ use mir.Val.{SFits, to_z, of_z}
 use mir.Facts.{to_z-of_z}
 use mir.ValLaws.{to_z_pos}
 use Rattle.rules.specs.Page.{◌⊕◌}
-use Rattle.rules.specs.Flat.{flatPlace}
+use Rattle.rules.specs.Flat.{flat_place}
 use Rattle.laws.specs.PointLaws.{point-eq}
 use Rattle.shapes.specs.Pairs.{Small}
 use Rattle.shapes.specs.PairLaws.{mag_sum}
-use Rattle.transforms.specs.Box.{boxAt}
+use Rattle.transforms.specs.Box.{box_at}
 use Rattle.transforms.proofs.box_place.Statement.{statement}
 use Rattle.transforms.proofs.box_place.Tie as tie
 
@@ -43,7 +43,7 @@ sub-t7 : tie.Need-overflow-sub-t7
 sub-t7 c = less-fits (c.args.i % 66) (omega arith)
 
 returns : tie.Need-returns
-unfolding boxAt flatPlace ◌⊕◌
+unfolding box_at flat_place ◌⊕◌
 returns c = (
   point-eq refl (less-back (c.args.i / 66) (omega arith)) (less-back (c.args.i % 66) (omega arith)),
   record {

@@ -5,7 +5,7 @@ use native.Mathlib.Omega.{arith}
 use borrow.Author.Rules.{rules}
 use Rattle.lists.specs.WroteLaws.{wrote-same, wrote-length}
 use Rattle.rules.specs.Groups.{entry}
-use Rattle.groups.specs.Grouping.{numbersIn}
+use Rattle.groups.specs.Grouping.{numbers_in}
 use Rattle.shapes.specs.Pairs.{point_of}
 use Rattle.transforms.specs.Transforms.{WrotePoints}
 use Rattle.transforms.specs.Box.{sweep}
@@ -15,13 +15,13 @@ use Rattle.transforms.proofs.put_cells.Tie as tie
 
 abbrev invariant-loop : tie.invariant-loop
 invariant-loop memory₀ units h w g row m at₀ i₀ memory at i =
-    (i ≤ 4356) × WrotePoints memory₀ 0 (sweep h w (entry (numbersIn units)) g row (point_of m) i) memory at
+    (i ≤ 4356) × WrotePoints memory₀ 0 (sweep h w (entry (numbers_in units)) g row (point_of m) i) memory at
 
 abbrev decreases-loop : tie.decreases-loop
 decreases-loop memory₀ units h w g row m at₀ i₀ memory at i = 4356 - i
 
 loop-holds : tie.Need-loop-init invariant-loop decreases-loop
-loop-holds c = (omega arith, sweep-start _ _ (entry (numbersIn c.args.units.now)) _ _ _ _)
+loop-holds c = (omega arith, sweep-start _ _ (entry (numbers_in c.args.units.now)) _ _ _ _)
 
 put-cell-requires : tie.Need-put-cell-requires invariant-loop decreases-loop
 put-cell-requires c κs =
@@ -32,7 +32,7 @@ put-cell-requires c κs =
       s.requires.2,
       s.requires.3,
       search rules,
-      sweep-room _ _ (entry (numbersIn s.args.units.now)) _ _ _ l.i 4356 (search rules) l.invariant.1 s.requires.4,
+      sweep-room _ _ (entry (numbers_in s.args.units.now)) _ _ _ l.i 4356 (search rules) l.invariant.1 s.requires.4,
     )
 
 add-i : tie.Need-overflow-add-i invariant-loop decreases-loop
@@ -46,7 +46,7 @@ loop-again c =
     let s = c.before.before.before.before.before in
     let l = c.before.before.before.before.loop in (
       omega arith,
-      sweep-step _ _ (entry (numbersIn s.args.units.now)) _ _ _ l.i l.invariant.1 c.before.put-cell.ensures,
+      sweep-step _ _ (entry (numbers_in s.args.units.now)) _ _ _ l.i l.invariant.1 c.before.put-cell.ensures,
     )
 
 same_length : tie.Need-same-length invariant-loop decreases-loop
@@ -58,7 +58,7 @@ returns c =
     let e : c.before.loop.i ≡ 4356 = omega arith in
     wrote-same
     (ap
-    (sweep s.args.h s.args.w (entry (numbersIn s.args.units.now)) s.args.g s.args.row
+    (sweep s.args.h s.args.w (entry (numbers_in s.args.units.now)) s.args.g s.args.row
     (point_of s.args.m))
     e)
     c.before.loop.invariant.1

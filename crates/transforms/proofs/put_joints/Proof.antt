@@ -4,11 +4,11 @@ use Prim.Native.Nat.{◌-◌, ◌≤◌}
 use native.Mathlib.Omega.{arith}
 use borrow.Author.Rules.{rules}
 use Rattle.lists.specs.WroteLaws.{wrote-same, wrote-length}
-use Rattle.shapes.specs.Outlines.{downIn, acrossIn, jointCount}
+use Rattle.shapes.specs.Outlines.{down_in, across_in, joint_count}
 use Rattle.shapes.specs.Pairs.{point_of}
 use Rattle.shapes.specs.Spots.{spots}
 use Rattle.transforms.specs.Transforms.{WrotePoints}
-use Rattle.transforms.specs.Box.{movedBack}
+use Rattle.transforms.specs.Box.{moved_back}
 use Rattle.transforms.specs.ImageLaws.{moved-start, moved-step, moved-room}
 use Rattle.transforms.proofs.put_joints.Statement.{statement}
 use Rattle.transforms.proofs.put_joints.Tie as tie
@@ -16,7 +16,7 @@ use Rattle.transforms.proofs.put_joints.Tie as tie
 abbrev invariant-loop : tie.invariant-loop
 invariant-loop memory₀ start row outline m k at₀ j₀ memory at j =
     (j ≤ k)
-    × WrotePoints memory₀ start (movedBack row (point_of m) (spots (downIn outline) (acrossIn outline) j)) memory at
+    × WrotePoints memory₀ start (moved_back row (point_of m) (spots (down_in outline) (across_in outline) j)) memory at
 
 abbrev decreases-loop : tie.decreases-loop
 decreases-loop memory₀ start row outline m k at₀ j₀ memory at j = k - j
@@ -26,7 +26,7 @@ joint-count-requires c κs = search rules
 
 loop-holds : tie.Need-loop-init invariant-loop decreases-loop
 loop-holds c =
-    let o = c.before.args.outline.now in (omega arith, moved-start _ _ (downIn o) (acrossIn o) _ _)
+    let o = c.before.args.outline.now in (omega arith, moved-start _ _ (down_in o) (across_in o) _ _)
 
 joint-requires : tie.Need-joint-requires invariant-loop decreases-loop
 joint-requires c κs =
@@ -40,7 +40,7 @@ put-requires c κs =
     let s = a.before in
     let o = s.args.outline.now in
     let l = c.before.before.before.loop in
-    moved-room _ _ (downIn o) (acrossIn o) l.j (jointCount o) (omega (arith, a.joint-count.ensures)) l.invariant.1
+    moved-room _ _ (down_in o) (across_in o) l.j (joint_count o) (omega (arith, a.joint-count.ensures)) l.invariant.1
     s.requires.3
 
 add-j : tie.Need-overflow-add-j invariant-loop decreases-loop
@@ -54,7 +54,7 @@ loop-again c =
     let o = c.before.before.before.before.before.before.before.args.outline.now in
     let l = c.before.before.before.before.before.loop in (
       omega arith,
-      moved-step _ _ (downIn o) (acrossIn o) l.j l.invariant.1
+      moved-step _ _ (down_in o) (across_in o) l.j l.invariant.1
           c.before.before.before.joint.ensures c.before.put.ensures,
     )
 
@@ -66,9 +66,9 @@ returns c =
     let a = c.before.before in
     let s = a.before in
     let o = s.args.outline.now in
-    let e : c.before.loop.j ≡ jointCount o = omega (arith, a.joint-count.ensures) in
+    let e : c.before.loop.j ≡ joint_count o = omega (arith, a.joint-count.ensures) in
     wrote-same
-    (ap (λ j. movedBack s.args.row (point_of s.args.m) (spots (downIn o) (acrossIn o) j)) e)
+    (ap (λ j. moved_back s.args.row (point_of s.args.m) (spots (down_in o) (across_in o) j)) e)
     c.before.loop.invariant.1
 
 pub put-joints-spec : {M : Type 1} → statement M

@@ -4,8 +4,8 @@ use native.Mathlib.Omega.{arith}
 use borrow.Author.Rules.{rules}
 use Rattle.rules.specs.Flat.{flat}
 use Rattle.rules.specs.Groups.{entry}
-use Rattle.rules.specs.Shapes.{shape_of, flatTransforms}
-use Rattle.groups.specs.Grouping.{numbersIn}
+use Rattle.rules.specs.Shapes.{shape_of, flat_transforms}
+use Rattle.groups.specs.Grouping.{numbers_in}
 use Rattle.shapes.specs.Listing.{Rows}
 use Rattle.shapes.specs.ListingLaws.{rows-listed}
 use Rattle.transforms.specs.AnswerLaws.{listed-count, past-answer, past_memory, listed_answer, listed-memory}
@@ -16,7 +16,7 @@ use Rattle.transforms.proofs.put_listed.Tie as tie
 -- the listed rows are rows of the table
 rows : (c : tie.Start) → Rows c.args.t7
 rows c =
-    rows-listed (shape_of (flat c.args.h c.args.w) (entry (numbersIn c.args.units.now)) c.args.g)
+    rows-listed (shape_of (flat c.args.h c.args.w) (entry (numbers_in c.args.units.now)) c.args.g)
     c.requires.2
 
 none-requires : tie.Need-none-requires
@@ -26,8 +26,8 @@ returns : tie.Need-returns
 returns c =
     let s = c.before.before in
     let u = s.requires.0 in
-    let ids = numbersIn s.args.units.now in
-    let ts = flatTransforms (shape_of (flat s.args.h s.args.w) (entry ids) s.args.g) in
+    let ids = numbers_in s.args.units.now in
+    let ts = flat_transforms (shape_of (flat s.args.h s.args.w) (entry ids) s.args.g) in
     let e = listed-count s.args.h s.args.w ids s.args.g u.sized.columns s.requires.2 in (
       c.none.ensures ∙ past-answer ts s.args.k (omega (arith, e)) e,
       past_memory ts s.args.k (omega (arith, e)) s.args.memory.now,
@@ -58,7 +58,7 @@ returns-2 c =
     let a = c.before.before.before in
     let s = a.before.before.before.before in
     let u = s.requires.0 in
-    let ids = numbersIn s.args.units.now in
+    let ids = numbers_in s.args.units.now in
     let k = s.args.k in
     let w = u.sized.columns in (
       listed_answer s.args.h s.args.w ids s.args.g w s.requires.2 k (search rules)

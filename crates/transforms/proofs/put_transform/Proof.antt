@@ -4,12 +4,12 @@ use Prim.Native.Nat.{◌<◌}
 use native.Mathlib.Omega.{arith}
 use borrow.Author.Rules.{rules}
 use lib.ListN.{length}
-use Rattle.rules.specs.Codes.{statesIn, unclued}
-use Rattle.rules.specs.Check.{transformsOf}
-use Rattle.groups.specs.Grouping.{countIn}
+use Rattle.rules.specs.Codes.{states_in, unclued}
+use Rattle.rules.specs.Check.{transforms_of}
+use Rattle.groups.specs.Grouping.{count_in}
 use Rattle.adjacent.specs.Homes.{UnitIn}
 use Rattle.adjacent.specs.HomeLaws.{unit-part, unit-placed}
-use Rattle.transforms.specs.Transforms.{kthAnswer, kthMemory}
+use Rattle.transforms.specs.Transforms.{kth_answer, kth_memory}
 use Rattle.transforms.specs.AnswerLaws.{past-answer, past_memory, no-unit, unit-transforms, unit-part-in}
 use Rattle.transforms.proofs.put_transform.Statement.{statement}
 use Rattle.transforms.proofs.put_transform.Tie as tie
@@ -30,7 +30,7 @@ returns c =
     let s = f.before in
     let cs = s.args.colours.now in
     let bs = s.args.borders.now in
-    let ts = transformsOf (unclued s.args.h s.args.w cs) (statesIn bs) s.args.u in
+    let ts = transforms_of (unclued s.args.h s.args.w cs) (states_in bs) s.args.u in
     let e : length ts ≡ 0 =
     ap length (no-unit s.requires.0 cs bs f.groups_of.ensures s.args.u
     (omega (arith, a.count_of.ensures, c.before.if1.true))) in (
@@ -40,7 +40,7 @@ returns c =
 
 -- the unit has a number
 low : (c : tie.Else1) → let f = c.before.before.before in
-    f.before.args.u < countIn f.groups_of.result
+    f.before.args.u < count_in f.groups_of.result
 low c = omega (arith, c.before.count_of.ensures, c.if1.false)
 
 -- its part of the list of cells
@@ -86,8 +86,8 @@ returns-2 c =
     let t = sym (unit-transforms s.requires.0 s.args.colours.now s.args.borders.now f.groups_of.ensures
     s.args.u (low e)) in
     let r = c.before.put-listed.ensures in (
-      r.0 ∙ ap (λ ts. kthAnswer ts s.args.k) t,
-      r.1 ∙ ap (λ ts. kthMemory ts s.args.k s.args.memory.now) t,
+      r.0 ∙ ap (λ ts. kth_answer ts s.args.k) t,
+      r.1 ∙ ap (λ ts. kth_memory ts s.args.k s.args.memory.now) t,
     )
 
 pub put-transform-spec : {M : Type 1} → statement M

@@ -2,15 +2,15 @@
 use mathlib.Core.Path.{◌≡◌, sym, ap, ◌∙◌}
 use mathlib.Core.Bool.{false}
 use borrow.Author.Rules.{rules}
-use Rattle.board.specs.Alien.{isAlien}
+use Rattle.board.specs.Alien.{is_alien}
 use Rattle.board.specs.NativeLaws.{native-has}
-use Rattle.transforms.specs.Transforms.{kthAnswer, kthMemory}
+use Rattle.transforms.specs.Transforms.{kth_answer, kth_memory}
 use Rattle.transforms.specs.AnswerLaws.{board-transforms, alien-answer, alien-memory, short-answer, short-memory}
 use Rattle.transforms.specs.AnswerLaws.{done-answer, done-memory}
 use Rattle.transforms.proofs.transform.Statement.{statement}
 use Rattle.transforms.proofs.transform.Tie as tie
 
-known : (c : tie.Else1) → isAlien c.before.before.args.b ≡ false
+known : (c : tie.Else1) → is_alien c.before.before.args.b ≡ false
 known c = sym c.before.alien.ensures ∙ c.if1.false
 
 alien-requires : tie.Need-alien-requires
@@ -53,10 +53,10 @@ returns-3 c =
     let p = c.before.put-transform.ensures in
     let t = board-transforms s.args.b s.args.u s.args.k m in (
       p.0
-          ∙ (ap (λ ts. kthAnswer ts s.args.k) t
+          ∙ (ap (λ ts. kth_answer ts s.args.k) t
           ∙ done-answer s.args.b s.args.u s.args.k m e (search rules)),
       p.1
-          ∙ (ap (λ ts. kthMemory ts s.args.k m) t
+          ∙ (ap (λ ts. kth_memory ts s.args.k m) t
           ∙ done-memory s.args.b s.args.u s.args.k m e (search rules)),
     )
 

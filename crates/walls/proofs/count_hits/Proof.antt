@@ -7,19 +7,19 @@ use lib.Dec.{eqb}
 use lib.ListN.{get_or}
 use Rattle.lists.specs.CountLaws.{no-bit, bit-under}
 use Rattle.lists.specs.Arithmetic.{below_more}
-use Rattle.rules.specs.Codes.{statesIn}
+use Rattle.rules.specs.Codes.{states_in}
 use Rattle.rules.specs.Groups.{entry}
 use Rattle.laws.specs.CodeLaws.{state-wall}
-use Rattle.groups.specs.Grouping.{numbersIn}
+use Rattle.groups.specs.Grouping.{numbers_in}
 use Rattle.groups.specs.GroupingLaws.{grouping-number}
-use Rattle.walls.specs.Breaches.{isBreach}
+use Rattle.walls.specs.Breaches.{is_breach}
 use Rattle.walls.specs.Clean.{Apart}
 use Rattle.walls.proofs.count_hits.Statement.{statement}
 use Rattle.walls.proofs.count_hits.Tie as tie
 
 abbrev invariant-loop : tie.invariant-loop
 invariant-loop borders blocks at c d n hits₀ i₀ hits i =
-    (i ≤ n) × (hits ≤ i) × (hits ≡ 0 → Apart (statesIn borders) (entry (numbersIn blocks)) at c d i)
+    (i ≤ n) × (hits ≤ i) × (hits ≡ 0 → Apart (states_in borders) (entry (numbers_in blocks)) at c d i)
 
 abbrev decreases-loop : tie.decreases-loop
 decreases-loop borders blocks at c d n hits₀ i₀ hits i = n - i
@@ -37,10 +37,10 @@ one c =
 none : (c : tie.After-hit invariant-loop decreases-loop) → c.hit.result ≡ 0
     → let a = c.before.before.before.before.before.before.args in
     let i = c.before.before.before.before.before.loop.i in
-    isBreach (statesIn a.borders.now) (entry (numbersIn a.blocks.now)) (a.c + i)
+    is_breach (states_in a.borders.now) (entry (numbers_in a.blocks.now)) (a.c + i)
     (record { border = a.at + i; to = a.d + i })
     ≡ false
-unfolding isBreach entry
+unfolding is_breach entry
 none c e =
     let a = c.before.before.before.before.before.before.args in
     let i = c.before.before.before.before.before.loop.i in

@@ -3,19 +3,19 @@ use mathlib.Core.Path.{◌≡◌, sym, ◌∙◌}
 use Prim.Native.Nat.{◌≤◌, ◌-◌, ◌*◌}
 use native.Mathlib.Omega.{arith}
 use Rattle.rules.specs.Flat.{flat}
-use Rattle.rules.specs.Codes.{statesIn}
+use Rattle.rules.specs.Codes.{states_in}
 use Rattle.rules.specs.Groups.{entry}
-use Rattle.groups.specs.Grouping.{numbersIn}
-use Rattle.walls.specs.Breaches.{breachFrom, firstBreach}
-use Rattle.walls.specs.WallCases.{breachAt, or-found, or-missed, page-start, page-split, from_end}
+use Rattle.groups.specs.Grouping.{numbers_in}
+use Rattle.walls.specs.Breaches.{breach_from, first_breach}
+use Rattle.walls.specs.WallCases.{breach_at, or-found, or-missed, page-start, page-split, from_end}
 use Rattle.walls.proofs.first_breach.Statement.{statement}
 use Rattle.walls.proofs.first_breach.Tie as tie
 
 abbrev invariant-loop : tie.invariant-loop
 invariant-loop h w borders blocks y₀ y =
     (y ≤ h)
-    × (firstBreach (flat h w) (statesIn borders) (entry (numbersIn blocks))
-    ≡ breachFrom (breachAt h w borders (numbersIn blocks)) (h * w - y * w) (y * w))
+    × (first_breach (flat h w) (states_in borders) (entry (numbers_in blocks))
+    ≡ breach_from (breach_at h w borders (numbers_in blocks)) (h * w - y * w) (y * w))
 
 abbrev decreases-loop : tie.decreases-loop
 decreases-loop h w borders blocks y₀ y = h - y

@@ -6,7 +6,7 @@ use borrow.Author.Tests.{eq-eqb, ne_eqb, not-true, not-false}
 use Rattle.rules.specs.Groups.{entry}
 use Rattle.laws.specs.CodeLaws.{state-wall}
 use Rattle.reasons.specs.Arrays.{InArrays}
-use Rattle.walls.specs.Breaches.{isBreach}
+use Rattle.walls.specs.Breaches.{is_breach}
 use Rattle.walls.proofs.is_breach.Statement.{statement}
 use Rattle.walls.proofs.is_breach.Tie as tie
 
@@ -23,7 +23,7 @@ element-copy-out-if2 : tie.Need-element-copy-out-if2
 element-copy-out-if2 c = omega (arith, near c)
 
 returns-2 : tie.Need-returns-2
-unfolding isBreach
+unfolding is_breach
 returns-2 c = rw (there c.before.before, state-wall, ne_eqb _ _ c.if2.true)
 
 group-of-requires : tie.Need-group-of-requires
@@ -33,7 +33,7 @@ group-of-requires-2 : tie.Need-group-of-requires-2
 group-of-requires-2 c κs = (near c.before.before.before).to
 
 returns-3 : tie.Need-returns-3
-unfolding isBreach entry
+unfolding is_breach entry
 returns-3 c =
     rw (
       there c.before.before.before.before,

@@ -3,10 +3,10 @@ use mathlib.Core.Path.{◌≡◌}
 use Prim.Native.Nat.{ℕ, ◌≤◌, ◌<◌, ◌+◌, ◌-◌, ◌*◌}
 use native.Mathlib.Omega.{arith}
 use Rattle.lists.specs.Arithmetic.{below_more}
-use Rattle.rules.specs.Codes.{statesIn}
+use Rattle.rules.specs.Codes.{states_in}
 use Rattle.rules.specs.Groups.{entry}
 use Rattle.laws.specs.FlatLaws.{Counts, counts, Spot, spot}
-use Rattle.groups.specs.Grouping.{numbersIn}
+use Rattle.groups.specs.Grouping.{numbers_in}
 use Rattle.walls.specs.Clean.{Apart, page-clean}
 use Rattle.walls.proofs.is_clean.Statement.{statement}
 use Rattle.walls.proofs.is_clean.Tie as tie
@@ -14,7 +14,7 @@ use Rattle.walls.proofs.is_clean.Tie as tie
 abbrev invariant-loop : tie.invariant-loop
 invariant-loop h w borders blocks y₀ y =
     (y ≤ h)
-    × ((v : ℕ) → v < y → Apart (statesIn borders) (entry (numbersIn blocks)) (v * (w - 1)) (v * w) (v * w + 1) (w - 1))
+    × ((v : ℕ) → v < y → Apart (states_in borders) (entry (numbers_in blocks)) (v * (w - 1)) (v * w) (v * w + 1) (w - 1))
 
 abbrev decreases-loop : tie.decreases-loop
 decreases-loop h w borders blocks y₀ y = h - y
@@ -96,8 +96,8 @@ loop-again : tie.Need-loop-preserved invariant-loop decreases-loop
 loop-again c =
     let l = c.before.before.before.loop in
     let a = c.before.before.before.before.before.before.args in
-    let s = statesIn a.borders.now in
-    let row : ℕ → Type 0 = λ v. Apart s (entry (numbersIn a.blocks.now)) (v * (a.w - 1)) (v * a.w) (v * a.w + 1)
+    let s = states_in a.borders.now in
+    let row : ℕ → Type 0 = λ v. Apart s (entry (numbers_in a.blocks.now)) (v * (a.w - 1)) (v * a.w) (v * a.w + 1)
     (a.w - 1) in
     (omega arith, below_more row l.y l.invariant.1 (c.before.count-hits2.ensures c.if2.false))
 

@@ -2,17 +2,17 @@
 use mathlib.Core.Path.{◌≡◌, sym, ◌∙◌}
 use Prim.Native.Nat.{◌≤◌, ◌+◌, ◌-◌, ◌*◌}
 use native.Mathlib.Omega.{arith}
-use Rattle.groups.specs.Grouping.{numbersIn}
-use Rattle.walls.specs.Breaches.{breachFrom}
-use Rattle.walls.specs.WallCases.{breachAt, or-found, or-missed, row-split, from_end}
+use Rattle.groups.specs.Grouping.{numbers_in}
+use Rattle.walls.specs.Breaches.{breach_from}
+use Rattle.walls.specs.WallCases.{breach_at, or-found, or-missed, row-split, from_end}
 use Rattle.walls.proofs.row_breach.Statement.{statement}
 use Rattle.walls.proofs.row_breach.Tie as tie
 
 abbrev invariant-loop : tie.invariant-loop
 invariant-loop h w borders blocks y x₀ x =
     (x ≤ w)
-    × (breachFrom (breachAt h w borders (numbersIn blocks)) w (y * w)
-    ≡ breachFrom (breachAt h w borders (numbersIn blocks)) (w - x) (y * w + x))
+    × (breach_from (breach_at h w borders (numbers_in blocks)) w (y * w)
+    ≡ breach_from (breach_at h w borders (numbers_in blocks)) (w - x) (y * w + x))
 
 abbrev decreases-loop : tie.decreases-loop
 decreases-loop h w borders blocks y x₀ x = w - x

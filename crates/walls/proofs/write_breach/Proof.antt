@@ -1,7 +1,7 @@
 -- What `wall_reason` writes.
 use borrow.Author.Rules.{rules}
-use Rattle.reasons.specs.Search.{pathIn}
-use Rattle.walls.specs.Written.{breachLiterals}
+use Rattle.reasons.specs.Search.{path_in}
+use Rattle.walls.specs.Written.{breach_literals}
 use Rattle.walls.proofs.write_breach.Statement.{statement}
 use Rattle.walls.proofs.write_breach.Tie as tie
 
@@ -13,7 +13,7 @@ same_length : tie.Need-same-length
 same_length c = search rules
 
 returns : tie.Need-returns
-unfolding breachLiterals pathIn
+unfolding breach_literals path_in
 returns c = c.before.before.wall-reason.ensures
 
 pub write-breach-spec : {M : Type 1} → statement M

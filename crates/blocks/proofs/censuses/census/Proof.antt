@@ -9,10 +9,10 @@ use lib.ListN.{get_or}
 use lib.IntN.{pos}
 use mir.Facts.{to_z-of_z}
 use mir.Syntax.{w32}
-use Rattle.rules.specs.Codes.{clueOf}
-use Rattle.groups.specs.Grouping.{numbersIn, cells_in}
+use Rattle.rules.specs.Codes.{clue_of}
+use Rattle.groups.specs.Grouping.{numbers_in, cells_in}
 use Rattle.blocks.specs.declared.Census.{Census}
-use Rattle.blocks.specs.Censuses.{clueIn, nextPart, nextCensus}
+use Rattle.blocks.specs.Censuses.{clue_in, next_part, next_census}
 use Rattle.blocks.specs.Surveyed.{surveyed, surveyed-none, surveyed-more, surveyed-size}
 use Rattle.blocks.specs.BlockCases.{census-one, census-zero}
 use Rattle.blocks.proofs.censuses.census.Statement.{statement}
@@ -21,7 +21,7 @@ use Rattle.blocks.proofs.censuses.census.Tie as tie
 abbrev invariant-loop : tie.invariant-loop
 invariant-loop colours clues potential blocks from to zero₀ one₀ first₀ i₀ zero one first i =
     (from ≤ i) × (i ≤ to) × (record { zero = zero; one = one; clue = first }
-    ≡ surveyed colours clues (numbersIn potential) (cells_in blocks) from i)
+    ≡ surveyed colours clues (numbers_in potential) (cells_in blocks) from i)
 
 abbrev decreases-loop : tie.decreases-loop
 decreases-loop colours clues potential blocks from to zero₀ one₀ first₀ i₀ zero one first i = to - i
@@ -70,7 +70,7 @@ next : (c : tie.Joined1 invariant-loop decreases-loop)
     → let k = c.before.before.before.before in
     let a = c.before.before.before.before.before.before.before.before.before.before.args in
     record { zero = c.if1.zero; one = c.if1.one; clue = c.before.before.first-clue.result }
-    ≡ nextCensus (was c) (eqb (get_or a.colours.now k.before.before.before.cell_at.result 0) 1)
+    ≡ next_census (was c) (eqb (get_or a.colours.now k.before.before.before.cell_at.result 0) 1)
     k.before.before.Group-of.result k.clue-at.result
 next c =
     let k = c.before.before.before in
@@ -78,10 +78,10 @@ next c =
     ⊎_elim
     (λ w.
     rw (w.2, w.3)
-    (census-one (was c) _ _ _ _ _ w.0.taken (w.1.ensures ∙ ap (nextPart _ _) k.is-clue.ensures) f))
+    (census-one (was c) _ _ _ _ _ w.0.taken (w.1.ensures ∙ ap (next_part _ _) k.is-clue.ensures) f))
     (λ w.
     rw (w.2, w.3)
-    (census-zero (was c) _ _ _ _ _ w.0.left (w.1.ensures ∙ ap (nextPart _ _) k.is-clue.ensures) f))
+    (census-zero (was c) _ _ _ _ _ w.0.left (w.1.ensures ∙ ap (next_part _ _) k.is-clue.ensures) f))
     c.if1.branch
 
 next-part-requires : tie.Need-next-part-requires invariant-loop decreases-loop
@@ -90,7 +90,7 @@ next-part-requires c κs =
     let a = c.before.before.before.before.before.before.before.before.before.before.args in
     let p = c.before.before.before.before.before.before.before.before.before.before.requires in
     let e = ap (λ (t : Census). t.one.size) l.invariant.2 in
-    let z = surveyed-size a.colours.now a.clues.now (numbersIn a.potential.now) (cells_in a.blocks.now)
+    let z = surveyed-size a.colours.now a.clues.now (numbers_in a.potential.now) (cells_in a.blocks.now)
     a.from l.i in
     omega (arith, e, z, p)
 
@@ -100,7 +100,7 @@ next-part-requires-2 c κs =
     let a = c.before.before.before.before.before.before.before.before.before.before.args in
     let p = c.before.before.before.before.before.before.before.before.before.before.requires in
     let e = ap (λ (t : Census). t.zero.size) l.invariant.2 in
-    let z = surveyed-size a.colours.now a.clues.now (numbersIn a.potential.now) (cells_in a.blocks.now)
+    let z = surveyed-size a.colours.now a.clues.now (numbers_in a.potential.now) (cells_in a.blocks.now)
     a.from l.i in
     omega (arith, e, z, p)
 
@@ -120,11 +120,11 @@ loop-again c =
     let q = c.before.before.before.before in
     let clue = get_or a.clues.now q.before.before.before.cell_at.result (pos 0) in
     let g = sfits_of q.before.clue-at-arg.given in
-    let k = ap (λ z. clueIn (clueOf z)) (to_z-of_z {w = w32} {z = clue} g) in (
+    let k = ap (λ z. clue_in (clue_of z)) (to_z-of_z {w = w32} {z = clue} g) in (
       omega arith,
       omega arith,
       next c ∙ rw (l.invariant.2, q.clue-at.ensures ∙ k, q.before.before.Group-of.ensures)
-          (surveyed-more a.colours.now a.clues.now (numbersIn a.potential.now) (cells_in a.blocks.now)
+          (surveyed-more a.colours.now a.clues.now (numbers_in a.potential.now) (cells_in a.blocks.now)
           a.from l.i _ l.invariant.0
           (omega (arith, p.long, p.within)) q.before.before.before.cell_at.ensures),
     )
@@ -134,7 +134,7 @@ unfolding surveyed
 returns c =
     let a = c.before.before.args in
     let e : c.before.loop.i ≡ a.to = omega arith in
-    c.before.loop.invariant.2 ∙ ap (surveyed a.colours.now a.clues.now (numbersIn a.potential.now)
+    c.before.loop.invariant.2 ∙ ap (surveyed a.colours.now a.clues.now (numbers_in a.potential.now)
     (cells_in a.blocks.now) a.from) e
 
 pub census-spec : {M : Type 1} → statement M

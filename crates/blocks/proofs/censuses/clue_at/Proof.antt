@@ -1,4 +1,4 @@
--- `clue_at` meets its contract: the place is read with its sign, and the two cases are those of `clueOf`.
+-- `clue_at` meets its contract: the place is read with its sign, and the two cases are those of `clue_of`.
 use mir.Facts.{to_z-of_z}
 use Rattle.laws.specs.CodeLaws.{clue-fits}
 use Rattle.blocks.specs.BlockCases.{clue-is, clue-free}

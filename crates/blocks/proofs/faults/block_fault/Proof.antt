@@ -8,11 +8,11 @@ use borrow.Author.Rules.{rules}
 use lib.ListN.{get_or}
 use Rattle.lists.specs.Parts.{part}
 use Rattle.lists.specs.PartLaws.{part-one}
-use Rattle.rules.specs.Codes.{coloursIn, cluesIn}
+use Rattle.rules.specs.Codes.{colours_in, clues_in}
 use Rattle.rules.specs.Groups.{entry}
-use Rattle.groups.specs.Grouping.{numbersIn, cells_in, startsIn}
-use Rattle.blocks.specs.Arrays.{sizeIn}
-use Rattle.blocks.specs.Censuses.{colourUnit, colourPart, censusOf}
+use Rattle.groups.specs.Grouping.{numbers_in, cells_in, starts_in}
+use Rattle.blocks.specs.Arrays.{size_in}
+use Rattle.blocks.specs.Censuses.{colour_unit, colour_part, census_of}
 use Rattle.blocks.specs.LoneCases.{lone-fault}
 use Rattle.blocks.specs.FaultCases.{fault-census, own-parted}
 use Rattle.blocks.proofs.faults.block_fault.Statement.{statement}
@@ -40,8 +40,8 @@ returns c =
     ∙ part-one (cells_in a.blocks.now) a.from (omega (arith, s.requires.0, t)) in
     c.lone-fault.ensures
     ∙ rw (one, ← c.before.cell_at.ensures)
-    (lone-fault (cluesIn a.clues.now) (entry (numbersIn a.potential.now))
-    (sizeIn (startsIn a.potential.now)) (coloursIn a.colours.now)
+    (lone-fault (clues_in a.clues.now) (entry (numbers_in a.potential.now))
+    (size_in (starts_in a.potential.now)) (colours_in a.colours.now)
     c.before.cell_at.result)
 
 look-requires : tie.Need-look-requires
@@ -56,23 +56,23 @@ census-requires c κs = search rules
 -- the potential unit of a colour's first cell has a size
 parted : (c : tie.After-census) → (colour : Bool)
     → let a = c.before.before.before.before.args in
-    let u = colourUnit (coloursIn a.colours.now) (cluesIn a.clues.now) (entry (numbersIn a.potential.now))
+    let u = colour_unit (colours_in a.colours.now) (clues_in a.clues.now) (entry (numbers_in a.potential.now))
     (part (cells_in a.blocks.now) a.from a.to) colour in
-    (u < 1024) × (get_or (startsIn a.potential.now) u 0 ≤ get_or (startsIn a.potential.now) (u + 1) 0)
+    (u < 1024) × (get_or (starts_in a.potential.now) u 0 ≤ get_or (starts_in a.potential.now) (u + 1) 0)
 parted c =
     let a = c.before.before.before.before.args in
-    own-parted (coloursIn a.colours.now) (cluesIn a.clues.now) (numbersIn a.potential.now)
-    (startsIn a.potential.now)
+    own-parted (colours_in a.colours.now) (clues_in a.clues.now) (numbers_in a.potential.now)
+    (starts_in a.potential.now)
     (part (cells_in a.blocks.now) a.from a.to) c.before.before.before.before.requires.1
 
 size-of-requires : tie.Need-size-of-requires
-unfolding censusOf colourPart
+unfolding census_of colour_part
 size-of-requires c κs =
     let d = c.before.before in
     rw (ap (λ t. t.zero.unit) d.census.ensures) (parted d false)
 
 size-of-requires-2 : tie.Need-size-of-requires-2
-unfolding censusOf colourPart
+unfolding census_of colour_part
 size-of-requires-2 c κs =
     let d = c.before.before.before in
     rw (ap (λ t. t.one.unit) d.census.ensures) (parted d true)
@@ -86,8 +86,8 @@ returns-3 c =
     let a = d.before.before.before.before.args in
     c.census-fault.ensures
     ∙ rw (c.before.size-of2.ensures, c.before.before.type_size.ensures)
-    (fault-census (coloursIn a.colours.now) (cluesIn a.clues.now) (entry (numbersIn a.potential.now))
-    (sizeIn (startsIn a.potential.now))
+    (fault-census (colours_in a.colours.now) (clues_in a.clues.now) (entry (numbers_in a.potential.now))
+    (size_in (starts_in a.potential.now))
     (part (cells_in a.blocks.now) a.from a.to) _ d.census.ensures
     (d.before.before.look.ensures.1 d.before.if2.false))
 

@@ -1,7 +1,7 @@
 -- `census_fault` meets its contract: the faults in their order.
 use mathlib.Core.Path.{◌∙◌}
 use borrow.Author.Rules.{rules}
-use Rattle.blocks.specs.Faults.{censusFault}
+use Rattle.blocks.specs.Faults.{census_fault}
 use Rattle.blocks.proofs.faults.census_fault.Statement.{statement}
 use Rattle.blocks.proofs.faults.census_fault.Tie as tie
 
@@ -21,7 +21,7 @@ or-fault-requires-2 : tie.Need-or-fault-requires-2
 or-fault-requires-2 c κs = search rules
 
 returns : tie.Need-returns
-unfolding censusFault
+unfolding census_fault
 returns c =
     c.or-fault2.ensures
     ∙ rw (

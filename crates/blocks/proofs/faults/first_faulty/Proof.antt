@@ -5,27 +5,27 @@ use Prim.Native.Nat.{ℕ, ◌≤◌, ◌-◌}
 use native.Mathlib.Omega.{arith}
 use borrow.Author.Rules.{rules}
 use lib.IntN.{ℤ}
-use Rattle.rules.specs.Codes.{coloursIn, cluesIn}
+use Rattle.rules.specs.Codes.{colours_in, clues_in}
 use Rattle.rules.specs.Groups.{entry}
-use Rattle.groups.specs.Grouping.{numbersIn, cells_in, startsIn, countIn}
+use Rattle.groups.specs.Grouping.{numbers_in, cells_in, starts_in, count_in}
 use Rattle.groups.specs.Parts.{part_of}
 use Rattle.blocks.specs.declared.Fault.{Fault}
-use Rattle.blocks.specs.Arrays.{sizeIn}
-use Rattle.blocks.specs.Faults.{isFaultless, faultOn}
-use Rattle.blocks.specs.Faulty.{at, faultyFrom, firstFaulty, faulty-next, faulty-found, faulty-end}
+use Rattle.blocks.specs.Arrays.{size_in}
+use Rattle.blocks.specs.Faults.{is_faultless, fault_on}
+use Rattle.blocks.specs.Faulty.{at, faulty_from, first_faulty, faulty-next, faulty-found, faulty-end}
 use Rattle.blocks.proofs.faults.first_faulty.Statement.{statement}
 use Rattle.blocks.proofs.faults.first_faulty.Tie as tie
 
-abbrev faultsOf : List ℕ → List ℤ → List ℕ → List ℕ → List ℕ → List ℕ → ℕ → Fault
-faultsOf cs ks ids offs cells starts B =
-    faultOn (coloursIn cs) (cluesIn ks) (entry ids) (sizeIn offs) (part_of cells starts B)
+abbrev faults_of : List ℕ → List ℤ → List ℕ → List ℕ → List ℕ → List ℕ → ℕ → Fault
+faults_of cs ks ids offs cells starts B =
+    fault_on (colours_in cs) (clues_in ks) (entry ids) (size_in offs) (part_of cells starts B)
 
 abbrev invariant-loop : tie.invariant-loop
 invariant-loop colours clues potential blocks count b₀ b =
     (b ≤ count)
-    × (firstFaulty (faultsOf colours clues (numbersIn potential) (startsIn potential) (cells_in blocks)
-    (startsIn blocks)) (countIn blocks)
-    ≡ faultyFrom (faultsOf colours clues (numbersIn potential) (startsIn potential) (cells_in blocks) (startsIn blocks))
+    × (first_faulty (faults_of colours clues (numbers_in potential) (starts_in potential) (cells_in blocks)
+    (starts_in blocks)) (count_in blocks)
+    ≡ faulty_from (faults_of colours clues (numbers_in potential) (starts_in potential) (cells_in blocks) (starts_in blocks))
     (count - b) b)
 
 abbrev decreases-loop : tie.decreases-loop
@@ -34,8 +34,8 @@ decreases-loop colours clues potential blocks count b₀ b = count - b
 -- the fault found is that of block b
 fault : (c : tie.After-block-fault invariant-loop decreases-loop) → let a = c.before.before.before.before.before.before.args in
     c.block-fault.result
-    ≡ faultsOf a.colours.now a.clues.now (numbersIn a.potential.now) (startsIn a.potential.now)
-    (cells_in a.blocks.now) (startsIn a.blocks.now) c.before.before.before.before.loop.b
+    ≡ faults_of a.colours.now a.clues.now (numbers_in a.potential.now) (starts_in a.potential.now)
+    (cells_in a.blocks.now) (starts_in a.blocks.now) c.before.before.before.before.loop.b
 unfolding part_of
 fault c = c.block-fault.ensures ∙ rw (c.before.start-of2.ensures, c.before.before.start_of_lem.ensures)
 
@@ -47,7 +47,7 @@ count-of-requires : tie.Need-count-of-requires invariant-loop decreases-loop
 count-of-requires c κs = search rules
 
 loop-holds : tie.Need-loop-init invariant-loop decreases-loop
-unfolding firstFaulty
+unfolding first_faulty
 loop-holds c =
     let n = c.count_of.result in
     (omega arith, let e : n - 0 ≡ n = omega arith in rw (← c.count_of.ensures, e))
@@ -86,7 +86,7 @@ loop-again c =
       omega arith,
       l.invariant.1
           ∙ faulty-next _ _ l.b c.before.before.before.before.before.loop-test.true
-          (ap isFaultless (sym (fault c.before.before)) ∙ (sym c.before.is-clear.ensures ∙ c.if1.true)),
+          (ap is_faultless (sym (fault c.before.before)) ∙ (sym c.before.is-clear.ensures ∙ c.if1.true)),
     )
 
 returns : tie.Need-returns invariant-loop decreases-loop
@@ -94,7 +94,7 @@ returns c =
     let l = c.before.before.before.before.before.before.loop in
     ap (at l.b) (fault c.before.before)
     ∙ (faulty-found _ _ l.b c.before.before.before.before.before.loop-test.true
-    (ap isFaultless (sym (fault c.before.before)) ∙ (sym c.before.is-clear.ensures ∙ c.if1.false))
+    (ap is_faultless (sym (fault c.before.before)) ∙ (sym c.before.is-clear.ensures ∙ c.if1.false))
     ∙ sym l.invariant.1)
 
 returns-2 : tie.Need-returns-2 invariant-loop decreases-loop

@@ -6,28 +6,28 @@ use lib.ListN.{get_or}
 use lib.IntN.{pos}
 use mir.Facts.{to_z-of_z}
 use mir.Syntax.{w32}
-use Rattle.rules.specs.Codes.{clueOf, cluesIn}
+use Rattle.rules.specs.Codes.{clue_of, clues_in}
 use Rattle.rules.specs.Groups.{entry}
-use Rattle.blocks.specs.Censuses.{optionOf, clueIn, option-clue}
+use Rattle.blocks.specs.Censuses.{option_of, clue_in, option-clue}
 use Rattle.blocks.specs.LoneCases.{lone-free, lone-none, lone-fits, lone-big}
 use Rattle.blocks.proofs.faults.lone_fault.Statement.{statement}
 use Rattle.blocks.proofs.faults.lone_fault.Tie as tie
 
 -- the clue read is the cell's
 clue : (c : tie.After-clue-at)
-    → cluesIn c.before.before.args.clues.now c.before.before.args.c ≡ optionOf c.clue-at.result
-unfolding cluesIn
+    → clues_in c.before.before.args.clues.now c.before.before.args.c ≡ option_of c.clue-at.result
+unfolding clues_in
 clue c =
     let a = c.before.before.args in
     let z = get_or a.clues.now a.c (pos 0) in
-    let k = ap (λ z. clueIn (clueOf z)) (to_z-of_z {w = w32} {z = z} (sfits_of c.before.clue-at-arg.given)) in
-    sym (ap optionOf (c.clue-at.ensures ∙ k) ∙ option-clue (clueOf z))
+    let k = ap (λ z. clue_in (clue_of z)) (to_z-of_z {w = w32} {z = z} (sfits_of c.before.clue-at-arg.given)) in
+    sym (ap option_of (c.clue-at.ensures ∙ k) ∙ option-clue (clue_of z))
 
 -- and is there
 is : (c : tie.After-clue)
-    → cluesIn c.before.before.before.before.args.clues.now c.before.before.before.before.args.c
+    → clues_in c.before.before.before.before.args.clues.now c.before.before.before.before.args.c
     ≡ some c.clue.given.0.0
-is c = clue c.before.before ∙ ap optionOf c.clue.given.1
+is c = clue c.before.before ∙ ap option_of c.clue.given.1
 
 mul-clue-at : tie.Need-overflow-mul-clue-at
 mul-clue-at c = search rules
@@ -45,7 +45,7 @@ enum_told : tie.Need-enum-told
 enum_told c = search rules
 
 returns : tie.Need-returns
-returns c = lone-free _ _ _ _ (clue c.before.before ∙ ap optionOf c.enum_told.given.1)
+returns c = lone-free _ _ _ _ (clue c.before.before ∙ ap option_of c.enum_told.given.1)
 
 returns-2 : tie.Need-returns-2
 returns-2 c = lone-none _ _ _ _ _ (is c.before.before) c.if1.true

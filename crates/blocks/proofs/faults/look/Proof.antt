@@ -12,10 +12,10 @@ use mir.Syntax.{w32}
 use mir.Val.{to_z, of_z}
 use lib.Dec.{eqb}
 use Rattle.lists.specs.CountLaws.{bit-under}
-use Rattle.rules.specs.Codes.{clueOf}
-use Rattle.groups.specs.Grouping.{numbersIn, cells_in}
+use Rattle.rules.specs.Codes.{clue_of}
+use Rattle.groups.specs.Grouping.{numbers_in, cells_in}
 use Rattle.blocks.specs.declared.Fault.TheVariants.{InsideEdge}
-use Rattle.blocks.specs.Censuses.{clueIn}
+use Rattle.blocks.specs.Censuses.{clue_in}
 use Rattle.blocks.specs.Looks.{OwnPut, ClueKept}
 use Rattle.blocks.specs.Looked.{PartLooked, look_none, look-more, looked-few, zero-parted, one-parted, kept-none}
 use Rattle.blocks.specs.Looked.{settles, looked-stray, looked-clash, looked-scan, looked-clear}
@@ -24,7 +24,7 @@ use Rattle.blocks.proofs.faults.look.Tie as tie
 
 abbrev invariant-loop : tie.invariant-loop
 invariant-loop colours clues potential blocks from to own₀ first₀ ones₀ i₀ own first ones i =
-    (from ≤ i) × (i ≤ to) × (length own ≡ 2) × PartLooked colours clues (numbersIn potential)
+    (from ≤ i) × (i ≤ to) × (length own ≡ 2) × PartLooked colours clues (numbers_in potential)
     (cells_in blocks) from i own first ones
 
 abbrev decreases-loop : tie.decreases-loop
@@ -138,7 +138,7 @@ returns-2 c =
     (looked-clash l.loop.invariant.3 w.cell_at.result l.loop.invariant.0 w.cell_at.ensures _ _
     w.before.loop-test.true (omega (arith, p.0.long, p.0.within)) l.loop.invariant.2 p.1.few _
     (rw (d.bit.ensures, d.before.before.Group-of.ensures) at (put f.before))
-    (rw (← ap (λ z. clueIn (clueOf z)) (signed f), ← c.before.before.before.clue-at.ensures)
+    (rw (← ap (λ z. clue_in (clue_of z)) (signed f), ← c.before.before.before.clue-at.ensures)
     (sym c.before.before.clash.ensures ∙ c.before.if4.true)))
 
 first-clue-requires : tie.Need-first-clue-requires invariant-loop decreases-loop
@@ -167,13 +167,13 @@ still c =
 kept : (c : tie.Joined3 invariant-loop decreases-loop)
     → let d = c.before.before.before.before.before.before in
     let z = get_or d.before.before.before.args.clues.now d.cell_at.result (pos 0) in
-    ClueKept d.before.before.loop.first (clueIn (clueOf z)) c.if3.first
+    ClueKept d.before.before.loop.first (clue_in (clue_of z)) c.if3.first
 kept c =
     let d = c.before.before.before.before.before.before in
     let z = get_or d.before.before.before.args.clues.now d.cell_at.result (pos 0) in
     ⊎_elim
     (λ w.
-    let e = w.2.ensures ∙ ap (λ y. clueIn (clueOf y)) (signed c.before) in
+    let e = w.2.ensures ∙ ap (λ y. clue_in (clue_of y)) (signed c.before) in
     rw (← e) (w.6 ∙ w.5.ensures, sym w.3.ensures ∙ w.4.left))
     (λ w. rw w.1 (kept-none _ z (rw (signed c.before) at w.0.left))) c.if3.branch
 

@@ -1,7 +1,7 @@
 -- `size_of` meets its contract: the two places are read.
 use native.Mathlib.Omega.{arith}
 use borrow.Author.Rules.{rules}
-use Rattle.blocks.specs.Arrays.{sizeIn}
+use Rattle.blocks.specs.Arrays.{size_in}
 use Rattle.blocks.proofs.faults.size_of.Statement.{statement}
 use Rattle.blocks.proofs.faults.size_of.Tie as tie
 
@@ -18,7 +18,7 @@ sub-result : tie.Need-overflow-sub-result
 sub-result c = rw (c.start-of2.ensures, c.before.start_of_lem.ensures) c.before.before.requires.1
 
 returns : tie.Need-returns
-unfolding sizeIn
+unfolding size_in
 returns c = rw (c.start-of2.ensures, c.before.start_of_lem.ensures)
 
 pub size-of-spec : {M : Type 1} → statement M

@@ -4,44 +4,44 @@ use mathlib.Core.List.{List, [], ◌++◌}
 use Prim.Native.Nat.{ℕ}
 use borrow.Author.Rules.{rules}
 use Rattle.rules.specs.declared.Literal.{Literal}
-use Rattle.groups.specs.Grouping.{numbersIn}
-use Rattle.reasons.specs.Arrays.{insideIn, edgeIn}
+use Rattle.groups.specs.Grouping.{numbers_in}
+use Rattle.reasons.specs.Arrays.{inside_in, edge_in}
 use Rattle.reasons.specs.MemoryLaws.{naming-none, naming-more}
 use Rattle.blocks.specs.declared.Fault.TheVariants.{Clear, InsideEdge, Inside, Edge, EdgeInside}
-use Rattle.blocks.specs.Written.{faultLiterals, faultyLiterals}
+use Rattle.blocks.specs.Written.{fault_literals, faulty_literals}
 use Rattle.blocks.proofs.write.write_fault.Statement.{statement}
 use Rattle.blocks.proofs.write.write_fault.Tie as tie
 
 abbrev whole : tie.Start → List Literal
 whole s =
     let a = s.args in
-    faultyLiterals a.h a.w a.colours.now a.borders.now (numbersIn a.blocks.now)
-    (numbersIn a.potential.now) a.faulty
+    faulty_literals a.h a.w a.colours.now a.borders.now (numbers_in a.blocks.now)
+    (numbers_in a.potential.now) a.faulty
 
 abbrev within : tie.Start → List Literal
-within s = let a = s.args in insideIn a.h a.w a.borders.now (numbersIn a.blocks.now) a.faulty.block
+within s = let a = s.args in inside_in a.h a.w a.borders.now (numbers_in a.blocks.now) a.faulty.block
 
 abbrev around : tie.Start → ℕ → List Literal
-around s = let a = s.args in edgeIn a.h a.w a.colours.now a.borders.now (numbersIn a.potential.now)
+around s = let a = s.args in edge_in a.h a.w a.colours.now a.borders.now (numbers_in a.potential.now)
 
 clear : (s : tie.Start) → s.args.faulty.fault ≡ Clear → whole s ≡ []
-unfolding faultyLiterals faultLiterals
+unfolding faulty_literals fault_literals
 clear s e = rw e
 
 inside-edge : (s : tie.Start) {p : ℕ} → s.args.faulty.fault ≡ InsideEdge p → whole s ≡ within s ++ around s p
-unfolding faultyLiterals faultLiterals
+unfolding faulty_literals fault_literals
 inside-edge s e = rw e
 
 inside : (s : tie.Start) → s.args.faulty.fault ≡ Inside → whole s ≡ within s
-unfolding faultyLiterals faultLiterals
+unfolding faulty_literals fault_literals
 inside s e = rw e
 
 edge : (s : tie.Start) {p : ℕ} → s.args.faulty.fault ≡ Edge p → whole s ≡ around s p
-unfolding faultyLiterals faultLiterals
+unfolding faulty_literals fault_literals
 edge s e = rw e
 
 edge-inside : (s : tie.Start) {p : ℕ} → s.args.faulty.fault ≡ EdgeInside p → whole s ≡ around s p ++ within s
-unfolding faultyLiterals faultLiterals
+unfolding faulty_literals fault_literals
 edge-inside s e = rw e
 
 enum_told : tie.Need-enum-told

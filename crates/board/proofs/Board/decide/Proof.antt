@@ -2,27 +2,27 @@
 use mathlib.Core.Bool.{false}
 use mathlib.Core.Path.{◌∙◌, ◌≡◌, ap, sym}
 use borrow.Author.Rules.{rules}
-use Rattle.board.specs.Alien.{borderCountOf, isAlien}
-use Rattle.board.specs.Board.{decideRefusal, number_of, pushed, returned}
+use Rattle.board.specs.Alien.{border_count_of, is_alien}
+use Rattle.board.specs.Board.{decide_refusal, number_of, pushed, returned}
 use Rattle.board.specs.Cases.{decide-alien, decide-free, decide-refused}
 use Rattle.board.specs.ConditionLaws.{borders-of, borders-of-le}
 use Rattle.board.specs.NativeLaws.{free-places, native-has}
 use Rattle.board.proofs.Board.decide.Statement.{statement}
 use Rattle.board.proofs.Board.decide.Tie as tie
 
-known : (c : tie.Else1) → isAlien c.before.before.args.t1 ≡ false
+known : (c : tie.Else1) → is_alien c.before.before.args.t1 ≡ false
 known c = sym c.before.alien.ensures ∙ c.if1.false
 
 -- how the tests end
 ends : (c : tie.After-decide-refusal)
     → let a = c.before.before.before.before.before.before.before.args in
     c.decide-refusal.result
-    ≡ decideRefusal (borderCountOf a.t1) a.t1.borders a.l.border
+    ≡ decide_refusal (border_count_of a.t1) a.t1.borders a.l.border
 ends c =
     let d = c.before.before.before.before in
     let a = d.before.before.before.args in
     c.decide-refusal.ensures
-    ∙ ap (λ m. decideRefusal m a.t1.borders a.l.border)
+    ∙ ap (λ m. decide_refusal m a.t1.borders a.l.border)
     (d.border-count.ensures ∙ borders-of (native-has _ (known d.before)).size)
 
 zero : (c : tie.Else2) → number_of c.before.before.decide-refusal.result ≡ 0

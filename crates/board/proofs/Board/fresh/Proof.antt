@@ -5,25 +5,25 @@ use Prim.Native.Nat.{◌*◌, ◌≤◌}
 use native.Mathlib.Omega.{arith}
 use borrow.Author.Rules.{rules}
 use Rattle.laws.specs.FlatLaws.{counts}
-use Rattle.board.specs.Alien.{sizeRight}
-use Rattle.board.specs.Board.{number_of, puzzleRefusal}
+use Rattle.board.specs.Alien.{size_right}
+use Rattle.board.specs.Board.{number_of, puzzle_refusal}
 use Rattle.board.specs.Cases.{PuzzleFit, fresh-free, fresh-refused, fresh-size, puzzle-free}
 use Rattle.board.specs.ConditionLaws.{borders-of, cells-of, sized}
 use Rattle.board.proofs.Board.fresh.Statement.{statement}
 use Rattle.board.proofs.Board.fresh.Tie as tie
 
 size : (c : tie.Then1)
-    → sizeRight c.before.before.before.args.height c.before.before.before.args.width ≡ true
+    → size_right c.before.before.before.args.height c.before.before.before.args.width ≡ true
 size c = sym c.before.size-right.ensures ∙ c.if1.true
 
 -- how the tests of the puzzle end
 ends : (c : tie.After-puzzle-refusal)
     → let a = c.before.before.before.before.before.args in
-    c.puzzle-refusal.result ≡ puzzleRefusal (a.height * a.width) a.colours.now a.clues.now
+    c.puzzle-refusal.result ≡ puzzle_refusal (a.height * a.width) a.colours.now a.clues.now
 ends c =
     let a = c.before.before.before.before.before.args in
     c.puzzle-refusal.ensures
-    ∙ ap (λ n. puzzleRefusal n a.colours.now a.clues.now)
+    ∙ ap (λ n. puzzle_refusal n a.colours.now a.clues.now)
     (c.before.cell-count.ensures ∙ cells-of (sized (size c.before.before)))
 
 zero : (c : tie.Else2) → number_of c.before.before.puzzle-refusal.result ≡ 0

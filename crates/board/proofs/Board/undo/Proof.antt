@@ -4,7 +4,7 @@ use mathlib.Core.Path.{◌∙◌, ◌≡◌, ap, sym}
 use Prim.Native.Nat.{◌+◌, ◌-◌, ◌<◌}
 use native.Mathlib.Omega.{arith}
 use borrow.Author.Rules.{rules}
-use Rattle.board.specs.Alien.{isAlien}
+use Rattle.board.specs.Alien.{is_alien}
 use Rattle.board.specs.Board.{number_of, returned}
 use Rattle.board.specs.Cases.{refusal-some, undo-alien, undo-free, undo-refused}
 use Rattle.board.specs.NativeLaws.{borders-fit, native-has, tally-fits}
@@ -12,7 +12,7 @@ use Rattle.board.specs.DecideLaws.{side-counted}
 use Rattle.board.proofs.Board.undo.Statement.{statement}
 use Rattle.board.proofs.Board.undo.Tie as tie
 
-known : (c : tie.Else1) → isAlien c.before.before.args.self ≡ false
+known : (c : tie.Else1) → is_alien c.before.before.args.self ≡ false
 known c = sym c.before.alien.ensures ∙ c.if1.false
 
 zero : (c : tie.Else2) → number_of c.before.before.undo-refusal.result ≡ 0

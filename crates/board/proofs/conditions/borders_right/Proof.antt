@@ -8,13 +8,13 @@ use lib.Dec.{eqb}
 use lib.ListN.{get_or}
 use Rattle.lists.specs.Tests.{all_below}
 use Rattle.lists.specs.TestLaws.{all_none, all-or, all-stop}
-use Rattle.board.specs.Alien.{borderRight, bordersBy}
+use Rattle.board.specs.Alien.{border_right, borders_by}
 use Rattle.board.proofs.conditions.borders_right.Statement.{statement}
 use Rattle.board.proofs.conditions.borders_right.Tie as tie
 
 abbrev invariant-loop : tie.invariant-loop
 invariant-loop borders seen n wrong₀ i₀ wrong i =
-    (i ≤ n) × (eqb wrong 0 ≡ all_below i (λ x. borderRight (get_or borders x 0) (get_or seen x false)))
+    (i ≤ n) × (eqb wrong 0 ≡ all_below i (λ x. border_right (get_or borders x 0) (get_or seen x false)))
 
 abbrev decreases-loop : tie.decreases-loop
 decreases-loop borders seen n wrong₀ i₀ wrong i = n - i
@@ -43,7 +43,7 @@ loop-again c =
     (omega arith, all-or r.i _ r.wrong c.fault.result r.invariant.1 c.fault.ensures)
 
 returns : tie.Need-returns invariant-loop decreases-loop
-unfolding bordersBy
+unfolding borders_by
 returns c = let r = c.before.loop in all-stop r.i _ _ _ r.invariant.1 (omega arith) (omega arith)
 
 pub borders-right-spec : {M : Type 1} → statement M

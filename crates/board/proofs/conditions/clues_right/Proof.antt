@@ -9,12 +9,12 @@ use mir.Facts.{to_z-of_z}
 use mir.Syntax.{w32}
 use Rattle.lists.specs.Tests.{all_below}
 use Rattle.lists.specs.TestLaws.{all_none, all-and, all-stop}
-use Rattle.board.specs.Alien.{clueRight, cluesRight}
+use Rattle.board.specs.Alien.{clue_right, clues_right}
 use Rattle.board.proofs.conditions.clues_right.Statement.{statement}
 use Rattle.board.proofs.conditions.clues_right.Tie as tie
 
 abbrev invariant-loop : tie.invariant-loop
-invariant-loop clues n right₀ i₀ right i = (i ≤ n) × (right ≡ all_below i (λ x. clueRight (get_or clues x (pos 0))))
+invariant-loop clues n right₀ i₀ right i = (i ≤ n) × (right ≡ all_below i (λ x. clue_right (get_or clues x (pos 0))))
 
 abbrev decreases-loop : tie.decreases-loop
 decreases-loop clues n right₀ i₀ right i = n - i
@@ -45,7 +45,7 @@ loop-again c =
     (omega arith, all-and r.i _ r.right _ r.invariant.1 (simp e at c.clue-right.ensures))
 
 returns : tie.Need-returns invariant-loop decreases-loop
-unfolding cluesRight
+unfolding clues_right
 returns c = let r = c.before.loop in all-stop r.i _ _ _ r.invariant.1 (omega arith) (omega arith)
 
 pub clues-right-spec : {M : Type 1} → statement M

@@ -7,7 +7,7 @@ use lib.Dec.{leb}
 use lib.ListN.{get_or}
 use Rattle.lists.specs.Tests.{all_below}
 use Rattle.lists.specs.TestLaws.{all_none, all-and, all-stop}
-use Rattle.board.specs.Alien.{coloursRight}
+use Rattle.board.specs.Alien.{colours_right}
 use Rattle.board.proofs.conditions.colours_right.Statement.{statement}
 use Rattle.board.proofs.conditions.colours_right.Tie as tie
 
@@ -33,7 +33,7 @@ loop-again : tie.Need-loop-preserved invariant-loop decreases-loop
 loop-again c = let r = c.before.before.loop in (omega arith, all-and r.i _ r.right _ r.invariant.1 refl)
 
 returns : tie.Need-returns invariant-loop decreases-loop
-unfolding coloursRight
+unfolding colours_right
 returns c = let r = c.before.loop in all-stop r.i _ _ _ r.invariant.1 (omega arith) (omega arith)
 
 pub colours-right-spec : {M : Type 1} → statement M

@@ -7,7 +7,7 @@ use lib.Dec.{ltb}
 use lib.ListN.{get_or}
 use Rattle.lists.specs.Tests.{all_below}
 use Rattle.lists.specs.TestLaws.{all_none, all-and, all-stop}
-use Rattle.board.specs.Alien.{entriesRight}
+use Rattle.board.specs.Alien.{entries_right}
 use Rattle.board.proofs.conditions.entries_right.Statement.{statement}
 use Rattle.board.proofs.conditions.entries_right.Tie as tie
 
@@ -41,7 +41,7 @@ loop-again c =
     let r = c.before.before.loop in (omega arith, all-and r.i _ r.right _ r.invariant.1 refl)
 
 returns : tie.Need-returns invariant-loop decreases-loop
-unfolding entriesRight
+unfolding entries_right
 returns c = let r = c.before.loop in all-stop r.i _ _ _ r.invariant.1 (omega arith) (omega arith)
 
 pub entries-right-spec : {M : Type 1} → statement M

@@ -7,7 +7,7 @@ use native.Mathlib.Omega.{arith}
 use borrow.Author.Rules.{rules}
 use lib.ListN.{get_or, get_or-replicate, length, length-replicate, length-set}
 use Rattle.lists.specs.TestLaws.{all_none, all-and}
-use Rattle.board.specs.Alien.{stacked, onceEach}
+use Rattle.board.specs.Alien.{stacked, once_each}
 use Rattle.board.specs.ConditionLaws.{flags-more, stacked-none}
 use Rattle.board.proofs.conditions.flag_stack.Statement.{statement}
 use Rattle.board.proofs.conditions.flag_stack.Tie as tie
@@ -15,7 +15,7 @@ use Rattle.board.proofs.conditions.flag_stack.Tie as tie
 abbrev invariant-loop : tie.invariant-loop
 invariant-loop stack count seen₀ once₀ i₀ seen once i =
     (i ≤ count)
-    × (once ≡ onceEach stack i)
+    × (once ≡ once_each stack i)
     × (length seen ≡ 1984)
     × ((x : ℕ) → x < 1984 → get_or seen x false ≡ stacked stack i x)
 
@@ -23,7 +23,7 @@ abbrev decreases-loop : tie.decreases-loop
 decreases-loop stack count seen₀ once₀ i₀ seen once i = count - i
 
 loop-holds : tie.Need-loop-init invariant-loop decreases-loop
-unfolding onceEach
+unfolding once_each
 loop-holds c =
     let e = c.requires.2 in (
       search rules,
@@ -60,7 +60,7 @@ loop-less : tie.Need-loop-smaller invariant-loop decreases-loop
 loop-less c = omega arith
 
 loop-again : tie.Need-loop-preserved invariant-loop decreases-loop
-unfolding onceEach
+unfolding once_each
 loop-again c =
     let r = c.before.before.before.before.loop in
     let s = c.before.before.before.before.before.args.stack.now in
@@ -79,7 +79,7 @@ returns c =
     let s = c.before.before.args.stack.now in
     let q : r.i ≡ c.before.before.args.count = omega arith in
     record {
-      tells = r.invariant.1 ∙ ap (onceEach s) q;
+      tells = r.invariant.1 ∙ ap (once_each s) q;
       flagged = λ x l. r.invariant.3 x l ∙ ap (λ n. stacked s n x) q;
     }
 

@@ -7,15 +7,15 @@ use lib.IntN.{pos}
 use lib.ListN.{get_or, length}
 use mir.Facts.{to_z-of_z}
 use mir.Syntax.{w32}
-use Rattle.lists.specs.Tests.{allBetween}
+use Rattle.lists.specs.Tests.{all_between}
 use Rattle.lists.specs.TestLaws.{between_none, between-and, between-stop}
-use Rattle.board.specs.Alien.{clueZero, zeroCluesFrom}
+use Rattle.board.specs.Alien.{clue_zero, zero_clues_from}
 use Rattle.board.proofs.conditions.zero_clues_from.Statement.{statement}
 use Rattle.board.proofs.conditions.zero_clues_from.Tie as tie
 
 abbrev invariant-loop : tie.invariant-loop
 invariant-loop places from zero₀ i₀ zero i =
-    (from ≤ i) × (i - from ≤ length places - from) × (zero ≡ allBetween from i (λ x. clueZero (get_or places x (pos 0))))
+    (from ≤ i) × (i - from ≤ length places - from) × (zero ≡ all_between from i (λ x. clue_zero (get_or places x (pos 0))))
 
 abbrev decreases-loop : tie.decreases-loop
 decreases-loop places from zero₀ i₀ zero i = length places - i
@@ -49,7 +49,7 @@ loop-again c =
     )
 
 returns : tie.Need-returns invariant-loop decreases-loop
-unfolding zeroCluesFrom
+unfolding zero_clues_from
 returns c = let r = c.before.loop in r.invariant.2 ∙ between-stop _ r.i _ _ (omega arith) (omega arith) (omega arith)
 
 pub zero-clues-from-spec : {M : Type 1} → statement M

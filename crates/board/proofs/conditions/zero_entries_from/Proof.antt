@@ -5,15 +5,15 @@ use native.Mathlib.Omega.{arith}
 use borrow.Author.Rules.{rules}
 use lib.Dec.{eqb}
 use lib.ListN.{get_or, length}
-use Rattle.lists.specs.Tests.{allBetween}
+use Rattle.lists.specs.Tests.{all_between}
 use Rattle.lists.specs.TestLaws.{between_none, between-or, between-stop}
-use Rattle.board.specs.Alien.{zerosFrom}
+use Rattle.board.specs.Alien.{zeros_from}
 use Rattle.board.proofs.conditions.zero_entries_from.Statement.{statement}
 use Rattle.board.proofs.conditions.zero_entries_from.Tie as tie
 
 abbrev invariant-loop : tie.invariant-loop
 invariant-loop places from any₀ i₀ any i =
-    (from ≤ i) × (i - from ≤ length places - from) × (eqb any 0 ≡ allBetween from i (λ x. eqb (get_or places x 0) 0))
+    (from ≤ i) × (i - from ≤ length places - from) × (eqb any 0 ≡ all_between from i (λ x. eqb (get_or places x 0) 0))
 
 abbrev decreases-loop : tie.decreases-loop
 decreases-loop places from any₀ i₀ any i = length places - i
@@ -39,7 +39,7 @@ loop-again c =
     (omega arith, omega arith, between-or _ r.i _ r.any _ r.invariant.2 refl r.invariant.0)
 
 returns : tie.Need-returns invariant-loop decreases-loop
-unfolding zerosFrom
+unfolding zeros_from
 returns c = let r = c.before.loop in r.invariant.2 ∙ between-stop _ r.i _ _ (omega arith) (omega arith) (omega arith)
 
 pub zero-entries-from-spec : {M : Type 1} → statement M

@@ -6,20 +6,20 @@ use native.Mathlib.Omega.{arith}
 use borrow.Author.Rules.{rules}
 use lib.Dec.{eqb}
 use lib.ListN.{get_or}
-use Rattle.lists.specs.Count.{countBelow}
+use Rattle.lists.specs.Count.{count_below}
 use Rattle.lists.specs.CountLaws.{bit_le, count-zero, count-le}
-use Rattle.board.specs.Alien.{codeCount}
+use Rattle.board.specs.Alien.{code_count}
 use Rattle.board.proofs.tallies.walls.Statement.{statement}
 use Rattle.board.proofs.tallies.walls.Tie as tie
 
 abbrev invariant-loop : tie.invariant-loop
-invariant-loop borders n found₀ i₀ found i = (i ≤ n) × (found ≡ codeCount borders i 1)
+invariant-loop borders n found₀ i₀ found i = (i ≤ n) × (found ≡ code_count borders i 1)
 
 abbrev decreases-loop : tie.decreases-loop
 decreases-loop borders n found₀ i₀ found i = n - i
 
 loop-holds : tie.Need-loop-init invariant-loop decreases-loop
-unfolding codeCount
+unfolding code_count
 loop-holds c = (search rules, sym (count-zero _))
 
 element-copy-out-wall : tie.Need-element-copy-out-wall invariant-loop decreases-loop
@@ -29,7 +29,7 @@ wall-requires : tie.Need-wall-requires invariant-loop decreases-loop
 wall-requires c κs = tt
 
 add-found : tie.Need-overflow-add-found invariant-loop decreases-loop
-unfolding codeCount
+unfolding code_count
 add-found c =
     let r = c.before.before.before.loop in
     let s = c.before.before.before.before in
@@ -45,7 +45,7 @@ loop-less : tie.Need-loop-smaller invariant-loop decreases-loop
 loop-less c = omega arith
 
 loop-again : tie.Need-loop-preserved invariant-loop decreases-loop
-unfolding codeCount countBelow
+unfolding code_count count_below
 loop-again c =
     let r = c.before.before.before.loop in
     (omega arith, rw (r.invariant.1, c.wall.ensures, add-one))
@@ -57,7 +57,7 @@ returns : tie.Need-returns invariant-loop decreases-loop
 returns c =
     let r = c.before.before.loop in
     let e : r.i ≡ c.before.before.before.args.n = omega arith in
-    c.index.ensures ∙ r.invariant.1 ∙ ap (λ m. codeCount c.before.before.before.args.borders.now m 1) e
+    c.index.ensures ∙ r.invariant.1 ∙ ap (λ m. code_count c.before.before.before.args.borders.now m 1) e
 
 pub walls-spec : {M : Type 1} → statement M
 walls-spec =

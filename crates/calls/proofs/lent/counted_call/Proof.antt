@@ -2,7 +2,7 @@
 -- The tally's borrow is opened and the tally is read whole; the core is called, with the memory at its own lifetime;
 -- the core's tally is stored whole, and the borrow is closed at it. Of the core the walk knows its contract alone.
 --
--- B, Q, T, S and D are the types Board, Call, Tally, Stepped and Counted; ofB .. ofD a value's form in the machine. A
+-- B, Q, T, S and D are the types Board, Call, Tally, Stepped and Counted; of_b .. of_d a value's form in the machine. A
 -- number beside `look`, `init` or `move` is a place in the list of what is held, which the comments in brackets show.
 use mathlib.Core.Path.{◌≡◌, refl, ap, subst}
 use Prim.Native.Nat.{ℕ}
@@ -47,7 +47,7 @@ use denote.Triple.Table.{entered, cited}
 use denote.Triple.Walked.{says, Stays, stay_ref, stay_none, gave_slice, walk_of, AllGo, Goes-none, Goes-ref}
 use denote.Triple.Walked.{Goes-gave_slice, Walks, ends_at, walked, walk_Meets}
 use denote.Exit.{yes}
-use Rattle.calls.specs.Counted.{countedOf, countedMemory}
+use Rattle.calls.specs.Counted.{counted_of, counted_memory}
 use Rattle.board.specs.declared.Board.{Board}
 use Rattle.rules.specs.declared.Call.{Call}
 use Rattle.rules.specs.declared.Tally.{Tally}
@@ -82,20 +82,20 @@ stayed = (
 )
 
 -- the machine values
-abbrev ofB : Board → Val
-ofB x = LL.tuple_val B.the_type B'.the_laws ((B.the_type).to x)
+abbrev of_b : Board → Val
+of_b x = LL.tuple_val B.the_type B'.the_laws ((B.the_type).to x)
 
-abbrev ofQ : Call → Val
-ofQ x = EL.val Q.the_type Q'.the_laws x
+abbrev of_q : Call → Val
+of_q x = EL.val Q.the_type Q'.the_laws x
 
-abbrev ofT : Tally → Val
-ofT x = LL.tuple_val T.the_type T'.the_laws ((T.the_type).to x)
+abbrev of_t : Tally → Val
+of_t x = LL.tuple_val T.the_type T'.the_laws ((T.the_type).to x)
 
-abbrev ofS : Stepped → Val
-ofS x = LL.tuple_val S.the_type S'.the_laws ((S.the_type).to x)
+abbrev of_s : Stepped → Val
+of_s x = LL.tuple_val S.the_type S'.the_laws ((S.the_type).to x)
 
-abbrev ofD : Counted → Val
-ofD x = LL.tuple_val D.the_type D'.the_laws ((D.the_type).to x)
+abbrev of_d : Counted → Val
+of_d x = LL.tuple_val D.the_type D'.the_laws ((D.the_type).to x)
 
 -- the contract that the proof cites
 abbrev Core : {M : Type 1} {𝓤 : Ura M} (𝓛 : Logic 𝓤) (mem : Memory → SProp 𝓤) (run : Routine → Fun 𝓤) →
@@ -105,7 +105,7 @@ Core 𝓛 mem run = triple_of 𝓛 core.signature (core.spec 𝓛 mem run)
 module _ {M : Type 1} {𝓤 : Ura M} (𝓛 : Logic 𝓤) (at_mem : Memory → SProp 𝓤)
     (run : Routine → Fun 𝓤) (κ κ' : Lft) (q q' : Share) (b o : ℕ) (γ : GName) (t : Tally) (bd : Board) (c : Call)
     (b' o' : ℕ) (γ' : GName) (ys : List ℕ)
-    (is_b : Is B.the_row bd (ofB bd ∷ [])) (isQ : Is Q.the_row c (ofQ c ∷ [])) where
+    (is_b : Is B.the_row bd (of_b bd ∷ [])) (is_q : Is Q.the_row c (of_q c ∷ [])) where
   open 𝓛 use {H, A}
 
   abbrev m : MutBor (List ℕ)
@@ -118,81 +118,81 @@ module _ {M : Type 1} {𝓤 : Ura M} (𝓛 : Logic 𝓤) (at_mem : Memory → SP
   x = (record { ref_ptr = (b, o); ghost_name = γ; now = t }, (bd, (c, (m, tt))))
 
   abbrev at : List Val × (List Val × (List Val × (List Val × Unit {0})))
-  at = (vptr b o ∷ [], (ofB bd ∷ [], (ofQ c ∷ [], (s ∷ [], tt))))
+  at = (vptr b o ∷ [], (of_b bd ∷ [], (of_q c ∷ [], (s ∷ [], tt))))
 
   abbrev Post : Val → SProp 𝓤
   Post = (walk_of 𝓛 f.ended stayed (f.clauses 𝓛 at_mem run)).post (((κ, (κ', tt)), (q, (q', tt)), tt, x, at), tt)
 
   -- what the core ensures
   abbrev Said : Counted → List ℕ → Type 0
-  Said r zs = (r ≡ countedOf bd c t ys) × (zs ≡ countedMemory bd c t ys)
+  Said r zs = (r ≡ counted_of bd c t ys) × (zs ≡ counted_memory bd c t ys)
 
   exits : (r : Counted) (zs : List ℕ) → Said r zs → length zs ≡ length ys → Is S.the_row r.stepped
-      (ofS r.stepped ∷ [])
+      (of_s r.stepped ∷ [])
       → ent 𝓤 (⋆ 𝓛 (‵ (fobs γ ((T.the_row).coded.code r.tally)) ∷ ‵ (fbor κ (Body (mem T.the_row) b o γ)) ∷ ‵
-      (flft κ q) ∷ (‵ (flft κ' q') ⊛ ‵ ftrue) ∷ ‵ (finally u16 γ' zs) ∷ [])) (Post (ofS r.stepped))
-  exits r zs e l isS =
+      (flft κ q) ∷ (‵ (flft κ' q') ⊛ ‵ ftrue) ∷ ‵ (finally u16 γ' zs) ∷ [])) (Post (of_s r.stepped))
+  exits r zs e l is_s =
       qed 𝓛 (‵ (fobs γ ((T.the_row).coded.code r.tally)) ∷ ‵ (fbor κ (Body (mem T.the_row) b o γ)) ∷ ‵ (flft κ q) ∷
       (‵ (flft κ' q') ⊛ ‵ ftrue) ∷ ‵ (finally u16 γ' zs) ∷ []) ∵
       suffices ! _ (ends_at 𝓛 f.ended stayed (f.clauses 𝓛 at_mem run)
-      (((κ, (κ', tt)), (q, (q', tt)), tt, x, at), tt) (ofS r.stepped) r.stepped (r.tally, (tt, (tt, (zs, tt))))
+      (((κ, (κ', tt)), (q, (q', tt)), tt, x, at), tt) (of_s r.stepped) r.stepped (r.tally, (tt, (tt, (zs, tt))))
       (tt, (tt, (tt, (l, tt))))) $
       says ! e $
       move ! (2 ∷ 3 ∷ []) $ join ! $ frame ! $ feq_i ! (List Val) (vptr b o ∷ []) (vptr b o ∷ []) refl $ fjoin3 ! $
       nothing ! $ move ! (2 ∷ 0 ∷ []) $ fjoin ! $
-      owned ! Q.the_row (Is Q.the_row) (EL.makes Q.the_type Q'.the_plain 𝓛) c _ isQ $ fjoin ! $
+      owned ! Q.the_row (Is Q.the_row) (EL.makes Q.the_type Q'.the_plain 𝓛) c _ is_q $ fjoin ! $
       owned ! B.the_row (Is B.the_row) (LL.makes B.the_type B'.the_plain 𝓛) bd _ is_b $ fjoin ! $
       move ! (1 ∷ 0 ∷ []) $ fjoin ! $
-      owned ! S.the_row (Is S.the_row) (LL.makes S.the_type S'.the_plain 𝓛) r.stepped _ isS $
+      owned ! S.the_row (Is S.the_row) (LL.makes S.the_type S'.the_plain 𝓛) r.stepped _ is_s $
       move ! (1 ∷ 0 ∷ []) $ done !
 
   abbrev to-core : (Core 𝓛 at_mem run).Ghost
   to-core = (
-    ((κ', tt), (q', tt), tt, (bd, (c, (t, (m, tt)))), (ofB bd ∷ [], (ofQ c ∷ [], (ofT t ∷ [], (s ∷ [], tt))))),
+    ((κ', tt), (q', tt), tt, (bd, (c, (t, (m, tt)))), (of_b bd ∷ [], (of_q c ∷ [], (of_t t ∷ [], (s ∷ [], tt))))),
     tt,
   )
 
-  goes-core : Is T.the_row t (ofT t ∷ []) → ent 𝓤
+  goes-core : Is T.the_row t (of_t t ∷ []) → ent 𝓤
       (sep 𝓤 (sep 𝓤 (A.lft κ' q') (sem 𝓛 ftrue)) (sem 𝓛 ((MutSlice (named 1) κ' u16).own_val m (s ∷ []))))
       ((Core 𝓛 at_mem run).pre to-core)
-  goes-core isT =
+  goes-core is_t =
       qed 𝓛 ((‵ (flft κ' q') ⊛ ‵ ftrue) ∷ ‵ ((MutSlice (named 1) κ' u16).own_val m (s ∷ [])) ∷ []) ∵ nothing ! $
       move ! (2 ∷ 0 ∷ []) $ fjoin ! $
-      owned ! T.the_row (Is T.the_row) (LL.makes T.the_type T'.the_plain 𝓛) t _ isT $ fjoin ! $
-      owned ! Q.the_row (Is Q.the_row) (EL.makes Q.the_type Q'.the_plain 𝓛) c _ isQ $ fjoin ! $
+      owned ! T.the_row (Is T.the_row) (LL.makes T.the_type T'.the_plain 𝓛) t _ is_t $ fjoin ! $
+      owned ! Q.the_row (Is Q.the_row) (EL.makes Q.the_type Q'.the_plain 𝓛) c _ is_q $ fjoin ! $
       owned ! B.the_row (Is B.the_row) (LL.makes B.the_type B'.the_plain 𝓛) bd _ is_b $ fjoin ! $
       move ! (1 ∷ 0 ∷ []) $ join ! $ frame ! $ done !
 
   -- what whoever holds the core's result knows of its fields
-  spelled : (r : Counted) (v : Val) → Is D.the_row r (v ∷ []) → Is D.the_row r (ofD r ∷ [])
+  spelled : (r : Counted) (v : Val) → Is D.the_row r (v ∷ []) → Is D.the_row r (of_d r ∷ [])
   spelled r v is = subst (Is D.the_row r) (LL.tells D.the_type D'.the_laws r (v ∷ []) is) is
 
-  stepped-is : (r : Counted) (v : Val) → Is D.the_row r (v ∷ []) → Is S.the_row r.stepped (ofS r.stepped ∷ [])
+  stepped-is : (r : Counted) (v : Val) → Is D.the_row r (v ∷ []) → Is S.the_row r.stepped (of_s r.stepped ∷ [])
   stepped-is r v is = (LL.owed D.the_type D'.the_laws r _ (spelled r v is)).0
 
-  tally-is : (r : Counted) (v : Val) → Is D.the_row r (v ∷ []) → Is T.the_row r.tally (ofT r.tally ∷ [])
+  tally-is : (r : Counted) (v : Val) → Is D.the_row r (v ∷ []) → Is T.the_row r.tally (of_t r.tally ∷ [])
   tally-is r v is = (LL.owed D.the_type D'.the_laws r _ (spelled r v is)).1.0
 
   module _ (C : Calls 𝓤 H) (Λ : Loops 𝓤 H) (fm : FmC 𝓤 H 𝓛.laws C)
       (known : Triple 𝓤 (C #core) (Core 𝓛 at_mem run)) where
     walk : Room u16 (length ys) → ent 𝓤 (on_entry 𝓛 f.signature (κ, (κ', tt)) (q, (q', tt)) x at)
-        (WpFn 𝓤 H C Λ code.function (vptr b o ∷ ofB bd ∷ ofQ c ∷ s ∷ []) Post)
+        (WpFn 𝓤 H C Λ code.function (vptr b o ∷ of_b bd ∷ of_q c ∷ s ∷ []) Post)
     walk room =
         qed 𝓛 ((‵ (flft κ q) ⊛ (‵ (flft κ' q') ⊛ ‵ ftrue)) ∷ ‵
         (owns (MutRef (named 0) κ T.the_row ∷ B.the_row ∷ Q.the_row ∷ MutSlice (named 1) κ' u16 ∷ []) x at) ∷ []) ∵
-        enter ! C Λ code.function (vptr b o ∷ ofB bd ∷ ofQ c ∷ s ∷ []) _ $
+        enter ! C Λ code.function (vptr b o ∷ of_b bd ∷ of_q c ∷ s ∷ []) _ $
         alloc1 ! (λ l₀. alloc1 ! (λ l₁. alloc1 ! (λ l₂. alloc1 ! (λ l₃. alloc1 !
         (λ l₄. alloc1 ! (λ l₅. alloc1 ! (λ l₆. alloc1 ! (λ l₇. alloc1 ! (λ l₈. alloc0 ! $
         params1 ! $ pass1 ! (init ! 14 refl (tt, tt)) $
         pass1 ! (init ! 12 refl ((LL.lawful B.the_type B'.the_laws 𝓛).typed bd _ is_b).0) $
-        pass1 ! (init ! 10 refl ((EL.lawful Q.the_type Q'.the_laws 𝓛 tt).typed c _ isQ).0) $
+        pass1 ! (init ! 10 refl ((EL.lawful Q.the_type Q'.the_laws 𝓛 tt).typed c _ is_q).0) $
         pass1 ! (init ! 8 refl (tt, (tt, (record { fits = room.0 }, tt)))) $ pass0 ! $
         -- the tally's borrow is opened
         move ! (19 ∷ []) $ fsplit ! $ fsplit3 ! $ drop ! $ move ! (21 ∷ []) $ split ! $ move ! (2 ∷ 3 ∷ 0 ∷ []) $
         opens ! tt T.the_row {h = t} b o (λ vs. spelt ! T.the_row (Is T.the_row) (shows 𝓛 T.the_row)
         (LL.vals T.the_type T'.the_laws) (LL.tells T.the_type T'.the_laws) full_share t vs b o $
         move ! (1 ∷ []) $
-        peeks ! T.the_row (Is T.the_row) (shows 𝓛 T.the_row) t (ofT t ∷ []) (λ was. move ! (1 ∷ 0 ∷ []) $
+        peeks ! T.the_row (Is T.the_row) (shows 𝓛 T.the_row) t (of_t t ∷ []) (λ was. move ! (1 ∷ 0 ∷ []) $
         -- [the tally's cell; what a Tally owns; the open borrow; obs; auth; the memory's token; the other parameters';
         -- _8; …; _7; …; _6; …; _5; …; _4; …; _3; …; _2; …; _1; …; room for _0; …]
         assigns ! (of_opd ! (load ! (from ! (hop ! (look ! 21 refl) (stop !))) (look_raw ! 0 refl))) (from ! (stop !))
@@ -235,7 +235,7 @@ module _ {M : Type 1} {𝓤 : Ura M} (𝓛 : Logic 𝓤) (at_mem : Memory → SP
         (stepped-is r v is)).0) $
         move ! (7 ∷ 9 ∷ 10 ∷ 11 ∷ []) $
         owned ! T.the_row (Is T.the_row) (LL.makes T.the_type T'.the_plain 𝓛) r.tally _ (tally-is r v is) $
-        move ! (1 ∷ 0 ∷ []) $ closes ! tt T.the_row r.tally (ofT r.tally ∷ []) b o $
+        move ! (1 ∷ 0 ∷ []) $ closes ! tt T.the_row r.tally (of_t r.tally ∷ []) b o $
         -- [obs; the borrow; the token; what the core's result owns; the memory's token; its last list; true; true; …;
         -- …; what the old Tally owns; _8; …; _0; …]
         returns ! (look ! 27 refl) $ forget ! 11 refl $ forget ! 13 refl $ forget ! 15 refl $ forget ! 17 refl $

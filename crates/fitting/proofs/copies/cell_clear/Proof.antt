@@ -5,10 +5,10 @@ use Prim.Native.Nat.{◌+◌, ◌/◌, ◌%◌, ◌<◌}
 use native.Mathlib.Omega.{arith}
 use borrow.Author.Rules.{rules}
 use lib.Dec.{ltb}
-use Rattle.rules.specs.Codes.{statesIn}
+use Rattle.rules.specs.Codes.{states_in}
 use Rattle.rules.specs.Groups.{entry}
 use Rattle.laws.specs.FlatLaws.{counts, row_of}
-use Rattle.groups.specs.Grouping.{numbersIn}
+use Rattle.groups.specs.Grouping.{numbers_in}
 use Rattle.shapes.specs.JointLaws.{cell_room}
 use Rattle.fitting.specs.CopyLaws.{copy-cell-yes, copy-cell-no}
 use Rattle.fitting.proofs.copies.cell_clear.Statement.{statement}
@@ -93,15 +93,15 @@ returns : tie.Need-returns
 returns c =
     let i = c.before in
     let s = i.before.before in
-    copy-cell-yes s.args.h s.args.w s.args.colours.now (statesIn s.args.borders.now) s.args.y
-    s.args.x (entry (numbersIn s.args.units.now)) s.args.g s.args.c (row_of _ _ _ s.requires.1).column
+    copy-cell-yes s.args.h s.args.w s.args.colours.now (states_in s.args.borders.now) s.args.y
+    s.args.x (entry (numbers_in s.args.units.now)) s.args.g s.args.c (row_of _ _ _ s.requires.1).column
     i.before.joint-clear.ensures i.if1.true c.joint-clear2.ensures
 
 returns-2 : tie.Need-returns-2
 returns-2 c =
     let s = c.before.before in
-    copy-cell-no s.args.h s.args.w s.args.colours.now (statesIn s.args.borders.now) s.args.y
-    s.args.x (entry (numbersIn s.args.units.now)) s.args.g s.args.c (row_of _ _ _ s.requires.1).column
+    copy-cell-no s.args.h s.args.w s.args.colours.now (states_in s.args.borders.now) s.args.y
+    s.args.x (entry (numbers_in s.args.units.now)) s.args.g s.args.c (row_of _ _ _ s.requires.1).column
     c.before.joint-clear.ensures c.if1.false
 
 pub cell-clear-spec : {M : Type 1} → statement M

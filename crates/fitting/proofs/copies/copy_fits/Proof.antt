@@ -6,23 +6,23 @@ use lib.ListN.{get_or}
 use Rattle.lists.specs.Lists.{all}
 use Rattle.lists.specs.Parts.{part}
 use Rattle.lists.specs.PartLaws.{all-ends, all-next, all_done}
-use Rattle.rules.specs.Codes.{statesIn, unclued}
+use Rattle.rules.specs.Codes.{states_in, unclued}
 use Rattle.rules.specs.Flat.{flat}
 use Rattle.rules.specs.Groups.{entry}
 use Rattle.rules.specs.Shapes.{shape_of}
 use Rattle.laws.specs.FlatLaws.{row_of}
-use Rattle.groups.specs.Grouping.{numbersIn, cells_in}
+use Rattle.groups.specs.Grouping.{numbers_in, cells_in}
 use Rattle.planes.specs.Placing.{fits_of}
-use Rattle.fitting.specs.Copies.{cellClear}
+use Rattle.fitting.specs.Copies.{cell_clear}
 use Rattle.fitting.specs.CopyLaws.{copy-unit-low, shift_of, copied-cells}
 use Rattle.fitting.proofs.copies.copy_fits.Statement.{statement}
 use Rattle.fitting.proofs.copies.copy_fits.Tie as tie
 
 abbrev invariant-loop : tie.invariant-loop
 invariant-loop h w colours borders units g o first last f y x i₀ i =
-    let number : ℕ → ℕ = entry (numbersIn units) in
-    (first ≤ i) × (i ≤ last) × (fits_of (unclued h w colours) (statesIn borders) (shape_of (flat h w) number g) o
-    ≡ all (cellClear h w colours (statesIn borders) number g y x) (part (cells_in units) i last))
+    let number : ℕ → ℕ = entry (numbers_in units) in
+    (first ≤ i) × (i ≤ last) × (fits_of (unclued h w colours) (states_in borders) (shape_of (flat h w) number g) o
+    ≡ all (cell_clear h w colours (states_in borders) number g y x) (part (cells_in units) i last))
 
 abbrev decreases-loop : tie.decreases-loop
 decreases-loop h w colours borders units g o first last f y x i₀ i = last - i
@@ -110,7 +110,7 @@ loop-holds c =
       omega (arith, s.requires.1.some, f, l.start-of2.ensures),
       rw (c.cell_at.ensures, f, l.start-of2.ensures)
           (copied-cells s.requires.0.sized s.requires.1 s.args.o s.args.colours.now
-          (statesIn s.args.borders.now)),
+          (states_in s.args.borders.now)),
     )
 
 cell-at-requires-2 : tie.Need-cell-at-requires-2 invariant-loop decreases-loop
@@ -141,7 +141,7 @@ loop-less c = omega arith
 cell-is : (c : tie.After-cell-clear invariant-loop decreases-loop) → let l = c.before.before.before in
     let n = l.before in let a = n.before.before.before.args in
     c.cell-clear.result
-    ≡ cellClear a.h a.w a.colours.now (statesIn a.borders.now) (entry (numbersIn a.units.now)) a.g
+    ≡ cell_clear a.h a.w a.colours.now (states_in a.borders.now) (entry (numbers_in a.units.now)) a.g
     (2 * (a.o / a.w) + (64 - 2 * (n.cell_at.result / a.w)))
     (2 * (a.o % a.w) + (64 - 2 * (n.cell_at.result % a.w))) (get_or (cells_in a.units.now) l.loop.i 0)
 cell-is c = rw c.before.cell-at2.ensures at c.cell-clear.ensures

@@ -9,16 +9,16 @@ use lib.ListN.{get_or}
 use Rattle.lists.specs.Lists.{any}
 use Rattle.lists.specs.Parts.{part}
 use Rattle.lists.specs.PartLaws.{any-done, any_found, any_next}
-use Rattle.rules.specs.Codes.{statesIn, unclued}
+use Rattle.rules.specs.Codes.{states_in, unclued}
 use Rattle.rules.specs.Flat.{flat}
 use Rattle.rules.specs.Groups.{entry}
 use Rattle.rules.specs.Shapes.{shape_of}
-use Rattle.groups.specs.Grouping.{numbersIn, cells_in, startsIn}
+use Rattle.groups.specs.Grouping.{numbers_in, cells_in, starts_in}
 use Rattle.reasons.specs.Arrays.{Cells}
 use Rattle.reasons.specs.CellLaws.{cells-reach, cells_at}
 use Rattle.planes.specs.Placing.{fits_of}
-use Rattle.planes.specs.Laying.{fitsAmong}
-use Rattle.fitting.specs.Copies.{soonEnd, soonIn}
+use Rattle.planes.specs.Laying.{fits_among}
+use Rattle.fitting.specs.Copies.{soon_end, soon_in}
 use Rattle.fitting.specs.CopyLaws.{soon-cells}
 use Rattle.fitting.proofs.copies.copy_fits_soon.Statement.{statement}
 use Rattle.fitting.proofs.copies.copy_fits_soon.Tie as tie
@@ -26,13 +26,13 @@ use Rattle.fitting.proofs.copies.copy_fits_soon.Tie as tie
 -- the unit's shape fits at a cell
 abbrev fit : ℕ → ℕ → List ℕ → List ℕ → List ℕ → ℕ → ℕ → Bool
 fit h w colours borders units g =
-    fits_of (unclued h w colours) (statesIn borders) (shape_of (flat h w) (entry (numbersIn units)) g)
+    fits_of (unclued h w colours) (states_in borders) (shape_of (flat h w) (entry (numbers_in units)) g)
 
 abbrev invariant-loop : tie.invariant-loop
 invariant-loop h w colours borders units g potential q from to i₀ i =
     (from ≤ i) × (i ≤ to)
-    × (fitsAmong (unclued h w colours) (statesIn borders) (shape_of (flat h w) (entry (numbersIn units)) g)
-    (soonIn (cells_in potential) (startsIn potential) q)
+    × (fits_among (unclued h w colours) (states_in borders) (shape_of (flat h w) (entry (numbers_in units)) g)
+    (soon_in (cells_in potential) (starts_in potential) q)
     ≡ any (fit h w colours borders units g) (part (cells_in potential) i to))
 
 abbrev decreases-loop : tie.decreases-loop
@@ -41,10 +41,10 @@ decreases-loop h w colours borders units g potential q from to i₀ i = to - i
 -- where the first cells end
 end_is : (c : tie.After-soon-end invariant-loop decreases-loop) → let s = c.before.before.before in
     c.soon-end.result
-    ≡ soonEnd (get_or (startsIn s.args.potential.now) s.args.q 0)
-    (get_or (startsIn s.args.potential.now) (s.args.q + 1) 0)
+    ≡ soon_end (get_or (starts_in s.args.potential.now) s.args.q 0)
+    (get_or (starts_in s.args.potential.now) (s.args.q + 1) 0)
 end_is c =
-    c.soon-end.ensures ∙ ap₂ soonEnd c.before.before.start_of_lem.ensures c.before.start-of2.ensures
+    c.soon-end.ensures ∙ ap₂ soon_end c.before.before.start_of_lem.ensures c.before.start-of2.ensures
 
 -- they are cells of the page
 soon : (c : tie.After-soon-end invariant-loop decreases-loop) → let f = c.before.before in let s = f.before in
@@ -67,7 +67,7 @@ soon-end-requires c κs =
     let s = c.before.before in omega (arith, s.requires.3.order, s.requires.3.end, c.before.start_of_lem.ensures)
 
 loop-holds : tie.Need-loop-init invariant-loop decreases-loop
-unfolding fitsAmong soonIn
+unfolding fits_among soon_in
 loop-holds c =
     let f = c.before.before in
     let a = f.before.args in (

@@ -4,8 +4,8 @@ use borrow.Author.Rules.{rules}
 use borrow.Author.Tests.{eq-eqb, ne_eqb}
 use lib.ListN.{get_or}
 use Rattle.rules.specs.Groups.{entry}
-use Rattle.groups.specs.Grouping.{numbersIn}
-use Rattle.planes.specs.Placing.{isClear}
+use Rattle.groups.specs.Grouping.{numbers_in}
+use Rattle.planes.specs.Placing.{is_clear}
 use Rattle.fitting.proofs.copies.joint_clear.Statement.{statement}
 use Rattle.fitting.proofs.copies.joint_clear.Tie as tie
 
@@ -24,11 +24,11 @@ returns c =
     let p = c.before in
     let n = p.before.before in
     let s = n.before.before in
-    let e : get_or (numbersIn s.args.units.now) s.args.to 0 ≡ s.args.g =
+    let e : get_or (numbers_in s.args.units.now) s.args.to 0 ≡ s.args.g =
     sym n.Group-of.ensures ∙ p.before.if2.true in
     c.is-clear.ensures
-    ∙ (ap isClear p.read-place.ensures
-    ∙ sym (rw (n.before.if1.true, eq-eqb (get_or (numbersIn s.args.units.now) s.args.to 0) s.args.g e)))
+    ∙ (ap is_clear p.read-place.ensures
+    ∙ sym (rw (n.before.if1.true, eq-eqb (get_or (numbers_in s.args.units.now) s.args.to 0) s.args.g e)))
 
 returns-2 : tie.Need-returns-2
 unfolding entry
@@ -37,7 +37,7 @@ returns-2 c =
     let s = n.before.before in
     sym (rw (
       n.before.if1.true,
-      ne_eqb (get_or (numbersIn s.args.units.now) s.args.to 0) s.args.g
+      ne_eqb (get_or (numbers_in s.args.units.now) s.args.to 0) s.args.g
           (λ e. c.if2.false (n.Group-of.ensures ∙ e)),
     ))
 

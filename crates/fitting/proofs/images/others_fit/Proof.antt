@@ -5,11 +5,11 @@ use mathlib.Core.List.{List}
 use Prim.Native.Nat.{ℕ, ◌≤◌, ◌-◌}
 use native.Mathlib.Omega.{arith}
 use lib.ListN.{length}
-use Rattle.lists.specs.Tests.{anyBelow}
+use Rattle.lists.specs.Tests.{any_below}
 use Rattle.lists.specs.TestLaws.{any_none, any_some, none_more}
 use Rattle.rules.specs.Page.{Point}
-use Rattle.shapes.specs.Spots.{cellSpots, jointSpots}
-use Rattle.shapes.specs.Images.{imageJoints}
+use Rattle.shapes.specs.Spots.{cell_spots, joint_spots}
+use Rattle.shapes.specs.Images.{image_joints}
 use Rattle.planes.specs.Masks.{MaskAnswers}
 use Rattle.fitting.proofs.images.others_fit.Statement.{statement}
 use Rattle.fitting.proofs.images.others_fit.Tie as tie
@@ -18,8 +18,8 @@ abbrev invariant-loop : tie.invariant-loop
 invariant-loop h planes mask top end outline turned₀ row₀ turned row =
     (row ≤ 8) × (length turned ≡ 4096)
     × ((F : List Point → Bool) → MaskAnswers h planes mask F
-    → F (imageJoints 0 (cellSpots outline) (jointSpots outline)) ≡ false
-    → anyBelow row (λ i. F (imageJoints i (cellSpots outline) (jointSpots outline))) ≡ false)
+    → F (image_joints 0 (cell_spots outline) (joint_spots outline)) ≡ false
+    → any_below row (λ i. F (image_joints i (cell_spots outline) (joint_spots outline))) ≡ false)
 
 abbrev decreases-loop : tie.decreases-loop
 decreases-loop h planes mask top end outline turned₀ row₀ turned row = 8 - row
@@ -27,7 +27,7 @@ decreases-loop h planes mask top end outline turned₀ row₀ turned row = 8 - r
 -- the test of a row
 abbrev test : tie.Start invariant-loop decreases-loop → (List Point → Bool) → ℕ → Bool
 test s F i =
-    F (imageJoints i (cellSpots s.args.outline.now) (jointSpots s.args.outline.now))
+    F (image_joints i (cell_spots s.args.outline.now) (joint_spots s.args.outline.now))
 
 loop-holds : tie.Need-loop-init invariant-loop decreases-loop
 loop-holds c = (omega arith, c.requires.4, λ F a e. none_more 0 (test c F) (any_none (test c F)) e)

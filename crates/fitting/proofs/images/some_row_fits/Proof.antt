@@ -7,8 +7,8 @@ use native.Mathlib.Omega.{arith}
 use borrow.Author.Rules.{rules}
 use Rattle.lists.specs.TestLaws.{any_some}
 use Rattle.rules.specs.Page.{Point}
-use Rattle.shapes.specs.Spots.{cellSpots, jointSpots}
-use Rattle.shapes.specs.Images.{imageJoints}
+use Rattle.shapes.specs.Spots.{cell_spots, joint_spots}
+use Rattle.shapes.specs.Images.{image_joints}
 use Rattle.planes.specs.Masks.{MaskAnswers}
 use Rattle.fitting.proofs.images.some_row_fits.Statement.{statement}
 use Rattle.fitting.proofs.images.some_row_fits.Tie as tie
@@ -16,7 +16,7 @@ use Rattle.fitting.proofs.images.some_row_fits.Tie as tie
 -- the test of a row, and that of row 0 as the search over the planes answers it
 abbrev test : tie.Start → (List Point → Bool) → ℕ → Bool
 test s F i =
-    F (imageJoints i (cellSpots s.args.outline.now) (jointSpots s.args.outline.now))
+    F (image_joints i (cell_spots s.args.outline.now) (joint_spots s.args.outline.now))
 
 first : (c : tie.After-mask-fits) → let s = c.before.before.before.before.before in
     (F : List Point → Bool) → MaskAnswers s.args.h s.args.planes.now s.args.mask.now F

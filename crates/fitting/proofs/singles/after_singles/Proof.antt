@@ -2,25 +2,25 @@
 use mathlib.Core.Bool.{Bool}
 use Prim.Native.Nat.{ℕ, ◌-◌}
 use native.Mathlib.Omega.{arith}
-use Rattle.rules.specs.Codes.{statesIn, unclued}
-use Rattle.groups.specs.Grouping.{countIn}
+use Rattle.rules.specs.Codes.{states_in, unclued}
+use Rattle.groups.specs.Grouping.{count_in}
 use Rattle.adjacent.specs.HomeLaws.{unit-few, home_at}
 use Rattle.fitting.specs.Held.{Nearby}
-use Rattle.fitting.specs.FirstStuck.{Passed, fitsUnit}
+use Rattle.fitting.specs.FirstStuck.{Passed, fits_unit}
 use Rattle.fitting.specs.FirstStuckLaws.{passed_start, passed-next, passed-all}
 use Rattle.fitting.proofs.singles.after_singles.Statement.{statement}
 use Rattle.fitting.proofs.singles.after_singles.Tie as tie
 
 abbrev invariant-loop : tie.invariant-loop
 invariant-loop h w colours borders units potential near₀ sure count u₀ near u =
-    Passed (fitsUnit (unclued h w colours) (statesIn borders)) (countIn units) u × Nearby h w colours borders near
+    Passed (fits_unit (unclued h w colours) (states_in borders)) (count_in units) u × Nearby h w colours borders near
 
 abbrev decreases-loop : tie.decreases-loop
 decreases-loop h w colours borders units potential near₀ sure count u₀ near u = count - u
 
 -- the test of a unit
 abbrev test : tie.Start invariant-loop decreases-loop → ℕ → Bool
-test s = fitsUnit (unclued s.args.h s.args.w s.args.colours.now) (statesIn s.args.borders.now)
+test s = fits_unit (unclued s.args.h s.args.w s.args.colours.now) (states_in s.args.borders.now)
 
 all-near-requires : tie.Need-all-near-requires invariant-loop decreases-loop
 all-near-requires c κs =
@@ -34,7 +34,7 @@ loop-holds : tie.Need-loop-init invariant-loop decreases-loop
 loop-holds c =
     let n = c.before in
     let s = n.before.before in
-    (passed_start (test s) (countIn s.args.units.now), n.all_Near.ensures.1)
+    (passed_start (test s) (count_in s.args.units.now), n.all_Near.ensures.1)
 
 single-fits-requires : tie.Need-single-fits-requires invariant-loop decreases-loop
 single-fits-requires c κs =

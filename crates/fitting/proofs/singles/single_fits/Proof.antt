@@ -5,7 +5,7 @@ use native.Mathlib.Omega.{arith}
 use borrow.Author.Tests.{ltb-true}
 use lib.ListN.{get_or}
 use Rattle.laws.specs.FlatLaws.{counts}
-use Rattle.groups.specs.Grouping.{numbersIn, cells_in, startsIn}
+use Rattle.groups.specs.Grouping.{numbers_in, cells_in, starts_in}
 use Rattle.adjacent.specs.HomeLaws.{unit-few, unit-in, head-low, home_of}
 use Rattle.fitting.specs.ReadyLaws.{single-unit, sure-unit}
 use Rattle.fitting.proofs.singles.single_fits.Statement.{statement}
@@ -31,7 +31,7 @@ returns c = (λ e. let z : ◌≡◌ {A = ℕ} 0 1 = cc in absurd (omega arith),
 
 -- the unit has one cell
 one-is : (c : tie.Else1) → let s = c.before.before.before in
-    get_or (startsIn s.args.units.now) (s.args.u + 1) 0 ≡ get_or (startsIn s.args.units.now) s.args.u 0 + 1
+    get_or (starts_in s.args.units.now) (s.args.u + 1) 0 ≡ get_or (starts_in s.args.units.now) s.args.u 0 + 1
 one-is c = let l = c.before in rw (l.before.start_of_lem.ensures, l.start-of2.ensures) at c.if1.false
 
 returns-2 : tie.Need-returns-2
@@ -49,7 +49,7 @@ cell-at-requires c κs =
 
 -- the unit's first cell, and its potential unit
 cell-is : (c : tie.After-cell-at) → let s = c.before.before.before.before.before in
-    c.cell_at.result ≡ get_or (cells_in s.args.units.now) (get_or (startsIn s.args.units.now) s.args.u 0) 0
+    c.cell_at.result ≡ get_or (cells_in s.args.units.now) (get_or (starts_in s.args.units.now) s.args.u 0) 0
 cell-is c =
     let f = c.before.before.before.before in
     let s = f.before in
@@ -57,11 +57,11 @@ cell-is c =
 
 home-is : (c : tie.After-group-of) → let s = c.before.before.before.before.before.before in
     c.Group-of.result
-    ≡ get_or (numbersIn s.args.potential.now)
-    (get_or (cells_in s.args.units.now) (get_or (startsIn s.args.units.now) s.args.u 0) 0) 0
+    ≡ get_or (numbers_in s.args.potential.now)
+    (get_or (cells_in s.args.units.now) (get_or (starts_in s.args.units.now) s.args.u 0) 0) 0
 home-is c =
     let s = c.before.before.before.before.before.before in
-    c.Group-of.ensures ∙ ap (λ i. get_or (numbersIn s.args.potential.now) i 0) (cell-is c.before)
+    c.Group-of.ensures ∙ ap (λ i. get_or (numbers_in s.args.potential.now) i 0) (cell-is c.before)
 
 group-of-requires : tie.Need-group-of-requires
 group-of-requires c κs =

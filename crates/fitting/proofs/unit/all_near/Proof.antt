@@ -2,7 +2,7 @@
 use mathlib.Core.Path.{◌≡◌}
 use Prim.Native.Nat.{ℕ, ◌-◌, ◌≤◌}
 use native.Mathlib.Omega.{arith}
-use Rattle.groups.specs.Grouping.{countIn}
+use Rattle.groups.specs.Grouping.{count_in}
 use Rattle.fitting.specs.Held.{Nearby, Adjoined}
 use Rattle.fitting.specs.HeldLaws.{adjoined-none, adjoined-more}
 use Rattle.fitting.proofs.unit.all_near.Statement.{statement}
@@ -52,7 +52,7 @@ returns-2 : tie.Need-returns-2 invariant-loop decreases-loop
 returns-2 c =
     let l = c.before.loop in
     let n = c.before.before in
-    let e : l.p ≡ countIn n.before.args.potential.now =
+    let e : l.p ≡ count_in n.before.args.potential.now =
     omega (arith, l.invariant.0, c.loop-test.false, n.count_of.ensures) in
     (λ d. rw e at l.invariant.1, l.invariant.2)
 

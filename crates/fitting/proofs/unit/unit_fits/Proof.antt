@@ -1,8 +1,8 @@
 -- The unit's cells and connections are written, and tried; the eight rows answer for the listed transforms.
 use mathlib.Core.Path.{◌∙◌}
 use Rattle.rules.specs.Check.{mates}
-use Rattle.rules.specs.Codes.{statesIn, unclued}
-use Rattle.groups.specs.Grouping.{cells_in, startsIn}
+use Rattle.rules.specs.Codes.{states_in, unclued}
+use Rattle.groups.specs.Grouping.{cells_in, starts_in}
 use Rattle.shapes.specs.ImageLaws.{jointed}
 use Rattle.adjacent.specs.HomeLaws.{unit-part, unit-placed}
 use Rattle.fitting.specs.FitLaws.{rows-turned}
@@ -34,10 +34,10 @@ returns c =
     let s = b.before.before.before.before in
     let j = b.joints.ensures in
     let page = unclued s.args.h s.args.w s.args.colours.now in
-    let states = statesIn s.args.borders.now in
+    let states = states_in s.args.borders.now in
     let v = c.written-fits.ensures in (
       v.0
-          ∙ rows-turned page states (cells_in s.args.potential.now) (startsIn s.args.potential.now)
+          ∙ rows-turned page states (cells_in s.args.potential.now) (starts_in s.args.potential.now)
           (mates page states s.args.p) j.0 j.1,
       record { outline = j.0.spotted.long; turned = v.2 },
       v.1,

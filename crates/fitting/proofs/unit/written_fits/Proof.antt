@@ -3,13 +3,13 @@ use mathlib.Core.Bool.{Bool}
 use mathlib.Core.List.{List}
 use native.Mathlib.Omega.{arith}
 use Rattle.rules.specs.Check.{mates}
-use Rattle.rules.specs.Codes.{statesIn, unclued}
+use Rattle.rules.specs.Codes.{states_in, unclued}
 use Rattle.rules.specs.Page.{Point, Puzzle}
-use Rattle.groups.specs.Grouping.{cells_in, startsIn}
+use Rattle.groups.specs.Grouping.{cells_in, starts_in}
 use Rattle.planes.specs.Placing.{bare}
-use Rattle.planes.specs.Laying.{fitsBeside}
+use Rattle.planes.specs.Laying.{fits_beside}
 use Rattle.fitting.specs.HeldLaws.{held_of, held-sizes, held-answers}
-use Rattle.fitting.specs.Fitting.{fitsRows}
+use Rattle.fitting.specs.Fitting.{fits_rows}
 use Rattle.fitting.proofs.unit.written_fits.Statement.{statement}
 use Rattle.fitting.proofs.unit.written_fits.Tie as tie
 
@@ -17,9 +17,9 @@ use Rattle.fitting.proofs.unit.written_fits.Tie as tie
 abbrev fits : tie.Start → List Point → Bool
 fits s js =
     let page : Puzzle = unclued s.args.h s.args.w s.args.colours.now in
-    fitsBeside page (statesIn s.args.borders.now) (bare js) (cells_in s.args.potential.now)
-    (startsIn s.args.potential.now)
-    (mates page (statesIn s.args.borders.now) s.args.p)
+    fits_beside page (states_in s.args.borders.now) (bare js) (cells_in s.args.potential.now)
+    (starts_in s.args.potential.now)
+    (mates page (states_in s.args.borders.now) s.args.p)
 
 turn-row-requires : tie.Need-turn-row-requires
 turn-row-requires c κs =
@@ -46,7 +46,7 @@ some-row-fits-requires c κs =
     )
 
 returns : tie.Need-returns
-unfolding fitsRows
+unfolding fits_rows
 returns c =
     let q = c.before.before.before.before in
     let s = q.before.before.before.before.before in

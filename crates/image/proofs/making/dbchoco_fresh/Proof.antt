@@ -6,7 +6,7 @@ use Rattle.laws.specs.FlatLaws.{counts}
 use Rattle.board.specs.Board.{fresh_of, number_of}
 use Rattle.board.specs.FreshLaws.{Made}
 use Rattle.board.specs.declared.Returned.{Returned}
-use Rattle.board.specs.Accepted.{madeBoard}
+use Rattle.board.specs.Accepted.{made_board}
 use Rattle.image.specs.Image.{image_of}
 use Rattle.image.specs.MakingLaws.{number-refused, making-other, number-done, made_of, bytes-refused, bytes-done}
 use Rattle.image.proofs.making.dbchoco_fresh.Statement.{statement}
@@ -22,7 +22,7 @@ here c = c.number.ensures ∙ ap (λ (r : Returned). number_of r.outcome) c.befo
 puzzle : (c : tie.After-number) → c.number.result ≡ 0
     → let a = c.before.before.before.before.args in
     Made a.height a.width a.colours.now a.clues.now
-    (madeBoard a.height a.width a.colours.now a.clues.now)
+    (made_board a.height a.width a.colours.now a.clues.now)
 puzzle c e = let a = c.before.before.before.before.args in made_of _ _ _ _ a.image.now (sym (here c) ∙ e)
 
 fresh-requires : tie.Need-fresh-requires

@@ -10,13 +10,13 @@ use mir.Facts.{to_z-of_z}
 use mir.Syntax.{w32}
 use Rattle.lists.specs.Lists.{flat_map}
 use Rattle.lists.specs.Stores.{sets-flat-more}
-use Rattle.image.specs.Image.{bits_of, clueBytes}
+use Rattle.image.specs.Image.{bits_of, clue_bytes}
 use Rattle.image.specs.ByteLaws.{four-long}
 use Rattle.image.proofs.making.put_clues.Statement.{statement}
 use Rattle.image.proofs.making.put_clues.Tie as tie
 
 abbrev invariant-loop : tie.invariant-loop
-invariant-loop s₀ clues i₀ s i = (i ≤ length clues) × (s ≡ sets s₀ 1026 (flat_map clueBytes (take i clues)))
+invariant-loop s₀ clues i₀ s i = (i ≤ length clues) × (s ≡ sets s₀ 1026 (flat_map clue_bytes (take i clues)))
 
 abbrev decreases-loop : tie.decreases-loop
 decreases-loop s₀ clues i₀ s i = length clues - i
@@ -44,7 +44,7 @@ put-four-requires : tie.Need-put-four-requires invariant-loop decreases-loop
 put-four-requires c κs =
     let r = c.before.before.before.before.loop in
     let a = c.before.before.before.before.before.before.args in
-    let l = ap length r.invariant.1 ∙ length-sets a.s.now 1026 (flat_map clueBytes (take r.i a.clues.now)) in
+    let l = ap length r.invariant.1 ∙ length-sets a.s.now 1026 (flat_map clue_bytes (take r.i a.clues.now)) in
     omega (arith, c.before.before.before.before.before.before.requires)
 
 add-i : tie.Need-overflow-add-i invariant-loop decreases-loop
@@ -64,7 +64,7 @@ loop-again c =
       omega arith,
       c.before.before.put_four.ensures
           ∙ rw (r.invariant.1, b)
-          (sets-flat-more clueBytes 4 (λ y. four-long (bits_of y)) a.s.now 1026 a.clues.now r.i (pos 0)
+          (sets-flat-more clue_bytes 4 (λ y. four-long (bits_of y)) a.s.now 1026 a.clues.now r.i (pos 0)
           (omega arith)),
     )
 
@@ -72,7 +72,7 @@ same_length : tie.Need-same-length invariant-loop decreases-loop
 same_length c =
     let r = c.before.loop in
     let a = c.before.before.before.args in
-    ap length r.invariant.1 ∙ length-sets a.s.now 1026 (flat_map clueBytes (take r.i a.clues.now))
+    ap length r.invariant.1 ∙ length-sets a.s.now 1026 (flat_map clue_bytes (take r.i a.clues.now))
 
 returns : tie.Need-returns invariant-loop decreases-loop
 returns c =

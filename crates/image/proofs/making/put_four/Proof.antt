@@ -3,7 +3,7 @@ use mathlib.Core.Path.{sym, ◌∙◌}
 use Prim.Native.Nat.{◌/◌}
 use borrow.Author.Rules.{rules}
 use Rattle.lists.specs.Stores.{sets-append}
-use Rattle.image.specs.Image.{twoBytes, fourBytes}
+use Rattle.image.specs.Image.{two_bytes, four_bytes}
 use Rattle.image.proofs.making.put_four.Statement.{statement}
 use Rattle.image.proofs.making.put_four.Tie as tie
 
@@ -20,12 +20,12 @@ same_length : tie.Need-same-length
 same_length c = search rules
 
 returns : tie.Need-returns
-unfolding fourBytes twoBytes
+unfolding four_bytes two_bytes
 returns c =
     let a = c.before.before.before.before.before.before.before.before.before.args in
     c.before.before.put-two2.ensures
     ∙ rw c.before.before.before.before.before.before.put_two.ensures
-    (sym (sets-append a.s.now a.k (twoBytes a.v) (twoBytes (a.v / 65536))))
+    (sym (sets-append a.s.now a.k (two_bytes a.v) (two_bytes (a.v / 65536))))
 
 pub put-four-spec : {M : Type 1} → statement M
 put-four-spec =

@@ -3,7 +3,7 @@ use mathlib.Core.Path.{◌≡◌, ap₂, ◌∙◌}
 use native.Mathlib.Omega.{arith}
 use borrow.Author.Rules.{rules}
 use lib.ListN.{length, set, length-set}
-use Rattle.board.specs.Alien.{bordersOf}
+use Rattle.board.specs.Alien.{borders_of}
 use Rattle.board.specs.ConditionLaws.{borders-of}
 use Rattle.image.specs.MakingLaws.{fresh-bytes}
 use Rattle.image.proofs.making.put_fresh.Statement.{statement}
@@ -78,7 +78,7 @@ returns c =
     let a = (start u).args in
     let m =
     n.border-count.ensures
-    ∙ ap₂ bordersOf n.before.before.index-byte.ensures n.before.index-byte2.ensures
+    ∙ ap₂ borders_of n.before.before.index-byte.ensures n.before.index-byte2.ensures
     ∙ borders-of p.1 in
     c.before.before.put-clues.ensures
     ∙ rw (t.put-colours.ensures, u.put_two.ensures, k.clear.ensures)

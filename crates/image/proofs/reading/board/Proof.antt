@@ -1,8 +1,8 @@
 -- `board` meets its contract: each field is what its reader returns.
 use mathlib.Core.Path.{◌∙◌}
 use borrow.Author.Rules.{rules}
-use Rattle.board.specs.Alien.{boardOf}
-use Rattle.image.specs.Image.{spelledBoard}
+use Rattle.board.specs.Alien.{board_of}
+use Rattle.image.specs.Image.{spelled_board}
 use Rattle.image.proofs.reading.board.Statement.{statement}
 use Rattle.image.proofs.reading.board.Tie as tie
 
@@ -46,10 +46,10 @@ tally-requires : tie.Need-tally-requires
 tally-requires c κs = search rules
 
 returns : tie.Need-returns
-unfolding spelledBoard
+unfolding spelled_board
 returns c =
     λ i.
-    boardOf (c.before.before.before.before.index-byte.ensures i) (c.before.before.index-byte2.ensures i)
+    board_of (c.before.before.before.before.index-byte.ensures i) (c.before.before.index-byte2.ensures i)
     (c.before.before.before.before.before.before.before.before.before.before.before.before.before.copy.ensures i)
     (c.before.before.before.before.before.before.before.before.clues.ensures i)
     (c.before.before.before.before.before.before.before.before.before.before.copy2.ensures i)

@@ -9,7 +9,7 @@ use lib.ListN.{length, get_or, length-set}
 use mir.Facts.{to_z-of_z}
 use mir.Syntax.{w32}
 use Rattle.lists.specs.TableLaws.{table_is, stored_more}
-use Rattle.image.specs.Image.{quad, fromBits}
+use Rattle.image.specs.Image.{quad, from_bits}
 use Rattle.image.proofs.reading.clues.Statement.{statement}
 use Rattle.image.proofs.reading.clues.Tie as tie
 
@@ -17,7 +17,7 @@ abbrev invariant-loop : tie.invariant-loop
 invariant-loop s out₀ i₀ out i =
     (i ≤ 1024)
     × (length out ≡ 1024)
-    × ((j : ℕ) → j < i → get_or out j (pos 0) ≡ fromBits (quad s (1026 + 4 * j)))
+    × ((j : ℕ) → j < i → get_or out j (pos 0) ≡ from_bits (quad s (1026 + 4 * j)))
 
 abbrev decreases-loop : tie.decreases-loop
 decreases-loop s out₀ i₀ out i = 1024 - i
@@ -56,8 +56,8 @@ loop-again c =
     let e = to_z-of_z {w = w32} {z = c.clue.result} (sfits_of c.clue.type-inv) in (
       omega arith,
       simp length-set r.invariant.1,
-      stored_more (λ j. fromBits (quad s (1026 + 4 * j))) (pos 0) _ r.out r.i (omega (arith, r.invariant.1))
-          (e ∙ c.clue.ensures ∙ ap fromBits c.before.four.ensures) r.invariant.2,
+      stored_more (λ j. from_bits (quad s (1026 + 4 * j))) (pos 0) _ r.out r.i (omega (arith, r.invariant.1))
+          (e ∙ c.clue.ensures ∙ ap from_bits c.before.four.ensures) r.invariant.2,
     )
 
 returns : tie.Need-returns invariant-loop decreases-loop

@@ -1,7 +1,7 @@
 -- `border_count` meets its contract: the first two bytes are height and width.
 use mathlib.Core.Path.{◌∙◌, ap₂}
 use borrow.Author.Rules.{rules}
-use Rattle.board.specs.Alien.{bordersOf}
+use Rattle.board.specs.Alien.{borders_of}
 use Rattle.image.proofs.series.border_count.Statement.{statement}
 use Rattle.image.proofs.series.border_count.Tie as tie
 
@@ -23,7 +23,7 @@ border-count-requires c κs = search rules
 returns : tie.Need-returns
 returns c =
     c.border-count.ensures
-    ∙ ap₂ bordersOf c.before.before.before.index-byte.ensures c.before.index-byte2.ensures
+    ∙ ap₂ borders_of c.before.before.before.index-byte.ensures c.before.index-byte2.ensures
 
 pub border-count-spec : {M : Type 1} → statement M
 border-count-spec =

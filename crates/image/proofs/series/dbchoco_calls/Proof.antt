@@ -6,7 +6,7 @@ use Prim.Native.Nat.{ℕ, ◌-◌}
 use native.Mathlib.Omega.{arith}
 use borrow.Author.Rules.{rules}
 use lib.ListN.{length}
-use Rattle.image.specs.Image.{Bytes, imageAlien}
+use Rattle.image.specs.Image.{Bytes, image_alien}
 use Rattle.image.specs.SeriesLaws.{long, Running, alien-none, running-first, running-long}
 use Rattle.image.specs.SeriesLaws.{running-next, running-stop, running-end}
 use Rattle.image.proofs.series.dbchoco_calls.Statement.{statement}
@@ -22,7 +22,7 @@ decreases-loop image₀ codes i₀ image i = length codes - i
 abbrev image : tie.Else1 invariant-loop decreases-loop → List ℕ
 image c = c.before.before.before.before.before.args.image.now
 
-known : (c : tie.Else1 invariant-loop decreases-loop) → imageAlien (image c) ≡ false
+known : (c : tie.Else1 invariant-loop decreases-loop) → image_alien (image c) ≡ false
 known c = sym c.before.alien.ensures ∙ c.if1.false
 
 bytes : (c : tie.Else1 invariant-loop decreases-loop) → Bytes (image c)

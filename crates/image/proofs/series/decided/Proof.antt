@@ -7,7 +7,7 @@ use native.Mathlib.Omega.{arith}
 use borrow.Author.Rules.{rules}
 use lib.ListN.{length}
 use Rattle.board.specs.Board.{number_of}
-use Rattle.image.specs.Image.{Bytes, imageAlien}
+use Rattle.image.specs.Image.{Bytes, image_alien}
 use Rattle.image.specs.SeriesLaws.{series-part-length, few, decide-not, decide-room, decide-step}
 use Rattle.image.proofs.series.decided.Statement.{statement}
 use Rattle.image.proofs.series.decided.Tie as tie
@@ -25,7 +25,7 @@ side c = c.before.before.before.before.args.side
 long : (c : tie.After-border-count) → length (image c) ≡ 11082
 long c = c.before.before.before.before.requires.0
 
-known : (c : tie.After-border-count) → imageAlien (image c) ≡ false
+known : (c : tie.After-border-count) → image_alien (image c) ≡ false
 known c = c.before.before.before.before.requires.1
 
 bytes : (c : tie.After-border-count) → Bytes (image c)

@@ -7,7 +7,7 @@ use native.Mathlib.Omega.{arith}
 use borrow.Author.Rules.{rules}
 use lib.ListN.{length}
 use Rattle.board.specs.Board.{number_of}
-use Rattle.image.specs.Image.{Bytes, pair, imageAlien}
+use Rattle.image.specs.Image.{Bytes, pair, image_alien}
 use Rattle.image.specs.SeriesLaws.{undo-not, undo-some, undo-low, undo-room, undo-tally, undo-step}
 use Rattle.image.proofs.series.undone.Statement.{statement}
 use Rattle.image.proofs.series.undone.Tie as tie
@@ -19,7 +19,7 @@ image c = c.before.before.before.before.args.image.now
 long : (c : tie.After-index) → length (image c) ≡ 11082
 long c = c.before.before.before.before.requires.0
 
-known : (c : tie.After-index) → imageAlien (image c) ≡ false
+known : (c : tie.After-index) → image_alien (image c) ≡ false
 known c = c.before.before.before.before.requires.1
 
 bytes : (c : tie.After-index) → Bytes (image c)

@@ -4,13 +4,13 @@ use Prim.Native.Nat.{◌-◌, ◌≤◌}
 use native.Mathlib.Omega.{arith}
 use borrow.Author.Rules.{rules}
 use lib.ListN.{length}
-use Rattle.image.specs.Image.{putCodes}
+use Rattle.image.specs.Image.{put_codes}
 use Rattle.image.specs.MemoryLaws.{codes-none, length-put-codes, codes-more}
 use Rattle.image.proofs.writing.put_codes.Statement.{statement}
 use Rattle.image.proofs.writing.put_codes.Tie as tie
 
 abbrev invariant-loop : tie.invariant-loop
-invariant-loop memory₀ codes n i₀ memory i = (i ≤ n) × (memory ≡ putCodes memory₀ codes i)
+invariant-loop memory₀ codes n i₀ memory i = (i ≤ n) × (memory ≡ put_codes memory₀ codes i)
 
 abbrev decreases-loop : tie.decreases-loop
 decreases-loop memory₀ codes n i₀ memory i = n - i
@@ -65,7 +65,7 @@ returns c =
     let r = c.before.loop in
     let a = c.before.before.before.before.args in
     let e : r.i ≡ a.n = omega arith in
-    r.invariant.1 ∙ ap (putCodes a.memory.now a.codes.now) e
+    r.invariant.1 ∙ ap (put_codes a.memory.now a.codes.now) e
 
 pub put-codes-spec : {M : Type 1} → statement M
 put-codes-spec =

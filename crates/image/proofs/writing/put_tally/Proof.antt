@@ -2,7 +2,7 @@
 use mathlib.Core.Path.{◌∙◌}
 use borrow.Author.Rules.{rules}
 use Rattle.lists.specs.Lists.{flat_map}
-use Rattle.image.specs.Image.{twoBytes}
+use Rattle.image.specs.Image.{two_bytes}
 use Rattle.image.proofs.writing.put_tally.Statement.{statement}
 use Rattle.image.proofs.writing.put_tally.Tie as tie
 
@@ -25,7 +25,7 @@ same_length : tie.Need-same-length
 same_length c = search rules
 
 returns : tie.Need-returns
-unfolding flat_map twoBytes
+unfolding flat_map two_bytes
 returns c =
     let k = c.before.before.before.before.before.before in
     c.before.before.put-two3.ensures

@@ -1,7 +1,7 @@
 -- `put_two` meets its contract: the two stores are those of `sets`.
 use native.Mathlib.Numerals.{add-one}
 use borrow.Author.Rules.{rules}
-use Rattle.image.specs.Image.{twoBytes}
+use Rattle.image.specs.Image.{two_bytes}
 use Rattle.image.proofs.writing.put_two.Statement.{statement}
 use Rattle.image.proofs.writing.put_two.Tie as tie
 
@@ -24,7 +24,7 @@ same_length : tie.Need-same-length
 same_length c = search rules
 
 returns : tie.Need-returns
-unfolding twoBytes
+unfolding two_bytes
 returns c = rw add-one
 
 pub put-two-spec : {M : Type 1} → statement M

@@ -1,9 +1,9 @@
--- `rewrite` meets its contract: its four stores are those of `imageWritten`.
+-- `rewrite` meets its contract: its four stores are those of `image_written`.
 use mathlib.Core.Path.{◌∙◌}
 use native.Mathlib.Omega.{arith}
 use borrow.Author.Rules.{rules}
 use lib.ListN.{length-set}
-use Rattle.image.specs.Image.{imageWritten}
+use Rattle.image.specs.Image.{image_written}
 use Rattle.image.proofs.writing.rewrite.Statement.{statement}
 use Rattle.image.proofs.writing.rewrite.Tie as tie
 
@@ -44,7 +44,7 @@ same_length c =
     ∙ simp length-set at k.before.before.before.before.put_two.auto.0
 
 returns : tie.Need-returns
-unfolding imageWritten
+unfolding image_written
 returns c =
     let k = c.before.before.before.before.before.before in
     c.before.before.put-tally.ensures

@@ -1,5 +1,5 @@
 -- `number_at` meets its contract: the first digit, then `number_on`.
-use Rattle.page.specs.Places.{gotNumber}
+use Rattle.page.specs.Places.{got_number}
 use Rattle.page.specs.ParserLaws.{digit_low, digit-high, number_past, number-not, parse-number-first}
 use borrow.Author.Rules.{rules}
 use mathlib.Core.Path.{sym, ◌∙◌}
@@ -8,7 +8,7 @@ use Rattle.page.proofs.bytes.number_at.Statement.{statement}
 use Rattle.page.proofs.bytes.number_at.Tie as tie
 
 returns : tie.Need-returns
-unfolding gotNumber
+unfolding got_number
 returns c = sym (number_past _ _ _ (search rules))
 
 shared-slice-read-b : tie.Need-shared-slice-read-b
@@ -41,7 +41,7 @@ returns-2 c = c.number-on.ensures
     (sym c.before.before.before.is_digit.ensures ∙ c.before.before.if2.true)))
 
 returns-3 : tie.Need-returns-3
-unfolding gotNumber
+unfolding got_number
 returns-3 c = sym (number-not _ _ _ (search rules) (sym c.before.is_digit.ensures ∙ c.if2.false))
 
 pub number-at-spec : {M : Type 1} → statement M

@@ -1,9 +1,9 @@
 -- `number_on` meets its contract: the number read so far goes on at p as the whole did at `at`.
 use Prim.Native.Nat.{◌≤◌, ◌-◌}
-use Rattle.page.specs.Places.{gotNumber}
+use Rattle.page.specs.Places.{got_number}
 use Rattle.page.specs.ParserLaws.{digit_low, digit-high, may-not, may-zero, may-large, may}
 use Rattle.page.specs.ParserLaws.{on-past, on-stop, on-not, on-more}
-use Rattle.page.specs.Parsers.{rest, numberOn}
+use Rattle.page.specs.Parsers.{rest, number_on}
 use borrow.Author.Rules.{rules}
 use lib.ListN.{length}
 use mathlib.Core.Path.{◌≡◌, sym, refl, ◌∙◌}
@@ -12,7 +12,7 @@ use Rattle.page.proofs.bytes.number_on.Statement.{statement}
 use Rattle.page.proofs.bytes.number_on.Tie as tie
 
 abbrev invariant-loop : tie.invariant-loop
-invariant-loop s at stop from v₀ p₀ v p = (numberOn stop from (rest s at) ≡ numberOn stop v (rest s p)) × (v ≤ 2147483647)
+invariant-loop s at stop from v₀ p₀ v p = (number_on stop from (rest s at) ≡ number_on stop v (rest s p)) × (v ≤ 2147483647)
 
 abbrev decreases-loop : tie.decreases-loop
 decreases-loop s at stop from v₀ p₀ v p = length s - p
@@ -27,14 +27,14 @@ add-t13 : tie.Need-overflow-add-t13 invariant-loop decreases-loop
 add-t13 c = search rules
 
 returns : tie.Need-returns invariant-loop decreases-loop
-unfolding gotNumber
+unfolding got_number
 returns c = sym (c.before.before.before.loop.invariant.0 ∙ on-stop _ _ _ _ (search rules) (search rules))
 
 is-digit-requires : tie.Need-is-digit-requires invariant-loop decreases-loop
 is-digit-requires c κs = search rules
 
 returns-2 : tie.Need-returns-2 invariant-loop decreases-loop
-unfolding gotNumber
+unfolding got_number
 returns-2 c =
     sym
     (c.before.before.before.before.before.before.loop.invariant.0 ∙ on-not _ _ _ _ (search rules) (search rules)
@@ -64,7 +64,7 @@ add-more c =
     )
 
 returns-3 : tie.Need-returns-3 invariant-loop decreases-loop
-unfolding gotNumber
+unfolding got_number
 returns-3 c =
     sym
     (c.before.before.before.before.before.before.before.before.loop.invariant.0
@@ -89,14 +89,14 @@ loop-again c = (
 )
 
 returns-4 : tie.Need-returns-4 invariant-loop decreases-loop
-unfolding gotNumber
+unfolding got_number
 returns-4 c =
     sym
     (c.before.before.before.before.before.loop.invariant.0 ∙ on-not _ _ _ _ (search rules) (search rules)
     (may-not _ _ (sym c.before.is_digit.ensures ∙ c.if2.false)))
 
 returns-5 : tie.Need-returns-5 invariant-loop decreases-loop
-unfolding gotNumber
+unfolding got_number
 returns-5 c = sym (c.before.loop.invariant.0 ∙ on-past _ _ _ _ (search rules))
 
 pub number-on-spec : {M : Type 1} → statement M

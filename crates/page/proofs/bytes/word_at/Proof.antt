@@ -1,6 +1,6 @@
 -- `word_at` meets its contract: what is left of the word stands or fails at p as the whole did at `at`.
 use Prim.Native.Nat.{◌≤◌, ◌-◌}
-use Rattle.page.specs.Places.{leftFrom}
+use Rattle.page.specs.Places.{left_from}
 use Rattle.page.specs.ParserLaws.{rest_all, strip-end, strip-past, strip-not, strip-more}
 use Rattle.page.specs.Parsers.{strip, rest}
 use borrow.Author.Rules.{rules}
@@ -19,7 +19,7 @@ loop-holds : tie.Need-loop-init invariant-loop decreases-loop
 loop-holds c = (search rules, rw rest_all)
 
 returns : tie.Need-returns invariant-loop decreases-loop
-unfolding leftFrom
+unfolding left_from
 returns c = sym (c.before.before.loop.invariant.1 ∙ strip-past _ _ _ _ (search rules) (search rules))
 
 shared-slice-read-if2 : tie.Need-shared-slice-read-if2 invariant-loop decreases-loop
@@ -29,7 +29,7 @@ shared-slice-read-if2-2 : tie.Need-shared-slice-read-if2-2 invariant-loop decrea
 shared-slice-read-if2-2 c = search rules
 
 returns-2 : tie.Need-returns-2 invariant-loop decreases-loop
-unfolding leftFrom
+unfolding left_from
 returns-2 c = sym (c.before.before.before.before.before.loop.invariant.1
     ∙ strip-not _ _ _ _ (search rules) (search rules) c.if2.true)
 
@@ -50,7 +50,7 @@ loop-again c = (
 )
 
 returns-3 : tie.Need-returns-3 invariant-loop decreases-loop
-unfolding leftFrom
+unfolding left_from
 returns-3 c = sym (c.before.loop.invariant.1 ∙ strip-end _ _ _ _ (search rules))
 
 pub word-at-spec : {M : Type 1} → statement M

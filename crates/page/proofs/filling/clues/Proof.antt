@@ -6,7 +6,7 @@ use Rattle.page.specs.Grammar.{clue}
 use Rattle.page.specs.Judge.{placed}
 use Rattle.page.specs.Many.{passes}
 use Rattle.page.specs.PageText.{clue-takes}
-use Rattle.page.specs.Places.{all_from, gotClue}
+use Rattle.page.specs.Places.{all_from, got_clue}
 use Rattle.page.specs.ParserLaws.{told_same}
 use borrow.Author.Rules.{rules}
 use lib.IntN.{negsuc}
@@ -27,10 +27,10 @@ decreases-loop s at w out₀ p₀ out p = length s - p
 
 fits : (c : tie.After-known-told invariant-loop decreases-loop)
     → Stores c.before.before.before.before.before.before.before.args.w c.before.c.given.0.0
-unfolding gotClue
+unfolding got_clue
 fits c =
     stores _ _ _ _ c.before.before.before.before.before.before.before.requires
-    (told_same (gotClue _) c.before.before.before.clue-at.ensures c.before.c.given.1)
+    (told_same (got_clue _) c.before.before.before.clue-at.ensures c.before.c.given.1)
 
 loop-holds : tie.Need-loop-init invariant-loop decreases-loop
 loop-holds c = (search rules, refl)
@@ -45,10 +45,10 @@ enum_told : tie.Need-enum-told invariant-loop decreases-loop
 enum_told c = search rules
 
 returns : tie.Need-returns invariant-loop decreases-loop
-unfolding gotClue
+unfolding got_clue
 returns c = sym (c.before.before.before.before.loop.invariant.1
     ∙ placed-none _ _ (from-none clue-takes _ _
-    (told_same (gotClue _) c.before.before.clue-at.ensures c.enum_told.given.1)))
+    (told_same (got_clue _) c.before.before.clue-at.ensures c.enum_told.given.1)))
 
 mul-cell : tie.Need-overflow-mul-cell invariant-loop decreases-loop
 mul-cell c = omega (arith, (fits c.before).product)
@@ -66,36 +66,36 @@ array-set-from-out : tie.Need-array-set-from-out invariant-loop decreases-loop
 array-set-from-out c = search rules
 
 loop-less : tie.Need-loop-smaller invariant-loop decreases-loop
-unfolding gotClue
+unfolding got_clue
 loop-less c = passes clue-takes _ _ _ _
-    (told_same (gotClue _) c.before.before.before.before.before.before.before.clue-at.ensures
+    (told_same (got_clue _) c.before.before.before.before.before.before.before.clue-at.ensures
     c.before.before.before.before.before.c.given.1)
 
 loop-again : tie.Need-loop-preserved invariant-loop decreases-loop
-unfolding gotClue
+unfolding got_clue
 loop-again c =
     let f = fits c.before.before.before.before in (
       simp length-set c.before.before.before.before.before.before.before.before.before.loop.invariant.0,
       c.before.before.before.before.before.before.before.before.before.loop.invariant.1 ∙
           rw (to_z_pos w32 {n = c.before.before.before.before.before.c.given.0.0.n} (omega arith))
           (placed-more _ _ (from_more clue-takes _ _ _ _
-          (told_same (gotClue _) c.before.before.before.before.before.before.before.clue-at.ensures
+          (told_same (got_clue _) c.before.before.before.before.before.before.before.clue-at.ensures
           c.before.before.before.before.before.c.given.1))),
     )
 
 loop-less-2 : tie.Need-loop-smaller-2 invariant-loop decreases-loop
-unfolding gotClue
+unfolding got_clue
 loop-less-2 c = passes clue-takes _ _ _ _
-    (told_same (gotClue _) c.before.before.before.before.before.before.clue-at.ensures
+    (told_same (got_clue _) c.before.before.before.before.before.before.clue-at.ensures
     c.before.before.before.before.c.given.1)
 
 loop-again-2 : tie.Need-loop-preserved-2 invariant-loop decreases-loop
-unfolding gotClue
+unfolding got_clue
 loop-again-2 c = (
   search rules,
   c.before.before.before.before.before.before.before.before.loop.invariant.1
       ∙ placed_off _ _ (from_more clue-takes _ _ _ _
-      (told_same (gotClue _) c.before.before.before.before.before.before.clue-at.ensures
+      (told_same (got_clue _) c.before.before.before.before.before.before.clue-at.ensures
       c.before.before.before.before.c.given.1)) (search rules),
 )
 

@@ -1,7 +1,7 @@
 -- `with_digits` meets its contract: the digits from p on are still to be laid; past 1,024 none is.
 use Prim.Native.Nat.{◌-◌}
 use Rattle.page.specs.Filling.{Laying, laying-none, laying-full, laying-more, laying-end}
-use Rattle.page.specs.Places.{digitsIn}
+use Rattle.page.specs.Places.{digits_in}
 use borrow.Author.Rules.{rules}
 use lib.ListN.{length, length-set}
 use mathlib.Core.Path.{◌≡◌}
@@ -9,7 +9,7 @@ use Rattle.page.proofs.filling.with_digits.Statement.{statement}
 use Rattle.page.proofs.filling.with_digits.Tie as tie
 
 abbrev invariant-loop : tie.invariant-loop
-invariant-loop s from to out₀ p₀ out p = (length out.cells ≡ 1024) × Laying out₀ (digitsIn s from to) out (digitsIn s p to)
+invariant-loop s from to out₀ p₀ out p = (length out.cells ≡ 1024) × Laying out₀ (digits_in s from to) out (digits_in s p to)
 
 abbrev decreases-loop : tie.decreases-loop
 decreases-loop s from to out₀ p₀ out p = to - p

@@ -1,6 +1,6 @@
 -- `judge_parts` meets its contract, test by test.
 use Rattle.page.specs.JudgeLaws.{not-sized, ragged, discoloured, right}
-use Rattle.page.specs.Places.{judgedOf, sheetAt}
+use Rattle.page.specs.Places.{judged_of, sheet_at}
 use borrow.Author.Rules.{rules}
 use mathlib.Core.Path.{sym, ◌∙◌}
 use Rattle.page.proofs.fitness.judge_parts.Statement.{statement}
@@ -16,7 +16,7 @@ two-colours-requires : tie.Need-two-colours-requires
 two-colours-requires c κs = search rules
 
 returns : tie.Need-returns
-unfolding judgedOf sheetAt
+unfolding judged_of sheet_at
 returns c =
     sym
     (right _ (sym c.before.before.before.before.before.size-right.ensures
@@ -25,7 +25,7 @@ returns c =
     (sym c.before.two-colours.ensures ∙ c.if3.true))
 
 returns-2 : tie.Need-returns-2
-unfolding judgedOf sheetAt
+unfolding judged_of sheet_at
 returns-2 c =
     sym
     (discoloured _ (sym c.before.before.before.before.before.size-right.ensures
@@ -34,12 +34,12 @@ returns-2 c =
     (sym c.before.two-colours.ensures ∙ c.if3.false))
 
 returns-3 : tie.Need-returns-3
-unfolding judgedOf sheetAt
+unfolding judged_of sheet_at
 returns-3 c = sym (ragged _ (sym c.before.before.before.size-right.ensures ∙ c.before.before.if1.true)
     (sym c.before.rows_fit.ensures ∙ c.if2.false))
 
 returns-4 : tie.Need-returns-4
-unfolding judgedOf sheetAt
+unfolding judged_of sheet_at
 returns-4 c = sym (not-sized _ (sym c.before.size-right.ensures ∙ c.if1.false))
 
 pub judge-parts-spec : {M : Type 1} → statement M

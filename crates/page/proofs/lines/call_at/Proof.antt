@@ -1,7 +1,7 @@
 -- `call_at` meets its contract: each word read is what the parser reads there.
 use Rattle.lists.specs.Lists.{or_else}
 use Rattle.page.specs.Grammar.{call}
-use Rattle.page.specs.Places.{gotCall, leftFrom}
+use Rattle.page.specs.Places.{got_call, left_from}
 use Rattle.page.specs.ParserLaws.{told_same}
 use Rattle.page.specs.Parsers.{either, lead, onto, give}
 use borrow.Author.Rules.{rules}
@@ -36,25 +36,25 @@ decide-at-requires : tie.Need-decide-at-requires
 decide-at-requires c κs = search rules
 
 returns : tie.Need-returns
-unfolding call either or_else lead onto give gotCall leftFrom
+unfolding call either or_else lead onto give got_call left_from
 returns c = rw (
-  told_same (leftFrom _) c.before.before.before.before.before.before.before.word_at.ensures
+  told_same (left_from _) c.before.before.before.before.before.before.before.word_at.ensures
       c.before.before.before.before.before.enum_told.given.1,
-  told_same (leftFrom _) c.before.before.before.word-at2.ensures c.before.enum-told2.given.1,
+  told_same (left_from _) c.before.before.before.word-at2.ensures c.before.enum-told2.given.1,
   c.decide-at.ensures,
 )
 
 returns-2 : tie.Need-returns-2
-unfolding call either or_else lead onto give gotCall leftFrom
+unfolding call either or_else lead onto give got_call left_from
 returns-2 c = rw (
-  told_same (leftFrom _) c.before.before.before.before.before.before.before.word_at.ensures
+  told_same (left_from _) c.before.before.before.before.before.before.before.word_at.ensures
       c.before.before.before.before.before.enum_told.given.1,
-  told_same (leftFrom _) c.before.before.before.word-at2.ensures c.before.b.given.1,
+  told_same (left_from _) c.before.before.before.word-at2.ensures c.before.b.given.1,
 )
 
 returns-3 : tie.Need-returns-3
-unfolding call either or_else lead onto give gotCall leftFrom
-returns-3 c = rw (told_same (leftFrom _) c.before.before.before.word_at.ensures c.before.a.given.1)
+unfolding call either or_else lead onto give got_call left_from
+returns-3 c = rw (told_same (left_from _) c.before.before.before.word_at.ensures c.before.a.given.1)
 
 pub call-at-spec : {M : Type 1} → statement M
 call-at-spec =

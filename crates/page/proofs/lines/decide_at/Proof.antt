@@ -1,7 +1,7 @@
 -- `decide_at` meets its contract: each word and number read is what the parser reads there.
 use Rattle.lists.specs.Lists.{or_else}
-use Rattle.page.specs.Grammar.{decideCall, side}
-use Rattle.page.specs.Places.{gotCall, leftFrom, gotNumber}
+use Rattle.page.specs.Grammar.{decide_call, side}
+use Rattle.page.specs.Places.{got_call, left_from, got_number}
 use Rattle.page.specs.ParserLaws.{told_same}
 use Rattle.page.specs.Parsers.{map_r, either, lead, onto, both, also, give}
 use borrow.Author.Rules.{rules}
@@ -21,8 +21,8 @@ enum_told : tie.Need-enum-told
 enum_told c = search rules
 
 returns : tie.Need-returns
-unfolding decideCall side map_r either or_else lead onto both also give gotCall leftFrom gotNumber
-returns c = rw (told_same (leftFrom _) c.before.before.word_at.ensures c.enum_told.given.1)
+unfolding decide_call side map_r either or_else lead onto both also give got_call left_from got_number
+returns c = rw (told_same (left_from _) c.before.before.word_at.ensures c.enum_told.given.1)
 
 number-at-requires : tie.Need-number-at-requires
 number-at-requires c κs = search rules
@@ -34,11 +34,11 @@ enum-told-2 : tie.Need-enum-told-2
 enum-told-2 c = search rules
 
 returns-2 : tie.Need-returns-2
-unfolding decideCall side map_r either or_else lead onto both also give gotCall leftFrom gotNumber
+unfolding decide_call side map_r either or_else lead onto both also give got_call left_from got_number
 returns-2 c = rw (
-  told_same (leftFrom _) c.before.before.before.before.before.before.word_at.ensures
+  told_same (left_from _) c.before.before.before.before.before.before.word_at.ensures
       c.before.before.before.before.a.given.1,
-  told_same (gotNumber _) c.before.before.number_at.ensures c.enum-told2.given.1,
+  told_same (got_number _) c.before.before.number_at.ensures c.enum-told2.given.1,
 )
 
 slice-aggregate-word-at-2 : tie.Need-slice-aggregate-word-at-2
@@ -66,36 +66,36 @@ enum-told-4 : tie.Need-enum-told-4
 enum-told-4 c = search rules
 
 returns-3 : tie.Need-returns-3
-unfolding decideCall side map_r either or_else lead onto both also give gotCall leftFrom gotNumber
+unfolding decide_call side map_r either or_else lead onto both also give got_call left_from got_number
 returns-3 c = rw (
-  told_same (leftFrom _)
+  told_same (left_from _)
       c.before.before.before.before.before.before.before.before.before.before.before.before.before.before.before.word_at.ensures c.before.before.before.before.before.before.before.before.before.before.before.before.before.a.given.1,
-  told_same (gotNumber _) c.before.before.before.before.before.before.before.before.before.before.before.number_at.ensures c.before.before.before.before.before.before.before.before.before.border.given.1,
-  told_same (leftFrom _) c.before.before.before.before.before.before.word-at2.ensures
+  told_same (got_number _) c.before.before.before.before.before.before.before.before.before.before.before.number_at.ensures c.before.before.before.before.before.before.before.before.before.border.given.1,
+  told_same (left_from _) c.before.before.before.before.before.before.word-at2.ensures
       c.before.before.before.before.enum-told3.given.1,
-  told_same (leftFrom _) c.before.before.word-at3.ensures c.enum-told4.given.1,
+  told_same (left_from _) c.before.before.word-at3.ensures c.enum-told4.given.1,
 )
 
 returns-4 : tie.Need-returns-4
-unfolding decideCall side map_r either or_else lead onto both also give gotCall leftFrom gotNumber
+unfolding decide_call side map_r either or_else lead onto both also give got_call left_from got_number
 returns-4 c = rw (
-  told_same (leftFrom _)
+  told_same (left_from _)
       c.before.before.before.before.before.before.before.before.before.before.before.before.before.before.before.before.word_at.ensures
       c.before.before.before.before.before.before.before.before.before.before.before.before.before.before.a.given.1,
-  told_same (gotNumber _) c.before.before.before.before.before.before.before.before.before.before.before.before.number_at.ensures c.before.before.before.before.before.before.before.before.before.before.border.given.1,
-  told_same (leftFrom _) c.before.before.before.before.before.before.before.word-at2.ensures
+  told_same (got_number _) c.before.before.before.before.before.before.before.before.before.before.before.before.number_at.ensures c.before.before.before.before.before.before.before.before.before.before.border.given.1,
+  told_same (left_from _) c.before.before.before.before.before.before.before.word-at2.ensures
       c.before.before.before.before.before.enum-told3.given.1,
-  told_same (leftFrom _) c.before.before.before.word-at3.ensures c.before.e.given.1,
+  told_same (left_from _) c.before.before.before.word-at3.ensures c.before.e.given.1,
 )
 
 returns-5 : tie.Need-returns-5
-unfolding decideCall side map_r either or_else lead onto both also give gotCall leftFrom gotNumber
+unfolding decide_call side map_r either or_else lead onto both also give got_call left_from got_number
 returns-5 c = rw (
-  told_same (leftFrom _)
+  told_same (left_from _)
       c.before.before.before.before.before.before.before.before.before.before.before.before.word_at.ensures c.before.before.before.before.before.before.before.before.before.before.a.given.1,
-  told_same (gotNumber _) c.before.before.before.before.before.before.before.before.number_at.ensures
+  told_same (got_number _) c.before.before.before.before.before.before.before.before.number_at.ensures
       c.before.before.before.before.before.before.border.given.1,
-  told_same (leftFrom _) c.before.before.before.word-at2.ensures c.before.d.given.1,
+  told_same (left_from _) c.before.before.before.word-at2.ensures c.before.d.given.1,
 )
 
 pub decide-at-spec : {M : Type 1} → statement M

@@ -1,6 +1,6 @@
 -- `row_at` meets its contract: each word and the digits read are what the parser reads there.
 use Rattle.page.specs.Grammar.{row}
-use Rattle.page.specs.Places.{gotRow, leftFrom, gotDigits}
+use Rattle.page.specs.Places.{got_row, left_from, got_digits}
 use Rattle.page.specs.ParserLaws.{told_same}
 use Rattle.page.specs.Parsers.{lead, followed, give, onto, also}
 use borrow.Author.Rules.{rules}
@@ -20,8 +20,8 @@ enum_told : tie.Need-enum-told
 enum_told c = search rules
 
 returns : tie.Need-returns
-unfolding row lead followed give onto also gotRow leftFrom gotDigits
-returns c = rw (told_same (leftFrom _) c.before.before.word_at.ensures c.enum_told.given.1)
+unfolding row lead followed give onto also got_row left_from got_digits
+returns c = rw (told_same (left_from _) c.before.before.word_at.ensures c.enum_told.given.1)
 
 digits-at-requires : tie.Need-digits-at-requires
 digits-at-requires c κs = search rules
@@ -33,11 +33,11 @@ enum-told-2 : tie.Need-enum-told-2
 enum-told-2 c = search rules
 
 returns-2 : tie.Need-returns-2
-unfolding row lead followed give onto also gotRow leftFrom gotDigits
+unfolding row lead followed give onto also got_row left_from got_digits
 returns-2 c = rw (
-  told_same (leftFrom _) c.before.before.before.before.before.before.word_at.ensures
+  told_same (left_from _) c.before.before.before.before.before.before.word_at.ensures
       c.before.before.before.before.from.given.1,
-  told_same (gotDigits _ _) c.before.before.digits-at.ensures c.enum-told2.given.1,
+  told_same (got_digits _ _) c.before.before.digits-at.ensures c.enum-told2.given.1,
 )
 
 slice-aggregate-word-at-2 : tie.Need-slice-aggregate-word-at-2
@@ -53,24 +53,24 @@ enum-told-3 : tie.Need-enum-told-3
 enum-told-3 c = search rules
 
 returns-3 : tie.Need-returns-3
-unfolding row lead followed give onto also gotRow leftFrom gotDigits
+unfolding row lead followed give onto also got_row left_from got_digits
 returns-3 c = rw (
-  told_same (leftFrom _)
+  told_same (left_from _)
       c.before.before.before.before.before.before.before.before.before.before.before.word_at.ensures
       c.before.before.before.before.before.before.before.before.before.from.given.1,
-  told_same (gotDigits _ _) c.before.before.before.before.before.before.before.digits-at.ensures
+  told_same (got_digits _ _) c.before.before.before.before.before.before.before.digits-at.ensures
       c.before.before.before.before.before.to.given.1,
-  told_same (leftFrom _) c.before.before.word-at2.ensures c.enum-told3.given.1,
+  told_same (left_from _) c.before.before.word-at2.ensures c.enum-told3.given.1,
 )
 
 returns-4 : tie.Need-returns-4
-unfolding row lead followed give onto also gotRow leftFrom gotDigits
+unfolding row lead followed give onto also got_row left_from got_digits
 returns-4 c = rw (
-  told_same (leftFrom _)
+  told_same (left_from _)
       c.before.before.before.before.before.before.before.before.before.before.before.before.word_at.ensures c.before.before.before.before.before.before.before.before.before.before.from.given.1,
-  told_same (gotDigits _ _) c.before.before.before.before.before.before.before.before.digits-at.ensures
+  told_same (got_digits _ _) c.before.before.before.before.before.before.before.before.digits-at.ensures
       c.before.before.before.before.before.before.to.given.1,
-  told_same (leftFrom _) c.before.before.before.word-at2.ensures c.before.next.given.1,
+  told_same (left_from _) c.before.before.before.word-at2.ensures c.before.next.given.1,
 )
 
 pub row-at-spec : {M : Type 1} → statement M

@@ -1,10 +1,10 @@
 -- `clues_fit` meets its contract: the clues from p on fit if those from `at` on do.
 use Prim.Native.Nat.{◌-◌}
 use Rattle.page.specs.FormLaws.{from_past, from-none, from_more, fit_none, fit-off, fit-twice, fit-more}
-use Rattle.page.specs.Grammar.{clue, cluesFit}
+use Rattle.page.specs.Grammar.{clue, clues_fit}
 use Rattle.page.specs.Many.{passes}
 use Rattle.page.specs.PageText.{clue-takes}
-use Rattle.page.specs.Places.{all_from, gotClue}
+use Rattle.page.specs.Places.{all_from, got_clue}
 use Rattle.page.specs.ParserLaws.{told_same}
 use borrow.Author.Rules.{rules}
 use lib.ListN.{length}
@@ -13,7 +13,7 @@ use Rattle.page.proofs.whole.clues_fit.Statement.{statement}
 use Rattle.page.proofs.whole.clues_fit.Tie as tie
 
 abbrev invariant-loop : tie.invariant-loop
-invariant-loop s at h w p₀ p = cluesFit h w (all_from clue s at) ≡ cluesFit h w (all_from clue s p)
+invariant-loop s at h w p₀ p = clues_fit h w (all_from clue s at) ≡ clues_fit h w (all_from clue s p)
 
 abbrev decreases-loop : tie.decreases-loop
 decreases-loop s at h w p₀ p = length s - p
@@ -31,12 +31,12 @@ enum_told : tie.Need-enum-told invariant-loop decreases-loop
 enum_told c = search rules
 
 returns : tie.Need-returns invariant-loop decreases-loop
-unfolding gotClue
+unfolding got_clue
 returns c =
     sym
     (c.before.before.before.before.loop.invariant ∙
     fit_none _ _ (from-none clue-takes _ _
-    (told_same (gotClue _) c.before.before.clue-at.ensures c.enum_told.given.1)))
+    (told_same (got_clue _) c.before.before.clue-at.ensures c.enum_told.given.1)))
 
 on-page-requires : tie.Need-on-page-requires invariant-loop decreases-loop
 on-page-requires c κs = search rules
@@ -45,39 +45,39 @@ clue-again-requires : tie.Need-clue-again-requires invariant-loop decreases-loop
 clue-again-requires c κs = search rules
 
 returns-2 : tie.Need-returns-2 invariant-loop decreases-loop
-unfolding gotClue
+unfolding got_clue
 returns-2 c =
     sym
     (c.before.before.before.before.before.before.before.before.before.loop.invariant ∙
     fit-twice _ _ _ _ (from_more clue-takes _ _ _ _
-    (told_same (gotClue _) c.before.before.before.before.before.before.before.clue-at.ensures
+    (told_same (got_clue _) c.before.before.before.before.before.before.before.clue-at.ensures
     c.before.before.before.before.before.c.given.1))
     (sym c.before.before.before.on-page.ensures ∙ c.before.before.if1.true)
     (sym c.before.clue-again.ensures ∙ c.if2.true))
 
 loop-less : tie.Need-loop-smaller invariant-loop decreases-loop
-unfolding gotClue
+unfolding got_clue
 loop-less c = passes clue-takes _ _ _ _
-    (told_same (gotClue _) c.before.before.before.before.before.before.before.clue-at.ensures
+    (told_same (got_clue _) c.before.before.before.before.before.before.before.clue-at.ensures
     c.before.before.before.before.before.c.given.1)
 
 loop-again : tie.Need-loop-preserved invariant-loop decreases-loop
-unfolding gotClue
+unfolding got_clue
 loop-again c =
     c.before.before.before.before.before.before.before.before.before.loop.invariant ∙
     fit-more _ _ _ _ (from_more clue-takes _ _ _ _
-    (told_same (gotClue _) c.before.before.before.before.before.before.before.clue-at.ensures
+    (told_same (got_clue _) c.before.before.before.before.before.before.before.clue-at.ensures
     c.before.before.before.before.before.c.given.1))
     (sym c.before.before.before.on-page.ensures ∙ c.before.before.if1.true)
     (sym c.before.clue-again.ensures ∙ c.if2.false)
 
 returns-3 : tie.Need-returns-3 invariant-loop decreases-loop
-unfolding gotClue
+unfolding got_clue
 returns-3 c =
     sym
     (c.before.before.before.before.before.before.before.loop.invariant ∙
     fit-off _ _ _ _ (from_more clue-takes _ _ _ _
-    (told_same (gotClue _) c.before.before.before.before.before.clue-at.ensures
+    (told_same (got_clue _) c.before.before.before.before.before.clue-at.ensures
     c.before.before.before.c.given.1))
     (sym c.before.on-page.ensures ∙ c.if1.false))
 

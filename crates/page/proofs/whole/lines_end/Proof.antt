@@ -1,7 +1,7 @@
 -- `lines_end` meets its contract: what is left after the lines from p on is what is left after those from `at` on.
 use Prim.Native.Nat.{◌-◌}
 use Rattle.page.specs.FormLaws.{lines-past, lines_none, lines_more}
-use Rattle.page.specs.Places.{end_of, leftFrom}
+use Rattle.page.specs.Places.{end_of, left_from}
 use Rattle.page.specs.ParserLaws.{told_same}
 use borrow.Author.Rules.{rules}
 use lib.ListN.{length}
@@ -28,19 +28,19 @@ enum_told : tie.Need-enum-told invariant-loop decreases-loop
 enum_told c = search rules
 
 returns : tie.Need-returns invariant-loop decreases-loop
-unfolding leftFrom
+unfolding left_from
 returns c = sym (c.before.before.before.before.loop.invariant
-    ∙ lines_none _ _ _ (told_same (leftFrom _) c.before.before.line-end.ensures c.enum_told.given.1))
+    ∙ lines_none _ _ _ (told_same (left_from _) c.before.before.line-end.ensures c.enum_told.given.1))
 
 loop-less : tie.Need-loop-smaller invariant-loop decreases-loop
-unfolding leftFrom
+unfolding left_from
 loop-less c = (lines_more _ _ _ _
-    (told_same (leftFrom _) c.before.before.before.line-end.ensures c.before.next.given.1)).1
+    (told_same (left_from _) c.before.before.before.line-end.ensures c.before.next.given.1)).1
 
 loop-again : tie.Need-loop-preserved invariant-loop decreases-loop
-unfolding leftFrom
+unfolding left_from
 loop-again c = c.before.before.before.before.before.loop.invariant
-    ∙ (lines_more _ _ _ _ (told_same (leftFrom _) c.before.before.before.line-end.ensures
+    ∙ (lines_more _ _ _ _ (told_same (left_from _) c.before.before.before.line-end.ensures
     c.before.next.given.1)).0
 
 returns-2 : tie.Need-returns-2 invariant-loop decreases-loop

@@ -2,7 +2,7 @@
 use Prim.Native.Nat.{◌-◌, ◌/◌}
 use native.Mathlib.Omega.{arith}
 use borrow.Author.Rules.{rules}
-use Rattle.rules.specs.Codes.{statesIn}
+use Rattle.rules.specs.Codes.{states_in}
 use Rattle.laws.specs.FlatLaws.{Counts, counts, Spot, spot}
 use Rattle.planes.specs.PlacingLaws.{below-reading, right-reading, off-ends, off-above, off-left, off-below}
 use Rattle.planes.specs.PlacingLaws.{off-right, reads-below, reads-right}
@@ -75,7 +75,7 @@ returns-5 c =
           c.before.before.before.before.if2.false c.before.before.before.if3.false
           c.before.before.if4.false c.before.if5.true,
       below-reading s.args.h s.args.w ((s.args.y - 64) / 2) ((s.args.x - 64) / 2) s.args.colours.now
-          (statesIn s.args.borders.now),
+          (states_in s.args.borders.now),
     )
     c.read-border.ensures
 
@@ -106,7 +106,7 @@ returns-6 c =
           c.before.before.before.before.if2.false c.before.before.before.if3.false
           c.before.before.if4.false c.before.if5.false,
       right-reading s.args.h s.args.w ((s.args.y - 64) / 2) ((s.args.x - 64) / 2) s.args.colours.now
-          (statesIn s.args.borders.now) (omega arith) (omega arith),
+          (states_in s.args.borders.now) (omega arith) (omega arith),
     )
     c.read-border2.ensures
 

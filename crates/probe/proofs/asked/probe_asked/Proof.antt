@@ -5,20 +5,20 @@ use lib.ListN.{length}
 use Rattle.board.specs.Board.{number_of}
 use Rattle.groups.specs.declared.BoardGroups.{BoardGroups}
 use Rattle.probe.specs.Probe.{kind_of}
-use Rattle.probe.specs.ProbeAsked.{askedIn}
+use Rattle.probe.specs.ProbeAsked.{asked_in}
 use Rattle.probe.specs.ProbeAskedLaws.{told-refusal, told-short, told-words}
 use borrow.Author.Rules.{rules}
 use Rattle.probe.proofs.asked.probe_asked.Statement.{statement}
 use Rattle.probe.proofs.asked.probe_asked.Tie as tie
 
 answer : (c : tie.After-asked-in) → let a = c.before.before.before.before.args in
-    c.asked_in.result ≡ askedIn a.s.now (kind_of a.kind)
+    c.asked_in.result ≡ asked_in a.s.now (kind_of a.kind)
 answer c =
     let a = c.before.before.before.before.args in
-    c.asked_in.ensures ∙ ap (askedIn a.s.now) c.before.kind-of.ensures
+    c.asked_in.ensures ∙ ap (asked_in a.s.now) c.before.kind-of.ensures
 
 refusal : (c : tie.After-number) → let a = c.before.before.before.before.before.args in
-    c.number.result ≡ number_of (askedIn a.s.now (kind_of a.kind)).outcome
+    c.number.result ≡ number_of (asked_in a.s.now (kind_of a.kind)).outcome
 refusal c = c.number.ensures ∙ ap (λ (a : BoardGroups). number_of a.outcome) (answer c.before)
 
 kind-of-requires : tie.Need-kind-of-requires

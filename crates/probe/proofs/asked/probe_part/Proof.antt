@@ -2,7 +2,7 @@
 use mathlib.Core.Path.{◌≡◌, refl, ap, ◌∙◌}
 use native.Mathlib.Omega.{arith}
 use lib.ListN.{length}
-use Rattle.probe.specs.ProbeAsked.{whichOf, partIn}
+use Rattle.probe.specs.ProbeAsked.{which_of, part_in}
 use Rattle.probe.specs.ProbeAskedLaws.{part-few, told-short, told-words}
 use borrow.Author.Rules.{rules}
 use Rattle.probe.proofs.asked.probe_part.Statement.{statement}
@@ -10,8 +10,8 @@ use Rattle.probe.proofs.asked.probe_part.Tie as tie
 
 cells : (c : tie.After-part-in)
     → let a = c.before.before.before.before.before.before.before.before.before.before.before.args in
-    c.part_in.result.now ≡ partIn a.s.now (whichOf a.which) a.g
-unfolding partIn
+    c.part_in.result.now ≡ part_in a.s.now (which_of a.which) a.g
+unfolding part_in
 cells c =
     let d = c.before.before.before.before.before.before in
     c.part_in.ensures ∙ rw (c.before.which-of.ensures, d.asked-in2.ensures, d.before.asked_in.ensures)
@@ -41,7 +41,7 @@ hand-out-requires : tie.Need-hand-out-requires
 hand-out-requires c κs =
     let i = c.before.before.before.before.before.before.before.before.before in
     let a = i.before.before.before.args in
-    omega (arith, ap length (cells c.before), part-few a.s.now (whichOf a.which) a.g, i.if1.false)
+    omega (arith, ap length (cells c.before), part-few a.s.now (which_of a.which) a.g, i.if1.false)
 
 same_length : tie.Need-same-length
 same_length c = search rules

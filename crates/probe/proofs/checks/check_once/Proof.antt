@@ -1,6 +1,6 @@
 -- The check answers in range.
 use mathlib.Core.Path.{ap, ◌∙◌}
-use Rattle.calls.specs.Answers.{answerNumber}
+use Rattle.calls.specs.Answers.{answer_number}
 use Rattle.probe.specs.ProbeChecksLaws.{check-in-range}
 use borrow.Author.Rules.{rules}
 use Rattle.probe.proofs.checks.check_once.Statement.{statement}
@@ -20,7 +20,7 @@ same_length c = search rules
 returns : tie.Need-returns
 returns c =
     let e = c.before.before.before.check-lent.ensures in
-    (c.number.ensures ∙ ap answerNumber e.0, e.1)
+    (c.number.ensures ∙ ap answer_number e.0, e.1)
 
 pub check-once-spec : {M : Type 1} → statement M
 check-once-spec = tie.close (tie.spec check-lent-requires number-requires same_length returns)

@@ -5,9 +5,9 @@ use native.Mathlib.Omega.{arith}
 use borrow.Author.Rules.{rules}
 use lib.ListN.{length}
 use Rattle.board.specs.declared.Board.{Board}
-use Rattle.board.specs.Alien.{boardOf}
-use Rattle.calls.specs.Answers.{answerNumber, checkAnswer, checkMemory}
-use Rattle.probe.specs.ProbeChecks.{checksNumber, checksMemory}
+use Rattle.board.specs.Alien.{board_of}
+use Rattle.calls.specs.Answers.{answer_number, check_answer, check_memory}
+use Rattle.probe.specs.ProbeChecks.{checks_number, checks_memory}
 use Rattle.probe.specs.ProbeChecksLaws.{checks-length, checks-memory-more, number_more}
 use Rattle.probe.proofs.checks.checks.Statement.{statement}
 use Rattle.probe.proofs.checks.checks.Tie as tie
@@ -15,8 +15,8 @@ use Rattle.probe.proofs.checks.checks.Tie as tie
 abbrev invariant-loop : tie.invariant-loop
 invariant-loop h w colours clues borders stack kept memory₀ times last₀ i₀ memory last i =
     (i ≤ times)
-    × (last ≡ checksNumber (boardOf h w colours clues borders stack kept.count kept.tally) (length memory₀) i)
-    × (memory ≡ checksMemory (boardOf h w colours clues borders stack kept.count kept.tally) i memory₀)
+    × (last ≡ checks_number (board_of h w colours clues borders stack kept.count kept.tally) (length memory₀) i)
+    × (memory ≡ checks_memory (board_of h w colours clues borders stack kept.count kept.tally) i memory₀)
 
 abbrev decreases-loop : tie.decreases-loop
 decreases-loop h w colours clues borders stack kept memory₀ times last₀ i₀ memory last i = times - i
@@ -25,11 +25,11 @@ decreases-loop h w colours clues borders stack kept memory₀ times last₀ i₀
 abbrev lent : tie.Start invariant-loop decreases-loop → Board
 lent s =
     let a = s.args in
-    boardOf a.h a.w a.colours.now a.clues.now a.borders.now a.stack.now
+    board_of a.h a.w a.colours.now a.clues.now a.borders.now a.stack.now
     a.kept.count a.kept.tally
 
 loop-holds : tie.Need-loop-init invariant-loop decreases-loop
-unfolding checksNumber checksMemory
+unfolding checks_number checks_memory
 loop-holds c = (search rules, refl, refl)
 
 check-once-requires : tie.Need-check-once-requires invariant-loop decreases-loop
@@ -48,9 +48,9 @@ loop-again c =
     let m = p.before.before.args.memory.now in
     let e = c.before.before.check-once.ensures in (
       omega arith,
-      e.0 ∙ ap (λ n. answerNumber (checkAnswer b n)) (ap length p.loop.invariant.2 ∙ checks-length b p.loop.i m)
+      e.0 ∙ ap (λ n. answer_number (check_answer b n)) (ap length p.loop.invariant.2 ∙ checks-length b p.loop.i m)
           ∙ number_more b (length m) p.loop.i,
-      e.1 ∙ ap (checkMemory b) p.loop.invariant.2 ∙ checks-memory-more b p.loop.i m,
+      e.1 ∙ ap (check_memory b) p.loop.invariant.2 ∙ checks-memory-more b p.loop.i m,
     )
 
 same_length : tie.Need-same-length invariant-loop decreases-loop
@@ -63,8 +63,8 @@ returns c =
     let l = c.before.loop in
     let s = c.before.before.before in
     let e : l.i ≡ s.args.times = omega (arith, l.invariant.0) in (
-      l.invariant.1 ∙ ap (checksNumber (lent s) (length s.args.memory.now)) e,
-      l.invariant.2 ∙ ap (λ k. checksMemory (lent s) k s.args.memory.now) e,
+      l.invariant.1 ∙ ap (checks_number (lent s) (length s.args.memory.now)) e,
+      l.invariant.2 ∙ ap (λ k. checks_memory (lent s) k s.args.memory.now) e,
     )
 
 pub checks-spec : {M : Type 1} → statement M

@@ -4,8 +4,8 @@ use native.Mathlib.Omega.{arith}
 use borrow.Author.Rules.{rules}
 use borrow.Author.Tests.{eq-eqb, ne_eqb}
 use Rattle.board.specs.declared.Returned.{Returned}
-use Rattle.board.specs.Board.{number_of, decideOf}
-use Rattle.board.specs.Alien.{boardOf}
+use Rattle.board.specs.Board.{number_of, decide_of}
+use Rattle.board.specs.Alien.{board_of}
 use Rattle.board.specs.DecideLaws.{Decided, decided-is, done-returned}
 use Rattle.board.specs.NativeLaws.{borders-fit, native-has, stack-room, free-left, tally-fits}
 use Rattle.probe.proofs.checks.decide_next.Statement.{statement}
@@ -29,10 +29,10 @@ done c = sym c.before.refusal.ensures ∙ c.if1.false
 -- what a decide that is done was given
 given : (c : tie.Else1)
     → let a = c.before.before.before.before.before.before.before.before.args in
-    let b = boardOf a.h a.w a.colours.now a.clues.now a.borders.now a.stack.now a.kept.count
+    let b = board_of a.h a.w a.colours.now a.clues.now a.borders.now a.stack.now a.kept.count
     a.kept.tally in
     let l = c.before.before.before.before.before.before.literal.result in
-    Decided b l (decideOf b l).board
+    Decided b l (decide_of b l).board
 given c =
     let e = c.before.before.decide-lent.ensures in
     decided-is (done-returned _ (ap (λ (r : Returned). number_of r.outcome) (sym e) ∙ done c))

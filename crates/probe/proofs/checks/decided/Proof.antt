@@ -6,10 +6,10 @@ use native.Mathlib.Omega.{arith}
 use borrow.Author.Rules.{rules}
 use lib.ListN.{length, drop}
 use Rattle.board.specs.declared.Board.{Board}
-use Rattle.board.specs.Alien.{boardOf}
-use Rattle.board.specs.Accepted.{decidesOf}
-use Rattle.calls.specs.Answers.{literalOf}
-use Rattle.probe.specs.ProbeChecks.{checksMemory, decidesMemory}
+use Rattle.board.specs.Alien.{board_of}
+use Rattle.board.specs.Accepted.{decides_of}
+use Rattle.calls.specs.Answers.{literal_of}
+use Rattle.probe.specs.ProbeChecks.{checks_memory, decides_memory}
 use Rattle.probe.specs.ProbeChecksLaws.{decides-more, decides-none, checked-more, checked-none, checks-length}
 use Rattle.probe.proofs.checks.decided.Statement.{statement}
 use Rattle.probe.proofs.checks.decided.Tie as tie
@@ -17,11 +17,11 @@ use Rattle.probe.proofs.checks.decided.Tie as tie
 abbrev invariant-loop : tie.invariant-loop
 invariant-loop h w colours clues borders₀ stack₀ codes each memory₀ now₀ i₀ borders stack memory now i =
     (i ≤ length codes)
-    × (decidesOf (boardOf h w colours clues borders stack now.count now.tally) (map literalOf (drop i codes))
-    ≡ decidesOf (boardOf h w colours clues borders₀ stack₀ now₀.count now₀.tally) (map literalOf codes))
-    × (decidesMemory each (boardOf h w colours clues borders stack now.count now.tally)
-    (map literalOf (drop i codes)) memory
-    ≡ decidesMemory each (boardOf h w colours clues borders₀ stack₀ now₀.count now₀.tally) (map literalOf codes)
+    × (decides_of (board_of h w colours clues borders stack now.count now.tally) (map literal_of (drop i codes))
+    ≡ decides_of (board_of h w colours clues borders₀ stack₀ now₀.count now₀.tally) (map literal_of codes))
+    × (decides_memory each (board_of h w colours clues borders stack now.count now.tally)
+    (map literal_of (drop i codes)) memory
+    ≡ decides_memory each (board_of h w colours clues borders₀ stack₀ now₀.count now₀.tally) (map literal_of codes)
     memory₀)
     × (length memory ≡ length memory₀)
 
@@ -32,7 +32,7 @@ decreases-loop h w colours clues borders₀ stack₀ codes each memory₀ now₀
 abbrev passed : tie.At-loop invariant-loop decreases-loop → Board
 passed p =
     let a = p.before.before.before.args in
-    boardOf a.h a.w a.colours.now a.clues.now p.loop.borders p.loop.stack
+    board_of a.h a.w a.colours.now a.clues.now p.loop.borders p.loop.stack
     p.loop.now.count p.loop.now.tally
 
 loop-holds : tie.Need-loop-init invariant-loop decreases-loop
@@ -66,14 +66,14 @@ loop-again c =
     let i = p.loop.i in
     let a = p.before.before.before.args in
     let codes = a.codes.now in
-    let left = map literalOf (drop (i + 1) codes) in
+    let left = map literal_of (drop (i + 1) codes) in
     let e = c.before.before.checks.ensures.1 in (
       omega arith,
-      ap (λ (b : Board). decidesOf b left) d.decide-next.ensures
+      ap (λ (b : Board). decides_of b left) d.decide-next.ensures
           ∙ sym (decides-more (passed p) codes i (omega arith))
           ∙ p.loop.invariant.1,
-      ap (decidesMemory a.each _ left) e
-          ∙ ap (λ (b : Board). decidesMemory a.each b left (checksMemory b a.each p.loop.memory))
+      ap (decides_memory a.each _ left) e
+          ∙ ap (λ (b : Board). decides_memory a.each b left (checks_memory b a.each p.loop.memory))
           d.decide-next.ensures
           ∙ sym (checked-more a.each (passed p) codes p.loop.memory i (omega arith))
           ∙ p.loop.invariant.2,

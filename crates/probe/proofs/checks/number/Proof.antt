@@ -1,7 +1,7 @@
 -- Each arm adds to its count, which is in range.
 use mathlib.Core.Path.{ap, sym}
 use native.Mathlib.Omega.{arith}
-use Rattle.calls.specs.Answers.{answerNumber}
+use Rattle.calls.specs.Answers.{answer_number}
 use borrow.Author.Rules.{rules}
 use Rattle.probe.proofs.checks.number.Statement.{statement}
 use Rattle.probe.proofs.checks.number.Tie as tie
@@ -31,10 +31,10 @@ returns : tie.Need-returns
 returns c = search rules
 
 returns-2 : tie.Need-returns-2
-returns-2 c = sym (ap answerNumber c.before.a.given.1)
+returns-2 c = sym (ap answer_number c.before.a.given.1)
 
 returns-3 : tie.Need-returns-3
-returns-3 c = sym (ap answerNumber c.before.a2.given.1)
+returns-3 c = sym (ap answer_number c.before.a2.given.1)
 
 returns-4 : tie.Need-returns-4
 returns-4 c = search rules

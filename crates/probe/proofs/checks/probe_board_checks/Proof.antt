@@ -3,7 +3,7 @@ use mathlib.Core.Path.{ap, ◌∙◌}
 use lib.ListN.{length}
 use borrow.Author.Rules.{rules}
 use Rattle.board.specs.declared.Board.{Board}
-use Rattle.probe.specs.ProbeChecks.{checksNumber, checksMemory}
+use Rattle.probe.specs.ProbeChecks.{checks_number, checks_memory}
 use Rattle.probe.proofs.checks.probe_board_checks.Statement.{statement}
 use Rattle.probe.proofs.checks.probe_board_checks.Tie as tie
 
@@ -27,8 +27,8 @@ returns c =
     let m = a.memory.now in
     let e = rw k.kept_by.ensures at c.before.before.checks.ensures in
     let f = b.board-from.ensures in (
-      e.0 ∙ ap (λ (d : Board). checksNumber d (length m) a.times) f,
-      e.1 ∙ ap (λ (d : Board). checksMemory d a.times m) f,
+      e.0 ∙ ap (λ (d : Board). checks_number d (length m) a.times) f,
+      e.1 ∙ ap (λ (d : Board). checks_memory d a.times m) f,
     )
 
 pub probe-board-checks-spec : {M : Type 1} → statement M

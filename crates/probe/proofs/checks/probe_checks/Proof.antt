@@ -8,9 +8,9 @@ use lib.ListN.{length}
 use Rattle.board.specs.declared.Board.{Board}
 use Rattle.board.specs.declared.Returned.{Returned}
 use Rattle.board.specs.Board.{number_of}
-use Rattle.board.specs.Accepted.{madeBoard, decidesOf}
-use Rattle.calls.specs.Answers.{literalOf}
-use Rattle.probe.specs.ProbeChecks.{checksNumber, checksMemory, decidesMemory, made, boardIn}
+use Rattle.board.specs.Accepted.{made_board, decides_of}
+use Rattle.calls.specs.Answers.{literal_of}
+use Rattle.probe.specs.ProbeChecks.{checks_number, checks_memory, decides_memory, made, board_in}
 use Rattle.probe.specs.ProbeChecksLaws.{decides-length, checks-number-refused, memory-refused, number-made}
 use Rattle.probe.specs.ProbeChecksLaws.{memory-made}
 use Rattle.probe.proofs.checks.probe_checks.Statement.{statement}
@@ -57,19 +57,19 @@ returns-2 c =
     let f = eq-eqb _ _ (sym (made-is r)
     ∙ k.before.before.before.before.before.before.before.before.before.before.if1.false) in
     let m = a.memory.now in
-    let ls = map literalOf a.codes.now in
+    let ls = map literal_of a.codes.now in
     let u = rw k.kept_by.ensures at s.decided.ensures in
-    let d : _ ≡ boardIn a.h a.w a.colours.now a.clues.now a.codes.now =
-    u.0 ∙ ap (λ (r : Returned). decidesOf r.board ls) r.before.fresh.ensures in
-    let t : _ ≡ decidesMemory a.each (madeBoard a.h a.w a.colours.now a.clues.now) ls m =
+    let d : _ ≡ board_in a.h a.w a.colours.now a.clues.now a.codes.now =
+    u.0 ∙ ap (λ (r : Returned). decides_of r.board ls) r.before.fresh.ensures in
+    let t : _ ≡ decides_memory a.each (made_board a.h a.w a.colours.now a.clues.now) ls m =
     u.1
-    ∙ ap (λ (r : Returned). decidesMemory a.each r.board ls m) r.before.fresh.ensures in
+    ∙ ap (λ (r : Returned). decides_memory a.each r.board ls m) r.before.fresh.ensures in
     let e = c.before.before.checks.ensures in (
       e.0
-          ∙ ap₂ (λ (b : Board) (k : ℕ). checksNumber b k a.times) d (ap length t ∙ decides-length a.each _ ls m)
+          ∙ ap₂ (λ (b : Board) (k : ℕ). checks_number b k a.times) d (ap length t ∙ decides-length a.each _ ls m)
           ∙ number-made _ _ _ _ a.codes.now a.each a.times m f,
       e.1
-          ∙ ap₂ (λ (b : Board) (l : List ℕ). checksMemory b a.times l) d t
+          ∙ ap₂ (λ (b : Board) (l : List ℕ). checks_memory b a.times l) d t
           ∙ memory-made _ _ _ _ a.codes.now a.each a.times m f,
     )
 

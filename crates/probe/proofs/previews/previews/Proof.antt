@@ -4,8 +4,8 @@ use Prim.Native.Nat.{◌-◌, ◌≤◌}
 use native.Mathlib.Omega.{arith}
 use borrow.Author.Rules.{rules}
 use lib.ListN.{length}
-use Rattle.calls.specs.Answers.{answerNumber, previewAnswer, previewMemory}
-use Rattle.probe.specs.ProbePreviews.{previewsNumber, previewsMemory}
+use Rattle.calls.specs.Answers.{answer_number, preview_answer, preview_memory}
+use Rattle.probe.specs.ProbePreviews.{previews_number, previews_memory}
 use Rattle.probe.specs.ProbePreviewsLaws.{preview-in-range, previews-length, previews-memory-more}
 use Rattle.probe.specs.ProbePreviewsLaws.{previews-number-more}
 use Rattle.probe.proofs.previews.previews.Statement.{statement}
@@ -14,14 +14,14 @@ use Rattle.probe.proofs.previews.previews.Tie as tie
 abbrev invariant-loop : tie.invariant-loop
 invariant-loop l times memory₀ board tally last₀ i₀ memory last i =
     (i ≤ times)
-    × (last ≡ previewsNumber board l (length memory₀) i)
-    × (memory ≡ previewsMemory board l i memory₀)
+    × (last ≡ previews_number board l (length memory₀) i)
+    × (memory ≡ previews_memory board l i memory₀)
 
 abbrev decreases-loop : tie.decreases-loop
 decreases-loop l times memory₀ board tally last₀ i₀ memory last i = times - i
 
 loop-holds : tie.Need-loop-init invariant-loop decreases-loop
-unfolding previewsNumber previewsMemory
+unfolding previews_number previews_memory
 loop-holds c = (search rules, refl, refl)
 
 preview-lent-requires : tie.Need-preview-lent-requires invariant-loop decreases-loop
@@ -50,9 +50,9 @@ loop-again c =
     let e = v.preview-lent.ensures in
     let long = ap length p.loop.invariant.2 ∙ previews-length b a.l p.loop.i m in (
       omega arith,
-      c.number.ensures ∙ ap answerNumber e.0 ∙ ap (λ n. answerNumber (previewAnswer b a.l n)) long
+      c.number.ensures ∙ ap answer_number e.0 ∙ ap (λ n. answer_number (preview_answer b a.l n)) long
           ∙ previews-number-more b a.l (length m) p.loop.i,
-      e.1 ∙ ap (previewMemory b a.l) p.loop.invariant.2 ∙ previews-memory-more b a.l p.loop.i m,
+      e.1 ∙ ap (preview_memory b a.l) p.loop.invariant.2 ∙ previews-memory-more b a.l p.loop.i m,
     )
 
 same_length : tie.Need-same-length invariant-loop decreases-loop
@@ -65,8 +65,8 @@ returns c =
     let l = c.before.loop in
     let a = c.before.before.before.before.args in
     let e : l.i ≡ a.times = omega (arith, l.invariant.0) in (
-      l.invariant.1 ∙ ap (previewsNumber a.t1 a.l (length a.memory.now)) e,
-      l.invariant.2 ∙ ap (λ k. previewsMemory a.t1 a.l k a.memory.now) e,
+      l.invariant.1 ∙ ap (previews_number a.t1 a.l (length a.memory.now)) e,
+      l.invariant.2 ∙ ap (λ k. previews_memory a.t1 a.l k a.memory.now) e,
     )
 
 pub previews-spec : {M : Type 1} → statement M

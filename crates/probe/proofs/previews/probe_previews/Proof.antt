@@ -4,7 +4,7 @@ use lib.ListN.{length}
 use borrow.Author.Rules.{rules}
 use Rattle.rules.specs.declared.Literal.{Literal}
 use Rattle.board.specs.declared.Board.{Board}
-use Rattle.probe.specs.ProbePreviews.{previewsNumber, previewsMemory}
+use Rattle.probe.specs.ProbePreviews.{previews_number, previews_memory}
 use Rattle.probe.proofs.previews.probe_previews.Statement.{statement}
 use Rattle.probe.proofs.previews.probe_previews.Tie as tie
 
@@ -28,8 +28,8 @@ returns c =
     let b = p.before.before.before.board-from.ensures in
     let l = p.before.before.literal.ensures in
     let e = p.previews.ensures in (
-      e.0 ∙ ap₂ (λ (d : Board) (k : Literal). previewsNumber d k (length m) a.times) b l,
-      e.1 ∙ ap₂ (λ (d : Board) (k : Literal). previewsMemory d k a.times m) b l,
+      e.0 ∙ ap₂ (λ (d : Board) (k : Literal). previews_number d k (length m) a.times) b l,
+      e.1 ∙ ap₂ (λ (d : Board) (k : Literal). previews_memory d k a.times m) b l,
     )
 
 pub probe-previews-spec : {M : Type 1} → statement M

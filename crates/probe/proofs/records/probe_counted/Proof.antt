@@ -4,11 +4,11 @@ use lib.Seq.{sets}
 use Rattle.rules.specs.declared.Call.{Call}
 use Rattle.board.specs.declared.Board.{Board}
 use Rattle.calls.specs.declared.Counted.{Counted}
-use Rattle.calls.specs.Answers.{answerNumber}
-use Rattle.calls.specs.Counted.{countedOf, countedMemory}
+use Rattle.calls.specs.Answers.{answer_number}
+use Rattle.calls.specs.Counted.{counted_of, counted_memory}
 use borrow.Author.Rules.{rules}
-use Rattle.image.specs.Image.{tallyCounts}
-use Rattle.probe.specs.ProbeRecords.{tallyFrom}
+use Rattle.image.specs.Image.{tally_counts}
+use Rattle.probe.specs.ProbeRecords.{tally_from}
 use Rattle.probe.specs.ProbeRecordsLaws.{counted-range, record-other, record-three}
 use Rattle.probe.proofs.records.probe_counted.Statement.{statement}
 use Rattle.probe.proofs.records.probe_counted.Tie as tie
@@ -62,12 +62,12 @@ returns-2 c =
     let m = a.memory.now in
     let g = record-three _ _ ws m i.if1.false in
     let e = v.call-by-value.ensures in
-    let d = e.0 ∙ ap₂ (λ (x : Board) (y : Call). countedOf x y (tallyFrom ws) m) b.board-from.ensures
+    let d = e.0 ∙ ap₂ (λ (x : Board) (y : Call). counted_of x y (tally_from ws) m) b.board-from.ensures
     k.call-with.ensures in (
-      c.number.ensures ∙ ap (λ (x : Counted). answerNumber x.stepped.answer) d ∙ g.0,
-      p.put-tally.ensures ∙ ap (λ (x : Counted). sets ws 0 (tallyCounts x.tally)) d ∙ g.1,
+      c.number.ensures ∙ ap (λ (x : Counted). answer_number x.stepped.answer) d ∙ g.0,
+      p.put-tally.ensures ∙ ap (λ (x : Counted). sets ws 0 (tally_counts x.tally)) d ∙ g.1,
       e.1
-          ∙ ap₂ (λ (x : Board) (y : Call). countedMemory x y (tallyFrom ws) m) b.board-from.ensures
+          ∙ ap₂ (λ (x : Board) (y : Call). counted_memory x y (tally_from ws) m) b.board-from.ensures
           k.call-with.ensures
           ∙ g.2,
     )

@@ -2,8 +2,8 @@
 use mathlib.Core.Path.{ap, ◌∙◌}
 use lib.ListN.{length}
 use lib.Seq.{sets}
-use Rattle.transforms.specs.Transforms.{transformOf, memoryAfter}
-use Rattle.probe.specs.ProbeTransform.{countsOf, other-answer, other-memory, right_answer, right-memory}
+use Rattle.transforms.specs.Transforms.{transform_of, memory_after}
+use Rattle.probe.specs.ProbeTransform.{counts_of, other-answer, other-memory, right_answer, right-memory}
 use borrow.Author.Rules.{rules}
 use Rattle.probe.proofs.transform.probe_transform.Statement.{statement}
 use Rattle.probe.proofs.transform.probe_transform.Tie as tie
@@ -21,7 +21,7 @@ returns c =
     let x = s.args.s.now in
     let m = s.args.memory.now in (
       c.before.before.put-counts.ensures
-          ∙ ap (λ a. sets s.args.counts.now 0 (countsOf a))
+          ∙ ap (λ a. sets s.args.counts.now 0 (counts_of a))
           (other-answer x s.args.u s.args.k m i.if1.true),
       other-memory x s.args.u s.args.k m i.if1.true,
     )
@@ -52,9 +52,9 @@ returns-2 c =
     let b = c.before.before.before.before.before.before.before.board.ensures in
     let t = c.before.before.before.before.before.transform.ensures in (
       c.before.before.put-counts2.ensures
-          ∙ ap (λ a. sets s.args.counts.now 0 (countsOf a))
-          (t.0 ∙ (ap (λ d. transformOf d u k (length m)) b ∙ right_answer x u k m i.if1.false)),
-      t.1 ∙ (ap (λ d. memoryAfter d u k m) b ∙ right-memory x u k m i.if1.false),
+          ∙ ap (λ a. sets s.args.counts.now 0 (counts_of a))
+          (t.0 ∙ (ap (λ d. transform_of d u k (length m)) b ∙ right_answer x u k m i.if1.false)),
+      t.1 ∙ (ap (λ d. memory_after d u k m) b ∙ right-memory x u k m i.if1.false),
     )
 
 pub probe-transform-spec : {M : Type 1} → statement M

@@ -3,7 +3,7 @@ use native.Mathlib.Omega.{arith}
 use borrow.Author.Rules.{rules}
 use lib.ListN.{length}
 use Rattle.laws.specs.FlatLaws.{Counts, counts}
-use Rattle.reasons.specs.Search.{pathIn}
+use Rattle.reasons.specs.Search.{path_in}
 use Rattle.reasons.specs.PathLaws.{Tracing, tracing-start, tracing-none, tracing-end, tracing-narrow}
 use Rattle.reasons.specs.PathLaws.{tracing-less, tracing-more}
 use Rattle.reasons.proofs.paths.trace_back.Statement.{statement}
@@ -15,7 +15,7 @@ invariant-loop memory₀ from parent over found borders h w a b c₀ at₀ memor
 
 abbrev decreases-loop : tie.decreases-loop
 decreases-loop memory₀ from parent over found borders h w a b c₀ at₀ memory c at =
-    length (pathIn h w borders a c)
+    length (path_in h w borders a c)
 
 few : (s : tie.Start invariant-loop decreases-loop) → Counts s.args.h s.args.w
 few s = counts s.requires.0

@@ -3,7 +3,7 @@ use mathlib.Core.Path.{◌≡◌, refl}
 use native.Mathlib.Omega.{arith}
 use borrow.Author.Rules.{rules}
 use lib.ListN.{get_or, get_or-eq_default}
-use Rattle.reasons.specs.Arrays.{isFlagged}
+use Rattle.reasons.specs.Arrays.{is_flagged}
 use Rattle.reasons.proofs.scans.is_flagged.Statement.{statement}
 use Rattle.reasons.proofs.scans.is_flagged.Tie as tie
 
@@ -11,11 +11,11 @@ element-copy-out-result : tie.Need-element-copy-out-result
 element-copy-out-result c = search rules
 
 returns : tie.Need-returns
-unfolding isFlagged
+unfolding is_flagged
 returns c = refl
 
 returns-2 : tie.Need-returns-2
-unfolding isFlagged
+unfolding is_flagged
 returns-2 c =
     let s = c.before in
     let e : get_or s.args.flagged.now s.args.group 0 ≡ 0 =

@@ -7,13 +7,13 @@ use Rattle.lists.specs.UpTo.{up_to}
 use Rattle.rules.specs.declared.Side.TheVariants.{Open}
 use Rattle.rules.specs.declared.Literal.{Literal}
 use Rattle.rules.specs.Flat.{flat}
-use Rattle.rules.specs.Codes.{statesIn}
+use Rattle.rules.specs.Codes.{states_in}
 use Rattle.rules.specs.Groups.{entry}
-use Rattle.rules.specs.Reasons.{gather, insideAt}
+use Rattle.rules.specs.Reasons.{gather, inside_at}
 use Rattle.laws.specs.FlatLaws.{OnPage, row_of}
-use Rattle.groups.specs.Grouping.{numbersIn}
+use Rattle.groups.specs.Grouping.{numbers_in}
 use Rattle.reasons.specs.Memory.{Wrote}
-use Rattle.reasons.specs.Arrays.{hopAt, openKept}
+use Rattle.reasons.specs.Arrays.{hop_at, open_kept}
 use Rattle.reasons.specs.MemoryLaws.{turns-none, turns_more}
 use Rattle.reasons.specs.ScanLaws.{inside-hops}
 use Rattle.reasons.proofs.scans.open_cell.Statement.{statement}
@@ -23,18 +23,18 @@ row : (s : tie.Start) → OnPage s.args.h s.args.w s.args.c
 row s = row_of _ _ _ s.requires.2
 
 abbrev number : tie.Start → ℕ → ℕ
-number s = entry (numbersIn s.args.grouping.now)
+number s = entry (numbers_in s.args.grouping.now)
 
 abbrev at : tie.Start → ℕ → List Literal
 at s i =
     let a = s.args in
-    gather Open (openKept (statesIn a.borders.now) (number s) a.g)
-    (hopAt a.h a.w (a.c / a.w) (a.c % a.w) (2 * i + 1))
+    gather Open (open_kept (states_in a.borders.now) (number s) a.g)
+    (hop_at a.h a.w (a.c / a.w) (a.c % a.w) (2 * i + 1))
 
 whole : (s : tie.Start) → let a = s.args in
-    insideAt (flat a.h a.w) (statesIn a.borders.now) (number s) a.g a.c ≡ up_to (at s) 2
+    inside_at (flat a.h a.w) (states_in a.borders.now) (number s) a.g a.c ≡ up_to (at s) 2
 whole s =
-    let a = s.args in inside-hops a.h a.w (statesIn a.borders.now) (number s) a.g a.c
+    let a = s.args in inside-hops a.h a.w (states_in a.borders.now) (number s) a.g a.c
 
 start : (s : tie.Start) → let a = s.args in Wrote a.memory.now a.from (up_to (at s) 0) a.memory.now a.from
 start s = turns-none (at s) s.requires.3

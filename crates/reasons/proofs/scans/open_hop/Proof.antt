@@ -3,14 +3,14 @@ use mathlib.Core.Path.{◌≡◌}
 use mathlib.Core.Bool.{Bool}
 use mathlib.Core.List.{[]}
 use borrow.Author.Rules.{rules}
-use Rattle.lists.specs.Lists.{keepIf}
+use Rattle.lists.specs.Lists.{keep_if}
 use Rattle.rules.specs.declared.Side.TheVariants.{Open}
 use Rattle.rules.specs.Page.{Hop}
-use Rattle.rules.specs.Codes.{statesIn}
+use Rattle.rules.specs.Codes.{states_in}
 use Rattle.rules.specs.Groups.{entry}
 use Rattle.rules.specs.Reasons.{gather}
-use Rattle.groups.specs.Grouping.{numbersIn}
-use Rattle.reasons.specs.Arrays.{hopsIn, openKept}
+use Rattle.groups.specs.Grouping.{numbers_in}
+use Rattle.reasons.specs.Arrays.{hops_in, open_kept}
 use Rattle.reasons.specs.ScanLaws.{gather-hops, kept-some}
 use Rattle.reasons.proofs.scans.open_hop.Statement.{statement}
 use Rattle.reasons.proofs.scans.open_hop.Tie as tie
@@ -18,12 +18,12 @@ use Rattle.reasons.proofs.scans.open_hop.Tie as tie
 abbrev test : tie.Start → Hop → Bool
 test s =
     let a = s.args in
-    openKept (statesIn a.borders.now) (entry (numbersIn a.grouping.now)) a.g
+    open_kept (states_in a.borders.now) (entry (numbers_in a.grouping.now)) a.g
 
 kept : (c : tie.After-open-kept) →
     let s = c.before.before in
-    gather Open (test s) (hopsIn s.args.n)
-    ≡ keepIf c.open_kept.result (record { border = s.args.n.border; side = Open }) []
+    gather Open (test s) (hops_in s.args.n)
+    ≡ keep_if c.open_kept.result (record { border = s.args.n.border; side = Open }) []
 kept c = gather-hops Open (test c.before.before) c.before.before.args.n c.open_kept.ensures
 
 open-kept-requires : tie.Need-open-kept-requires

@@ -6,9 +6,9 @@ use native.Mathlib.Omega.{arith}
 use lib.ListN.{get_or}
 use Rattle.lists.specs.UpTo.{up_to}
 use Rattle.rules.specs.declared.Literal.{Literal}
-use Rattle.groups.specs.Grouping.{numbersIn, cells_in, start_in, groupCells}
+use Rattle.groups.specs.Grouping.{numbers_in, cells_in, start_in, group_cells}
 use Rattle.reasons.specs.Memory.{Wrote}
-use Rattle.reasons.specs.Arrays.{Cells, scanAt, scanOf}
+use Rattle.reasons.specs.Arrays.{Cells, scan_at, scan_of}
 use Rattle.reasons.specs.MemoryLaws.{turns-none, turns_more, turns-end}
 use Rattle.reasons.specs.ScanLaws.{part-cells, scan-part}
 use Rattle.reasons.proofs.scans.scan_walls.Statement.{statement}
@@ -18,7 +18,7 @@ abbrev invariant-loop : tie.invariant-loop
 invariant-loop memory₀ start h w colours borders grouping g same flagged from count at₀ i₀ memory at i =
     (i ≤ count)
     × Wrote memory₀ start
-    (up_to (λ k. scanAt h w colours borders (numbersIn grouping) same flagged
+    (up_to (λ k. scan_at h w colours borders (numbers_in grouping) same flagged
     (get_or (cells_in grouping) (start_in grouping g + k) 0)) i) memory at
 
 abbrev decreases-loop : tie.decreases-loop
@@ -27,7 +27,7 @@ decreases-loop memory₀ start h w colours borders grouping g same flagged from 
 abbrev at : tie.Start invariant-loop decreases-loop → ℕ → List Literal
 at s k =
     let a = s.args in
-    scanAt a.h a.w a.colours.now a.borders.now (numbersIn a.grouping.now) a.same
+    scan_at a.h a.w a.colours.now a.borders.now (numbers_in a.grouping.now) a.same
     a.flagged.now
     (get_or (cells_in a.grouping.now) (start_in a.grouping.now a.g + k) 0)
 
@@ -37,12 +37,12 @@ listed : (s : tie.Start invariant-loop decreases-loop) → let a = s.args in
 listed s = part-cells s.requires.4.is
 
 whole : (s : tie.Start invariant-loop decreases-loop) → let a = s.args in
-    scanOf a.h a.w a.colours.now a.borders.now (numbersIn a.grouping.now) a.same
-    a.flagged.now (groupCells a.grouping.now a.g)
+    scan_of a.h a.w a.colours.now a.borders.now (numbers_in a.grouping.now) a.same
+    a.flagged.now (group_cells a.grouping.now a.g)
     ≡ up_to (at s) (start_in a.grouping.now (a.g + 1) - start_in a.grouping.now a.g)
 whole s =
     let a = s.args in
-    scan-part a.colours.now a.borders.now (numbersIn a.grouping.now) a.same a.flagged.now
+    scan-part a.colours.now a.borders.now (numbers_in a.grouping.now) a.same a.flagged.now
     (listed s)
 
 start-of-requires : tie.Need-start-of-requires invariant-loop decreases-loop

@@ -6,9 +6,9 @@ use native.Mathlib.Omega.{arith}
 use Rattle.lists.specs.UpTo.{up_to}
 use Rattle.rules.specs.declared.Literal.{Literal}
 use Rattle.laws.specs.FlatLaws.{counts, OnPage, row_of}
-use Rattle.groups.specs.Grouping.{numbersIn}
+use Rattle.groups.specs.Grouping.{numbers_in}
 use Rattle.reasons.specs.Memory.{Wrote}
-use Rattle.reasons.specs.Arrays.{scanTo, scanAt}
+use Rattle.reasons.specs.Arrays.{scan_to, scan_at}
 use Rattle.reasons.specs.MemoryLaws.{turns-none, turns_more, turns-end}
 use Rattle.reasons.specs.ScanLaws.{scan-hops}
 use Rattle.reasons.proofs.scans.wall_cell.Statement.{statement}
@@ -17,7 +17,7 @@ use Rattle.reasons.proofs.scans.wall_cell.Tie as tie
 abbrev invariant-loop : tie.invariant-loop
 invariant-loop memory₀ from h w colours borders grouping same flagged c y x at₀ d₀ memory at d =
     (d ≤ 4)
-    × Wrote memory₀ from (up_to (scanTo h w colours borders (numbersIn grouping) same flagged c) d) memory at
+    × Wrote memory₀ from (up_to (scan_to h w colours borders (numbers_in grouping) same flagged c) d) memory at
 
 abbrev decreases-loop : tie.decreases-loop
 decreases-loop memory₀ from h w colours borders grouping same flagged c y x at₀ d₀ memory at d = 4 - d
@@ -28,17 +28,17 @@ row s = row_of _ _ _ s.requires.4
 abbrev at : tie.Start invariant-loop decreases-loop → ℕ → List Literal
 at s =
     let a = s.args in
-    scanTo a.h a.w a.colours.now a.borders.now (numbersIn a.grouping.now) a.same
+    scan_to a.h a.w a.colours.now a.borders.now (numbers_in a.grouping.now) a.same
     a.flagged.now a.c
 
 whole : (s : tie.Start invariant-loop decreases-loop) →
     let a = s.args in
-    scanAt a.h a.w a.colours.now a.borders.now (numbersIn a.grouping.now) a.same
+    scan_at a.h a.w a.colours.now a.borders.now (numbers_in a.grouping.now) a.same
     a.flagged.now a.c
     ≡ up_to (at s) 4
 whole s =
     let a = s.args in
-    scan-hops a.h a.w a.colours.now a.borders.now (numbersIn a.grouping.now) a.same
+    scan-hops a.h a.w a.colours.now a.borders.now (numbers_in a.grouping.now) a.same
     a.flagged.now a.c
 
 div-y : tie.Need-nonzero-div-y invariant-loop decreases-loop

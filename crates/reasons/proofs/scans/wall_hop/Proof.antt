@@ -3,14 +3,14 @@ use mathlib.Core.Path.{◌≡◌}
 use mathlib.Core.Bool.{Bool}
 use mathlib.Core.List.{[]}
 use borrow.Author.Rules.{rules}
-use Rattle.lists.specs.Lists.{keepIf}
+use Rattle.lists.specs.Lists.{keep_if}
 use Rattle.rules.specs.declared.Side.TheVariants.{Wall}
 use Rattle.rules.specs.Page.{Hop}
-use Rattle.rules.specs.Codes.{statesIn, coloursIn}
+use Rattle.rules.specs.Codes.{states_in, colours_in}
 use Rattle.rules.specs.Groups.{entry}
 use Rattle.rules.specs.Reasons.{gather}
-use Rattle.groups.specs.Grouping.{numbersIn}
-use Rattle.reasons.specs.Arrays.{hopsIn, isFlagged, wallKept}
+use Rattle.groups.specs.Grouping.{numbers_in}
+use Rattle.reasons.specs.Arrays.{hops_in, is_flagged, wall_kept}
 use Rattle.reasons.specs.ScanLaws.{gather-hops, kept-some}
 use Rattle.reasons.proofs.scans.wall_hop.Statement.{statement}
 use Rattle.reasons.proofs.scans.wall_hop.Tie as tie
@@ -18,13 +18,13 @@ use Rattle.reasons.proofs.scans.wall_hop.Tie as tie
 abbrev test : tie.Start → Hop → Bool
 test s =
     let a = s.args in
-    wallKept (coloursIn a.colours.now) (statesIn a.borders.now) (entry (numbersIn a.grouping.now)) a.same
-    (isFlagged a.flagged.now) a.c
+    wall_kept (colours_in a.colours.now) (states_in a.borders.now) (entry (numbers_in a.grouping.now)) a.same
+    (is_flagged a.flagged.now) a.c
 
 kept : (c : tie.After-wall-kept) →
     let s = c.before.before in
-    gather Wall (test s) (hopsIn s.args.n)
-    ≡ keepIf c.wall-kept.result (record { border = s.args.n.border; side = Wall }) []
+    gather Wall (test s) (hops_in s.args.n)
+    ≡ keep_if c.wall-kept.result (record { border = s.args.n.border; side = Wall }) []
 kept c = gather-hops Wall (test c.before.before) c.before.before.args.n c.wall-kept.ensures
 
 wall-kept-requires : tie.Need-wall-kept-requires

@@ -1,6 +1,6 @@
 -- `shapes::join` meets its contract: each answer is a case of the definition.
 use borrow.Author.Rules.{rules}
-use Rattle.groups.specs.Grouping.{numbersIn}
+use Rattle.groups.specs.Grouping.{numbers_in}
 use Rattle.shapes.specs.JointLaws.{join-yes, join-no, join-off}
 use Rattle.shapes.proofs.connections.join.Statement.{statement}
 use Rattle.shapes.proofs.connections.join.Tie as tie
@@ -32,21 +32,21 @@ add-result c = search rules
 returns : tie.Need-returns
 returns c =
     let s = c.before.before.before in
-    join-yes s.args.outline.now s.args.k s.args.on (numbersIn s.args.units.now) s.args.to
+    join-yes s.args.outline.now s.args.k s.args.on (numbers_in s.args.units.now) s.args.to
     s.args.g s.args.y s.args.x s.requires.2 c.before.before.if1.true c.before.Group-of.ensures
     c.if2.true
 
 returns-2 : tie.Need-returns-2
 returns-2 c =
     let s = c.before.before.before in
-    join-no s.args.outline.now s.args.k s.args.on (numbersIn s.args.units.now) s.args.to
+    join-no s.args.outline.now s.args.k s.args.on (numbers_in s.args.units.now) s.args.to
     s.args.g s.args.y s.args.x c.before.before.if1.true c.before.Group-of.ensures
     c.if2.false
 
 returns-3 : tie.Need-returns-3
 returns-3 c =
     let s = c.before in
-    join-off s.args.outline.now s.args.k s.args.on (numbersIn s.args.units.now) s.args.to
+    join-off s.args.outline.now s.args.k s.args.on (numbers_in s.args.units.now) s.args.to
     s.args.g s.args.y s.args.x c.if1.false
 
 pub join-spec : {M : Type 1} → statement M

@@ -8,22 +8,22 @@ use lib.ListN.{get_or}
 use Rattle.lists.specs.SectionLaws.{section-at}
 use Rattle.rules.specs.Page.{◌⊕◌, opposite}
 use Rattle.rules.specs.Turns.{apply}
-use Rattle.shapes.specs.Outlines.{downIn, acrossIn}
-use Rattle.shapes.specs.Rows.{turnAt}
-use Rattle.shapes.specs.Pairs.{pointAt, point_of}
+use Rattle.shapes.specs.Outlines.{down_in, across_in}
+use Rattle.shapes.specs.Rows.{turn_at}
+use Rattle.shapes.specs.Pairs.{point_at, point_of}
 use Rattle.shapes.specs.PairLaws.{read_back}
-use Rattle.shapes.specs.Spots.{jointSpot}
+use Rattle.shapes.specs.Spots.{joint_spot}
 use Rattle.shapes.specs.JointLaws.{turned-small}
 use Rattle.shapes.proofs.connections.joint.Statement.{statement}
 use Rattle.shapes.proofs.connections.joint.Tie as tie
 
 -- the two places read are those of the connection
 down-at : (s : tie.Start) → get_or s.args.outline.now (2048 + s.args.j) 0
-    ≡ get_or (downIn s.args.outline.now) s.args.j 0
+    ≡ get_or (down_in s.args.outline.now) s.args.j 0
 down-at s = section-at 2048 2048 s.args.outline.now s.args.j s.requires.1.inside
 
 across-at : (s : tie.Start) → get_or s.args.outline.now (4096 + s.args.j) 0
-    ≡ get_or (acrossIn s.args.outline.now) s.args.j 0
+    ≡ get_or (across_in s.args.outline.now) s.args.j 0
 across-at s = section-at 4096 2048 s.args.outline.now s.args.j s.requires.1.inside
 
 add-signed : tie.Need-overflow-add-signed
@@ -52,13 +52,13 @@ signed-requires-2 c κs = search rules
 
 -- the image of the doubled place
 turned : (c : tie.After-apply) → point_of c.apply.result
-    ≡ apply (turnAt c.before.before.before.before.before.args.row)
-    (jointSpot c.before.before.before.before.before.args.outline.now
+    ≡ apply (turn_at c.before.before.before.before.before.args.row)
+    (joint_spot c.before.before.before.before.before.args.outline.now
     c.before.before.before.before.before.args.j)
 turned c =
     let s = c.before.before.before.before.before in
     c.apply.ensures
-    ∙ ap₂ (λ y x. apply (turnAt s.args.row) (pointAt y x))
+    ∙ ap₂ (λ y x. apply (turn_at s.args.row) (point_at y x))
     (read_back _ c.before.before.before.signed.ensures (omega (arith, down-at s, s.requires.1.down))
     ∙ ap pos (down-at s))
     (read_back _ c.before.signed2.ensures (omega (arith, across-at s, s.requires.1.across)) ∙ ap pos (across-at s))

@@ -4,23 +4,23 @@ use Prim.Native.Nat.{◌-◌, ◌≤◌, ◌<◌}
 use native.Mathlib.Omega.{arith}
 use borrow.Author.Rules.{rules}
 use Rattle.rules.specs.Groups.{entry}
-use Rattle.groups.specs.Grouping.{numbersIn}
+use Rattle.groups.specs.Grouping.{numbers_in}
 use Rattle.shapes.specs.Joints.{Joining}
 use Rattle.shapes.specs.JointLaws.{joining-none, joining-more, joining-all, row_read, column-read, unit-stays}
-use Rattle.shapes.specs.Outlines.{cellCount}
+use Rattle.shapes.specs.Outlines.{cell_count}
 use Rattle.shapes.specs.PartLaws.{unit-bounds}
 use Rattle.shapes.proofs.connections.joints.Statement.{statement}
 use Rattle.shapes.proofs.connections.joints.Tie as tie
 
 abbrev invariant-loop : tie.invariant-loop
 invariant-loop units h w g outline₀ n k₀ i₀ outline k i =
-    (i ≤ cellCount outline₀) × Joining h w (entry (numbersIn units)) g outline₀ outline k i
+    (i ≤ cell_count outline₀) × Joining h w (entry (numbers_in units)) g outline₀ outline k i
 
 abbrev decreases-loop : tie.decreases-loop
 decreases-loop units h w g outline₀ n k₀ i₀ outline k i = n - i
 
 -- the count of the cells, read before the loop
-count : (a : tie.After-index invariant-loop decreases-loop) → a.index.result ≡ cellCount a.before.before.args.outline.now
+count : (a : tie.After-index invariant-loop decreases-loop) → a.index.result ≡ cell_count a.before.before.args.outline.now
 count a = a.index.ensures
 
 small : (a : tie.After-index invariant-loop decreases-loop) → a.index.result ≤ 1024
@@ -33,7 +33,7 @@ index-requires : tie.Need-index-requires invariant-loop decreases-loop
 index-requires c κs = search rules
 
 loop-holds : tie.Need-loop-init invariant-loop decreases-loop
-loop-holds c = (omega arith, joining-none _ _ (entry (numbersIn c.before.before.args.units.now)) _ _)
+loop-holds c = (omega arith, joining-none _ _ (entry (numbers_in c.before.before.args.units.now)) _ _)
 
 mul-index : tie.Need-overflow-mul-index invariant-loop decreases-loop
 mul-index c = omega (arith, small c.before.before)
@@ -61,7 +61,7 @@ joints-at-requires c κs =
     let a = c.before.before.before.before.before.before.before in
     let s = a.before.before in
     let l = c.before.before.before.before.before.before.loop in
-    let low : l.i < cellCount s.args.outline.now = omega (arith, count a) in
+    let low : l.i < cell_count s.args.outline.now = omega (arith, count a) in
     let p = unit-bounds l.i s.requires low in
     let few : l.i < 1024 = omega (arith, s.requires.spotted.most) in
     let y = c.before.before.before.index2.ensures ∙ row_read l.invariant.1.only l.i few in
@@ -87,12 +87,12 @@ loop-again c =
     let a = c.before.before.before.before.before.before.before.before in
     let s = a.before.before in
     let l = c.before.before.before.before.before.before.before.loop in
-    let low : l.i < cellCount s.args.outline.now = omega (arith, count a) in
+    let low : l.i < cell_count s.args.outline.now = omega (arith, count a) in
     let few : l.i < 1024 = omega (arith, s.requires.spotted.most) in
     let y = c.before.before.before.before.index2.ensures ∙ row_read l.invariant.1.only l.i few in
     let x = c.before.before.index3.ensures ∙ column-read l.invariant.1.only l.i few in (
       omega arith,
-      joining-more _ _ (entry (numbersIn s.args.units.now)) _ l.i l.invariant.1 y x
+      joining-more _ _ (entry (numbers_in s.args.units.now)) _ l.i l.invariant.1 y x
           (rw x (unit-bounds l.i s.requires low).1) c.joints-at.ensures,
     )
 

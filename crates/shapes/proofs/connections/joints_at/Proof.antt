@@ -7,7 +7,7 @@ use native.Mathlib.Omega.{arith}
 use borrow.Author.Rules.{rules}
 use lib.Dec.{eqb, ltb}
 use Rattle.rules.specs.Groups.{entry}
-use Rattle.groups.specs.Grouping.{numbersIn}
+use Rattle.groups.specs.Grouping.{numbers_in}
 use Rattle.shapes.specs.JointLaws.{cell_room, grown-count, joint-one, joints-are}
 use Rattle.shapes.proofs.connections.joints_at.Statement.{statement}
 use Rattle.shapes.proofs.connections.joints_at.Tie as tie
@@ -71,7 +71,7 @@ join-requires-2 c κs =
     let y = s.args.y in
     let x = s.args.x in
     let w = s.args.w in
-    let on = ltb (y + 1) s.args.h && eqb (entry (numbersIn s.args.units.now) (y * w + x + w)) s.args.g in (
+    let on = ltb (y + 1) s.args.h && eqb (entry (numbers_in s.args.units.now) (y * w + x + w)) s.args.g in (
       s.requires.1,
       (cell_room s.requires.0 s.requires.2 s.requires.3).2,
       record {
@@ -83,7 +83,7 @@ join-requires-2 c κs =
 returns : tie.Need-returns
 returns c =
     let s = c.before.before.before.before in
-    joints-are s.args.h s.args.w (entry (numbersIn s.args.units.now)) s.args.g s.args.y
+    joints-are s.args.h s.args.w (entry (numbers_in s.args.units.now)) s.args.g s.args.y
     s.args.x s.requires.3 c.before.before.join.ensures c.join2.ensures
 
 pub joints-at-spec : {M : Type 1} → statement M

@@ -7,7 +7,7 @@ use lib.ListN.{length, get_or, length-set}
 use Rattle.lists.specs.SectionLaws.{section-at, section-length}
 use Rattle.lists.specs.TableLaws.{stored_more}
 use Rattle.groups.specs.Grouping.{cells_in, start_in}
-use Rattle.shapes.specs.Outlines.{rowsIn, columnsIn}
+use Rattle.shapes.specs.Outlines.{rows_in, columns_in}
 use Rattle.shapes.specs.PartLaws.{row-stored, column-stored, placed-is, placed-count}
 use Rattle.shapes.proofs.connections.places.Statement.{statement}
 use Rattle.shapes.proofs.connections.places.Tie as tie
@@ -16,8 +16,8 @@ abbrev invariant-loop : tie.invariant-loop
 invariant-loop units g w outline₀ width from n i₀ outline i =
     (i ≤ n)
     × (length outline ≡ 6146)
-    × ((j : ℕ) → j < i → get_or (rowsIn outline) j 0 ≡ get_or (cells_in units) (from + j) 0 / w)
-    × ((j : ℕ) → j < i → get_or (columnsIn outline) j 0 ≡ get_or (cells_in units) (from + j) 0 % w)
+    × ((j : ℕ) → j < i → get_or (rows_in outline) j 0 ≡ get_or (cells_in units) (from + j) 0 / w)
+    × ((j : ℕ) → j < i → get_or (columns_in outline) j 0 ≡ get_or (cells_in units) (from + j) 0 % w)
 
 abbrev decreases-loop : tie.decreases-loop
 decreases-loop units g w outline₀ width from n i₀ outline i = n - i
@@ -103,10 +103,10 @@ loop-again c =
       omega arith,
       simp length-set v.1,
       rw (row-stored o i y x low)
-          (stored_more (λ j. get_or (cells_in units) (from + j) 0 / w) 0 y (rowsIn o) i
+          (stored_more (λ j. get_or (cells_in units) (from + j) 0 / w) 0 y (rows_in o) i
           (omega (arith, v.1, section-length 0 1024 o (omega (arith, v.1)))) (rw e) v.2),
       rw (column-stored o i y x low)
-          (stored_more (λ j. get_or (cells_in units) (from + j) 0 % w) 0 x (columnsIn o) i
+          (stored_more (λ j. get_or (cells_in units) (from + j) 0 % w) 0 x (columns_in o) i
           (omega (arith, v.1, section-length 1024 1024 o (omega (arith, v.1)))) (rw e) v.3),
     )
 

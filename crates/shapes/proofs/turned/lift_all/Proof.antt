@@ -7,15 +7,15 @@ use lib.ListN.{get_or}
 use Rattle.lists.specs.Sections.{section, Only}
 use Rattle.lists.specs.SectionLaws.{section-at, section-set, section-length, only_none, only_set}
 use Rattle.lists.specs.TableLaws.{stored_more}
-use Rattle.shapes.specs.Outlines.{jointCount}
-use Rattle.shapes.specs.Raising.{liftOf}
+use Rattle.shapes.specs.Outlines.{joint_count}
+use Rattle.shapes.specs.Raising.{lift_of}
 use Rattle.shapes.proofs.turned.lift_all.Statement.{statement}
 use Rattle.shapes.proofs.turned.lift_all.Tie as tie
 
 abbrev invariant-loop : tie.invariant-loop
 invariant-loop outline from minus base turned₀ to n i₀ turned i =
-    (i ≤ jointCount outline) × Only to (to + 2048) turned₀ turned
-    × ((j : ℕ) → j < i → get_or (section to 2048 turned) j 0 ≡ liftOf minus base (get_or (section from 2048 outline) j 0))
+    (i ≤ joint_count outline) × Only to (to + 2048) turned₀ turned
+    × ((j : ℕ) → j < i → get_or (section to 2048 turned) j 0 ≡ lift_of minus base (get_or (section from 2048 outline) j 0))
 
 abbrev decreases-loop : tie.decreases-loop
 decreases-loop outline from minus base turned₀ to n i₀ turned i = n - i
@@ -79,7 +79,7 @@ loop-again c =
       omega (arith, a.joint-count.ensures),
       only_set l.invariant.1 (to + i) v (omega arith) (omega arith),
       rw (section-set to 2048 t i v low)
-          (stored_more (λ j. liftOf s.args.minus s.args.base
+          (stored_more (λ j. lift_of s.args.minus s.args.base
           (get_or (section s.args.from 2048 s.args.outline.now) j 0)) 0 v (section to 2048 t) i
           (omega (arith, section-length to 2048 t (omega (arith, l.invariant.1.long, s.requires.5, s.requires.1))))
           (rw (← read_is a i c.before.before.loop-test.true) c.lift.ensures) l.invariant.2),

@@ -8,17 +8,17 @@ use lib.ListN.{length, get_or}
 use Rattle.lists.specs.Sections.{Only}
 use Rattle.lists.specs.SectionLaws.{only-before}
 use Rattle.rules.specs.Turns.{apply}
-use Rattle.shapes.specs.Outlines.{downIn, acrossIn, jointCount}
+use Rattle.shapes.specs.Outlines.{down_in, across_in, joint_count}
 use Rattle.shapes.specs.RaiseLaws.{turned-raised, turned-spelled}
-use Rattle.shapes.specs.Raising.{Raised, Turnable, liftOf, movedBy, raised, spelled, turn_of, xsIn, ysIn}
-use Rattle.shapes.specs.Spots.{jointSpots}
+use Rattle.shapes.specs.Raising.{Raised, Turnable, lift_of, moved_by, raised, spelled, turn_of, xs_in, ys_in}
+use Rattle.shapes.specs.Spots.{joint_spots}
 use Rattle.shapes.proofs.turned.turn_joints.Statement.{statement}
 use Rattle.shapes.proofs.turned.turn_joints.Tie as tie
 
 -- the requires, in the arm that was taken
 chosen : (s : tie.Start) {v : Bool} → s.args.swap ≡ v
-    → Turnable v s.args.upward s.args.leftward s.args.y s.args.x (downIn s.args.outline.now)
-    (acrossIn s.args.outline.now) (jointCount s.args.outline.now)
+    → Turnable v s.args.upward s.args.leftward s.args.y s.args.x (down_in s.args.outline.now)
+    (across_in s.args.outline.now) (joint_count s.args.outline.now)
 chosen s e = rw e at s.requires.0
 
 lift-all-requires : tie.Need-lift-all-requires
@@ -46,21 +46,21 @@ lift-all-requires-4 c κs =
     (omega arith, omega arith, t.few, t.low.1, t.columns, c.before.lift-all3.ensures.0.long ∙ s.requires.1)
 
 -- the rows after the columns are written
-still : {t u : List ℕ} {n : ℕ} {f : ℕ → ℕ} → Only 2048 4096 t u → ((i : ℕ) → i < n → get_or (ysIn t) i 0 ≡ f i)
-    → (i : ℕ) → i < n → get_or (ysIn u) i 0 ≡ f i
+still : {t u : List ℕ} {n : ℕ} {f : ℕ → ℕ} → Only 2048 4096 t u → ((i : ℕ) → i < n → get_or (ys_in t) i 0 ≡ f i)
+    → (i : ℕ) → i < n → get_or (ys_in u) i 0 ≡ f i
 still o e i h = ap (λ (l : List ℕ). get_or l i 0) (only-before o 0 2048 (omega arith)) ∙ e i h
 
 -- the rows are written to t, and the columns then to u: either arm, by whether the coordinates change places
 written : (s : tie.Start) (v : Bool) → s.args.swap ≡ v → {t u : List ℕ} →
     let a = s.args in
     let o = a.outline.now in
-    let n = jointCount o in
+    let n = joint_count o in
     Only 0 2048 a.turned.now t
-    × ((i : ℕ) → i < n → get_or (ysIn t) i 0 ≡ liftOf a.upward a.y (get_or (cond v (acrossIn o) (downIn o)) i 0))
+    × ((i : ℕ) → i < n → get_or (ys_in t) i 0 ≡ lift_of a.upward a.y (get_or (cond v (across_in o) (down_in o)) i 0))
     → Only 2048 4096 t u
-    × ((i : ℕ) → i < n → get_or (xsIn u) i 0 ≡ liftOf a.leftward a.x (get_or (cond v (downIn o) (acrossIn o)) i 0))
+    × ((i : ℕ) → i < n → get_or (xs_in u) i 0 ≡ lift_of a.leftward a.x (get_or (cond v (down_in o) (across_in o)) i 0))
     → Raised u n
-    × (spelled u n ≡ movedBy (apply (turn_of a.swap a.upward a.leftward)) (raised a.y a.x) (jointSpots o))
+    × (spelled u n ≡ moved_by (apply (turn_of a.swap a.upward a.leftward)) (raised a.y a.x) (joint_spots o))
     × (length u ≡ 4096)
 written s v e {u = u} y x =
     let t = chosen s e in

@@ -5,10 +5,10 @@ use native.Mathlib.Omega.{arith}
 use borrow.Author.Rules.{rules}
 use lib.Signed.{mag}
 use Rattle.rules.specs.Turns.{apply}
-use Rattle.shapes.specs.Raising.{raised, turn_of, movedBy}
+use Rattle.shapes.specs.Raising.{raised, turn_of, moved_by}
 use Rattle.shapes.specs.PairLaws.{small-back}
-use Rattle.shapes.specs.Spots.{jointSpots}
-use Rattle.shapes.specs.Images.{raiseOf}
+use Rattle.shapes.specs.Spots.{joint_spots}
+use Rattle.shapes.specs.Images.{raise_of}
 use Rattle.shapes.specs.ImageLaws.{below, down-near, across-near, turnable, moved-image}
 use Rattle.shapes.proofs.turned.turn_row.Statement.{statement}
 use Rattle.shapes.proofs.turned.turn_row.Tie as tie
@@ -39,7 +39,7 @@ signs-at-requires c κs = search rules
 
 -- the shift that the two calls of raise give
 down-raised : (c : tie.After-raise2) → c.before.before.raise.result
-    ≡ raiseOf c.before.before.before.before.least.result.y
+    ≡ raise_of c.before.before.before.before.least.result.y
 down-raised c =
     let a = c.before.before.before.before in
     let s = a.before in
@@ -47,10 +47,10 @@ down-raised c =
     let n : mag p.y < 33 =
     down-near s.args.row s.args.outline.now s.requires.1 p
     a.least.ensures in
-    c.before.before.raise.ensures ∙ ap raiseOf (small-back p.y (omega arith))
+    c.before.before.raise.ensures ∙ ap raise_of (small-back p.y (omega arith))
 
 across-raised : (c : tie.After-raise2) → c.raise2.result
-    ≡ raiseOf c.before.before.before.before.least.result.x
+    ≡ raise_of c.before.before.before.before.least.result.x
 across-raised c =
     let a = c.before.before.before.before in
     let s = a.before in
@@ -58,7 +58,7 @@ across-raised c =
     let n : mag p.x < 33 =
     across-near s.args.row s.args.outline.now s.requires.1 p
     a.least.ensures in
-    c.raise2.ensures ∙ ap raiseOf (small-back p.x (omega arith))
+    c.raise2.ensures ∙ ap raise_of (small-back p.x (omega arith))
 
 turn-joints-requires : tie.Need-turn-joints-requires
 turn-joints-requires c κs =
@@ -82,8 +82,8 @@ returns c =
     let t = c.turn-joints.ensures in (
       t.0,
       t.1
-          ∙ (ap₂ (λ y x. movedBy (apply (turn_of q.swap (below q.down) (below q.across))) (raised y x)
-          (jointSpots s.args.outline.now)) (down-raised b) (across-raised b)
+          ∙ (ap₂ (λ y x. moved_by (apply (turn_of q.swap (below q.down) (below q.across))) (raised y x)
+          (joint_spots s.args.outline.now)) (down-raised b) (across-raised b)
           ∙ moved-image s.args.row s.args.outline.now s.requires.1 s.requires.2 a.least.result
           a.least.ensures q g.signs-at.ensures),
       t.2,

@@ -9,10 +9,10 @@ use borrow.Author.Rules.{rules}
 use borrow.Enum.Known.{lives_at}
 use lib.ListN.{get_or}
 use Rattle.rules.specs.contracts.Placement.{enum}
-use Rattle.rules.specs.Page.{wallAt}
+use Rattle.rules.specs.Page.{wall_at}
 use Rattle.laws.specs.FlatLaws.{counts}
 use Rattle.reasons.specs.MemoryLaws.{naming-none}
-use Rattle.stuck.specs.Survivors.{placed_at, blockIn}
+use Rattle.stuck.specs.Survivors.{placed_at, block_in}
 use Rattle.stuck.specs.PlacedLaws.{place-row, place-column, placed-within, block_one, block_none}
 use Rattle.stuck.proofs.survivors.block_at.Statement.{statement}
 use Rattle.stuck.proofs.survivors.block_at.Tie as tie
@@ -43,8 +43,8 @@ is c = let s = c.before.before.before in
 
 -- the blocker
 one : (c : tie.After-known-told) → let s = c.before.before.before.before.before.before in
-    blockIn s.args.h s.args.w s.args.borders.now s.args.rows.now s.args.turned.now
-    s.args.n s.args.o ≡ wallAt c.before.border.given.0.0 ∷ []
+    block_in s.args.h s.args.w s.args.borders.now s.args.rows.now s.args.turned.now
+    s.args.n s.args.o ≡ wall_at c.before.border.given.0.0 ∷ []
 one c = let s = c.before.before.before.before.before.before in
     block_one s.args.h s.args.w s.args.borders.now s.args.rows.now s.args.turned.now
     s.args.n s.args.o (is c.before.before.before) c.before.border.given.1

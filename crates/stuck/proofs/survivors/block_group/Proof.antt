@@ -11,14 +11,14 @@ use Rattle.groups.specs.Grouping.{cells_in}
 use Rattle.reasons.specs.Memory.{Wrote}
 use Rattle.reasons.specs.MemoryLaws.{write-none, write-more}
 use Rattle.reasons.specs.CellLaws.{cells-reach, cells_at}
-use Rattle.stuck.specs.Survivors.{blockIn}
+use Rattle.stuck.specs.Survivors.{block_in}
 use Rattle.stuck.proofs.survivors.block_group.Statement.{statement}
 use Rattle.stuck.proofs.survivors.block_group.Tie as tie
 
 abbrev invariant-loop : tie.invariant-loop
 invariant-loop memory₀ start h w borders places rows turned n potential from to at₀ i₀ memory at i =
     (from ≤ i) × (i ≤ to) × Wrote memory₀ start
-    (flat_map (blockIn h w borders rows turned n) (part (cells_in potential) from i)) memory at
+    (flat_map (block_in h w borders rows turned n) (part (cells_in potential) from i)) memory at
 
 abbrev decreases-loop : tie.decreases-loop
 decreases-loop memory₀ start h w borders places rows turned n potential from to at₀ i₀ memory at i = to - i
@@ -26,7 +26,7 @@ decreases-loop memory₀ start h w borders places rows turned n potential from t
 -- the blocker at a cell
 abbrev each : tie.Start invariant-loop decreases-loop → ℕ → List Literal
 each s o =
-    blockIn s.args.h s.args.w s.args.borders.now s.args.rows.now s.args.turned.now
+    block_in s.args.h s.args.w s.args.borders.now s.args.rows.now s.args.turned.now
     s.args.n o
 
 loop-holds : tie.Need-loop-init invariant-loop decreases-loop

@@ -8,20 +8,20 @@ use lib.ListN.{get_or}
 use Rattle.lists.specs.Lists.{flat_map}
 use Rattle.lists.specs.Parts.{part}
 use Rattle.rules.specs.declared.Literal.{Literal}
-use Rattle.groups.specs.Grouping.{cells_in, startsIn}
+use Rattle.groups.specs.Grouping.{cells_in, starts_in}
 use Rattle.groups.specs.Parts.{part_of}
 use Rattle.reasons.specs.Memory.{Wrote}
 use Rattle.reasons.specs.MemoryLaws.{write-none, write-more}
-use Rattle.adjacent.specs.Mates.{mateCount}
+use Rattle.adjacent.specs.Mates.{mate_count}
 use Rattle.adjacent.specs.BesideLaws.{mates-reach}
-use Rattle.stuck.specs.Survivors.{blockIn}
+use Rattle.stuck.specs.Survivors.{block_in}
 use Rattle.stuck.proofs.survivors.block_mates.Statement.{statement}
 use Rattle.stuck.proofs.survivors.block_mates.Tie as tie
 
 abbrev invariant-loop : tie.invariant-loop
 invariant-loop memory₀ start h w borders places rows turned n potential mates count at₀ i₀ memory at i =
-    (i ≤ mateCount mates) × Wrote memory₀ start
-    (flat_map (λ q. flat_map (blockIn h w borders rows turned n) (part_of (cells_in potential) (startsIn potential) q))
+    (i ≤ mate_count mates) × Wrote memory₀ start
+    (flat_map (λ q. flat_map (block_in h w borders rows turned n) (part_of (cells_in potential) (starts_in potential) q))
     (part mates 0 i)) memory at
 
 abbrev decreases-loop : tie.decreases-loop
@@ -31,8 +31,8 @@ decreases-loop memory₀ start h w borders places rows turned n potential mates 
 abbrev each : tie.Start invariant-loop decreases-loop → ℕ → List Literal
 each s q =
     flat_map
-    (blockIn s.args.h s.args.w s.args.borders.now s.args.rows.now s.args.turned.now s.args.n)
-    (part_of (cells_in s.args.potential.now) (startsIn s.args.potential.now) q)
+    (block_in s.args.h s.args.w s.args.borders.now s.args.rows.now s.args.turned.now s.args.n)
+    (part_of (cells_in s.args.potential.now) (starts_in s.args.potential.now) q)
 
 element-copy-out-index : tie.Need-element-copy-out-index invariant-loop decreases-loop
 element-copy-out-index c = omega arith
@@ -48,9 +48,9 @@ loop-holds c =
 abbrev begin : tie.In-loop invariant-loop decreases-loop → tie.Start invariant-loop decreases-loop
 begin t = t.before.before.before.before.before
 
-next : (t : tie.In-loop invariant-loop decreases-loop) → t.before.loop.i < mateCount (begin t).args.mates.now
+next : (t : tie.In-loop invariant-loop decreases-loop) → t.before.loop.i < mate_count (begin t).args.mates.now
 next t =
-    let e : t.before.before.index.result ≡ mateCount (begin t).args.mates.now =
+    let e : t.before.before.index.result ≡ mate_count (begin t).args.mates.now =
     t.before.before.index.ensures in
     omega (arith, t.loop-test.true)
 
@@ -116,8 +116,8 @@ returns : tie.Need-returns invariant-loop decreases-loop
 returns c =
     let a = c.before.before in
     let s = a.before.before.before in
-    let n : a.index.result ≡ mateCount s.args.mates.now = a.index.ensures in
-    let e : c.before.loop.i ≡ mateCount s.args.mates.now = omega arith in
+    let n : a.index.result ≡ mate_count s.args.mates.now = a.index.ensures in
+    let e : c.before.loop.i ≡ mate_count s.args.mates.now = omega arith in
     rw e at c.before.loop.invariant.1
 
 pub block-mates-spec : {M : Type 1} → statement M

@@ -3,7 +3,7 @@ use mathlib.Core.Path.{sym}
 use Prim.Native.Nat.{◌-◌, ◌/◌}
 use native.Mathlib.Omega.{arith}
 use borrow.Author.Rules.{rules}
-use Rattle.rules.specs.Flat.{belowOf, rightOf}
+use Rattle.rules.specs.Flat.{below_of, right_of}
 use Rattle.laws.specs.FlatLaws.{counts}
 use Rattle.planes.specs.DrawLaws.{Line, line-in}
 use Rattle.stuck.specs.PlacedLaws.{border-below, border-right}
@@ -41,7 +41,7 @@ add-result-2 c =
     omega (arith, (line s).right, s.requires.1.right, s.requires.0.broad, (counts s.requires.0).across)
 
 returns : tie.Need-returns
-unfolding belowOf
+unfolding below_of
 returns c = sym (border-below c.before.requires.1 c.if1.true)
 
 sub-result-2 : tie.Need-overflow-sub-result-2
@@ -54,7 +54,7 @@ add-result-3 : tie.Need-overflow-add-result-3
 add-result-3 c = omega (arith, (line c.before).across, c.before.requires.1.right, c.before.requires.0.broad)
 
 returns-2 : tie.Need-returns-2
-unfolding rightOf
+unfolding right_of
 returns-2 c = sym (border-right c.before.requires.1 c.if1.false)
 
 pub border-at-spec : {M : Type 1} → statement M

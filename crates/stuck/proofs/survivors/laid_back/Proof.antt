@@ -5,14 +5,14 @@ use native.Mathlib.Omega.{arith}
 use lib.ListN.{get_or}
 use Rattle.lists.specs.SectionLaws.{section-at, front_at}
 use Rattle.rules.specs.declared.Placement.TheVariants.{Blocked}
-use Rattle.shapes.specs.Raising.{ysIn, xsIn, RaisedAt}
+use Rattle.shapes.specs.Raising.{ys_in, xs_in, RaisedAt}
 use Rattle.stuck.specs.PlacedLaws.{border-low, back_none, back-next, back-wall}
-use Rattle.stuck.specs.Survivors.{On, borderAt, backOf}
+use Rattle.stuck.specs.Survivors.{On, border_at, back_of}
 use Rattle.stuck.proofs.survivors.laid_back.Statement.{statement}
 use Rattle.stuck.proofs.survivors.laid_back.Tie as tie
 
 abbrev invariant-loop : tie.invariant-loop
-invariant-loop h w borders turned n y x j₀ j = (j ≤ n) × (backOf h w borders turned y x n ≡ backOf h w borders turned y x j)
+invariant-loop h w borders turned n y x j₀ j = (j ≤ n) × (back_of h w borders turned y x n ≡ back_of h w borders turned y x j)
 
 abbrev decreases-loop : tie.decreases-loop
 decreases-loop h w borders turned n y x j₀ j = j
@@ -27,18 +27,18 @@ small c =
     c.before.before.requires.1 (c.before.loop.j - 1) (omega (arith, c.loop-test.true, c.before.loop.invariant.0))
 
 on : (c : tie.In-loop invariant-loop decreases-loop) → let s = c.before.before in
-    On s.args.h s.args.w (2 * s.args.y + get_or (ysIn s.args.turned.now) (c.before.loop.j - 1) 0)
-    (2 * s.args.x + get_or (xsIn s.args.turned.now) (c.before.loop.j - 1) 0)
+    On s.args.h s.args.w (2 * s.args.y + get_or (ys_in s.args.turned.now) (c.before.loop.j - 1) 0)
+    (2 * s.args.x + get_or (xs_in s.args.turned.now) (c.before.loop.j - 1) 0)
 on c =
     c.before.before.requires.4 (c.before.loop.j - 1) (omega (arith, c.loop-test.true, c.before.loop.invariant.0))
 
 -- the places read are those of its rows and columns
 down-at : (c : tie.In-loop invariant-loop decreases-loop) → let t = c.before.before.args.turned.now in
-    let j = c.before.loop.j - 1 in get_or t j 0 ≡ get_or (ysIn t) j 0
+    let j = c.before.loop.j - 1 in get_or t j 0 ≡ get_or (ys_in t) j 0
 down-at c = front_at 2048 _ _ (small c).place
 
 across-at : (c : tie.In-loop invariant-loop decreases-loop) → let t = c.before.before.args.turned.now in
-    let j = c.before.loop.j - 1 in get_or t (2048 + j) 0 ≡ get_or (xsIn t) j 0
+    let j = c.before.loop.j - 1 in get_or t (2048 + j) 0 ≡ get_or (xs_in t) j 0
 across-at c = section-at 2048 2048 _ _ (small c).place
 
 sub-j : tie.Need-overflow-sub-j invariant-loop decreases-loop
@@ -80,8 +80,8 @@ border-at-requires c κs =
 -- the border of the connection
 border-is : (c : tie.After-border-at invariant-loop decreases-loop) → let s = c.before.before.before.before.before in
     let j = c.before.before.before.before.loop.j - 1 in
-    c.border-at.result ≡ borderAt s.args.h s.args.w (2 * s.args.y + get_or (ysIn s.args.turned.now) j 0)
-    (2 * s.args.x + get_or (xsIn s.args.turned.now) j 0)
+    c.border-at.result ≡ border_at s.args.h s.args.w (2 * s.args.y + get_or (ys_in s.args.turned.now) j 0)
+    (2 * s.args.x + get_or (xs_in s.args.turned.now) j 0)
 border-is c =
     let i = c.before.before.before in rw (← down-at i, ← across-at i) c.border-at.ensures
 

@@ -4,13 +4,13 @@ use Prim.Native.Nat.{ℕ, ◌-◌, ◌≤◌, ◌<◌}
 use native.Mathlib.Omega.{arith}
 use lib.ListN.{length, get_or, length-set}
 use Rattle.lists.specs.TableLaws.{stored_more}
-use Rattle.planes.specs.Masks.{clearWord}
+use Rattle.planes.specs.Masks.{clear_word}
 use Rattle.stuck.proofs.survivors.survivors.Statement.{statement}
 use Rattle.stuck.proofs.survivors.survivors.Tie as tie
 
 abbrev invariant-loop : tie.invariant-loop
 invariant-loop planes mask h turned n rows₀ y₀ rows y = (y ≤ h) × (length rows ≡ 32)
-    × ((i : ℕ) → i < y → get_or rows i 0 ≡ clearWord planes i turned (get_or mask i 0) n)
+    × ((i : ℕ) → i < y → get_or rows i 0 ≡ clear_word planes i turned (get_or mask i 0) n)
 
 abbrev decreases-loop : tie.decreases-loop
 decreases-loop planes mask h turned n rows₀ y₀ rows y = h - y
@@ -53,7 +53,7 @@ loop-again c =
     let s = i.before.before in (
       omega (arith, i.loop-test.true),
       length-set l.rows l.y _ ∙ l.invariant.1,
-      stored_more (λ y. clearWord s.args.planes.now y s.args.turned.now
+      stored_more (λ y. clear_word s.args.planes.now y s.args.turned.now
           (get_or s.args.mask.now y 0) s.args.n) 0 _ l.rows l.y (omega (arith, low i, l.invariant.1))
           c.line-left.ensures l.invariant.2,
     )

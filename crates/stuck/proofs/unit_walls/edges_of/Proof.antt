@@ -7,20 +7,20 @@ use borrow.Author.Rules.{rules}
 use Rattle.lists.specs.Lists.{flat_map}
 use Rattle.lists.specs.Parts.{part}
 use Rattle.rules.specs.declared.Literal.{Literal}
-use Rattle.groups.specs.Grouping.{numbersIn}
-use Rattle.reasons.specs.Arrays.{noFlags, edgeIn}
+use Rattle.groups.specs.Grouping.{numbers_in}
+use Rattle.reasons.specs.Arrays.{no_flags, edge_in}
 use Rattle.reasons.specs.Memory.{Wrote}
 use Rattle.reasons.specs.MemoryLaws.{write-none, write-more}
-use Rattle.adjacent.specs.Mates.{mateCount}
-use Rattle.stuck.specs.Writing.{edgesIn}
+use Rattle.adjacent.specs.Mates.{mate_count}
+use Rattle.stuck.specs.Writing.{edges_in}
 use Rattle.stuck.proofs.unit_walls.edges_of.Statement.{statement}
 use Rattle.stuck.proofs.unit_walls.edges_of.Tie as tie
 
 abbrev invariant-loop : tie.invariant-loop
 invariant-loop memory₀ start h w colours borders potential mates flagged₀ count at₀ i₀ memory flagged at i =
-    (i ≤ mateCount mates)
-    × Wrote memory₀ start (flat_map (edgeIn h w colours borders (numbersIn potential)) (part mates 0 i)) memory at
-    × (flagged ≡ noFlags)
+    (i ≤ mate_count mates)
+    × Wrote memory₀ start (flat_map (edge_in h w colours borders (numbers_in potential)) (part mates 0 i)) memory at
+    × (flagged ≡ no_flags)
 
 abbrev decreases-loop : tie.decreases-loop
 decreases-loop memory₀ start h w colours borders potential mates flagged₀ count at₀ i₀ memory flagged at i = count - i
@@ -28,8 +28,8 @@ decreases-loop memory₀ start h w colours borders potential mates flagged₀ co
 -- Edge of a group
 abbrev each : tie.Start invariant-loop decreases-loop → ℕ → List Literal
 each s q =
-    edgeIn s.args.h s.args.w s.args.colours.now s.args.borders.now
-    (numbersIn s.args.potential.now) q
+    edge_in s.args.h s.args.w s.args.colours.now s.args.borders.now
+    (numbers_in s.args.potential.now) q
 
 element-copy-out-index : tie.Need-element-copy-out-index invariant-loop decreases-loop
 element-copy-out-index c = search rules
@@ -46,7 +46,7 @@ loop-holds c =
 abbrev begin : tie.In-loop invariant-loop decreases-loop → tie.Start invariant-loop decreases-loop
 begin t = t.before.before.before.before.before
 
-next : (t : tie.In-loop invariant-loop decreases-loop) → t.before.loop.i < mateCount (begin t).args.mates.now
+next : (t : tie.In-loop invariant-loop decreases-loop) → t.before.loop.i < mate_count (begin t).args.mates.now
 next t = omega (arith, t.loop-test.true, t.before.before.index.ensures)
 
 mul-index : tie.Need-overflow-mul-index invariant-loop decreases-loop
@@ -95,10 +95,10 @@ same_length : tie.Need-same-length invariant-loop decreases-loop
 same_length c = c.before.loop.invariant.1.long
 
 returns : tie.Need-returns invariant-loop decreases-loop
-unfolding edgesIn
+unfolding edges_in
 returns c =
     let l = c.before in
-    let e : l.loop.i ≡ mateCount l.before.before.before.before.args.mates.now =
+    let e : l.loop.i ≡ mate_count l.before.before.before.before.args.mates.now =
     omega (arith, l.loop.invariant.0, c.loop-test.false, l.before.index.ensures) in
     (rw e at l.loop.invariant.1, l.loop.invariant.2)
 

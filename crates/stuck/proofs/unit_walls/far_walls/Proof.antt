@@ -1,6 +1,6 @@
 -- A scan with the mates flagged.
 use borrow.Author.Rules.{rules}
-use Rattle.stuck.specs.Writing.{farIn}
+use Rattle.stuck.specs.Writing.{far_in}
 use Rattle.stuck.specs.FlagLaws.{flags_long}
 use Rattle.stuck.proofs.unit_walls.far_walls.Statement.{statement}
 use Rattle.stuck.proofs.unit_walls.far_walls.Tie as tie
@@ -18,7 +18,7 @@ same_length : tie.Need-same-length
 same_length c = search rules
 
 returns : tie.Need-returns
-unfolding farIn
+unfolding far_in
 returns c =
     let f = c.before.before.before.before.before in
     rw f.flag-mates.ensures at c.before.before.scan-walls.ensures

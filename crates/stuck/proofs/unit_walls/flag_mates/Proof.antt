@@ -4,13 +4,13 @@ use Prim.Native.Nat.{◌≤◌, ◌<◌, ◌-◌}
 use native.Mathlib.Omega.{arith}
 use borrow.Author.Rules.{rules}
 use Rattle.lists.specs.Parts.{part}
-use Rattle.adjacent.specs.Mates.{mateCount}
+use Rattle.adjacent.specs.Mates.{mate_count}
 use Rattle.stuck.specs.FlagLaws.{Flagged, flagged-none, flagged-more, flagged-all}
 use Rattle.stuck.proofs.unit_walls.flag_mates.Statement.{statement}
 use Rattle.stuck.proofs.unit_walls.flag_mates.Tie as tie
 
 abbrev invariant-loop : tie.invariant-loop
-invariant-loop mates flagged₀ count i₀ flagged i = (i ≤ mateCount mates) × Flagged (part mates 0 i) flagged
+invariant-loop mates flagged₀ count i₀ flagged i = (i ≤ mate_count mates) × Flagged (part mates 0 i) flagged
 
 abbrev decreases-loop : tie.decreases-loop
 decreases-loop mates flagged₀ count i₀ flagged i = count - i
@@ -26,7 +26,7 @@ loop-holds c =
     let s = c.before.before in (omega arith, rw s.requires.1 (flagged-none s.args.mates.now 0))
 
 -- the next group of the list
-next : (t : tie.In-loop invariant-loop decreases-loop) → t.before.loop.i < mateCount
+next : (t : tie.In-loop invariant-loop decreases-loop) → t.before.loop.i < mate_count
     t.before.before.before.before.args.mates.now
 next t = omega (arith, t.loop-test.true, t.before.before.index.ensures)
 
@@ -63,7 +63,7 @@ loop-again c =
 returns : tie.Need-returns invariant-loop decreases-loop
 returns c =
     let l = c.before in
-    let e : l.loop.i ≡ mateCount l.before.before.before.args.mates.now =
+    let e : l.loop.i ≡ mate_count l.before.before.before.args.mates.now =
     omega (arith, l.loop.invariant.0, c.loop-test.false, l.before.index.ensures) in
     flagged-all (rw e at l.loop.invariant.1)
 

@@ -2,7 +2,7 @@
 use mathlib.Core.Path.{refl}
 use borrow.Author.Rules.{rules}
 use Rattle.reasons.specs.MemoryLaws.{naming-more}
-use Rattle.stuck.specs.Writing.{wallsIn}
+use Rattle.stuck.specs.Writing.{walls_in}
 use Rattle.stuck.proofs.unit_walls.walls_of.Statement.{statement}
 use Rattle.stuck.proofs.unit_walls.walls_of.Tie as tie
 
@@ -27,7 +27,7 @@ same_length : tie.Need-same-length
 same_length c = search rules
 
 returns : tie.Need-returns
-unfolding wallsIn
+unfolding walls_in
 returns c =
     let m = c.before.before.before.before.before.before in
     naming-more m.before.before.before.before.before.edge.ensures.0
