@@ -1,17 +1,19 @@
 // Step 1 of the check: the first block with which something is wrong, and the reason of it.
+#![tactic(auto)]
+
 mod censuses; // censuses.rt: what step 1 asks of a block's cells
 pub mod faults; // faults.rt: what is wrong with a block
 pub mod write; // write.rt: the reason
 
 // A cell's clue.
-#[derive(Drop)]
+#[derive(Clone, Copy)]
 pub enum Clue {
     Free,
     Is(usize),
 }
 
 // What a block's cells of one colour are: how many, the potential unit of the first, and whether one has a clue.
-#[derive(Drop)]
+#[derive(Clone, Copy)]
 pub struct Part {
     pub size: usize,
     pub unit: usize,
@@ -19,7 +21,7 @@ pub struct Part {
 }
 
 // What step 1 asks of a block's cells: those of each colour, and the first clue.
-#[derive(Drop)]
+#[derive(Clone, Copy)]
 pub struct Census {
     pub zero: Part,
     pub one: Part,
@@ -27,7 +29,7 @@ pub struct Census {
 }
 
 // What is wrong with a block B, by the parts of its reason; the number is that of a potential unit P.
-#[derive(Drop)]
+#[derive(Clone, Copy)]
 pub enum Fault {
     Clear,
     // Inside(B), Edge(P)
@@ -41,14 +43,14 @@ pub enum Fault {
 }
 
 // What one look at a block's cells shows: whether it settles what is wrong with the block, and if so what it is.
-#[derive(Drop)]
+#[derive(Clone, Copy)]
 pub struct Look {
     pub settled: bool,
     pub fault: Fault,
 }
 
 // A block and what is wrong with it.
-#[derive(Drop)]
+#[derive(Clone, Copy)]
 pub struct Faulty {
     pub block: usize,
     pub fault: Fault,

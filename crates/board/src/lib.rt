@@ -1,4 +1,6 @@
 // A board by value: its limits, fresh, decide, undo and the alien test; decide on a board's lent arrays.
+#![tactic(auto)]
+
 ghost use Rattle.std.specs.Prelude.{◌≡◌, ◌-◌, ◌<◌, ◌≤◌, get_or};
 ghost use Rattle.rules.specs.Codes.{code_of, side_in};
 ghost use Rattle.board.specs.Board.{number_of, zero_board, returned, fresh_of};
@@ -13,7 +15,7 @@ mod padding; // padding.rt: a puzzle's lists as arrays
 pub mod tallies; // tallies.rt: the three counts, kept and tested
 pub mod refusals; // refusals.rt: how making a board, a decide and an undo end, by the tests that code shares
 
-#[derive(Drop)]
+#[derive(Clone, Copy)]
 pub struct Board {
     pub height: usize,
     pub width: usize,
@@ -26,7 +28,7 @@ pub struct Board {
 }
 
 // How a call ended: done, or refused with one of 01's words.
-#[derive(Drop)]
+#[derive(Clone, Copy)]
 pub enum Outcome {
     Done,
     Size,
@@ -41,7 +43,7 @@ pub enum Outcome {
 }
 
 // What making a board, a decide or an undo returns.
-#[derive(Drop)]
+#[derive(Clone, Copy)]
 pub struct Returned {
     pub outcome: Outcome,
     pub board: Board,

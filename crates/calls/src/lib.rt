@@ -1,4 +1,6 @@
 // `check`, `preview`, `call`, check and preview on a board's lent arrays, and a call with a tally record.
+#![tactic(auto)]
+
 ghost use Rattle.std.specs.Prelude.{◌≡◌, ◌≤◌, length};
 ghost use Rattle.board.specs.Alien.{board_of};
 ghost use Rattle.calls.specs.Answers.{as_answer, written, found_answer, found_memory, ended, stepped_by};
@@ -14,7 +16,7 @@ pub mod lent; // lent.rt: a call on a tally record that is lent
 
 // What a call answers: done, a pass with the count of undecided borders, a conflict with the count of literals of its
 // reason, or refused.
-#[derive(Drop)]
+#[derive(Clone, Copy)]
 pub enum Answer {
     Done,
     Pass(usize),
@@ -23,14 +25,14 @@ pub enum Answer {
 }
 
 // The board after a call, with its answer.
-#[derive(Drop)]
+#[derive(Clone, Copy)]
 pub struct Stepped {
     pub board: Board,
     pub answer: Answer,
 }
 
 // What a call with a tally record returns: what the call returns, and the record afterwards.
-#[derive(Drop)]
+#[derive(Clone, Copy)]
 pub struct Counted {
     pub stepped: Stepped,
     pub tally: Tally,

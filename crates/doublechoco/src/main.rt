@@ -7,13 +7,15 @@
 // chunk once. Assumed, since nothing proves C: that `read` and `write` do what POSIX says of them, each returns, and
 // their counts lie within the buffer (kit's library libc); that `io::write_all` writes each byte once and in order is
 // tested by the kit, and is not part of its contract.
+#![tactic(auto)]
+
 ghost use Rattle.std.specs.Prelude.{◌≡◌, ◌<◌, ◌≤◌, length};
 ghost use Rattle.io.specs.Counts.{IsPrefixLen};
 
 use libc::{STDIN_FILENO, STDOUT_FILENO};
 
 // How many bytes were read, and whether reading failed.
-#[derive(Drop)]
+#[derive(Clone, Copy)]
 struct Input {
     count: usize,
     failed: bool,

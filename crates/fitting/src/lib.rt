@@ -1,4 +1,6 @@
 // Step 3 of the check: the first unit for which no placement fits.
+#![tactic(auto)]
+
 mod copies; // copies.rt: whether the unit itself, shifted, fits at one of the first cells of a potential unit
 mod unit; // unit.rt: whether a unit fits beside its potential unit
 mod images; // images.rt: the eight images of a unit, at the origins of a mask

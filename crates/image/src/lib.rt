@@ -1,5 +1,7 @@
 // A board image made, read, tested and rewritten: the exported `dbchoco_fresh`, `dbchoco_decide`, `dbchoco_undo`,
 // `dbchoco_check` and `dbchoco_calls`.
+#![tactic(auto)]
+
 ghost use Rattle.std.specs.Prelude.{◌≡◌, false, ◌≤◌, length};
 ghost use Rattle.calls.specs.Answers.{answer_number, as_answer};
 ghost use Rattle.calls.specs.Known.{KnownBoard, found_in};

@@ -64,7 +64,7 @@ module _ {A : Type 0} where
   pub any-holds : (p : A → Bool) (xs : List A) → any p xs ≡ true → (x : A) × x ∈ xs × (p x ≡ true)
   any-holds p xs e = let r = any-find p xs (rw e tt) in (r.0, r.1, T_true (p r.0) r.2)
 
-  pub holds-any : (p : A → Bool) {xs : List A} {x : A} → x ∈ xs → p x ≡ true → any p xs ≡ true
+  pub holds-any : (p : A → Bool) {x : A} {xs : List A} → x ∈ xs → p x ≡ true → any p xs ≡ true
   unfolding any
   holds-any p (Memᴰ.head q) e = rw (← q, e)
   holds-any p {xs = y ∷ ys} (Memᴰ.tail m) e = rw (holds-any p m e) (or-true (p y))

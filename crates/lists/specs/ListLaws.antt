@@ -45,6 +45,7 @@ module _ {A : Type 0} where
 
   pub any-mem : (p : A → Bool) (xs : List A) {x : A} → x ∈ xs → T (p x) → T (any p xs)
   unfolding any
+  any-mem p [] m t = elim m [ ]
   any-mem p (y ∷ ys) (Memᴰ.head q) t = T-or-l (p y) _ (rw q at t)
   any-mem p (y ∷ ys) (Memᴰ.tail m) t = T-or-r (p y) _ (any-mem p ys m t)
 
@@ -75,7 +76,7 @@ module _ {A : Type 0} where
   get_d-mem (x ∷ xs) (suc i) d h = Memᴰ.tail (get_d-mem xs i d (le_of_suc-le-suc h))
 
 module _ {A B : Type 0} where
-  pub mem-map : (f : A → B) {xs : List A} {x : A} → x ∈ xs → f x ∈ map f xs
+  pub mem-map : (f : A → B) {x : A} {xs : List A} → x ∈ xs → f x ∈ map f xs
   mem-map f (Memᴰ.head q) = Memᴰ.head (ap f q)
   mem-map f (Memᴰ.tail m) = Memᴰ.tail (mem-map f m)
 
@@ -87,9 +88,10 @@ module _ {A B : Type 0} where
   pub map-within : (f : A → B) (xs ys : List A) → ((x : A) → x ∈ xs → x ∈ ys) → (z : B) → z ∈ map f xs → z ∈ map f ys
   map-within f xs ys i z m = let r = map-find f xs m in Memᴰ.cast r.2 (mem-map f (i r.0 r.1))
 
-  pub mem-flat : (f : A → List B) {xs : List A} {x : A} {y : B} → x ∈ xs → y ∈ f x → y ∈ flat_map f xs
+  pub mem-flat : (f : A → List B) {x : A} {y : B} {xs : List A} → x ∈ xs → y ∈ f x → y ∈ flat_map f xs
   unfolding flat_map
-  mem-flat f {xs = x' ∷ xs} {x} {y} (Memᴰ.head q) m =
+  mem-flat f {xs = []} n m = elim n [ ]
+  mem-flat f {x} {y} {xs = x' ∷ xs} (Memᴰ.head q) m =
       Memᴰ.append_left (flat_map f xs) (subst (λ (z : A). y ∈ f z) q m)
   mem-flat f {xs = x' ∷ xs} (Memᴰ.tail n) m = Memᴰ.append_right (f x') (mem-flat f n m)
 

@@ -1,1 +1,2 @@
 // Laws on lists, counting and tables. There is no code here.
+#![tactic(auto)]

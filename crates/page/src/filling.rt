@@ -9,7 +9,7 @@ use crate::{ClueRead, Row, fitness, lines};
 use board::Board;
 
 // The colours laid so far, and the next place.
-#[derive(Drop)]
+#[derive(Clone, Copy)]
 pub struct Laid {
     pub cells: [u8; Board::CELL_LIMIT],
     pub count: usize,

@@ -1,5 +1,7 @@
 // A page's bytes: read, judged and turned into a puzzle and calls. Every parser takes the lent bytes and a place, and
 // answers with a value and the place after it; nothing is copied, so that calls are read one by one.
+#![tactic(auto)]
+
 ghost use Rattle.std.specs.Prelude.{◌≡◌};
 ghost use Rattle.page.specs.Parsers.{rest};
 ghost use Rattle.page.specs.Grammar.{call};
@@ -16,35 +18,35 @@ mod fitness; // fitness.rt: whether the page makes a board
 mod filling; // filling.rt: its colours and clues as arrays
 
 // The place after what was read.
-#[derive(Drop)]
+#[derive(Clone, Copy)]
 pub enum Place {
     At(usize),
     No,
 }
 
 // A number and the place after it.
-#[derive(Drop)]
+#[derive(Clone, Copy)]
 pub enum Number {
     Got(usize, usize),
     No,
 }
 
 // The digits of a row stand from the first place up to the second; the third is the next line's.
-#[derive(Drop)]
+#[derive(Clone, Copy)]
 pub enum Row {
     Got(usize, usize, usize),
     No,
 }
 
 // The height, the width and the next line's place.
-#[derive(Drop)]
+#[derive(Clone, Copy)]
 pub enum Size {
     Got(usize, usize, usize),
     No,
 }
 
 // A clue's cell and number.
-#[derive(Drop)]
+#[derive(Clone, Copy)]
 pub struct Clue {
     pub y: usize,
     pub x: usize,
@@ -52,21 +54,21 @@ pub struct Clue {
 }
 
 // A clue and the next line's place.
-#[derive(Drop)]
+#[derive(Clone, Copy)]
 pub enum ClueRead {
     Got(Clue, usize),
     No,
 }
 
 // A call and the next line's place.
-#[derive(Drop)]
+#[derive(Clone, Copy)]
 pub enum CallRead {
     Got(Call, usize),
     No,
 }
 
 // What the lines of a part of a page are.
-#[derive(Drop)]
+#[derive(Clone, Copy)]
 pub enum Line {
     Row,
     Clue,
@@ -74,7 +76,7 @@ pub enum Line {
 }
 
 // The size, and the places where the rows, the clues and the calls begin.
-#[derive(Drop)]
+#[derive(Clone, Copy)]
 pub struct Parts {
     pub height: usize,
     pub width: usize,
@@ -84,14 +86,14 @@ pub struct Parts {
 }
 
 // Whether a page is well formed, with its parts.
-#[derive(Drop)]
+#[derive(Clone, Copy)]
 pub enum Form {
     Good(Parts),
     Bad,
 }
 
 // The judgement of a page: refused with 01's number, or accepted with its parts.
-#[derive(Drop)]
+#[derive(Clone, Copy)]
 pub enum Judged {
     Refused(usize),
     Accepted(Parts),

@@ -1,4 +1,6 @@
 // The borders that are clear as rows of bits: whether a transform fits, asked for all origins of a row at once.
+#![tactic(auto)]
+
 ghost use Rattle.std.specs.Prelude.{◌≡◌, List, [], ◌∷◌, ◌++◌, ℕ, ◌+◌, ◌-◌, ◌*◌, ◌/◌, ◌%◌, ◌<◌, ◌≤◌, ◌^◌, get_or, length, replicate};
 ghost use Rattle.std.specs.Int.Bits.{bit_and};
 ghost use Rattle.lists.specs.Count.{bit};
@@ -19,7 +21,7 @@ use shapes::turned::Turned;
 pub mod connection; // connection.rt: what one connection does to a placement
 
 // What a connection does to a placement: it ends it without blocker, is clear, or is a wall at a border.
-#[derive(Drop)]
+#[derive(Clone, Copy)]
 pub enum Reading {
     Ends,
     Clear,

@@ -1,5 +1,7 @@
 // Answers as bytes: the lines of the page program's output, and the literals of a reason, as many at a time as a lent
 // buffer takes.
+#![tactic(auto)]
+
 ghost use Rattle.std.specs.Prelude.{◌≡◌, cond, [], ◌∷◌, ◌++◌, ◌+◌, ◌%◌, ◌<◌, ◌≤◌, eqb, length};
 ghost use Rattle.rules.specs.Check.{pass};
 ghost use Rattle.rules.specs.Book.{refused, answered};
@@ -11,7 +13,7 @@ ghost use Rattle.print.specs.Lines.{Longer, LineHolds, Written};
 ghost use Rattle.print.specs.Chunks.{Put};
 
 // The bytes of a line, or of a part of one, and how many they are.
-#[derive(Drop)]
+#[derive(Clone, Copy)]
 pub struct Line {
     pub bytes: [u8; 32],
     pub count: usize,
@@ -155,7 +157,7 @@ pub fn put_line(out: &mut [u8], at: usize, line: Line) -> usize
 }
 
 // Which literal is the next, and how many bytes were written.
-#[derive(Drop)]
+#[derive(Clone, Copy)]
 pub struct Chunk {
     pub next: usize,
     pub count: usize,

@@ -32,7 +32,7 @@ pub fn literal(n: usize) -> Literal
 }
 
 // What a board keeps beside its arrays.
-#[derive(Drop)]
+#[derive(Clone, Copy)]
 struct Kept {
     pub count: usize,
     pub tally: Tally,

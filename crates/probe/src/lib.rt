@@ -2,6 +2,8 @@
 // published Rust. Each function of this file writes its words from the start of the memory and gives how many they are.
 // Where the size is no page's, or the memory has under 16,384 places, it gives 65,535 and leaves the memory. Colours
 // and borders may have any length: past their end they are 0.
+#![tactic(auto)]
+
 ghost use Rattle.std.specs.Prelude.{◌≡◌, ◌≤◌, length};
 ghost use Rattle.rules.specs.Flat.{Sized};
 ghost use Rattle.rules.specs.Groups.{entry};

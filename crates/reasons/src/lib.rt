@@ -1,4 +1,6 @@
 // Inside, Edge and Path, written into a reason's memory, each border once.
+#![tactic(auto)]
+
 ghost use Rattle.std.specs.Prelude.{◌≡◌, not, cond, [], ◌∷◌, ◌+◌, ◌*◌, ◌<◌, ◌≤◌, length};
 ghost use Rattle.rules.specs.Flat.{Sized};
 ghost use Rattle.rules.specs.Codes.{literal_code};
@@ -18,7 +20,7 @@ pub mod scans; // scans.rt: what Inside lists for a cell, and the walls of a gro
 pub const WORK_LENGTH: usize = 3968;
 
 // A neighbour of a cell, if there is one: over which border, and which cell.
-#[derive(Drop)]
+#[derive(Clone, Copy)]
 pub struct Neighbour {
     pub some: bool,
     pub border: usize,

@@ -1,23 +1,25 @@
 // The types that the definitions and the code share, and numbers as indices; specs/ has 01's definitions of the rules,
 // the numbering, Check and the book.
+#![tactic(auto)]
+
 ghost use Rattle.std.specs.Prelude.{◌≡◌};
 
 // The side of a decided border.
-#[derive(Drop)]
+#[derive(Clone, Copy)]
 pub enum Side {
     Wall,
     Open,
 }
 
 // A border number with its side.
-#[derive(Drop)]
+#[derive(Clone, Copy)]
 pub struct Literal {
     pub border: usize,
     pub side: Side,
 }
 
 // What a solver asks of a board.
-#[derive(Drop)]
+#[derive(Clone, Copy)]
 pub enum Call {
     Decide(Literal),
     Undo,
@@ -26,7 +28,7 @@ pub enum Call {
 }
 
 // How many borders of a board are undecided, walls and open.
-#[derive(Drop)]
+#[derive(Clone, Copy)]
 pub struct Tally {
     pub undecided: usize,
     pub walls: usize,
@@ -34,7 +36,7 @@ pub struct Tally {
 }
 
 // What laying a transform at a cell gives.
-#[derive(Drop)]
+#[derive(Clone, Copy)]
 pub enum Placement {
     Fits,
     Blocked(usize),

@@ -1,4 +1,6 @@
 // The eight rows of signs and swaps, a unit's connections, and which rows are listed.
+#![tactic(auto)]
+
 ghost use Rattle.std.specs.Prelude.{◌≡◌, true, cond, ◌+◌, ◌-◌, ◌*◌, ◌<◌, length, get_or, pos};
 ghost use Rattle.rules.specs.Page.{◌⊕◌, opposite};
 ghost use Rattle.rules.specs.Flat.{Sized, flat};
@@ -25,14 +27,14 @@ pub mod turned; // turned.rt: the connections of a unit's image, raised
 pub type Outline = [u16; 6146];
 
 // A place on a flat page, down and across.
-#[derive(Drop)]
+#[derive(Clone, Copy)]
 pub struct Pair {
     pub y: i32,
     pub x: i32,
 }
 
 // A row of the table: whether the coordinates change places, and the signs of the new ones, 1 or -1.
-#[derive(Drop)]
+#[derive(Clone, Copy)]
 pub struct Signs {
     pub swap: bool,
     pub down: i8,
@@ -305,7 +307,7 @@ fn flip_listed<'a>(units: &'a Grouping, h: usize, w: usize, g: usize, outline: &
 }
 
 // The listed rows of the table, in order; the places beyond the count are 0.
-#[derive(Drop)]
+#[derive(Clone, Copy)]
 pub struct Listed {
     pub count: usize,
     pub rows: [u8; 8],

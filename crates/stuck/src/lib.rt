@@ -1,4 +1,6 @@
 // Step 3 of the check: the reason of a unit that fits nowhere, written into a reason's memory.
+#![tactic(auto)]
+
 ghost use Rattle.std.proofs.Math.Option.{Option};
 ghost use Rattle.std.specs.Prelude.{ℕ};
 ghost use Rattle.rules.specs.Codes.{clued_by, states_in, unclued};

@@ -1,6 +1,8 @@
 // The output of the page program, chunk by chunk, and that it is the book's text. A run says how far a page's answers
 // are printed; `next` puts the next chunk into a lent buffer. The program only reads the page, calls `next` and writes
 // what it put.
+#![tactic(auto)]
+
 ghost use Rattle.std.specs.Prelude.{◌≡◌, List, ◌++◌, ℕ, ◌+◌, ◌-◌, ◌*◌, ◌≤◌, length};
 ghost use Rattle.rules.specs.Book.{refused};
 ghost use Rattle.board.specs.Board.{number_of};
@@ -19,7 +21,7 @@ use print::Line;
 
 // What is printed next: the first line; the refusal of the page; the line of the next call; the literals of the memory
 // from one place up to another, with the end of their line; the last line; nothing.
-#[derive(Drop)]
+#[derive(Clone, Copy)]
 pub enum Stage {
     Begin,
     Refused(usize),
@@ -30,7 +32,7 @@ pub enum Stage {
 }
 
 // The board, the place of the next call, what is printed next, and how many bytes the chunk has that was just put.
-#[derive(Drop)]
+#[derive(Clone, Copy)]
 pub struct Run {
     pub board: Board,
     pub at: usize,

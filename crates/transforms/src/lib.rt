@@ -1,4 +1,6 @@
 // A unit's k-th listed transform, its cells and its connections, written into lent memory.
+#![tactic(auto)]
+
 ghost use Rattle.std.specs.Prelude.{◌≡◌, [], ◌∷◌, ◌+◌, ◌*◌, ◌≤◌, ◌<◌, length};
 ghost use Rattle.std.proofs.lemmas.List.Edits.{sets};
 ghost use Rattle.rules.specs.Page.{◌⊕◌, opposite};
@@ -31,7 +33,7 @@ use shapes::{
 // What asking for a transform returns: how many transforms the unit has, and how many cells and connections the one
 // asked for has. Each place takes two numbers of the lent memory, down and across: first the cells, sorted, with the
 // first at (0,0), then the connections, in doubled coordinates.
-#[derive(Drop)]
+#[derive(Clone, Copy)]
 pub struct Transformed {
     pub outcome: Outcome,
     pub listed: usize,

@@ -1,4 +1,6 @@
 // Step 2 of the check: the first wall between two cells of one block, and the reason of it.
+#![tactic(auto)]
+
 ghost use Rattle.std.specs.Prelude.{◌≡◌, true, ◌&&◌, ◌+◌, ◌*◌, ◌<◌, ◌≤◌, length, eqb};
 ghost use Rattle.lists.specs.Count.{bit};
 ghost use Rattle.rules.specs.Flat.{Sized, flat};
@@ -16,7 +18,7 @@ use groups::{Grouping, group_of};
 use reasons::Neighbour;
 
 // A wall between two cells of one block: the cell, the wall and the neighbour over it. Nothing found: all 0.
-#[derive(Drop)]
+#[derive(Clone, Copy)]
 pub struct Breach {
     pub found: bool,
     pub cell: usize,
