@@ -1,5 +1,5 @@
 -- The borders of a flat page are links: right from (y,x) to (y,x+1), and down from (y,x) to (y+1,x).
-use Rattle.std.specs.Prelude.{◌≡◌, ◌⊎◌, Bool, true, false, not, ◌++◌, ltb, pos, negsuc, ◌+ℤ◌}
+use Rattle.std.specs.Prelude.{◌≡◌, ◌⊎◌, Bool, true, false, not, ◌++◌, ltb, ◌+ℤ◌}
 use Rattle.std.proofs.Math.Path.{refl, sym, ap}
 use Rattle.std.proofs.Common.{◌∙◌, subst, div-lt_iff_lt-mul, add-one, lt→ltb}
 use Rattle.std.proofs.Math.Logic.{inl, inr}
@@ -11,10 +11,10 @@ use native.Mathlib.Omega.{arith}
 use borrow.Author.Tests.{lt-ltb, le-ltb, le-leb}
 use Rattle.std.proofs.Math.Arith.{digits_div, digits_mod}
 use Rattle.std.proofs.Math.Dec.{T, ltb→lt, nltb→le}
-use Rattle.std.proofs.Math.IntN.{-ℤ_one}
-use Rattle.lists.specs.Lists.{_∈_}
+use Rattle.std.proofs.Math.IntN.{pos, negsuc, -ℤ_one}
+use Rattle.lists.specs.Lists.{◌∈◌}
 use Rattle.lists.specs.Booleans.{T-dec}
-use Rattle.rules.specs.Page.{Hop, _⊕_}
+use Rattle.rules.specs.Page.{Hop, ◌⊕◌}
 use Rattle.rules.specs.Flat.{flat, cell_at, right_of, below_of, border_count, hop_if, hop_above, hop_below, hop_left, hop_right}
 use Rattle.rules.specs.Flat.{around_at, ahead_at, flat_first, flat_second, flat_place, flat_reads_at, flat_reads}
 use Rattle.laws.specs.FlatLaws.{spot}
@@ -49,7 +49,7 @@ step_back n = sym (ap (λ z. pos z +ℤ negsuc 0) (add-one n) ∙ -ℤ_one (pos 
 
 -- one step on, and back
 near_down : (y x : ℕ) → OneStep (at3 (pos 0) (pos y) (pos x)) (at3 (pos 0) (pos (y + 1)) (pos x))
-unfolding _⊕_
+unfolding ◌⊕◌
 near_down y x =
     record {
       by = at3 (pos 0) (pos 1) (pos 0);
@@ -58,7 +58,7 @@ near_down y x =
     }
 
 near_up : (y x : ℕ) → OneStep (at3 (pos 0) (pos (y + 1)) (pos x)) (at3 (pos 0) (pos y) (pos x))
-unfolding _⊕_
+unfolding ◌⊕◌
 near_up y x =
     record {
       by = at3 (pos 0) (negsuc 0) (pos 0);
@@ -67,7 +67,7 @@ near_up y x =
     }
 
 near-right : (y x : ℕ) → OneStep (at3 (pos 0) (pos y) (pos x)) (at3 (pos 0) (pos y) (pos (x + 1)))
-unfolding _⊕_
+unfolding ◌⊕◌
 near-right y x =
     record {
       by = at3 (pos 0) (pos 0) (pos 1);
@@ -76,7 +76,7 @@ near-right y x =
     }
 
 near-left : (y x : ℕ) → OneStep (at3 (pos 0) (pos y) (pos (x + 1))) (at3 (pos 0) (pos y) (pos x))
-unfolding _⊕_
+unfolding ◌⊕◌
 near-left y x =
     record {
       by = at3 (pos 0) (pos 0) (negsuc 0);
@@ -165,12 +165,12 @@ module _ (h w : ℕ) where
 
   reads-below : (y x : ℕ) → y + 1 < h → x < w
       → flat_reads h w (at3 (pos 0) (pos y) (pos x) ⊕ at3 (pos 0) (pos (y + 1)) (pos x)) ≡ some (below_of h w y x)
-  unfolding flat_reads _⊕_
+  unfolding flat_reads ◌⊕◌
   reads-below y x l k = reads-down y x l k
 
   reads-beside : (y x : ℕ) → y < h → x + 1 < w
       → flat_reads h w (at3 (pos 0) (pos y) (pos x) ⊕ at3 (pos 0) (pos y) (pos (x + 1))) ≡ some (right_of h w y x)
-  unfolding flat_reads _⊕_
+  unfolding flat_reads ◌⊕◌
   reads-beside y x l k = reads-right y x l k
 
   pub down-link : (y x : ℕ) → y + 1 < h → x < w

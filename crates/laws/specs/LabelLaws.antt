@@ -376,6 +376,6 @@ module _ (G : Page) (K : Bordered G) (link : ℕ → Bool) where
       go (inl e) q = cc (e.0, e.1, q)
       go (inr e) q = cc (e.0, e.1, q)
 
-  pub joined-label : {x c : ℕ} → x < G.cells → Joined G link c x → entry (labels G link) x ≡ entry (labels G link) c
+  pub joined-label : {c x : ℕ} → x < G.cells → Joined G link c x → entry (labels G link) x ≡ entry (labels G link) c
   joined-label h (stay e) = ap (entry (labels G link)) e
   joined-label {x} h (step k m t r) = hop-label x k h m t ∙ joined-label (K.hop-in x k h m) r

@@ -61,12 +61,14 @@ same-border s l k p q = go (eqb l.border k.border) refl
 -- ---- the same literals
 pub once-mem : (r : Reason) {k : Literal} → k ∈ once r → k ∈ r
 unfolding once
+once-mem [] m = elim m [ ]
 once-mem (l ∷ r) (Memᴰ.head q) = Memᴰ.head q
 once-mem (l ∷ r) (Memᴰ.tail m) =
     Memᴰ.tail (once-mem r (filter-mem (λ k. not (same_literal l k)) (once r) m))
 
 pub mem-once : (r : Reason) {k : Literal} → k ∈ r → k ∈ once r
 unfolding once
+mem-once [] m = elim m [ ]
 mem-once (l ∷ r) (Memᴰ.head q) = Memᴰ.head q
 mem-once (l ∷ r) {k} (Memᴰ.tail m) = go (mem-once r m) (T-dec (same_literal l k))
   where

@@ -16,28 +16,28 @@ use Rattle.rules.specs.Rules.{Joined, stay, one_colour, joins_block, joins_unit,
 use Rattle.laws.specs.PageLaws.{Bordered}
 
 module _ (G : Page) (link : ℕ → Bool) where
-  pub join-trans : {x c d : ℕ} → Joined G link c x → Joined G link d c → Joined G link d x
+  pub join-trans : {c d x : ℕ} → Joined G link c x → Joined G link d c → Joined G link d x
   join-trans (stay e) q = rw e q
   join-trans (step h m t r) q = step h m t (join-trans r q)
 
 module _ (G : Page) (link link' : ℕ → Bool) where
-  pub join-weaken : ((b : ℕ) → T (link b) → T (link' b)) → {x c : ℕ} → Joined G link c x → Joined G link' c x
+  pub join-weaken : ((b : ℕ) → T (link b) → T (link' b)) → {c x : ℕ} → Joined G link c x → Joined G link' c x
   join-weaken f (stay e) = stay e
   join-weaken f (step h m t r) = step h m (f h.border t) (join-weaken f r)
 
   -- the same, for the borders of the page
-  pub join-map : Bordered G → ((b : ℕ) → b < G.borders → T (link b) → T (link' b)) → {x c : ℕ} → x < G.cells
+  pub join-map : Bordered G → ((b : ℕ) → b < G.borders → T (link b) → T (link' b)) → {c x : ℕ} → x < G.cells
       → Joined G link c x → Joined G link' c x
   join-map K f h (stay e) = stay e
   join-map K f {x} h (step k m t r) =
       step k m (f k.border (K.hop-border x k h m) t) (join-map K f (K.hop-in x k h m) r)
 
 module _ (G : Page) (K : Bordered G) (link : ℕ → Bool) where
-  pub join-in : {x c : ℕ} → x < G.cells → Joined G link c x → c < G.cells
+  pub join-in : {c x : ℕ} → x < G.cells → Joined G link c x → c < G.cells
   join-in h (stay e) = rw (← e) h
   join-in {x} h (step k m t r) = join-in (K.hop-in x k h m) r
 
-  pub join-sym : {x c : ℕ} → x < G.cells → Joined G link c x → Joined G link x c
+  pub join-sym : {c x : ℕ} → x < G.cells → Joined G link c x → Joined G link x c
   join-sym h (stay e) = stay (sym e)
   join-sym {x} h (step k m t r) =
       join-trans G link (join-sym (K.hop-in x k h m) r)
@@ -71,7 +71,7 @@ module _ (Z : Puzzle) (K : Bordered Z.page) where
       go (inl e) = cc (e.0, e.1, q)
       go (inr e) = cc (e.0, e.1, q)
 
-  pub joined-colour : (link : ℕ → Bool) → ((b : ℕ) → T (link b) → T (one_colour Z b)) → {x y : ℕ} → x < Z.page.cells
+  pub joined-colour : (link : ℕ → Bool) → ((b : ℕ) → T (link b) → T (one_colour Z b)) → {y x : ℕ} → x < Z.page.cells
       → Joined Z.page link y x → Z.colour x ≡ Z.colour y
   joined-colour link f h (stay e) = ap Z.colour e
   joined-colour link f {x} h (step j m t r) =

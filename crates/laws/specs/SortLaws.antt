@@ -60,6 +60,7 @@ mem-insert p (q ∷ qs) {x} m = go (before p q) m (λ n. mem-insert p qs n)
 
 pub mem-sort : (ps : List Point) {x : Point} → x ∈ ps → x ∈ sort ps
 unfolding sort
+mem-sort [] m = elim m [ ]
 mem-sort (p ∷ ps) (Memᴰ.head e) = mem-insert p (sort ps) (inl e)
 mem-sort (p ∷ ps) (Memᴰ.tail m) = mem-insert p (sort ps) (inr (mem-sort ps m))
 
