@@ -25,10 +25,10 @@ module _ (Z : Puzzle) (K : Bordered Z.page) (σ : ℕ → State) where
     pub other : Z.colour over.to ≡ not (Z.colour x)
     pub rest : SameBlock Z σ over.to y
 
-  pub cross : {x y : ℕ} → x < Z.page.cells → SameBlock Z σ x y → Z.colour y ≡ not (Z.colour x) → Crossing x y
+  pub cross : {y x : ℕ} → x < Z.page.cells → SameBlock Z σ x y → Z.colour y ≡ not (Z.colour x) → Crossing x y
   unfolding joins_unit joins_block
-  cross {x} {y} h (stay e) q = absurd (not-self (Z.colour x) (Z.colour y) (ap Z.colour e) q)
-  cross {x} {y} h (step j m t r) q =
+  cross {y} {x} h (stay e) q = absurd (not-self (Z.colour x) (Z.colour y) (ap Z.colour e) q)
+  cross {y} {x} h (step j m t r) q =
       go (T-dec (beq (Z.colour x) (Z.colour j.to))) (λ q'. cross (K.hop-in x j h m) r q')
     where
       go : T (beq (Z.colour x) (Z.colour j.to)) ⊎ T (not (beq (Z.colour x) (Z.colour j.to)))

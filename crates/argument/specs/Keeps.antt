@@ -47,7 +47,7 @@ module _ (Z : Puzzle) (K : Bordered Z.page) (s : ℕ → State) where
   module _ (σ : ℕ → State) (link link' : ℕ → Bool) (k : ℕ) (opens : (b : ℕ) → T (link b) → T (is_open (s b)))
       (goes : (b : ℕ) → T (link b) → σ b ≡ decided Open → T (link' b))
       (c : Contains σ (inside Z.page s (entry (numbers Z.page link)) k)) where
-    pub inside-keeps : {x y : ℕ} → x < Z.page.cells → entry (numbers Z.page link) x ≡ k → Joined Z.page link y x
+    pub inside-keeps : {y x : ℕ} → x < Z.page.cells → entry (numbers Z.page link) x ≡ k → Joined Z.page link y x
         → Joined Z.page link' y x
     inside-keeps h e (stay q) = stay q
     inside-keeps {x} h e (step j m t r) =
@@ -81,12 +81,12 @@ module _ (Z : Puzzle) (K : Bordered Z.page) (s : ℕ → State) where
       beq (Z.colour x) (Z.colour j.to) && not (eqb (number j.to) g) && is_wall (s j.border))
       _ h m (search T_and))
 
-  pub edge_stays : (σ : ℕ → State) (k : ℕ) → Contains σ (edge_of Z s k) → {x y : ℕ} → x < Z.page.cells
+  pub edge_stays : (σ : ℕ → State) (k : ℕ) → Contains σ (edge_of Z s k) → {y x : ℕ} → x < Z.page.cells
       → potential_of Z s x ≡ k →
       Joined Z.page (joins_unit Z σ) y x → potential_of Z s y ≡ k
   unfolding joins_unit joins_potential edge_of
   edge_stays σ k c h e (stay q) = rw (← q) e
-  edge_stays σ k c {x} {y} h e (step j m t r) =
+  edge_stays σ k c {y} {x} h e (step j m t r) =
       go (T-dec (eqb (potential_of Z s j.to) k)) (T-dec (is_wall (s j.border)))
       (λ f. edge_stays σ k c (K.hop-in x j h m) f r)
     where

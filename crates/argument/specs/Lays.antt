@@ -64,10 +64,10 @@ module _ (Z : Puzzle) (K : Bordered Z.page) (P : CellsPlaced Z.page) (s : ℕ �
           (reads-ahead j.to (record { border = j.border; to = y })
           (mem-members Z.page (unit_of Z s) U j.to (K.hop-in y j hy m) f) n e)
 
-  walk : {y z : ℕ} → y < Z.page.cells → unit_of Z s y ≡ U → Landed y → SameUnit Z s y z → Landed z
+  walk : {z y : ℕ} → y < Z.page.cells → unit_of Z s y ≡ U → Landed y → SameUnit Z s y z → Landed z
   unfolding joins_unit
   walk hy e L (stay f) = subst Landed f L
-  walk {y} {z} hy e L (step j m t r) = walk ht f (next (reads-across y j hy m e f)) r
+  walk {z} {y} hy e L (step j m t r) = walk ht f (next (reads-across y j hy m e f)) r
     where
       ht : j.to < Z.page.cells
       ht = K.hop-in y j hy m

@@ -265,7 +265,7 @@ module _ (Z : Puzzle) (K : Bordered Z.page) (s : ℕ → State) (a : ℕ) (ha : 
           (ap not (T_true (is_found a [] a) (reached-start [])))
 
   -- every joined cell is found
-  joined-found : {x y : ℕ} → PathReached (hunt Z.page s Z.page.cells a (a ∷ []) []) x
+  joined-found : {y x : ℕ} → PathReached (hunt Z.page s Z.page.cells a (a ∷ []) []) x
       → Joined Z.page (joins_block Z s) y x → PathReached (hunt Z.page s Z.page.cells a (a ∷ []) []) y
   unfolding joins_block
   joined-found k (stay e) = rw (← e) k

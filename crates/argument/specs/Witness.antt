@@ -63,10 +63,10 @@ over link t = (
   step {x = 1} (record { border = 0; to = 0 }) (Memᴰ.head refl) t (stay refl),
 )
 
-block_in : (x y : ℕ) → x < 2 → SameBlock small opened x y → y < 2
+block_in : (y x : ℕ) → x < 2 → SameBlock small opened x y → y < 2
 unfolding flat
-block_in x y l (stay e) = omega arith
-block_in x y l (step h m t j) = block_in h.to y (bordered.hop-in x h l m) j
+block_in y x l (stay e) = omega arith
+block_in y x l (step h m t j) = block_in y h.to (bordered.hop-in x h l m) j
 
 -- the two cells differ in colour, so each is a unit
 alone : (x p : ℕ) → x < 2 → SameUnit small opened x p → x ≡ p
@@ -159,8 +159,8 @@ open-solves =
       full = open_full;
       no_wall = λ x h l m j. never h.border;
       both = both-colours;
-      one = λ x y l j e. stay (one_cell x l y (block_in x y l j) e);
-      congruent = λ x y l j e. units-congruent x y l (block_in x y l j);
+      one = λ x y l j e. stay (one_cell x l y (block_in y x l j) e);
+      congruent = λ x y l j e. units-congruent x y l (block_in y x l j);
       clues = sizes;
     }
 

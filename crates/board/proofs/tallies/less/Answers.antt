@@ -1,0 +1,15 @@
+-- `less` meets its contract: by whether the code is a wall's.
+use borrow.Author.Tests.{eq-eqb, ne_eqb}
+use Rattle.board.proofs.tallies.less.Goals as goal
+
+pub overflow_sub-result : goal.overflow_sub-result
+overflow_sub-result c = rw (eq-eqb c.args.v 1 c.if-v-eq1.true) at c.requires.1
+
+pub overflow_sub-result-else-v-eq1 : goal.overflow_sub-result-else-v-eq1
+overflow_sub-result-else-v-eq1 c = rw (ne_eqb c.args.v 1 c.if-v-eq1.false) at c.requires.1
+
+pub returns-then-v-eq1 : goal.returns-then-v-eq1
+returns-then-v-eq1 c = rw (eq-eqb c.args.v 1 c.if-v-eq1.true)
+
+pub returns-else-v-eq1 : goal.returns-else-v-eq1
+returns-else-v-eq1 c = rw (ne_eqb c.args.v 1 c.if-v-eq1.false)
