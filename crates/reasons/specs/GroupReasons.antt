@@ -5,7 +5,7 @@ use Rattle.std.proofs.Math.Path.{ap, fun_ext}
 use Prim.Native.Nat.{ℕ, ◌+◌, ◌<◌}
 use Rattle.rules.specs.Flat.{Sized, flat}
 use Rattle.rules.specs.Codes.{clues_in, states_in, colours_in, puzzle_in}
-use Rattle.rules.specs.Groups.{numbers, members}
+use Rattle.rules.specs.Groups.{members}
 use Rattle.rules.specs.Reasons.{inside, edge}
 use Rattle.rules.specs.Check.{inside_block, edge_of}
 use Rattle.laws.specs.FlatLaws.{counts}

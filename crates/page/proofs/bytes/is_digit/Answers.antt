@@ -1,0 +1,12 @@
+-- `is_digit` meets its contract, test by test.
+use Rattle.page.specs.Parsers.{digit}
+use borrow.Author.Tests.{lt-leb, le-leb}
+use Rattle.page.proofs.bytes.is_digit.Goals as goal
+
+pub returns-then-b-lt48 : goal.returns-then-b-lt48
+unfolding digit
+returns-then-b-lt48 c = simp (lt-leb _ _ c.if-b-lt48.true)
+
+pub returns : goal.returns
+unfolding digit
+returns c = simp (le-leb _ _ c.if-b-lt48.false)

@@ -1,0 +1,12 @@
+-- `lines_end` meets its contract: what is left after the lines from p on is what is left after those from `at` on.
+use Prim.Native.Nat.{◌-◌}
+use Rattle.page.specs.Places.{end_of}
+use lib.ListN.{length}
+use mathlib.Core.Path.{◌≡◌}
+use Rattle.page.proofs.whole.lines_end.Given as goal
+
+abbrev pub invariant-loop-p : goal.invariant-loop-p
+invariant-loop-p l = end_of l.line l.s l.at ≡ end_of l.line l.s l.p
+
+abbrev pub decreases-loop-p : goal.decreases-loop-p
+decreases-loop-p l = length l.s - l.p

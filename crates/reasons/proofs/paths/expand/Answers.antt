@@ -1,0 +1,37 @@
+-- One direction after another.
+use mathlib.Core.Path.{refl}
+use mathlib.Core.List.{List}
+use Prim.Native.Nat.{ℕ, ◌/◌, ◌%◌}
+use Rattle.rules.specs.Page.{Hop}
+use Rattle.laws.specs.FlatLaws.{OnPage, row_of}
+use Rattle.reasons.specs.Arrays.{hop_at}
+use Rattle.reasons.specs.StepLaws.{around-is}
+use Rattle.reasons.specs.SearchLaws.{looked-none, looked-more}
+use Rattle.reasons.proofs.paths.expand.Goals.{Start}
+use Rattle.reasons.proofs.paths.expand.Goals as goal
+
+row : (s : Start) → OnPage s.args.h s.args.w s.args.c
+row s = row_of _ _ _ s.requires.2
+
+abbrev hops : Start → ℕ → List Hop
+hops s = let a = s.args in hop_at a.h a.w (a.c / a.w) (a.c % a.w)
+
+pub visit-above-requires : goal.visit-above-requires
+visit-above-requires c = (c.requires.0, c.requires.1, c.requires.2, c.requires.3, c.requires.4, refl, refl)
+
+pub visit-below-requires : goal.visit-below-requires
+visit-below-requires c = (c.requires.0, c.requires.1, c.requires.2, c.visit-above.ensures.old, c.visit-above.ensures.lined, refl, refl)
+
+pub visit-left-requires : goal.visit-left-requires
+visit-left-requires c = (c.requires.0, c.requires.1, c.requires.2, c.visit-below.ensures.old, c.visit-below.ensures.lined, refl, refl)
+
+pub visit-requires : goal.visit-requires
+visit-requires c = (c.requires.0, c.requires.1, c.requires.2, c.visit-left.ensures.old, c.visit-left.ensures.lined, refl, refl)
+
+pub returns : goal.returns
+returns c =
+    let f = hops (goal.at.returns c).Start in
+    let above = looked-more f 0 (looked-none f c.requires.4 c.requires.3) c.visit-above.ensures in
+    let below = looked-more f 1 above c.visit-below.ensures in
+    let left = looked-more f 2 below c.visit-left.ensures in
+    rw (around-is c.args.h c.args.w c.args.c) (looked-more f 3 left c.visit.ensures)
