@@ -1,0 +1,18 @@
+-- The loop goes down, and its word has the borders from x on.
+use mathlib.Core.Path.{◌≡◌, refl, ap₂, sym, ◌∙◌}
+use mathlib.Core.Bool.{Bool}
+use Prim.Native.Nat.{ℕ, ◌+◌, ◌-◌, ◌*◌, ◌≤◌, ◌<◌}
+use native.Mathlib.Omega.{arith}
+use Rattle.lists.specs.CountLaws.{bit-under}
+use Rattle.planes.specs.Bits.{row_from}
+use Rattle.planes.specs.RowLaws.{row-start, row-end, row_more, row_fits}
+use Rattle.planes.specs.Planes.{clear_at, clear_row}
+use Rattle.planes.proofs.clear_row.Given as goal
+
+abbrev pub invariant-loop-x : goal.invariant-loop-x
+invariant-loop-x l =
+    (l.x ≤ l.n) × (l.acc ≡ row_from (l.n - l.x) l.x (λ i. clear_at l.colours l.borders (l.cell + i) (l.cell + i + l.ahead) (l.border + i)))
+    × (l.acc < 4294967296)
+
+abbrev pub decreases-loop-x : goal.decreases-loop-x
+decreases-loop-x l = l.x

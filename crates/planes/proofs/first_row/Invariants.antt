@@ -1,0 +1,13 @@
+-- The loop's invariant: the rows before y have no origin.
+use mathlib.Core.Path.{◌≡◌}
+use Prim.Native.Nat.{ℕ, ◌-◌, ◌≤◌, ◌<◌}
+use native.Mathlib.Omega.{arith}
+use lib.ListN.{get_or}
+use Rattle.lists.specs.PaddedLaws.{zero_more}
+use Rattle.planes.proofs.first_row.Given as goal
+
+abbrev pub invariant-loop-y : goal.invariant-loop-y
+invariant-loop-y l = (l.y ≤ l.h) × ((j : ℕ) → j < l.y → get_or l.mask j 0 ≡ 0)
+
+abbrev pub decreases-loop-y : goal.decreases-loop-y
+decreases-loop-y l = l.h - l.y

@@ -1,0 +1,35 @@
+-- One bit more in the row of the cell.
+-- the cell's row and column
+use mathlib.Core.Path.{◌∙◌}
+use Prim.Native.Nat.{◌/◌, ◌%◌, ◌<◌}
+use native.Mathlib.Omega.{arith}
+use borrow.Author.Rules.{rules}
+use lib.ListN.{length-set}
+use Rattle.planes.specs.MaskLaws.{masked-more, place_in}
+use Rattle.planes.proofs.flag.Goals.{Start}
+use Rattle.planes.proofs.flag.Goals as goal
+
+low : (s : Start) → (s.args.c / s.args.w < 32) × (s.args.c % s.args.w < 32)
+low s = place_in s.args.c s.requires.0 s.requires.1
+
+pub offset_bounds-mask-y : goal.offset_bounds-mask-y
+offset_bounds-mask-y c = omega (arith, (low c).0)
+
+pub bounds-mask-y : goal.bounds-mask-y
+bounds-mask-y c = omega (arith, (low (goal.at.bounds-mask-y c).Start).0)
+
+pub overflow_shl-mask : goal.overflow_shl-mask
+overflow_shl-mask c = omega (arith, (low (goal.at.overflow_shl-mask c).Start).1)
+
+pub offset_bounds-mask-y-2 : goal.offset_bounds-mask-y-2
+offset_bounds-mask-y-2 c = omega (arith, (low (goal.at.offset_bounds-mask-y-2 c).Start).0)
+
+pub bounds-mask-y-2 : goal.bounds-mask-y-2
+bounds-mask-y-2 c = omega (arith, (low (goal.at.bounds-mask-y-2 c).Start).0)
+
+pub returns : goal.returns
+returns c =
+    (
+      length-set c.args.mask.now (c.args.c / c.args.w) _ ∙ c.requires.2,
+      λ xs m. masked-more c.args.w c.args.c (low (goal.at.returns c).Start).0 (omega (arith, (low (goal.at.returns c).Start).1)) m,
+    )

@@ -1,0 +1,17 @@
+-- The loop's invariant: no origin of the rows before y fits.
+use mathlib.Core.Path.{◌≡◌, sym, ◌∙◌}
+use mathlib.Core.Bool.{Bool, false}
+use Prim.Native.Nat.{ℕ, ◌-◌, ◌≤◌}
+use native.Mathlib.Omega.{arith}
+use lib.ListN.{get_or}
+use Rattle.lists.specs.Tests.{any_below}
+use Rattle.lists.specs.TestLaws.{any_none, any_some, none_more, none_rest}
+use Rattle.planes.specs.Masks.{line_fits, mask_fits}
+use Rattle.planes.specs.WordLaws.{fits-empty}
+use Rattle.planes.proofs.mask_fits.Given as goal
+
+abbrev pub invariant-loop-y : goal.invariant-loop-y
+invariant-loop-y l = (l.y ≤ l.h) × (any_below l.y (λ i. line_fits l.planes i l.turned l.n (get_or l.mask i 0)) ≡ false)
+
+abbrev pub decreases-loop-y : goal.decreases-loop-y
+decreases-loop-y l = l.h - l.y

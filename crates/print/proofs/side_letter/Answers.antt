@@ -1,0 +1,9 @@
+-- `side_letter` meets its contract, by the remainder.
+use borrow.Author.Tests.{eq-eqb, ne_eqb}
+use Rattle.print.proofs.side_letter.Goals as goal
+
+pub returns-then-code-eq1 : goal.returns-then-code-eq1
+returns-then-code-eq1 c = rw (eq-eqb _ _ c.if-code-eq1.true)
+
+pub returns : goal.returns
+returns c = rw (ne_eqb _ _ c.if-code-eq1.false)

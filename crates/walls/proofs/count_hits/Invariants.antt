@@ -1,0 +1,23 @@
+-- `count_hits` meets its contract: as long as none is counted, the borders passed are no such walls.
+use mathlib.Core.Path.{◌≡◌, sym, ◌∙◌}
+use mathlib.Core.Bool.{false, ◌&&◌}
+use Prim.Native.Nat.{◌≤◌, ◌<◌, ◌+◌, ◌-◌}
+use native.Mathlib.Omega.{arith}
+use lib.Dec.{eqb}
+use lib.ListN.{get_or}
+use Rattle.lists.specs.CountLaws.{no-bit, bit-under}
+use Rattle.lists.specs.Arithmetic.{below_more}
+use Rattle.rules.specs.Codes.{states_in}
+use Rattle.rules.specs.Groups.{entry}
+use Rattle.laws.specs.CodeLaws.{state-wall}
+use Rattle.groups.specs.Grouping.{numbers_in}
+use Rattle.groups.specs.GroupingLaws.{grouping-number}
+use Rattle.walls.specs.Breaches.{is_breach}
+use Rattle.walls.specs.Clean.{Apart}
+use Rattle.walls.proofs.count_hits.Given as goal
+
+abbrev pub invariant-loop-i : goal.invariant-loop-i
+invariant-loop-i l = (l.i ≤ l.n) × (l.hits ≤ l.i) × (l.hits ≡ 0 → Apart (states_in l.borders) (entry (numbers_in l.blocks)) l.at l.c l.d l.i)
+
+abbrev pub decreases-loop-i : goal.decreases-loop-i
+decreases-loop-i l = l.n - l.i
