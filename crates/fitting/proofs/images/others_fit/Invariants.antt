@@ -1,0 +1,24 @@
+-- The loop's invariant: where row 0 does not fit, no row before `row` does.
+use mathlib.Core.Path.{◌≡◌, sym, ◌∙◌}
+use mathlib.Core.Bool.{Bool, false}
+use mathlib.Core.List.{List}
+use Prim.Native.Nat.{ℕ, ◌≤◌, ◌-◌}
+use native.Mathlib.Omega.{arith}
+use lib.ListN.{length}
+use Rattle.lists.specs.Tests.{any_below}
+use Rattle.lists.specs.TestLaws.{any_none, any_some, none_more}
+use Rattle.rules.specs.Page.{Point}
+use Rattle.shapes.specs.Spots.{cell_spots, joint_spots}
+use Rattle.shapes.specs.Images.{image_joints}
+use Rattle.planes.specs.Masks.{MaskAnswers}
+use Rattle.fitting.proofs.images.others_fit.Given as goal
+
+abbrev pub invariant-loop-row : goal.invariant-loop-row
+invariant-loop-row l =
+    (l.row ≤ 8) × (length l.turned ≡ 4096)
+    × ((F : List Point → Bool) → MaskAnswers l.h l.planes l.mask F
+    → F (image_joints 0 (cell_spots l.outline) (joint_spots l.outline)) ≡ false
+    → any_below l.row (λ i. F (image_joints i (cell_spots l.outline) (joint_spots l.outline))) ≡ false)
+
+abbrev pub decreases-loop-row : goal.decreases-loop-row
+decreases-loop-row l = 8 - l.row

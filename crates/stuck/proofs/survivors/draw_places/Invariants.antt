@@ -1,0 +1,20 @@
+-- The loop's invariant: the places of the cells before c are written, and c is (y, x).
+use mathlib.Core.Path.{◌≡◌, ap, ◌∙◌}
+use mathlib.Core.Logic.{⊎_elim}
+use Prim.Native.Nat.{ℕ, ◌+◌, ◌-◌, ◌*◌, ◌/◌, ◌%◌, ◌≤◌, ◌<◌}
+use native.Mathlib.Nat.{div-lt_iff_lt-mul}
+use native.Mathlib.Omega.{arith}
+use lib.Arith.{digits_div, digits_mod}
+use lib.ListN.{length, get_or, length-set}
+use Rattle.lists.specs.TableLaws.{stored_more}
+use Rattle.laws.specs.FlatLaws.{counts}
+use Rattle.stuck.specs.PlacedLaws.{next_row, next-column}
+use Rattle.stuck.proofs.survivors.draw_places.Given as goal
+
+abbrev pub invariant-loop-c : goal.invariant-loop-c
+invariant-loop-c l =
+    (l.c ≤ l.h * l.w) × (length l.places ≡ 1024) × (l.c ≡ l.y * l.w + l.x) × (l.x < l.w)
+    × ((i : ℕ) → i < l.c → get_or l.places i 0 ≡ i / l.w * 32 + i % l.w)
+
+abbrev pub decreases-loop-c : goal.decreases-loop-c
+decreases-loop-c l = l.h * l.w - l.c

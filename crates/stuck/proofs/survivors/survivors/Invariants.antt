@@ -1,0 +1,16 @@
+-- The loop's invariant: the rows before y are written.
+use mathlib.Core.Path.{◌≡◌, ◌∙◌}
+use Prim.Native.Nat.{ℕ, ◌-◌, ◌≤◌, ◌<◌}
+use native.Mathlib.Omega.{arith}
+use lib.ListN.{length, get_or, length-set}
+use Rattle.lists.specs.TableLaws.{stored_more}
+use Rattle.planes.specs.Masks.{clear_word}
+use Rattle.stuck.proofs.survivors.survivors.Given as goal
+
+abbrev pub invariant-loop-y : goal.invariant-loop-y
+invariant-loop-y l =
+    (l.y ≤ l.h) × (length l.rows ≡ 32)
+    × ((i : ℕ) → i < l.y → get_or l.rows i 0 ≡ clear_word l.planes i l.turned (get_or l.mask i 0) l.n)
+
+abbrev pub decreases-loop-y : goal.decreases-loop-y
+decreases-loop-y l = l.h - l.y

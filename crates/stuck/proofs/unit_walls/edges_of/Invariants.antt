@@ -1,0 +1,25 @@
+-- The loop's invariant: Edge of each of the groups before i is written.
+use mathlib.Core.Path.{◌≡◌}
+use mathlib.Core.List.{List}
+use Prim.Native.Nat.{ℕ, ◌≤◌, ◌<◌, ◌-◌}
+use native.Mathlib.Omega.{arith}
+use borrow.Author.Rules.{rules}
+use Rattle.lists.specs.Lists.{flat_map}
+use Rattle.lists.specs.Parts.{part}
+use Rattle.rules.specs.declared.Literal.{Literal}
+use Rattle.groups.specs.Grouping.{numbers_in}
+use Rattle.reasons.specs.Arrays.{no_flags, edge_in}
+use Rattle.reasons.specs.Memory.{Wrote}
+use Rattle.reasons.specs.MemoryLaws.{write-none, write-more}
+use Rattle.adjacent.specs.Mates.{mate_count}
+use Rattle.stuck.specs.Writing.{edges_in}
+use Rattle.stuck.proofs.unit_walls.edges_of.Given as goal
+
+abbrev pub invariant-loop-i : goal.invariant-loop-i
+invariant-loop-i l =
+    (l.i ≤ mate_count l.mates)
+    × Wrote l.initial.memory l.start (flat_map (edge_in l.h l.w l.colours l.borders (numbers_in l.potential)) (part l.mates 0 l.i)) l.memory l.at
+    × (l.flagged ≡ no_flags)
+
+abbrev pub decreases-loop-i : goal.decreases-loop-i
+decreases-loop-i l = l.count - l.i
