@@ -1,0 +1,64 @@
+-- `stuck_hit` meets its contract: the unit found is the first one that is stuck, and its reason is written.
+-- the unit found, among the units of the page
+use mathlib.Core.Path.{◌≡◌}
+use mathlib.Core.Option.{none}
+use native.Mathlib.Omega.{arith}
+use borrow.Author.Rules.{rules}
+use Rattle.rules.specs.Codes.{states_in, clues_in, unclued}
+use Rattle.groups.specs.declared.Kind.TheVariants.{Units}
+use Rattle.groups.specs.Pages.{groups_in}
+use Rattle.reasons.specs.MemoryLaws.{spare-zeros, front_length, front_fits}
+use Rattle.fitting.specs.FirstStuck.{fits_unit, first_fail}
+use Rattle.steps.specs.HitLaws.{answers-none, answers-some, units-held}
+use Rattle.steps.specs.LateLaws.{units-clear, units-stuck}
+use Rattle.steps.proofs.stuck_hit.Goals.{After-first_stuck-u}
+use Rattle.steps.proofs.stuck_hit.Goals as goal
+
+found : (c : After-first_stuck-u) → let a = c.args in
+    c.first_stuck-u.result
+    ≡ first_fail (fits_unit (unclued a.h a.w a.colours.now) (states_in a.borders.now))
+    (groups_in Units a.h a.w a.colours.now a.borders.now).count
+found c = rw c.requires.0.units.count at c.first_stuck-u.ensures
+
+pub first_stuck-u-requires : goal.first_stuck-u-requires
+first_stuck-u-requires c = c.requires.0
+
+pub returns-then-count_of-u : goal.returns-then-count_of-u
+returns-then-count_of-u c =
+    let p = c.requires in
+    λ ks.
+    answers-none _
+    (units-clear p.0.drawn.sized _ _ _ (found (goal.at.returns-then-count_of-u c).After-first_stuck-u) ks
+    (rw (c.count_of.ensures, p.0.units.count) at c.if-count_of-u.true))
+
+pub write_stuck-n-requires : goal.write_stuck-n-requires
+write_stuck-n-requires c =
+    let p = c.requires in (
+      record {
+        ready = p.0;
+        colours = p.1.colours;
+        borders = p.1.borders;
+        low = rw c.count_of.ensures at c.if-count_of-u.false;
+      },
+      spare-zeros,
+    )
+
+pub slice_bounds-work-end : goal.slice_bounds-work-end
+slice_bounds-work-end c = let w = (c.write_stuck-n.ensures (λ x. none)).spare in omega (arith, w.long, w.room)
+
+pub slice_bounds-hand_out-end : goal.slice_bounds-hand_out-end
+slice_bounds-hand_out-end c = front_length (c.write_stuck-n.ensures (λ x. none))
+
+pub hand_out-requires : goal.hand_out-requires
+hand_out-requires c =
+    let p = c.requires in
+    front_fits (c.write_stuck-n.ensures (λ x. none)) _ p.1.memory
+
+pub returns : goal.returns
+returns c =
+    let p = c.requires in
+    let z = p.0.drawn.sized in
+    λ ks.
+    answers-some _ p.1.borders (units-held z _ ks _)
+    (units-stuck z _ _ _ (found (goal.at.returns c).After-first_stuck-u) ks (rw (c.count_of.ensures, p.0.units.count) at c.if-count_of-u.false))
+    (c.write_stuck-n.ensures (clues_in ks)) c.hand_out.ensures
