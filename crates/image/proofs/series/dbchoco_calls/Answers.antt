@@ -1,0 +1,56 @@
+-- `dbchoco_calls` meets its contract: i calls are done, and the image is not alien.
+use mathlib.Core.Path.{◌≡◌, ◌∙◌, sym}
+use mathlib.Core.Bool.{false}
+use mathlib.Core.List.{List}
+use Prim.Native.Nat.{ℕ, ◌-◌}
+use native.Mathlib.Omega.{arith}
+use borrow.Author.Rules.{rules}
+use lib.ListN.{length}
+use Rattle.image.specs.Image.{Bytes, image_alien}
+use Rattle.image.specs.SeriesLaws.{long, Running, alien-none, running-first, running-long}
+use Rattle.image.specs.SeriesLaws.{running-next, running-stop, running-end}
+use Rattle.image.proofs.series.dbchoco_calls.Goals.{Else-alien}
+use Rattle.image.proofs.series.dbchoco_calls.Goals as goal
+
+-- the image that is given, once it is not alien
+abbrev image : Else-alien → List ℕ
+image c = c.args.image.now
+
+known : (c : Else-alien) → image_alien (image c) ≡ false
+known c = sym c.alien.ensures ∙ c.if-alien.false
+
+bytes : (c : Else-alien) → Bytes (image c)
+bytes c = λ i. omega (arith, c.slice_known-1.given i)
+
+pub returns-then-alien : goal.returns-then-alien
+returns-then-alien c =
+    let codes = c.args.codes.now in
+    alien-none _ codes (sym c.alien.ensures ∙ c.if-alien.true)
+
+pub loop-i-init : goal.loop-i-init
+loop-i-init c = running-first _ _ (bytes c) (known c)
+
+pub step-requires : goal.step-requires
+step-requires c =
+    let R = c.loop-i.invariant in
+    (long _ R.bytes R.known, R.known)
+
+pub loop-i-preserved : goal.loop-i-preserved
+loop-i-preserved c =
+    running-next c.loop-i.invariant c.loop-i-test.true
+    (λ i. omega (arith, c.slice_known-in-loop-i-1.given i))
+    (rw c.if-step-eq0.true at c.step.ensures)
+
+pub shape_of-image-else-step-eq0 : goal.shape_of-image-else-step-eq0
+shape_of-image-else-step-eq0 c = c.step.auto.0 ∙ running-long (bytes (goal.at.shape_of-image-else-step-eq0 c).Else-alien) (known (goal.at.shape_of-image-else-step-eq0 c).Else-alien) c.loop-i.invariant
+
+pub returns-else-step-eq0 : goal.returns-else-step-eq0
+returns-else-step-eq0 c =
+    running-stop c.loop-i.invariant c.loop-i-test.true
+    c.step.ensures c.if-step-eq0.false
+
+pub shape_of-image : goal.shape_of-image
+shape_of-image c = running-long (bytes (goal.at.shape_of-image c).Else-alien) (known (goal.at.shape_of-image c).Else-alien) c.loop-i.invariant
+
+pub returns : goal.returns
+returns c = running-end c.loop-i.invariant (omega (arith, c.loop-i-test.false))
