@@ -58,6 +58,7 @@ codes-bytes (c ∷ cs) rest h =
 module _ (r : Reason) (h : (l : Literal) → l ∈ r → literal_code l < 65536) where
   code-small : (ls : Reason) → ((l : Literal) → l ∈ ls → literal_code l < 65536) → (c : ℕ) → c ∈ map literal_code ls
       → c < 65536
+  code-small [] k c m = elim m [ ]
   code-small (l ∷ ls) k c (Memᴰ.head q) = rw q (k l (Memᴰ.head refl))
   code-small (l ∷ ls) k c (Memᴰ.tail m) = code-small ls (λ x n. k x (Memᴰ.tail n)) c m
 

@@ -10,70 +10,72 @@ use lib.ListN.{length}
 use Rattle.calls.specs.Known.{found_in}
 use Rattle.image.specs.Image.{is_short}
 use Rattle.image.specs.CheckLaws.{Checks, checks}
-use Rattle.image.proofs.answered.Goals.{After-slice_known-3-1, Start}
+use Rattle.image.proofs.answered.Goals.{After-slice_known-3-1}
 use Rattle.image.proofs.answered.Goals as goal
 
-abbrev Checked : Type 0
-Checked = After-slice_known-3-1
-
-abbrev start : Checked → Start
-start k = k.before.before.before.before.before.before
-
-abbrev memory : Checked → List ℕ
-memory k = (start k).args.memory.now
-
-facts : (k : Checked) → let a = (start k).args in
+facts : (k : After-slice_known-3-1) → let a = k.args in
     let r = k.answer_known-answer in
-    Checks (memory k) r.new.1.1.1.1.1.1.0
+    Checks a.memory.now r.new.memory
     (found_in a.h a.w a.colours.now a.clues.now a.borders.now) r.result
 facts k =
-    let p = (start k).requires in
+    let p = k.requires in
     let r = k.answer_known-answer.ensures in
-    checks p.0 (memory k) _ p.1 _ _ r.0 r.1
+    checks p.0 k.args.memory.now _ p.1 _ _ r.0 r.1
 
 pub answer_known-answer-requires : goal.answer_known-answer-requires
 answer_known-answer-requires c = let p = c.requires in (p.0, omega (arith, p.1))
 
 pub overflow_cast-result : goal.overflow_cast-result
-overflow_cast-result c = let r = (facts c.before.before.before).range _ c.in-Pass.is in search rules
+overflow_cast-result c =
+    let f = facts (goal.at.overflow_cast-result c).After-slice_known-3-1 in
+    let r = f.range _ c.in-Pass.is in search rules
 
 pub overflow_add-result : goal.overflow_add-result
-overflow_add-result c = let r = (facts c.before.before.before).range _ c.in-Pass.is in omega arith
+overflow_add-result c =
+    let f = facts (goal.at.overflow_add-result c).After-slice_known-3-1 in
+    let r = f.range _ c.in-Pass.is in omega arith
 
 pub put_codes-requires : goal.put_codes-requires
 unfolding is_short
 put_codes-requires c =
+    let f = facts (goal.at.put_codes-requires c).After-slice_known-3-1 in
     let e = c.in-Conflict.is in
-    let r = (facts c).range _ e in
-    let h = ltb-false (length (memory c)) 3968 (start c).requires.2 in
-    ((facts c).ranges _ e, omega arith)
+    let r = f.range _ e in
+    let h = ltb-false (length c.args.memory.now) 3968 c.requires.2 in
+    (f.fits _ e, omega arith)
 
 pub overflow_cast-result-in-Conflict : goal.overflow_cast-result-in-Conflict
 overflow_cast-result-in-Conflict c =
-    let r = (facts c).range _ c.in-Conflict.is in
+    let f = facts (goal.at.overflow_cast-result-in-Conflict c).After-slice_known-3-1 in
+    let r = f.range _ c.in-Conflict.is in
     search rules
 
 pub overflow_add-result-in-Conflict : goal.overflow_add-result-in-Conflict
 overflow_add-result-in-Conflict c =
-    let r = (facts c).range _ c.in-Conflict.is in
+    let f = facts (goal.at.overflow_add-result-in-Conflict c).After-slice_known-3-1 in
+    let r = f.range _ c.in-Conflict.is in
     omega arith
 
 pub returns-in-Done : goal.returns-in-Done
 returns-in-Done c =
+    let f = facts (goal.at.returns-in-Done c).After-slice_known-3-1 in
     let e = c.in-Done.is in
-    ((facts c).number _ e, (facts c).quiet _ e tt)
+    record { number = f.number _ e; bytes = f.quiet _ e tt }
 
 pub returns-in-Pass : goal.returns-in-Pass
 returns-in-Pass c =
+    let f = facts (goal.at.returns-in-Pass c).After-slice_known-3-1 in
     let e = c.in-Pass.is in
-    ((facts c).number _ e, (facts c).quiet _ e tt)
+    record { number = f.number _ e; bytes = f.quiet _ e tt }
 
 pub returns-in-Conflict : goal.returns-in-Conflict
 returns-in-Conflict c =
+    let f = facts (goal.at.returns-in-Conflict c).After-slice_known-3-1 in
     let e = c.in-Conflict.is in
-    ((facts c).number _ e, c.put_codes.ensures ∙ (facts c).reason _ e)
+    record { number = f.number _ e; bytes = c.put_codes.ensures ∙ f.reason _ e }
 
 pub returns-in-Refused : goal.returns-in-Refused
 returns-in-Refused c =
+    let f = facts (goal.at.returns-in-Refused c).After-slice_known-3-1 in
     let e = c.in-Refused.is in
-    (c.number.ensures ∙ (facts c).number _ e, (facts c).quiet _ e tt)
+    record { number = c.number.ensures ∙ f.number _ e; bytes = f.quiet _ e tt }

@@ -40,7 +40,7 @@ board-known e =
     record { stack = b.stack; count = b.count; tally = b.tally; native = known e; stored = refl }
 
 room : (e : Left) → is_short (memory e) ≡ false
-room e = sym e.short.ensures ∙ e.if3.false
+room e = sym e.short.ensures ∙ e.if-short.false
 
 -- what Check gives of the board is the answer of the check
 told : (e : Left) → let b = board e in
@@ -48,28 +48,37 @@ told : (e : Left) → let b = board e in
     (answer_number (as_answer f) ≡ check_number (image e) (memory e))
     × (bytes_after (memory e) f ≡ check_bytes (image e) (memory e))
 told e =
-    let i = e.before.before.before.before.before.before.before.before.before.before.before in
-    found-checked _ _ i.if-image-ne-LENGTH.false _ i.board.ensures (known e) (room e)
+    found-checked _ _ e.if-image-ne-LENGTH.false _ e.board-b.ensures (known e) (room e)
 
 pub returns-then-image-ne-LENGTH : goal.returns-then-image-ne-LENGTH
-returns-then-image-ne-LENGTH c = (other-number _ _ c.if-image-ne-LENGTH.true, other-bytes _ _ c.if-image-ne-LENGTH.true)
+returns-then-image-ne-LENGTH c =
+    record {
+      number = other-number _ _ c.if-image-ne-LENGTH.true;
+      bytes = other-bytes _ _ c.if-image-ne-LENGTH.true;
+    }
 
 pub returns-then-is_alien : goal.returns-then-is_alien
 returns-then-is_alien c =
-    alien-checked _ _ c.if-image-ne-LENGTH.false _ c.board-b.ensures
-    (sym c.is_alien.ensures ∙ c.if-is_alien.true)
+    let told =
+        alien-checked _ c.args.memory.now c.if-image-ne-LENGTH.false _ c.board-b.ensures
+        (sym c.is_alien.ensures ∙ c.if-is_alien.true) in
+    record { number = told.0; bytes = told.1 }
 
 pub returns-then-short : goal.returns-then-short
 returns-then-short c =
     let t = sym c.is_alien.ensures ∙ c.if-is_alien.false in
-    short-checked _ _ c.if-image-ne-LENGTH.false _ c.board-b.ensures t
-    (sym c.short.ensures ∙ c.if-short.true)
+    let told =
+        short-checked _ c.args.memory.now c.if-image-ne-LENGTH.false _ c.board-b.ensures t
+        (sym c.short.ensures ∙ c.if-short.true) in
+    record { number = told.0; bytes = told.1 }
 
 pub answered-requires : goal.answered-requires
-answered-requires c = (board-known c, omega (arith, length-replicate {A = ℕ} 1984 0), room c)
+answered-requires c =
+    let left = (goal.at.answered-requires c).Else-short in
+    (board-known left, omega (arith, length-replicate {A = ℕ} 1984 0), room left)
 
 pub returns : goal.returns
 returns c =
-    let f = told c.before.before.before.before.before.before.before.before.before.before in
+    let f = told (goal.at.returns c).Else-short in
     let r = c.answered.ensures in
-    (r.0 ∙ f.0, r.1 ∙ f.1)
+    record { number = r.number ∙ f.0; bytes = r.bytes ∙ f.1 }

@@ -23,10 +23,15 @@ known c = sym c.alien.ensures ∙ c.if-alien.false
 pub returns-then-alien : goal.returns-then-alien
 returns-then-alien c =
     let e = sym c.alien.ensures ∙ c.if-alien.true in
-    (sym (alien-number (image (goal.at.returns-then-alien c).After-alien) e _), alien-stays (image (goal.at.returns-then-alien c).After-alien) (bytes (goal.at.returns-then-alien c).After-alien) e _)
+    let tested = (goal.at.returns-then-alien c).After-alien in
+    record {
+      number = sym (alien-number (image tested) e _);
+      bytes = alien-stays (image tested) (bytes tested) e _;
+    }
 
 pub undone-requires : goal.undone-requires
 undone-requires c = (long (image (goal.at.undone-requires c).After-alien) (bytes (goal.at.undone-requires c).After-alien) (known (goal.at.undone-requires c).Else-alien), known (goal.at.undone-requires c).Else-alien)
 
 pub returns : goal.returns
-returns c = let e = c.undone.ensures in (e.number, e.after)
+returns c =
+    let e = c.undone.ensures in record { number = e.number; bytes = e.after }

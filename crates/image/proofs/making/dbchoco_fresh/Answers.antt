@@ -28,14 +28,24 @@ puzzle c e = let a = c.args in made_of _ _ _ _ a.image.now (sym (here c) ∙ e)
 pub returns-then-number-ne0 : goal.returns-then-number-ne0
 returns-then-number-ne0 c =
     let a = c.args in
-    let e = number-refused _ _ _ _ a.image.now (λ z. c.if-number-ne0.true (here (goal.at.returns-then-number-ne0 c).After-number-number ∙ z)) in
-    (here (goal.at.returns-then-number-ne0 c).After-number-number ∙ sym e, sym (bytes-refused _ _ _ _ _ (λ z. c.if-number-ne0.true (here (goal.at.returns-then-number-ne0 c).After-number-number ∙ sym e ∙ z))))
+    let said = here (goal.at.returns-then-number-ne0 c).After-number-number in
+    let e = number-refused _ _ _ _ a.image.now (λ z. c.if-number-ne0.true (said ∙ z)) in
+    record {
+      number = said ∙ sym e;
+      bytes = sym (bytes-refused _ _ _ _ _ (λ z. c.if-number-ne0.true (said ∙ sym e ∙ z)));
+    }
 
 pub returns-then-image-ne-LENGTH : goal.returns-then-image-ne-LENGTH
 returns-then-image-ne-LENGTH c =
     let a = c.args in
-    let e = making-other _ _ _ _ a.image.now (sym (here (goal.at.returns-then-image-ne-LENGTH c).After-number-number) ∙ c.if-number-ne0.false) c.if-image-ne-LENGTH.true in
-    (sym e, sym (bytes-refused _ _ _ _ _ (λ z. let y : 5 ≡ 0 = sym e ∙ z in omega arith)))
+    let said = here (goal.at.returns-then-image-ne-LENGTH c).After-number-number in
+    let e =
+        making-other _ _ _ _ a.image.now (sym said ∙ c.if-number-ne0.false)
+        c.if-image-ne-LENGTH.true in
+    record {
+      number = sym e;
+      bytes = sym (bytes-refused _ _ _ _ _ (λ z. let y : 5 ≡ 0 = sym e ∙ z in omega arith));
+    }
 
 pub overflow_cast-height-2 : goal.overflow_cast-height-2
 overflow_cast-height-2 c = let m = (puzzle (goal.at.overflow_cast-height-2 c).After-number-number c.if-number-ne0.false).size in record { fits = omega arith }
@@ -53,7 +63,13 @@ put_fresh-requires c =
 
 pub returns : goal.returns
 returns c =
+    let said = here (goal.at.returns c).After-number-number in
     let m = puzzle (goal.at.returns c).After-number-number c.if-number-ne0.false in
     let a = c.args in
-    let e = number-done _ _ _ _ a.image.now (sym (here (goal.at.returns c).After-number-number) ∙ c.if-number-ne0.false) c.if-image-ne-LENGTH.false in
-    (sym e, c.put_fresh.ensures ∙ sym (bytes-done _ _ _ _ _ e ∙ ap image_of m.is))
+    let e =
+        number-done _ _ _ _ a.image.now (sym said ∙ c.if-number-ne0.false)
+        c.if-image-ne-LENGTH.false in
+    record {
+      number = sym e;
+      bytes = c.put_fresh.ensures ∙ sym (bytes-done _ _ _ _ _ e ∙ ap image_of m.is);
+    }

@@ -11,7 +11,7 @@ use Rattle.image.proofs.making.put_fresh.Goals as goal
 
 -- once all is 0, and the tally is stored
 counted : (c : After-put_two) → length c.put_two.new.s ≡ length c.args.s.now
-counted c = c.put_two.auto.0 ∙ c.clear.auto.0
+counted c = c.put_two.auto.s ∙ c.clear.auto.s
 
 long : (c : After-put_two) → length c.put_two.new.s ≡ 11082
 long c = counted c ∙ c.requires.0
@@ -23,7 +23,7 @@ cleared : (c : After-put_colours-arg-1)
 cleared c = simp length-set (counted (goal.at.After-put_colours-arg-1 c).After-put_two)
 
 pub put_two-requires : goal.put_two-requires
-put_two-requires c = omega (arith, c.clear.auto.0, c.requires.0)
+put_two-requires c = omega (arith, c.clear.auto.s, c.requires.0)
 
 pub bounds-s-0 : goal.bounds-s-0
 bounds-s-0 c = omega (arith, long (goal.at.bounds-s-0 c).After-put_two)
@@ -39,12 +39,12 @@ put_colours-requires c =
 pub put_clues-requires : goal.put_clues-requires
 put_clues-requires c =
     let p = c.requires in
-    omega (arith, c.put_colours.auto.0, cleared (goal.at.put_clues-requires c).After-put_colours-arg-1)
+    omega (arith, c.put_colours.auto.s, cleared (goal.at.put_clues-requires c).After-put_colours-arg-1)
 
 pub shape_of-s : goal.shape_of-s
 shape_of-s c =
-    c.put_clues.auto.0
-    ∙ c.put_colours.auto.0
+    c.put_clues.auto.s
+    ∙ c.put_colours.auto.s
     ∙ cleared (goal.at.shape_of-s c).After-put_colours-arg-1
 
 pub returns : goal.returns

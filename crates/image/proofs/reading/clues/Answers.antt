@@ -22,7 +22,7 @@ pub loop-i-preserved : goal.loop-i-preserved
 loop-i-preserved c =
     let r = c.loop-i in
     let s = c.args.s.now in
-    let e = to_z-of_z {w = w32} {z = c.clue.result} (sfits_of c.clue.type-inv) in (
+    let e = to_z-of_z {w = w32} {z = c.clue.result} (sfits_of c.clue.type_inv) in (
       omega arith,
       simp length-set r.invariant.1,
       stored_more (λ j. from_bits (quad s (1026 + 4 * j))) (pos 0) _ r.out r.i (omega (arith, r.invariant.1))

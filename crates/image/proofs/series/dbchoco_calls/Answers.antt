@@ -25,7 +25,8 @@ bytes c = λ i. omega (arith, c.slice_known-1.given i)
 pub returns-then-alien : goal.returns-then-alien
 returns-then-alien c =
     let codes = c.args.codes.now in
-    alien-none _ codes (sym c.alien.ensures ∙ c.if-alien.true)
+    let told = alien-none _ codes (sym c.alien.ensures ∙ c.if-alien.true) in
+    record { number = told.0; bytes = told.1 }
 
 pub loop-i-init : goal.loop-i-init
 loop-i-init c = running-first _ _ (bytes c) (known c)
@@ -42,15 +43,20 @@ loop-i-preserved c =
     (rw c.if-step-eq0.true at c.step.ensures)
 
 pub shape_of-image-else-step-eq0 : goal.shape_of-image-else-step-eq0
-shape_of-image-else-step-eq0 c = c.step.auto.0 ∙ running-long (bytes (goal.at.shape_of-image-else-step-eq0 c).Else-alien) (known (goal.at.shape_of-image-else-step-eq0 c).Else-alien) c.loop-i.invariant
+shape_of-image-else-step-eq0 c = c.step.auto.image ∙ running-long (bytes (goal.at.shape_of-image-else-step-eq0 c).Else-alien) (known (goal.at.shape_of-image-else-step-eq0 c).Else-alien) c.loop-i.invariant
 
 pub returns-else-step-eq0 : goal.returns-else-step-eq0
 returns-else-step-eq0 c =
-    running-stop c.loop-i.invariant c.loop-i-test.true
-    c.step.ensures c.if-step-eq0.false
+    let told =
+        running-stop c.loop-i.invariant c.loop-i-test.true
+        c.step.ensures c.if-step-eq0.false in
+    record { number = told.0; bytes = told.1 }
 
 pub shape_of-image : goal.shape_of-image
 shape_of-image c = running-long (bytes (goal.at.shape_of-image c).Else-alien) (known (goal.at.shape_of-image c).Else-alien) c.loop-i.invariant
 
 pub returns : goal.returns
-returns c = running-end c.loop-i.invariant (omega (arith, c.loop-i-test.false))
+returns c =
+    let told =
+        running-end c.loop-i.invariant (omega (arith, c.loop-i-test.false)) in
+    record { number = told.0; bytes = told.1 }

@@ -56,6 +56,10 @@ two-requires-2 c =
     (zero c) in
     omega (arith, long (goal.at.two-requires-2 c).After-index-count, overflow_sub-at c)
 
+pub bounds-image-n : goal.bounds-image-n
+bounds-image-n c =
+    omega (arith, low (goal.at.bounds-image-n c).After-index-n, long (goal.at.bounds-image-n c).After-index-count)
+
 pub less-counted-requires : goal.less-counted-requires
 less-counted-requires c =
     undo-tally (image (goal.at.less-counted-requires c).After-index-count) (bytes (goal.at.less-counted-requires c).After-index-count) (known (goal.at.less-counted-requires c).After-index-count) c.index-count.result (count (goal.at.less-counted-requires c).After-index-count) _ c.undo_refusal-outcome.ensures (zero (goal.at.less-counted-requires c).Else-number-ne0) _
