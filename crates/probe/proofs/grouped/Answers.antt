@@ -1,0 +1,8 @@
+-- The equations of the parts put together.
+use Rattle.probe.specs.Probe.{kind_groups}
+use borrow.Author.Rules.{rules}
+use Rattle.probe.proofs.grouped.Goals as goal
+
+pub returns : goal.returns
+unfolding kind_groups
+returns c = rw (c.colours_in-c.ensures, c.borders_in-b.ensures, c.kind_of.ensures) at c.groups_of.ensures

@@ -1,0 +1,23 @@
+-- An unfit call is refused; any other is answered.
+use mathlib.Core.Path.{sym, ◌∙◌}
+use native.Mathlib.Omega.{arith}
+use Rattle.groups.specs.GroupingLaws.{filled-array}
+use Rattle.probe.specs.ProbeLaws.{probe-fit, unfit, done}
+use borrow.Author.Rules.{rules}
+use Rattle.probe.proofs.probe_groups.Goals as goal
+
+pub grouped-grouping-requires : goal.grouped-grouping-requires
+grouped-grouping-requires c = (probe-fit (sym c.fits.ensures ∙ c.if-fits.true)).size
+
+pub hand_out-requires : goal.hand_out-requires
+hand_out-requires c =
+    let f = probe-fit (sym c.fits.ensures ∙ c.if-fits.true) in
+    omega (arith, c.grouped-grouping.ensures.long, f.large)
+
+pub returns-then-fits : goal.returns-then-fits
+returns-then-fits c =
+    done (sym c.fits.ensures ∙ c.if-fits.true)
+    (rw (filled-array _ c.grouped-grouping.ensures) at c.hand_out.ensures)
+
+pub returns : goal.returns
+returns c = unfit (sym c.fits.ensures ∙ c.if-fits.false)
