@@ -6,7 +6,7 @@ use mathlib.Core.List.Memᴰ
 use Rattle.std.proofs.Math.Option.{none}
 use Prim.Native.Nat.{ℕ, ◌+◌, ◌*◌, ◌<◌, ◌≤◌, ◌-◌}
 use Rattle.std.proofs.Math.ListN.{get_or}
-use Rattle.lists.specs.Lists.{◌∈◌, all}
+use Rattle.lists.specs.Lists.{◌∈◌}
 use Rattle.lists.specs.Parts.{part}
 use Rattle.lists.specs.PartLaws.{part-next}
 use Rattle.rules.specs.Page.{State, Puzzle}

@@ -5,7 +5,6 @@
 --   Home .. ps p        p is one of the potential units, whose grouping is ps
 --   Sorted .. us ps     the groupings are those of the units and of the potential units
 use Rattle.std.specs.Prelude.{◌≡◌, List, ℕ, ◌+◌, ◌<◌, ◌≤◌, length, get_or}
-use Rattle.std.proofs.Math.Option.{some}
 use Rattle.lists.specs.Parts.{part}
 use Rattle.rules.specs.Flat.{flat}
 use Rattle.rules.specs.Groups.{entry, members, potential_count}

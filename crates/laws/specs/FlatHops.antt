@@ -1,7 +1,7 @@
 -- On a flat page a cell's neighbours lie over different borders, and it is the first cell of those below and right.
 --
 --   flat-hops           so it is, on pages of every height, and every width from 1 up
-use Rattle.std.specs.Prelude.{◌≡◌, refl, Bool, true, false, ◌⊎◌, List, ◌++◌, map, ℕ, ◌+◌, ◌-◌, ◌*◌, ◌/◌, ◌%◌, ◌<◌, ltb}
+use Rattle.std.specs.Prelude.{◌≡◌, refl, Bool, true, false, ◌⊎◌, List, ◌++◌, ℕ, ◌+◌, ◌-◌, ◌*◌, ◌/◌, ◌%◌, ◌<◌, ltb}
 use Rattle.std.proofs.Common.{inl, inr, arith, ltb-true}
 use mathlib.Core.List.Memᴰ
 use Rattle.std.proofs.lemmas.List.{map-append}

@@ -11,7 +11,7 @@
 --   blocks_listed l      those of its images by the listed rows
 --   Imaged .. o l        the outline and the listed rows of unit U
 --   StuckAt .. us ps     what a caller gives for unit U: the groupings of the page
-use Rattle.std.specs.Prelude.{◌≡◌, false, List, ◌++◌, ℕ, ◌+◌, ◌*◌, ◌<◌, ◌≤◌, eqb, length, get_or}
+use Rattle.std.specs.Prelude.{◌≡◌, false, List, ◌++◌, ℕ, ◌*◌, ◌<◌, ◌≤◌, eqb, length, get_or}
 use Rattle.lists.specs.Lists.{any, flat_map}
 use Rattle.lists.specs.Table.{table}
 use Rattle.lists.specs.UpTo.{up_to}

@@ -41,7 +41,7 @@ use Rattle.print.specs.Answers.{letter, show_literal, show_reply, code_text, tex
 use Rattle.print.specs.Lines.{LineHolds, Written, written-length, written-front, written-rest, holds_text, holds-short}
 use Rattle.print.specs.Chunks.{codes_from, Put, chunk-codes-none, chunk-codes-more, show-append, put-none}
 use Rattle.transcript.specs.declared.Stage.{Stage}
-use Rattle.transcript.specs.declared.Stage.TheVariants.{Refused, Calls, Reason, Last, Over}
+use Rattle.transcript.specs.declared.Stage.TheVariants.{Calls, Reason, Last, Over}
 use Rattle.transcript.specs.declared.Run.{Run}
 use Rattle.transcript.specs.Left.{board_at, calls_text, judged_text, literals_text, line_of, stage_of, goes_on}
 use Rattle.transcript.specs.Left.{lines_from, left_at, left, steps_at, steps, Goes, Next, first_memory, memory_at}

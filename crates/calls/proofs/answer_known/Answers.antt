@@ -2,7 +2,6 @@
 use mathlib.Core.Path.{ap, sym, ◌∙◌}
 use Rattle.calls.specs.declared.Answer.TheVariants.{Pass}
 use Rattle.calls.specs.CheckLaws.{drawn-of, nothing-found, reason-found}
-use borrow.Author.Rules.{rules}
 use Rattle.calls.proofs.answer_known.Goals as goal
 
 pub find-found-requires : goal.find-found-requires

@@ -4,7 +4,6 @@ use mathlib.Core.Path.{◌∙◌}
 use Rattle.rules.specs.Check.{Verdict}
 use Rattle.calls.specs.Known.{found_in}
 use Rattle.calls.specs.AnswerLaws.{found-short, found-long}
-use borrow.Author.Rules.{rules}
 use Rattle.calls.proofs.answer_tested.Goals.{Start}
 use Rattle.calls.proofs.answer_tested.Goals as goal
 

@@ -1,7 +1,6 @@
 -- Each arm hands over what its callee ensures, under the call that the match found.
 use mathlib.Core.Path.{ap, sym, ◌∙◌}
 use Rattle.calls.specs.Answers.{stepped, stepped_by, call_of, call_memory}
-use borrow.Author.Rules.{rules}
 use Rattle.calls.proofs.call.Goals as goal
 
 pub returns-in-Decide : goal.returns-in-Decide

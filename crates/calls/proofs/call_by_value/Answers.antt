@@ -1,6 +1,5 @@
 -- `call_by_value` meets its contract: a record that agrees with the board, and one that disagrees.
 use mathlib.Core.Path.{◌∙◌, sym, ap}
-use borrow.Author.Rules.{rules}
 use Rattle.calls.specs.declared.Stepped.{Stepped}
 use Rattle.calls.specs.Counted.{counted_by}
 use Rattle.calls.specs.CountedLaws.{counted_same, counted-other}

@@ -7,7 +7,6 @@ use Rattle.board.specs.Alien.{board_of, is_alien}
 use Rattle.calls.specs.Answers.{found_answer, found_memory}
 use Rattle.calls.specs.AnswerLaws.{check-alien, check-known}
 use Rattle.calls.specs.CheckLaws.{same-found}
-use borrow.Author.Rules.{rules}
 use Rattle.calls.proofs.check_lent.Goals.{Else-is_alien}
 use Rattle.calls.proofs.check_lent.Goals as goal
 

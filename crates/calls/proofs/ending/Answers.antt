@@ -1,6 +1,5 @@
 -- The number is 0 exactly where the outcome is done.
 use mathlib.Core.Path.{sym, ◌∙◌}
-use borrow.Author.Rules.{rules}
 use borrow.Author.Tests.{eq-eqb, ne_eqb}
 use Rattle.board.specs.Board.{number_of}
 use Rattle.calls.proofs.ending.Goals as goal

@@ -1,6 +1,5 @@
 -- The board as it is, with the outcome as an answer.
 use mathlib.Core.Path.{ap}
-use borrow.Author.Rules.{rules}
 use Rattle.calls.specs.Answers.{stepped}
 use Rattle.calls.proofs.step.Goals as goal
 

@@ -1,5 +1,5 @@
 -- `read_page` meets its contract: the bytes read lie within the page.
-use Rattle.std.proofs.Common.{sym, arith}
+use Rattle.std.proofs.Common.{sym}
 use Rattle.std.proofs.Math.Seq.{length-take-le}
 use Rattle.doublechoco.proofs.read_page.Goals as goal
 

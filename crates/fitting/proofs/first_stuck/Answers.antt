@@ -5,11 +5,10 @@ use Rattle.fitting.specs.FirstStuckLaws.{passed-done}
 use Rattle.fitting.proofs.first_stuck.Goals as goal
 
 pub after_singles-u-requires : goal.after_singles-u-requires
-after_singles-u-requires c =
-    (
-      c.requires,
-      nearby-none c.args.h c.args.w c.args.colours.now c.args.borders.now,
-    )
+after_singles-u-requires c = (
+  c.requires,
+  nearby-none c.args.h c.args.w c.args.colours.now c.args.borders.now,
+)
 
 pub returns-then-count-u : goal.returns-then-count-u
 returns-then-count-u c =

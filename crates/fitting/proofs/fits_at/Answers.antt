@@ -63,13 +63,12 @@ pub near_mate-q-requires : goal.near_mate-q-requires
 near_mate-q-requires c = (rw (home-is (goal.at.near_mate-q-requires c).After-group_of-p) (home_of c.requires.0 c.args.u c.requires.1), c.requires.2)
 
 pub returns-then-q-ge1024 : goal.returns-then-q-ge1024
-returns-then-q-ge1024 c =
-    (
-      sym (fits-nowhere c.requires.0 c.args.u c.requires.1 ((one (goal.at.returns-then-q-ge1024 c).After-near_mate-q).none c.if-q-ge1024.true)),
-      c.near_mate-q.ensures.1,
-      c.requires.3,
-      c.requires.4,
-    )
+returns-then-q-ge1024 c = (
+  sym (fits-nowhere c.requires.0 c.args.u c.requires.1 ((one (goal.at.returns-then-q-ge1024 c).After-near_mate-q).none c.if-q-ge1024.true)),
+  c.near_mate-q.ensures.1,
+  c.requires.3,
+  c.requires.4,
+)
 
 pub overflow_add-first : goal.overflow_add-first
 overflow_add-first c =
@@ -77,15 +76,14 @@ overflow_add-first c =
     omega (arith, u.some, u.end, c.start_of-first.ensures)
 
 pub returns-then-last-first : goal.returns-then-last-first
-returns-then-last-first c =
-    (
-      sym (single-unit c.requires.0 c.args.u c.requires.1
-          (rw (c.start_of-first.ensures, c.start_of-last.ensures) at c.if-last-first.true)
-          ((one (goal.at.returns-then-last-first c).After-near_mate-q).some c.if-q-ge1024.false)),
-      c.near_mate-q.ensures.1,
-      c.requires.3,
-      c.requires.4,
-    )
+returns-then-last-first c = (
+  sym (single-unit c.requires.0 c.args.u c.requires.1
+      (rw (c.start_of-first.ensures, c.start_of-last.ensures) at c.if-last-first.true)
+      ((one (goal.at.returns-then-last-first c).After-near_mate-q).some c.if-q-ge1024.false)),
+  c.near_mate-q.ensures.1,
+  c.requires.3,
+  c.requires.4,
+)
 
 pub copy_fits_soon-requires : goal.copy_fits_soon-requires
 copy_fits_soon-requires c =
@@ -113,13 +111,12 @@ returns-then-copy_fits_soon c =
     )
 
 pub unit_fits-requires : goal.unit_fits-requires
-unit_fits-requires c =
-    (
-      rw (home-is (goal.at.unit_fits-requires c).After-group_of-p) (home_of c.requires.0 c.args.u c.requires.1),
-      unit-in c.requires.0 c.args.u c.requires.1,
-      c.requires.3,
-      c.requires.4,
-    )
+unit_fits-requires c = (
+  rw (home-is (goal.at.unit_fits-requires c).After-group_of-p) (home_of c.requires.0 c.args.u c.requires.1),
+  unit-in c.requires.0 c.args.u c.requires.1,
+  c.requires.3,
+  c.requires.4,
+)
 
 pub returns : goal.returns
 returns c =

@@ -1,15 +1,10 @@
 -- The loop's invariant: the answer is the first from u on that does not fit.
-use mathlib.Core.Path.{refl, sym, ◌∙◌}
 use Prim.Native.Nat.{◌-◌}
-use native.Mathlib.Omega.{arith}
 use Rattle.rules.specs.Codes.{states_in, unclued}
 use Rattle.groups.specs.Grouping.{count_in}
-use Rattle.adjacent.specs.HomeLaws.{unit-few}
 use Rattle.fitting.specs.Fitting.{Scratch}
 use Rattle.fitting.specs.Held.{Nearby, Held}
-use Rattle.fitting.specs.HeldLaws.{held_start}
 use Rattle.fitting.specs.FirstStuck.{Passed, fits_unit}
-use Rattle.fitting.specs.FirstStuckLaws.{passed-done, passed_here, passed-next}
 use Rattle.fitting.proofs.stuck_from.Given as goal
 
 abbrev pub invariant-loop-u : goal.invariant-loop-u

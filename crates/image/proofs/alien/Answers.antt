@@ -1,6 +1,5 @@
 -- `alien` meets its contract: the length, and then the test of the board.
 use mathlib.Core.Path.{◌∙◌, ap}
-use borrow.Author.Rules.{rules}
 use Rattle.board.specs.Alien.{is_alien}
 use Rattle.image.specs.CallLaws.{alien-length, alien-board}
 use Rattle.image.proofs.alien.Goals as goal

@@ -1,8 +1,6 @@
 -- `answered` meets its contract: the number of what Check gives, and a reason's literals in the memory's bytes.
 -- once the board is checked
 use mathlib.Core.Path.{◌∙◌}
-use mathlib.Core.List.{List}
-use Prim.Native.Nat.{ℕ}
 use native.Mathlib.Omega.{arith}
 use borrow.Author.Rules.{rules}
 use borrow.Author.Tests.{ltb-false}

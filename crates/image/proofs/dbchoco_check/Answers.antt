@@ -5,7 +5,6 @@ use mathlib.Core.Bool.{false}
 use mathlib.Core.List.{List}
 use Prim.Native.Nat.{ℕ}
 use native.Mathlib.Omega.{arith}
-use borrow.Author.Rules.{rules}
 use lib.ListN.{length-replicate}
 use Rattle.board.specs.declared.Board.{Board}
 use Rattle.board.specs.Alien.{is_alien}
@@ -60,16 +59,16 @@ returns-then-image-ne-LENGTH c =
 pub returns-then-is_alien : goal.returns-then-is_alien
 returns-then-is_alien c =
     let told =
-        alien-checked _ c.args.memory.now c.if-image-ne-LENGTH.false _ c.board-b.ensures
-        (sym c.is_alien.ensures ∙ c.if-is_alien.true) in
+    alien-checked _ c.args.memory.now c.if-image-ne-LENGTH.false _ c.board-b.ensures
+    (sym c.is_alien.ensures ∙ c.if-is_alien.true) in
     record { number = told.0; bytes = told.1 }
 
 pub returns-then-short : goal.returns-then-short
 returns-then-short c =
     let t = sym c.is_alien.ensures ∙ c.if-is_alien.false in
     let told =
-        short-checked _ c.args.memory.now c.if-image-ne-LENGTH.false _ c.board-b.ensures t
-        (sym c.short.ensures ∙ c.if-short.true) in
+    short-checked _ c.args.memory.now c.if-image-ne-LENGTH.false _ c.board-b.ensures t
+    (sym c.short.ensures ∙ c.if-short.true) in
     record { number = told.0; bytes = told.1 }
 
 pub answered-requires : goal.answered-requires

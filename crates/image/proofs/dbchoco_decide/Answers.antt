@@ -5,7 +5,6 @@ use mathlib.Core.Bool.{false}
 use mathlib.Core.List.{List}
 use Prim.Native.Nat.{ℕ}
 use native.Mathlib.Omega.{arith}
-use borrow.Author.Rules.{rules}
 use Rattle.image.specs.Image.{Bytes, image_alien}
 use Rattle.image.specs.SeriesLaws.{long, alien-number, alien-stays}
 use Rattle.image.proofs.dbchoco_decide.Goals.{After-alien, Else-alien}

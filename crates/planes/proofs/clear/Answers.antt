@@ -1,5 +1,4 @@
 -- Each return is a case of the definition.
-use borrow.Author.Rules.{rules}
 use borrow.Author.Tests.{eq-eqb, ne_eqb}
 use Rattle.planes.specs.Planes.{clear_at}
 use Rattle.planes.proofs.clear.Goals as goal

@@ -1,8 +1,8 @@
 -- The loop's invariant: the places before i are 0.
-use mathlib.Core.Path.{◌≡◌, refl, ◌∙◌}
-use Prim.Native.Nat.{ℕ, zero, ◌≤◌, ◌<◌, ◌-◌}
+use mathlib.Core.Path.{refl, ◌∙◌}
+use Prim.Native.Nat.{zero}
 use native.Mathlib.Omega.{arith}
-use lib.ListN.{length, get_or, length-set}
+use lib.ListN.{length-set}
 use Rattle.lists.specs.TableLaws.{stored_more}
 use Rattle.lists.specs.PaddedLaws.{replicate-is}
 use Rattle.planes.proofs.clear_mask.Goals as goal

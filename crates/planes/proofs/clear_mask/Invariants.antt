@@ -1,10 +1,7 @@
 -- The loop's invariant: the places before i are 0.
-use mathlib.Core.Path.{◌≡◌, refl, ◌∙◌}
-use Prim.Native.Nat.{ℕ, zero, ◌≤◌, ◌<◌, ◌-◌}
-use native.Mathlib.Omega.{arith}
-use lib.ListN.{length, get_or, length-set}
-use Rattle.lists.specs.TableLaws.{stored_more}
-use Rattle.lists.specs.PaddedLaws.{replicate-is}
+use mathlib.Core.Path.{◌≡◌}
+use Prim.Native.Nat.{ℕ, ◌≤◌, ◌<◌, ◌-◌}
+use lib.ListN.{length, get_or}
 use Rattle.planes.proofs.clear_mask.Given as goal
 
 abbrev pub invariant-loop-i : goal.invariant-loop-i

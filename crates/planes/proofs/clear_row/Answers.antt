@@ -1,7 +1,7 @@
 -- The loop goes down, and its word has the borders from x on.
 use mathlib.Core.Path.{◌≡◌, refl, ap₂, sym, ◌∙◌}
 use mathlib.Core.Bool.{Bool}
-use Prim.Native.Nat.{ℕ, ◌+◌, ◌-◌, ◌*◌, ◌≤◌, ◌<◌}
+use Prim.Native.Nat.{ℕ, ◌+◌, ◌-◌, ◌*◌}
 use native.Mathlib.Omega.{arith}
 use Rattle.lists.specs.CountLaws.{bit-under}
 use Rattle.planes.specs.Bits.{row_from}

@@ -1,12 +1,8 @@
 -- The loop goes down, and its word has the borders from x on.
-use mathlib.Core.Path.{◌≡◌, refl, ap₂, sym, ◌∙◌}
-use mathlib.Core.Bool.{Bool}
-use Prim.Native.Nat.{ℕ, ◌+◌, ◌-◌, ◌*◌, ◌≤◌, ◌<◌}
-use native.Mathlib.Omega.{arith}
-use Rattle.lists.specs.CountLaws.{bit-under}
+use mathlib.Core.Path.{◌≡◌}
+use Prim.Native.Nat.{◌+◌, ◌-◌, ◌≤◌, ◌<◌}
 use Rattle.planes.specs.Bits.{row_from}
-use Rattle.planes.specs.RowLaws.{row-start, row-end, row_more, row_fits}
-use Rattle.planes.specs.Planes.{clear_at, clear_row}
+use Rattle.planes.specs.Planes.{clear_at}
 use Rattle.planes.proofs.clear_row.Given as goal
 
 abbrev pub invariant-loop-x : goal.invariant-loop-x

@@ -1,17 +1,14 @@
 -- The loop's invariant: the cells of the groups before i are flagged, and no others.
 use mathlib.Core.Path.{◌≡◌}
-use Prim.Native.Nat.{◌+◌, ◌-◌, ◌≤◌, ◌<◌}
+use Prim.Native.Nat.{◌+◌, ◌<◌}
 use native.Mathlib.Omega.{arith}
-use borrow.Author.Rules.{rules}
 use lib.ListN.{get_or}
 use lib.Seq.{get_or-set_same}
-use Rattle.lists.specs.Parts.{part}
 use Rattle.groups.specs.Grouping.{cells_in, starts_in, start_in}
 use Rattle.groups.specs.Parts.{part_of}
 use Rattle.reasons.specs.Arrays.{Cells}
 use Rattle.adjacent.specs.Mates.{mate_count}
 use Rattle.adjacent.specs.BesideLaws.{mates-reach}
-use Rattle.planes.specs.Masks.{Masked, origins_in}
 use Rattle.planes.specs.MaskLaws.{masked-none, masked-tag, mates-none, mates-more}
 use Rattle.planes.proofs.draw_mask.Goals.{After-index-count, In-loop-i}
 use Rattle.planes.proofs.draw_mask.Goals as goal
@@ -24,12 +21,11 @@ count-is : (c : After-index-count) → c.index-count.result ≡ mate_count c.arg
 count-is c = c.index-count.ensures
 
 pub loop-i-init : goal.loop-i-init
-loop-i-init c =
-    (
-      omega arith,
-      mates-none c.args.w (cells_in c.args.potential.now) (starts_in c.args.potential.now)
-          c.args.mates.now 0 (masked-none c.args.w c.clear_mask.ensures),
-    )
+loop-i-init c = (
+  omega arith,
+  mates-none c.args.w (cells_in c.args.potential.now) (starts_in c.args.potential.now)
+      c.args.mates.now 0 (masked-none c.args.w c.clear_mask.ensures),
+)
 
 next : (c : In-loop-i) → c.loop-i.i < mate_count c.args.mates.now
 next c = omega (arith, count-is (goal.at.In-loop-i c).After-index-count, c.loop-i-test.true)
@@ -73,14 +69,13 @@ loop-i-smaller c = omega (arith, c.loop-i-test.true)
 
 pub loop-i-preserved : goal.loop-i-preserved
 unfolding part_of
-loop-i-preserved c =
-    (
-      omega (arith, next (goal.at.loop-i-preserved c).In-loop-i),
-      mates-more c.args.w (cells_in c.args.potential.now) (starts_in c.args.potential.now)
-          c.args.mates.now 0 c.loop-i.i (omega arith) (omega (arith, next (goal.at.loop-i-preserved c).In-loop-i, mates-reach c.requires.1))
-          ((rw (c.start_of-in-loop-i.ensures, c.start_of.ensures) at
-          c.flag_group.ensures.1) _ c.loop-i.invariant.1),
-    )
+loop-i-preserved c = (
+  omega (arith, next (goal.at.loop-i-preserved c).In-loop-i),
+  mates-more c.args.w (cells_in c.args.potential.now) (starts_in c.args.potential.now)
+      c.args.mates.now 0 c.loop-i.i (omega arith) (omega (arith, next (goal.at.loop-i-preserved c).In-loop-i, mates-reach c.requires.1))
+      ((rw (c.start_of-in-loop-i.ensures, c.start_of.ensures) at
+      c.flag_group.ensures.1) _ c.loop-i.invariant.1),
+)
 
 pub returns : goal.returns
 returns c =

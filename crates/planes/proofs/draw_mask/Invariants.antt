@@ -1,18 +1,9 @@
 -- The loop's invariant: the cells of the groups before i are flagged, and no others.
-use mathlib.Core.Path.{◌≡◌}
-use Prim.Native.Nat.{◌+◌, ◌-◌, ◌≤◌, ◌<◌}
-use native.Mathlib.Omega.{arith}
-use borrow.Author.Rules.{rules}
-use lib.ListN.{get_or}
-use lib.Seq.{get_or-set_same}
+use Prim.Native.Nat.{◌-◌, ◌≤◌}
 use Rattle.lists.specs.Parts.{part}
-use Rattle.groups.specs.Grouping.{cells_in, starts_in, start_in}
-use Rattle.groups.specs.Parts.{part_of}
-use Rattle.reasons.specs.Arrays.{Cells}
+use Rattle.groups.specs.Grouping.{cells_in, starts_in}
 use Rattle.adjacent.specs.Mates.{mate_count}
-use Rattle.adjacent.specs.BesideLaws.{mates-reach}
 use Rattle.planes.specs.Masks.{Masked, origins_in}
-use Rattle.planes.specs.MaskLaws.{masked-none, masked-tag, mates-none, mates-more}
 use Rattle.planes.proofs.draw_mask.Given as goal
 
 abbrev pub invariant-loop-i : goal.invariant-loop-i

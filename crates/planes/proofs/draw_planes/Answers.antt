@@ -1,7 +1,7 @@
 -- The loop's invariant: the doubled rows before r are drawn.
-use Prim.Native.Nat.{◌*◌, ◌-◌, ◌≤◌, ◌<◌}
+use Prim.Native.Nat.{◌<◌}
 use native.Mathlib.Omega.{arith}
-use Rattle.planes.specs.DrawLaws.{Drawing, draw-start, draw-more, draw-end}
+use Rattle.planes.specs.DrawLaws.{draw-start, draw-more, draw-end}
 use Rattle.planes.proofs.draw_planes.Goals.{After-line}
 use Rattle.planes.proofs.draw_planes.Goals as goal
 
@@ -12,8 +12,7 @@ pub overflow_sub-count : goal.overflow_sub-count
 overflow_sub-count c = omega (arith, c.requires.0)
 
 pub loop-r-init : goal.loop-r-init
-loop-r-init c =
-    (
+loop-r-init c = (
   omega (arith, c.requires.0),
   draw-start c.args.h c.args.w c.args.colours.now c.args.borders.now c.requires.1,
 )
@@ -41,12 +40,11 @@ pub loop-r-smaller : goal.loop-r-smaller
 loop-r-smaller c = omega (arith, c.loop-r-test.true)
 
 pub loop-r-preserved : goal.loop-r-preserved
-loop-r-preserved c =
-    (
-      omega (arith, c.loop-r-test.true),
-      draw-more c.args.h c.args.w c.args.colours.now c.args.borders.now c.loop-r.r
-          c.line.result (tall (goal.at.loop-r-preserved c).After-line) c.requires.0.broad c.line.ensures c.loop-r.invariant.1,
-    )
+loop-r-preserved c = (
+  omega (arith, c.loop-r-test.true),
+  draw-more c.args.h c.args.w c.args.colours.now c.args.borders.now c.loop-r.r
+      c.line.result (tall (goal.at.loop-r-preserved c).After-line) c.requires.0.broad c.line.ensures c.loop-r.invariant.1,
+)
 
 pub returns : goal.returns
 returns c =

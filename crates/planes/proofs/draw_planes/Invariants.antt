@@ -1,7 +1,6 @@
 -- The loop's invariant: the doubled rows before r are drawn.
-use Prim.Native.Nat.{◌*◌, ◌-◌, ◌≤◌, ◌<◌}
-use native.Mathlib.Omega.{arith}
-use Rattle.planes.specs.DrawLaws.{Drawing, draw-start, draw-more, draw-end}
+use Prim.Native.Nat.{◌*◌, ◌-◌, ◌≤◌}
+use Rattle.planes.specs.DrawLaws.{Drawing}
 use Rattle.planes.proofs.draw_planes.Given as goal
 
 abbrev pub invariant-loop-r : goal.invariant-loop-r

@@ -1,8 +1,5 @@
 -- The loop's invariant: the rows from y on have no origin.
-use mathlib.Core.Path.{◌≡◌}
-use Prim.Native.Nat.{ℕ, ◌≤◌, ◌<◌}
 use native.Mathlib.Omega.{arith}
-use lib.ListN.{get_or}
 use Rattle.lists.specs.PaddedLaws.{zero-down}
 use Rattle.planes.proofs.end_row.Goals as goal
 
@@ -19,11 +16,10 @@ pub returns-then-mask-y-ne0 : goal.returns-then-mask-y-ne0
 returns-then-mask-y-ne0 c = c.loop-y.invariant
 
 pub loop-y-preserved : goal.loop-y-preserved
-loop-y-preserved c =
-    (
-      omega arith,
-      zero-down c.args.mask.now c.loop-y.y c.args.h c.loop-y.invariant.1 c.if-mask-y-ne0.false,
-    )
+loop-y-preserved c = (
+  omega arith,
+  zero-down c.args.mask.now c.loop-y.y c.args.h c.loop-y.invariant.1 c.if-mask-y-ne0.false,
+)
 
 pub returns : goal.returns
 returns c = (omega arith, λ j a b. c.loop-y.invariant.1 j (omega arith) b)

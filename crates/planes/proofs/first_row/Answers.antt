@@ -1,8 +1,5 @@
 -- The loop's invariant: the rows before y have no origin.
-use mathlib.Core.Path.{◌≡◌}
-use Prim.Native.Nat.{ℕ, ◌-◌, ◌≤◌, ◌<◌}
 use native.Mathlib.Omega.{arith}
-use lib.ListN.{get_or}
 use Rattle.lists.specs.PaddedLaws.{zero_more}
 use Rattle.planes.proofs.first_row.Goals as goal
 
@@ -19,11 +16,10 @@ pub overflow_add-y : goal.overflow_add-y
 overflow_add-y c = omega (arith, c.requires)
 
 pub loop-y-preserved : goal.loop-y-preserved
-loop-y-preserved c =
-    (
-      omega arith,
-      zero_more c.args.mask.now c.loop-y.y c.loop-y.invariant.1 c.if-mask-y-ne0.false,
-    )
+loop-y-preserved c = (
+  omega arith,
+  zero_more c.args.mask.now c.loop-y.y c.loop-y.invariant.1 c.if-mask-y-ne0.false,
+)
 
 pub returns : goal.returns
 returns c = (omega arith, λ j k. c.loop-y.invariant.1 j (omega arith))

@@ -1,9 +1,7 @@
 -- The loop's invariant: the rows before y have no origin.
 use mathlib.Core.Path.{◌≡◌}
 use Prim.Native.Nat.{ℕ, ◌-◌, ◌≤◌, ◌<◌}
-use native.Mathlib.Omega.{arith}
 use lib.ListN.{get_or}
-use Rattle.lists.specs.PaddedLaws.{zero_more}
 use Rattle.planes.proofs.first_row.Given as goal
 
 abbrev pub invariant-loop-y : goal.invariant-loop-y

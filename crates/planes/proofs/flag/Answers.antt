@@ -3,7 +3,6 @@
 use mathlib.Core.Path.{◌∙◌}
 use Prim.Native.Nat.{◌/◌, ◌%◌, ◌<◌}
 use native.Mathlib.Omega.{arith}
-use borrow.Author.Rules.{rules}
 use lib.ListN.{length-set}
 use Rattle.planes.specs.MaskLaws.{masked-more, place_in}
 use Rattle.planes.proofs.flag.Goals.{Start}
@@ -28,8 +27,7 @@ pub bounds-mask-y-2 : goal.bounds-mask-y-2
 bounds-mask-y-2 c = omega (arith, (low (goal.at.bounds-mask-y-2 c).Start).0)
 
 pub returns : goal.returns
-returns c =
-    (
-      length-set c.args.mask.now (c.args.c / c.args.w) _ ∙ c.requires.2,
-      λ xs m. masked-more c.args.w c.args.c (low (goal.at.returns c).Start).0 (omega (arith, (low (goal.at.returns c).Start).1)) m,
-    )
+returns c = (
+  length-set c.args.mask.now (c.args.c / c.args.w) _ ∙ c.requires.2,
+  λ xs m. masked-more c.args.w c.args.c (low (goal.at.returns c).Start).0 (omega (arith, (low (goal.at.returns c).Start).1)) m,
+)

@@ -1,20 +1,16 @@
 -- The loop's invariant: the cells before i are flagged.
 use mathlib.Core.Path.{◌≡◌}
-use mathlib.Core.List.{List, ◌++◌}
-use Prim.Native.Nat.{ℕ, ◌*◌, ◌-◌, ◌≤◌, ◌<◌}
+use Prim.Native.Nat.{◌*◌, ◌<◌}
 use native.Mathlib.Omega.{arith}
-use lib.ListN.{length, get_or}
-use Rattle.lists.specs.Parts.{part}
+use lib.ListN.{get_or}
 use Rattle.groups.specs.Grouping.{cells_in}
 use Rattle.reasons.specs.CellLaws.{cells_at}
-use Rattle.planes.specs.Masks.{Masked}
 use Rattle.planes.specs.MaskLaws.{group-none, group-more}
 use Rattle.planes.proofs.flag_group.Goals.{In-loop-i}
 use Rattle.planes.proofs.flag_group.Goals as goal
 
 pub loop-i-init : goal.loop-i-init
-loop-i-init c =
-    (
+loop-i-init c = (
   omega arith,
   c.requires.1.order,
   c.requires.2,
@@ -38,16 +34,15 @@ pub overflow_add-i : goal.overflow_add-i
 overflow_add-i c = omega (arith, c.requires.1.end)
 
 pub loop-i-preserved : goal.loop-i-preserved
-loop-i-preserved c =
-    (
-      omega arith,
-      omega arith,
-      c.flag.ensures.0,
-      λ xs m.
-          group-more c.args.w (cells_in c.args.potential.now) c.args.from xs c.loop-i.i c.loop-i.invariant.0
-          (omega (arith, c.requires.1.end, c.requires.1.long)) ((rw c.cell_at.ensures at
-          c.flag.ensures.1) _ (c.loop-i.invariant.3 xs m)),
-    )
+loop-i-preserved c = (
+  omega arith,
+  omega arith,
+  c.flag.ensures.0,
+  λ xs m.
+      group-more c.args.w (cells_in c.args.potential.now) c.args.from xs c.loop-i.i c.loop-i.invariant.0
+      (omega (arith, c.requires.1.end, c.requires.1.long)) ((rw c.cell_at.ensures at
+      c.flag.ensures.1) _ (c.loop-i.invariant.3 xs m)),
+)
 
 pub returns : goal.returns
 returns c =

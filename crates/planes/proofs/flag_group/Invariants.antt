@@ -1,14 +1,11 @@
 -- The loop's invariant: the cells before i are flagged.
 use mathlib.Core.Path.{◌≡◌}
 use mathlib.Core.List.{List, ◌++◌}
-use Prim.Native.Nat.{ℕ, ◌*◌, ◌-◌, ◌≤◌, ◌<◌}
-use native.Mathlib.Omega.{arith}
-use lib.ListN.{length, get_or}
+use Prim.Native.Nat.{ℕ, ◌-◌, ◌≤◌}
+use lib.ListN.{length}
 use Rattle.lists.specs.Parts.{part}
 use Rattle.groups.specs.Grouping.{cells_in}
-use Rattle.reasons.specs.CellLaws.{cells_at}
 use Rattle.planes.specs.Masks.{Masked}
-use Rattle.planes.specs.MaskLaws.{group-none, group-more}
 use Rattle.planes.proofs.flag_group.Given as goal
 
 abbrev pub invariant-loop-i : goal.invariant-loop-i

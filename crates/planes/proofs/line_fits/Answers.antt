@@ -1,6 +1,5 @@
 -- A word is not 0 exactly if it has a bit.
 use mathlib.Core.Path.{sym}
-use borrow.Author.Rules.{rules}
 use Rattle.planes.specs.WordLaws.{fits_word}
 use Rattle.planes.proofs.line_fits.Goals as goal
 

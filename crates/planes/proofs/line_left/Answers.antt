@@ -1,18 +1,16 @@
 -- The loop's invariant: the word has the origins at which the connections before j are clear.
 use mathlib.Core.Path.{◌≡◌, ◌∙◌}
-use Prim.Native.Nat.{◌+◌, ◌-◌, ◌≤◌}
+use Prim.Native.Nat.{◌+◌}
 use native.Mathlib.Omega.{arith}
 use lib.ListN.{get_or}
 use Rattle.lists.specs.SectionLaws.{section-at, front_at}
 use Rattle.shapes.specs.Raising.{ys_in, xs_in, RaisedAt}
-use Rattle.planes.specs.Masks.{clear_word}
 use Rattle.planes.specs.WordLaws.{clear_none, clear-more, word-left-none}
 use Rattle.planes.proofs.line_left.Goals.{Else-acc-eq0}
 use Rattle.planes.proofs.line_left.Goals as goal
 
 pub loop-j-init : goal.loop-j-init
-loop-j-init c =
-    (
+loop-j-init c = (
   omega arith,
   clear_none c.args.planes.now c.args.y c.args.turned.now c.args.word,
 )
@@ -55,13 +53,12 @@ pub loop-j-smaller : goal.loop-j-smaller
 loop-j-smaller c = omega (arith, c.loop-j-test.true)
 
 pub loop-j-preserved : goal.loop-j-preserved
-loop-j-preserved c =
-    (
-      omega (arith, c.loop-j-test.true),
-      rw (← down-at (goal.at.loop-j-preserved c).Else-acc-eq0, ← across-at (goal.at.loop-j-preserved c).Else-acc-eq0) c.step-acc.ensures
-          ∙ clear-more c.args.planes.now c.args.y c.args.turned.now c.args.word c.loop-j.j
-          c.loop-j.invariant.1,
-    )
+loop-j-preserved c = (
+  omega (arith, c.loop-j-test.true),
+  rw (← down-at (goal.at.loop-j-preserved c).Else-acc-eq0, ← across-at (goal.at.loop-j-preserved c).Else-acc-eq0) c.step-acc.ensures
+      ∙ clear-more c.args.planes.now c.args.y c.args.turned.now c.args.word c.loop-j.j
+      c.loop-j.invariant.1,
+)
 
 pub returns : goal.returns
 returns c =

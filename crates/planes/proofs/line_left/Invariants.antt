@@ -1,12 +1,7 @@
 -- The loop's invariant: the word has the origins at which the connections before j are clear.
-use mathlib.Core.Path.{◌≡◌, ◌∙◌}
-use Prim.Native.Nat.{◌+◌, ◌-◌, ◌≤◌}
-use native.Mathlib.Omega.{arith}
-use lib.ListN.{get_or}
-use Rattle.lists.specs.SectionLaws.{section-at, front_at}
-use Rattle.shapes.specs.Raising.{ys_in, xs_in, RaisedAt}
+use mathlib.Core.Path.{◌≡◌}
+use Prim.Native.Nat.{◌-◌, ◌≤◌}
 use Rattle.planes.specs.Masks.{clear_word}
-use Rattle.planes.specs.WordLaws.{clear_none, clear-more, word-left-none}
 use Rattle.planes.proofs.line_left.Given as goal
 
 abbrev pub invariant-loop-j : goal.invariant-loop-j

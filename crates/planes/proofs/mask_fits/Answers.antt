@@ -1,10 +1,9 @@
 -- The loop's invariant: no origin of the rows before y fits.
 use mathlib.Core.Path.{◌≡◌, sym, ◌∙◌}
 use mathlib.Core.Bool.{Bool, false}
-use Prim.Native.Nat.{ℕ, ◌-◌, ◌≤◌}
+use Prim.Native.Nat.{ℕ}
 use native.Mathlib.Omega.{arith}
 use lib.ListN.{get_or}
-use Rattle.lists.specs.Tests.{any_below}
 use Rattle.lists.specs.TestLaws.{any_none, any_some, none_more, none_rest}
 use Rattle.planes.specs.Masks.{line_fits, mask_fits}
 use Rattle.planes.specs.WordLaws.{fits-empty}
@@ -20,8 +19,7 @@ empty : (s : Start) (y : ℕ) → get_or s.args.mask.now y 0 ≡ 0 → test s y 
 empty s y e = fits-empty s.args.planes.now y s.args.turned.now s.args.n e
 
 pub loop-y-init : goal.loop-y-init
-loop-y-init c =
-    (
+loop-y-init c = (
   c.requires.1.low.0,
   none_rest 0 c.args.top (test c) (any_none (test c)) (omega arith) (λ y a b. empty c y (c.requires.1.above y b)),
 )
@@ -48,12 +46,11 @@ pub loop-y-smaller : goal.loop-y-smaller
 loop-y-smaller c = omega (arith, c.loop-y-test.true, c.requires.1.low.1)
 
 pub loop-y-preserved : goal.loop-y-preserved
-loop-y-preserved c =
-    (
-      omega (arith, c.loop-y-test.true, c.requires.1.low.1),
-      none_more c.loop-y.y (test (goal.at.loop-y-preserved c).Start) c.loop-y.invariant.1
-          (sym c.line_fits.ensures ∙ c.if-line_fits.false),
-    )
+loop-y-preserved c = (
+  omega (arith, c.loop-y-test.true, c.requires.1.low.1),
+  none_more c.loop-y.y (test (goal.at.loop-y-preserved c).Start) c.loop-y.invariant.1
+      (sym c.line_fits.ensures ∙ c.if-line_fits.false),
+)
 
 pub returns : goal.returns
 unfolding mask_fits

@@ -1,13 +1,10 @@
 -- The loop's invariant: no origin of the rows before y fits.
-use mathlib.Core.Path.{◌≡◌, sym, ◌∙◌}
-use mathlib.Core.Bool.{Bool, false}
-use Prim.Native.Nat.{ℕ, ◌-◌, ◌≤◌}
-use native.Mathlib.Omega.{arith}
+use mathlib.Core.Path.{◌≡◌}
+use mathlib.Core.Bool.{false}
+use Prim.Native.Nat.{◌-◌, ◌≤◌}
 use lib.ListN.{get_or}
 use Rattle.lists.specs.Tests.{any_below}
-use Rattle.lists.specs.TestLaws.{any_none, any_some, none_more, none_rest}
-use Rattle.planes.specs.Masks.{line_fits, mask_fits}
-use Rattle.planes.specs.WordLaws.{fits-empty}
+use Rattle.planes.specs.Masks.{line_fits}
 use Rattle.planes.proofs.mask_fits.Given as goal
 
 abbrev pub invariant-loop-y : goal.invariant-loop-y

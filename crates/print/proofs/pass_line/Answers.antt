@@ -1,5 +1,4 @@
 -- `pass_line` meets its contract: the word is that of a pass.
-use borrow.Author.Rules.{rules}
 use Rattle.print.specs.Answers.{show_reply}
 use Rattle.print.proofs.pass_line.Goals as goal
 

@@ -1,10 +1,7 @@
 -- `put_line` meets its contract, byte by byte.
-use mathlib.Core.Path.{◌≡◌}
-use Prim.Native.Nat.{◌+◌, ◌-◌, ◌≤◌}
 use native.Mathlib.Omega.{arith}
 use borrow.Author.Rules.{rules}
-use lib.ListN.{length, take}
-use Rattle.print.specs.Lines.{Written, written-length, line-none, line-more, line-written}
+use Rattle.print.specs.Lines.{written-length, line-none, line-more, line-written}
 use Rattle.print.proofs.put_line.Goals as goal
 
 pub loop-i-init : goal.loop-i-init
@@ -14,8 +11,7 @@ pub bounds-out-at : goal.bounds-out-at
 bounds-out-at c = omega (arith, written-length c.loop-i.invariant.1.1)
 
 pub loop-i-preserved : goal.loop-i-preserved
-loop-i-preserved c =
-    (
+loop-i-preserved c = (
   search rules,
   (
     c.loop-i.invariant.1.0,

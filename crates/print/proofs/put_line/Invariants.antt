@@ -1,10 +1,8 @@
 -- `put_line` meets its contract, byte by byte.
 use mathlib.Core.Path.{◌≡◌}
 use Prim.Native.Nat.{◌+◌, ◌-◌, ◌≤◌}
-use native.Mathlib.Omega.{arith}
-use borrow.Author.Rules.{rules}
 use lib.ListN.{length, take}
-use Rattle.print.specs.Lines.{Written, written-length, line-none, line-more, line-written}
+use Rattle.print.specs.Lines.{Written}
 use Rattle.print.proofs.put_line.Given as goal
 
 abbrev pub invariant-loop-i : goal.invariant-loop-i

@@ -1,9 +1,7 @@
 -- `put_literals` meets its contract, literal by literal.
-use Prim.Native.Nat.{◌-◌}
 use native.Mathlib.Omega.{arith}
-use borrow.Author.Rules.{rules}
 use Rattle.print.specs.Lines.{written-length}
-use Rattle.print.specs.Chunks.{Putting, putting-none, putting-more, putting-stop}
+use Rattle.print.specs.Chunks.{putting-none, putting-more, putting-stop}
 use Rattle.print.proofs.put_literals.Goals as goal
 
 pub loop-next-init : goal.loop-next-init
@@ -25,8 +23,7 @@ pub returns-then-out-count-lt32 : goal.returns-then-out-count-lt32
 returns-then-out-count-lt32 c = putting-stop c.loop-next.invariant (λ a b x y z. omega arith)
 
 pub put_line-count-requires : goal.put_line-count-requires
-put_line-count-requires c =
-    (
+put_line-count-requires c = (
   c.literal_text-line.ensures.small,
   let i = c.loop-next.invariant in
       omega (arith, i.fits, written-length i.written),

@@ -1,9 +1,6 @@
 -- `put_literals` meets its contract, literal by literal.
 use Prim.Native.Nat.{◌-◌}
-use native.Mathlib.Omega.{arith}
-use borrow.Author.Rules.{rules}
-use Rattle.print.specs.Lines.{written-length}
-use Rattle.print.specs.Chunks.{Putting, putting-none, putting-more, putting-stop}
+use Rattle.print.specs.Chunks.{Putting}
 use Rattle.print.proofs.put_literals.Given as goal
 
 abbrev pub invariant-loop-next : goal.invariant-loop-next

@@ -1,5 +1,4 @@
 -- `refused_line` meets its contract: the word is that of a refusal.
-use borrow.Author.Rules.{rules}
 use Rattle.print.specs.Answers.{show_reply}
 use Rattle.print.proofs.refused_line.Goals as goal
 

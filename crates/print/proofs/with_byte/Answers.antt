@@ -1,5 +1,4 @@
 -- `with_byte` meets its contract: the byte is stored at the count.
-use borrow.Author.Rules.{rules}
 use Rattle.print.specs.Lines.{written_byte}
 use Rattle.print.proofs.with_byte.Goals as goal
 

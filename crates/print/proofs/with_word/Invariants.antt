@@ -1,10 +1,7 @@
 -- `with_word` meets its contract, byte by byte.
 use Prim.Native.Nat.{◌-◌, ◌≤◌}
-use native.Mathlib.Omega.{arith}
-use borrow.Author.Rules.{rules}
 use lib.ListN.{length, take}
-use lib.Seq.{length-take-le}
-use Rattle.print.specs.Lines.{Longer, written_none, written-word, written-end}
+use Rattle.print.specs.Lines.{Longer}
 use Rattle.print.proofs.with_word.Given as goal
 
 abbrev pub invariant-loop-i : goal.invariant-loop-i

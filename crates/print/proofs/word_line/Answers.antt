@@ -1,6 +1,5 @@
 -- `word_line` meets its contract: a line that grew out of nothing holds what was added.
 use native.Mathlib.Omega.{arith}
-use borrow.Author.Rules.{rules}
 use Rattle.print.proofs.word_line.Goals as goal
 
 pub returns : goal.returns

@@ -1,6 +1,5 @@
 -- The two cases of the image's length.
 use mathlib.Core.Path.{◌∙◌}
-use borrow.Author.Rules.{rules}
 use Rattle.probe.specs.ProbeLaws.{from-other, from-right}
 use Rattle.probe.proofs.board_from.Goals as goal
 

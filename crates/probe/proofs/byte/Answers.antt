@@ -3,7 +3,6 @@ use native.Mathlib.Omega.{arith}
 use mathlib.Core.Path.{refl, sym}
 use lib.ListN.{get_or-eq_default}
 use Rattle.rules.specs.Groups.{entry}
-use borrow.Author.Rules.{rules}
 use Rattle.probe.proofs.byte.Goals as goal
 
 pub returns-then-i-s : goal.returns-then-i-s

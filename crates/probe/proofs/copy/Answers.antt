@@ -1,10 +1,9 @@
 -- The loop's invariant: the bytes before i are stored.
-use mathlib.Core.Path.{◌≡◌, refl}
-use Prim.Native.Nat.{ℕ, ◌-◌, ◌<◌, ◌≤◌}
+use mathlib.Core.Path.{refl}
 use native.Mathlib.Nat.{not-suc-le-zero}
 use native.Mathlib.Omega.{arith}
 use borrow.Author.Rules.{rules}
-use lib.ListN.{length, get_or, length-set}
+use lib.ListN.{length, length-set}
 use Rattle.lists.specs.TableLaws.{table_is, stored_more}
 use Rattle.rules.specs.Groups.{entry}
 use Rattle.probe.specs.Probe.{places_of}

@@ -1,7 +1,6 @@
 -- Each return cites its tests.
 use borrow.Author.Tests.{lt-leb, le-leb}
 use Rattle.probe.specs.Probe.{probe_fits}
-use borrow.Author.Rules.{rules}
 use Rattle.probe.proofs.fits.Goals as goal
 
 pub returns-then-cell_count-lt1 : goal.returns-then-cell_count-lt1

@@ -1,6 +1,5 @@
 -- The equations of the parts put together.
 use Rattle.probe.specs.Probe.{kind_groups}
-use borrow.Author.Rules.{rules}
 use Rattle.probe.proofs.grouped.Goals as goal
 
 pub returns : goal.returns

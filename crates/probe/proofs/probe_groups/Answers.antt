@@ -3,7 +3,6 @@ use mathlib.Core.Path.{sym, ◌∙◌}
 use native.Mathlib.Omega.{arith}
 use Rattle.groups.specs.GroupingLaws.{filled-array}
 use Rattle.probe.specs.ProbeLaws.{probe-fit, unfit, done}
-use borrow.Author.Rules.{rules}
 use Rattle.probe.proofs.probe_groups.Goals as goal
 
 pub grouped-grouping-requires : goal.grouped-grouping-requires

@@ -1,7 +1,6 @@
 -- An unfit call is refused; any other is answered.
 use mathlib.Core.Path.{sym, ◌∙◌}
 use Rattle.probe.specs.ProbeLaws.{probe-fit, unfit, done}
-use borrow.Author.Rules.{rules}
 use Rattle.probe.proofs.probe_path.Goals as goal
 
 pub put_path-requires : goal.put_path-requires

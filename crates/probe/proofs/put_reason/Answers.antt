@@ -12,7 +12,6 @@ use Rattle.reasons.specs.MemoryLaws.{spare-zeros, front_length, front_fits}
 use Rattle.probe.specs.Probe.{places_of, kind_groups, reason_words}
 use Rattle.image.specs.Image.{side_of}
 use Rattle.probe.specs.ProbeLaws.{places-length, group-is, no-reason, reason-held, literals}
-use borrow.Author.Rules.{rules}
 use Rattle.probe.proofs.put_reason.Goals.{After-borders_in-b}
 use Rattle.probe.proofs.put_reason.Goals as goal
 
@@ -55,15 +54,14 @@ returns-then-side-eq0 c =
     c.hand_out.ensures)
 
 pub edge-n-requires : goal.edge-n-requires
-edge-n-requires c =
-    (
-      c.requires.0,
-      rw c.borders_in-b.ensures (places-length 1984 _),
-      rw c.colours_in-c.ensures (places-length 1024 _),
-      group (goal.at.edge-n-requires c).After-borders_in-b,
-      spare-zeros,
-      refl,
-    )
+edge-n-requires c = (
+  c.requires.0,
+  rw c.borders_in-b.ensures (places-length 1984 _),
+  rw c.colours_in-c.ensures (places-length 1024 _),
+  group (goal.at.edge-n-requires c).After-borders_in-b,
+  spare-zeros,
+  refl,
+)
 
 pub slice_bounds-hand_out-end-2 : goal.slice_bounds-hand_out-end-2
 slice_bounds-hand_out-end-2 c = front_length c.edge-n.ensures.0

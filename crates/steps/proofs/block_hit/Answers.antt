@@ -1,6 +1,5 @@
 -- `block_hit` meets its contract: what first_faulty finds is the first faulty block, and its reason is written.
 use mathlib.Core.Path.{◌≡◌, sym, ◌∙◌}
-use borrow.Author.Rules.{rules}
 use Rattle.groups.specs.declared.Kind.TheVariants.{Blocks, Potential}
 use Rattle.groups.specs.Kinds.{joins_in}
 use lib.Seq.{length-take-le}

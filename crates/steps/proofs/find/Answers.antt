@@ -10,8 +10,7 @@ pub fill-requires : goal.fill-requires
 fill-requires c = (c.requires.0.sized, vacant-zeros _, forest-zeros)
 
 pub fill-requires-2 : goal.fill-requires-2
-fill-requires-2 c =
-    (
+fill-requires-2 c = (
   c.requires.0.sized,
   vacant-zeros _,
   c.fill.ensures.1,

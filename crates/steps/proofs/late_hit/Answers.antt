@@ -1,5 +1,4 @@
 -- `late_hit` meets its contract: the units, and then the search.
-use borrow.Author.Rules.{rules}
 use Rattle.steps.proofs.late_hit.Goals as goal
 
 pub stuck_hit-requires : goal.stuck_hit-requires

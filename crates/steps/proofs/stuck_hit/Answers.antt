@@ -3,7 +3,6 @@
 use mathlib.Core.Path.{◌≡◌}
 use mathlib.Core.Option.{none}
 use native.Mathlib.Omega.{arith}
-use borrow.Author.Rules.{rules}
 use Rattle.rules.specs.Codes.{states_in, clues_in, unclued}
 use Rattle.groups.specs.declared.Kind.TheVariants.{Units}
 use Rattle.groups.specs.Pages.{groups_in}

@@ -1,14 +1,12 @@
 -- The loop's invariant: the blockers of the images by the listed rows before j are written.
 use mathlib.Core.Path.{◌≡◌, refl, ap, ◌∙◌}
 use mathlib.Core.List.{List}
-use Prim.Native.Nat.{ℕ, zero, ◌≤◌, ◌-◌}
+use Prim.Native.Nat.{ℕ, zero}
 use native.Mathlib.Omega.{arith}
-use lib.ListN.{length, get_or, length-replicate}
-use Rattle.lists.specs.UpTo.{up_to}
+use lib.ListN.{get_or, length-replicate}
 use Rattle.rules.specs.Codes.{states_in, unclued}
 use Rattle.rules.specs.declared.Literal.{Literal}
 use Rattle.groups.specs.Grouping.{cells_in, starts_in}
-use Rattle.reasons.specs.Memory.{Wrote}
 use Rattle.reasons.specs.MemoryLaws.{turns-none, turns_more, turns-end}
 use Rattle.shapes.specs.Raising.{Raised, spelled}
 use Rattle.shapes.specs.Images.{image_joints}
@@ -35,8 +33,7 @@ pub draw_mask-requires : goal.draw_mask-requires
 draw_mask-requires c = (c.requires.1.sized, c.requires.4, length-replicate 33 zero)
 
 pub draw_places-requires : goal.draw_places-requires
-draw_places-requires c =
-    (
+draw_places-requires c = (
   c.requires.1.sized,
   length-replicate 1024
       zero,
@@ -66,18 +63,17 @@ pub turn_row-requires : goal.turn_row-requires
 turn_row-requires c = (c.requires.0.low _ c.loop-j-test.true, c.requires.2, c.requires.3, c.loop-j.invariant.1)
 
 pub survivors-requires : goal.survivors-requires
-survivors-requires c =
-    (
-      record {
-        tall = c.requires.1.sized.tall;
-        planes =
-            planes-long c.args.h c.args.w c.args.colours.now no_walls
-            c.draw_colours.ensures;
-        mask = c.draw_mask.ensures.0.size;
-      },
-      image-raised (goal.at.survivors-requires c).After-turn_row,
-      c.loop-j.invariant.2,
-    )
+survivors-requires c = (
+  record {
+    tall = c.requires.1.sized.tall;
+    planes =
+        planes-long c.args.h c.args.w c.args.colours.now no_walls
+        c.draw_colours.ensures;
+    mask = c.draw_mask.ensures.0.size;
+  },
+  image-raised (goal.at.survivors-requires c).After-turn_row,
+  c.loop-j.invariant.2,
+)
 
 pub block_mates-at-requires : goal.block_mates-at-requires
 block_mates-at-requires c =

@@ -1,23 +1,14 @@
 -- The loop's invariant: the blockers of the images by the listed rows before j are written.
-use mathlib.Core.Path.{◌≡◌, refl, ap, ◌∙◌}
-use mathlib.Core.List.{List}
-use Prim.Native.Nat.{ℕ, zero, ◌≤◌, ◌-◌}
-use native.Mathlib.Omega.{arith}
-use lib.ListN.{length, get_or, length-replicate}
+use mathlib.Core.Path.{◌≡◌}
+use Prim.Native.Nat.{◌≤◌, ◌-◌}
+use lib.ListN.{length, get_or}
 use Rattle.lists.specs.UpTo.{up_to}
 use Rattle.rules.specs.Codes.{states_in, unclued}
-use Rattle.rules.specs.declared.Literal.{Literal}
 use Rattle.groups.specs.Grouping.{cells_in, starts_in}
 use Rattle.reasons.specs.Memory.{Wrote}
-use Rattle.reasons.specs.MemoryLaws.{turns-none, turns_more, turns-end}
-use Rattle.shapes.specs.Raising.{Raised, spelled}
-use Rattle.shapes.specs.Images.{image_joints}
 use Rattle.shapes.specs.Spots.{cell_spots, joint_spots}
 use Rattle.adjacent.specs.Mates.{mates_in}
-use Rattle.planes.specs.DrawLaws.{planes-long}
-use Rattle.stuck.specs.Survivors.{no_walls}
-use Rattle.stuck.specs.BlockLaws.{lain-rows, blocks-row}
-use Rattle.stuck.specs.Writing.{blocks_by, blocks_listed}
+use Rattle.stuck.specs.Writing.{blocks_by}
 use Rattle.stuck.proofs.block_rows.Given as goal
 
 abbrev pub invariant-loop-j : goal.invariant-loop-j

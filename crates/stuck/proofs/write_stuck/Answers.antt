@@ -2,7 +2,6 @@
 use mathlib.Core.Path.{◌≡◌, ap, ◌∙◌}
 use Prim.Native.Nat.{ℕ, zero}
 use native.Mathlib.Omega.{arith}
-use borrow.Author.Rules.{rules}
 use lib.ListN.{get_or, length-replicate}
 use Rattle.laws.specs.FlatLaws.{counts}
 use Rattle.groups.specs.Grouping.{numbers_in, cells_in}

@@ -1,5 +1,4 @@
 -- Blockers, Inside and walls, one after another; what the arrays give is the reason of the unit.
-use borrow.Author.Rules.{rules}
 use Rattle.rules.specs.Flat.{flat}
 use Rattle.rules.specs.Groups.{entry}
 use Rattle.rules.specs.Shapes.{shape_of}

@@ -6,7 +6,6 @@ use Rattle.page.specs.Places.{sheet_at}
 use native.Mathlib.Omega.{arith}
 use Rattle.transcript.specs.Left.{board_at}
 use Rattle.board.specs.ConditionLaws.{cells-of-le}
-use borrow.Author.Rules.{rules}
 use Rattle.transcript.proofs.board_of.Goals as goal
 
 pub slice_bounds-colours-end : goal.slice_bounds-colours-end

@@ -1,6 +1,5 @@
 -- `first` meets its contract: its board is the all-zero one.
 use mathlib.Core.Path.{ap}
-use borrow.Author.Rules.{rules}
 use Rattle.board.specs.declared.Board.{Board}
 use Rattle.transcript.specs.declared.Stage.TheVariants.{Begin}
 use Rattle.transcript.proofs.first.Goals as goal

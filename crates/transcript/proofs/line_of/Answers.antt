@@ -2,7 +2,6 @@
 use mathlib.Core.Path.{sym, ap}
 use mathlib.Core.List.{[]}
 use native.Mathlib.Omega.{arith}
-use borrow.Author.Rules.{rules}
 use Rattle.print.specs.Lines.{LineHolds, start, written_none, holds_as}
 use Rattle.transcript.specs.Left.{line_of}
 use Rattle.transcript.proofs.line_of.Goals as goal

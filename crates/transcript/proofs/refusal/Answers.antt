@@ -1,7 +1,6 @@
 -- `refusal` meets its contract: the number of the outcome, in its line.
 use mathlib.Core.Path.{ap}
 use Prim.Native.Nat.{ℕ}
-use borrow.Author.Rules.{rules}
 use Rattle.rules.specs.Book.{refused}
 use Rattle.print.specs.Answers.{show_reply}
 use Rattle.print.specs.Lines.{holds_as}

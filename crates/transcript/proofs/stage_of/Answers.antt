@@ -1,6 +1,5 @@
 -- `stage_of` meets its contract, answer by answer.
 use mathlib.Core.Path.{sym, ap}
-use borrow.Author.Rules.{rules}
 use Rattle.transcript.specs.Left.{stage_of}
 use Rattle.transcript.proofs.stage_of.Goals as goal
 

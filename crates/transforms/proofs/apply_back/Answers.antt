@@ -1,6 +1,5 @@
 -- `transforms::apply_back` meets its contract: the turn is by the row that was read, reversed.
 use mathlib.Core.Path.{sym, ap, ap₂, ◌∙◌}
-use borrow.Author.Rules.{rules}
 use Rattle.shapes.specs.Pairs.{point_of, turn_by}
 use Rattle.shapes.specs.PairLaws.{small-back, signs-read, turns-read}
 use Rattle.transforms.specs.BoxLaws.{signs-reversed, turn-reversed}

@@ -3,7 +3,6 @@
 use mathlib.Core.Path.{◌≡◌, refl, ap, ◌∙◌}
 use Prim.Native.Nat.{ℕ, ◌/◌, ◌%◌, ◌<◌}
 use native.Mathlib.Omega.{arith}
-use borrow.Author.Rules.{rules}
 use lib.IntN.{pos, negsuc, ◌+ℤ◌, ◌-ℤ◌}
 use mir.Syntax.{w32}
 use mir.Val.{SFits, to_z, of_z}
@@ -37,8 +36,7 @@ overflow_sub-result-2 c = less-fits (c.args.i % 66) (omega arith)
 
 pub returns : goal.returns
 unfolding box_at flat_place ◌⊕◌
-returns c =
-    (
+returns c = (
   point-eq refl (less-back (c.args.i / 66) (omega arith)) (less-back (c.args.i % 66) (omega arith)),
   record {
     down = less-small (c.args.i / 66) (omega arith);

@@ -1,6 +1,5 @@
 -- `transforms::of_image` meets its contract: the coordinates are small, and are read back as they were.
 use mathlib.Core.Path.{refl, sym, ap, ap₂, ◌∙◌}
-use borrow.Author.Rules.{rules}
 use mir.Syntax.{w32}
 use mir.Facts.{to_z-of_z}
 use Rattle.rules.specs.Groups.{entry}

@@ -1,6 +1,5 @@
 -- `transforms::put` meets its contract: the two numbers are stored as they are.
 use native.Mathlib.Omega.{arith}
-use borrow.Author.Rules.{rules}
 use lib.ListN.{length-set}
 use mir.Syntax.{w32}
 use mir.Facts.{to_z-of_z}

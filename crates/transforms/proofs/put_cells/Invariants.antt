@@ -1,15 +1,10 @@
 -- `transforms::put_cells` meets its contract. The loop's invariant: the cells among the places passed are written.
-use mathlib.Core.Path.{◌≡◌, ap}
 use Prim.Native.Nat.{◌-◌, ◌≤◌}
-use native.Mathlib.Omega.{arith}
-use borrow.Author.Rules.{rules}
-use Rattle.lists.specs.WroteLaws.{wrote-same, wrote-length}
 use Rattle.rules.specs.Groups.{entry}
 use Rattle.groups.specs.Grouping.{numbers_in}
 use Rattle.shapes.specs.Pairs.{point_of}
 use Rattle.transforms.specs.Transforms.{WrotePoints}
 use Rattle.transforms.specs.Box.{sweep}
-use Rattle.transforms.specs.ImageLaws.{sweep-start, sweep-step, sweep-room}
 use Rattle.transforms.proofs.put_cells.Given as goal
 
 abbrev pub invariant-loop-i : goal.invariant-loop-i

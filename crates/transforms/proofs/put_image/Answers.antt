@@ -2,7 +2,6 @@
 -- the first image is near the page
 use mathlib.Core.Path.{ap}
 use native.Mathlib.Omega.{arith}
-use borrow.Author.Rules.{rules}
 use lib.ListN.{length}
 use Rattle.lists.specs.WroteLaws.{wrote-length}
 use Rattle.shapes.specs.Pairs.{SmallPair}

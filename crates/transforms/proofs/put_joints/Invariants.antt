@@ -1,15 +1,10 @@
 -- `transforms::put_joints` meets its contract. The loop's invariant: the connections passed are written, in order.
-use mathlib.Core.Path.{◌≡◌, ap}
 use Prim.Native.Nat.{◌-◌, ◌≤◌}
-use native.Mathlib.Omega.{arith}
-use borrow.Author.Rules.{rules}
-use Rattle.lists.specs.WroteLaws.{wrote-same, wrote-length}
-use Rattle.shapes.specs.Outlines.{down_in, across_in, joint_count}
+use Rattle.shapes.specs.Outlines.{down_in, across_in}
 use Rattle.shapes.specs.Pairs.{point_of}
 use Rattle.shapes.specs.Spots.{spots}
 use Rattle.transforms.specs.Transforms.{WrotePoints}
 use Rattle.transforms.specs.Box.{moved_back}
-use Rattle.transforms.specs.ImageLaws.{moved-start, moved-step, moved-room}
 use Rattle.transforms.proofs.put_joints.Given as goal
 
 abbrev pub invariant-loop-j : goal.invariant-loop-j

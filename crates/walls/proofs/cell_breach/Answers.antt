@@ -1,7 +1,6 @@
 -- Below, then right: the first that is found.
 use mathlib.Core.Path.{sym, ◌∙◌}
 use native.Mathlib.Omega.{arith}
-use borrow.Author.Rules.{rules}
 use Rattle.laws.specs.FlatLaws.{Counts, counts, Spot, spot}
 use Rattle.reasons.specs.StepLaws.{step-any}
 use Rattle.walls.specs.WallCases.{or-found, or-missed, cell-split}

@@ -1,7 +1,7 @@
 -- `count_hits` meets its contract: as long as none is counted, the borders passed are no such walls.
 use mathlib.Core.Path.{◌≡◌, sym, ◌∙◌}
 use mathlib.Core.Bool.{false, ◌&&◌}
-use Prim.Native.Nat.{◌≤◌, ◌<◌, ◌+◌, ◌-◌}
+use Prim.Native.Nat.{◌<◌, ◌+◌}
 use native.Mathlib.Omega.{arith}
 use lib.Dec.{eqb}
 use lib.ListN.{get_or}
@@ -13,7 +13,6 @@ use Rattle.laws.specs.CodeLaws.{state-wall}
 use Rattle.groups.specs.Grouping.{numbers_in}
 use Rattle.groups.specs.GroupingLaws.{grouping-number}
 use Rattle.walls.specs.Breaches.{is_breach}
-use Rattle.walls.specs.Clean.{Apart}
 use Rattle.walls.proofs.count_hits.Goals.{After-hit-hits}
 use Rattle.walls.proofs.count_hits.Goals as goal
 

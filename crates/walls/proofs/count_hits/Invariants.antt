@@ -1,18 +1,9 @@
 -- `count_hits` meets its contract: as long as none is counted, the borders passed are no such walls.
-use mathlib.Core.Path.{◌≡◌, sym, ◌∙◌}
-use mathlib.Core.Bool.{false, ◌&&◌}
-use Prim.Native.Nat.{◌≤◌, ◌<◌, ◌+◌, ◌-◌}
-use native.Mathlib.Omega.{arith}
-use lib.Dec.{eqb}
-use lib.ListN.{get_or}
-use Rattle.lists.specs.CountLaws.{no-bit, bit-under}
-use Rattle.lists.specs.Arithmetic.{below_more}
+use mathlib.Core.Path.{◌≡◌}
+use Prim.Native.Nat.{◌≤◌, ◌-◌}
 use Rattle.rules.specs.Codes.{states_in}
 use Rattle.rules.specs.Groups.{entry}
-use Rattle.laws.specs.CodeLaws.{state-wall}
 use Rattle.groups.specs.Grouping.{numbers_in}
-use Rattle.groups.specs.GroupingLaws.{grouping-number}
-use Rattle.walls.specs.Breaches.{is_breach}
 use Rattle.walls.specs.Clean.{Apart}
 use Rattle.walls.proofs.count_hits.Given as goal
 

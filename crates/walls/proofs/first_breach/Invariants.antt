@@ -1,13 +1,12 @@
 -- Nothing where the page is clean; else the rows passed have no breach, so that what is left of the page is the whole.
-use mathlib.Core.Path.{◌≡◌, sym, ◌∙◌}
+use mathlib.Core.Path.{◌≡◌}
 use Prim.Native.Nat.{◌≤◌, ◌-◌, ◌*◌}
-use native.Mathlib.Omega.{arith}
 use Rattle.rules.specs.Flat.{flat}
 use Rattle.rules.specs.Codes.{states_in}
 use Rattle.rules.specs.Groups.{entry}
 use Rattle.groups.specs.Grouping.{numbers_in}
 use Rattle.walls.specs.Breaches.{breach_from, first_breach}
-use Rattle.walls.specs.WallCases.{breach_at, or-found, or-missed, page-start, page-split, from_end}
+use Rattle.walls.specs.WallCases.{breach_at}
 use Rattle.walls.proofs.first_breach.Given as goal
 
 abbrev pub invariant-loop-y : goal.invariant-loop-y

@@ -1,6 +1,5 @@
 -- Whether it is a breach decides.
 use mathlib.Core.Path.{sym, ◌∙◌}
-use borrow.Author.Rules.{rules}
 use Rattle.walls.specs.WallCases.{hop-found, hop-missed}
 use Rattle.walls.proofs.hop_breach.Goals as goal
 

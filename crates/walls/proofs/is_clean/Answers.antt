@@ -1,6 +1,6 @@
 -- `is_clean` meets its contract: the borders below, and those on the right row by row.
 use mathlib.Core.Path.{◌≡◌}
-use Prim.Native.Nat.{ℕ, ◌≤◌, ◌<◌, ◌+◌, ◌-◌, ◌*◌}
+use Prim.Native.Nat.{ℕ, ◌+◌, ◌-◌, ◌*◌}
 use native.Mathlib.Omega.{arith}
 use Rattle.lists.specs.Arithmetic.{below_more}
 use Rattle.rules.specs.Codes.{states_in}
@@ -35,8 +35,7 @@ pub overflow_mul-h-2 : goal.overflow_mul-h-2
 overflow_mul-h-2 c = omega (arith, all c)
 
 pub count_hits-requires : goal.count_hits-requires
-count_hits-requires c =
-    (
+count_hits-requires c = (
   c.requires.1,
   omega (arith, all c),
   omega (arith, all c),
@@ -68,13 +67,12 @@ pub overflow_sub-w-in-loop-y-2 : goal.overflow_sub-w-in-loop-y-2
 overflow_sub-w-in-loop-y-2 c = omega (arith, c.requires.0)
 
 pub count_hits-requires-in-loop-y : goal.count_hits-requires-in-loop-y
-count_hits-requires-in-loop-y c =
-    (
-      c.requires.1,
-      omega (arith, (end c).line, all (goal.at.count_hits-requires-in-loop-y c).Start),
-      omega (arith, (end c).cell, all (goal.at.count_hits-requires-in-loop-y c).Start),
-      omega (arith, (end c).cell, all (goal.at.count_hits-requires-in-loop-y c).Start, c.requires.0),
-    )
+count_hits-requires-in-loop-y c = (
+  c.requires.1,
+  omega (arith, (end c).line, all (goal.at.count_hits-requires-in-loop-y c).Start),
+  omega (arith, (end c).cell, all (goal.at.count_hits-requires-in-loop-y c).Start),
+  omega (arith, (end c).cell, all (goal.at.count_hits-requires-in-loop-y c).Start, c.requires.0),
+)
 
 pub returns-then-count_hits-ne0-2 : goal.returns-then-count_hits-ne0-2
 returns-then-count_hits-ne0-2 c e = let z : ◌≡◌ {A = ℕ} 0 1 = cc in absurd (omega arith)

@@ -1,13 +1,9 @@
 -- `is_clean` meets its contract: the borders below, and those on the right row by row.
-use mathlib.Core.Path.{◌≡◌}
 use Prim.Native.Nat.{ℕ, ◌≤◌, ◌<◌, ◌+◌, ◌-◌, ◌*◌}
-use native.Mathlib.Omega.{arith}
-use Rattle.lists.specs.Arithmetic.{below_more}
 use Rattle.rules.specs.Codes.{states_in}
 use Rattle.rules.specs.Groups.{entry}
-use Rattle.laws.specs.FlatLaws.{Counts, counts, Spot, spot}
 use Rattle.groups.specs.Grouping.{numbers_in}
-use Rattle.walls.specs.Clean.{Apart, page-clean}
+use Rattle.walls.specs.Clean.{Apart}
 use Rattle.walls.proofs.is_clean.Given as goal
 
 abbrev pub invariant-loop-y : goal.invariant-loop-y

@@ -1,10 +1,8 @@
 -- The cells passed have no breach, so that what is left of the row is the whole.
 use mathlib.Core.Path.{◌≡◌, sym, ◌∙◌}
-use Prim.Native.Nat.{◌≤◌, ◌+◌, ◌-◌, ◌*◌}
+use Prim.Native.Nat.{◌+◌, ◌-◌, ◌*◌}
 use native.Mathlib.Omega.{arith}
-use Rattle.groups.specs.Grouping.{numbers_in}
-use Rattle.walls.specs.Breaches.{breach_from}
-use Rattle.walls.specs.WallCases.{breach_at, or-found, or-missed, row-split, from_end}
+use Rattle.walls.specs.WallCases.{or-found, or-missed, row-split, from_end}
 use Rattle.walls.proofs.row_breach.Goals as goal
 
 pub loop-x-init : goal.loop-x-init

@@ -1,10 +1,9 @@
 -- The cells passed have no breach, so that what is left of the row is the whole.
-use mathlib.Core.Path.{◌≡◌, sym, ◌∙◌}
+use mathlib.Core.Path.{◌≡◌}
 use Prim.Native.Nat.{◌≤◌, ◌+◌, ◌-◌, ◌*◌}
-use native.Mathlib.Omega.{arith}
 use Rattle.groups.specs.Grouping.{numbers_in}
 use Rattle.walls.specs.Breaches.{breach_from}
-use Rattle.walls.specs.WallCases.{breach_at, or-found, or-missed, row-split, from_end}
+use Rattle.walls.specs.WallCases.{breach_at}
 use Rattle.walls.proofs.row_breach.Given as goal
 
 abbrev pub invariant-loop-x : goal.invariant-loop-x

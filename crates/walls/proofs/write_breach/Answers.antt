@@ -1,5 +1,4 @@
 -- What `wall_reason` writes.
-use borrow.Author.Rules.{rules}
 use Rattle.reasons.specs.Search.{path_in}
 use Rattle.walls.specs.Written.{breach_literals}
 use Rattle.walls.proofs.write_breach.Goals as goal

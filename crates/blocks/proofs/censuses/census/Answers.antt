@@ -1,9 +1,8 @@
 -- `census` meets its contract: after each turn the parts and the first clue are those of the cells passed.
 use mathlib.Core.Path.{◌≡◌, ap, ◌∙◌}
-use mathlib.Core.Logic.{⊎_elim}
-use Prim.Native.Nat.{◌≤◌, ◌<◌, ◌-◌}
+use Prim.Native.Nat.{◌<◌}
 use native.Mathlib.Omega.{arith}
-use borrow.Author.Rules.{rules, sfits_of}
+use borrow.Author.Rules.{sfits_of}
 use lib.Dec.{eqb}
 use lib.ListN.{get_or}
 use lib.IntN.{pos}

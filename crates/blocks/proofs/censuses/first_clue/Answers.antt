@@ -1,5 +1,4 @@
 -- The first clue, where there is one.
-use borrow.Author.Rules.{rules}
 use Rattle.blocks.proofs.censuses.first_clue.Goals as goal
 
 pub returns-in-Is : goal.returns-in-Is

@@ -1,5 +1,4 @@
 -- `next_part` meets its contract: a case law for each return.
-use borrow.Author.Rules.{rules}
 use Rattle.blocks.specs.BlockCases.{part-first, part-later}
 use Rattle.blocks.proofs.censuses.next_part.Goals as goal
 

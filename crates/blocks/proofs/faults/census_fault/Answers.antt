@@ -1,6 +1,5 @@
 -- `census_fault` meets its contract: the faults in their order.
 use mathlib.Core.Path.{◌∙◌}
-use borrow.Author.Rules.{rules}
 use Rattle.blocks.specs.Faults.{census_fault}
 use Rattle.blocks.proofs.faults.census_fault.Goals as goal
 

@@ -1,5 +1,4 @@
 -- `clash` meets its contract: both clues are there, or one is missing.
-use borrow.Author.Rules.{rules}
 use Rattle.blocks.proofs.faults.clash.Goals as goal
 
 pub returns : goal.returns

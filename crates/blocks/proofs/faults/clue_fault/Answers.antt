@@ -1,6 +1,5 @@
 -- `clue_fault` meets its contract: a case law for each return.
 use mathlib.Core.Path.{◌∙◌}
-use borrow.Author.Rules.{rules}
 use Rattle.blocks.specs.FaultCases.{clue-none, clue-first, clue-second, clue-big}
 use Rattle.blocks.proofs.faults.clue_fault.Goals as goal
 

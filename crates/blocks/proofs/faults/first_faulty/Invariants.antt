@@ -1,9 +1,7 @@
 -- `first_faulty` meets its contract: the blocks passed are clear, so that what is left of the search is the whole.
-use mathlib.Core.Path.{◌≡◌, sym, ap, ◌∙◌}
+use mathlib.Core.Path.{◌≡◌}
 use mathlib.Core.List.{List}
 use Prim.Native.Nat.{ℕ, ◌≤◌, ◌-◌}
-use native.Mathlib.Omega.{arith}
-use borrow.Author.Rules.{rules}
 use lib.IntN.{ℤ}
 use Rattle.rules.specs.Codes.{colours_in, clues_in}
 use Rattle.rules.specs.Groups.{entry}
@@ -11,8 +9,8 @@ use Rattle.groups.specs.Grouping.{numbers_in, cells_in, starts_in, count_in}
 use Rattle.groups.specs.Parts.{part_of}
 use Rattle.blocks.specs.declared.Fault.{Fault}
 use Rattle.blocks.specs.Arrays.{size_in}
-use Rattle.blocks.specs.Faults.{is_faultless, fault_on}
-use Rattle.blocks.specs.Faulty.{at, faulty_from, first_faulty, faulty-next, faulty-found, faulty-end}
+use Rattle.blocks.specs.Faults.{fault_on}
+use Rattle.blocks.specs.Faulty.{faulty_from, first_faulty}
 use Rattle.blocks.proofs.faults.first_faulty.Given as goal
 
 abbrev pub faults_of : List ℕ → List ℤ → List ℕ → List ℕ → List ℕ → List ℕ → ℕ → Fault

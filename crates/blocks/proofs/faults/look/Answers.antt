@@ -1,10 +1,10 @@
 -- `look` meets its contract: after each turn the cells passed were seen to agree, so that the first fault of the whole
 -- part is that of the cell where the look stops.
 use mathlib.Core.Path.{◌≡◌, refl, sym, ap, ◌∙◌}
-use mathlib.Core.Logic.{inl, inr, ⊎_elim}
-use Prim.Native.Nat.{ℕ, ◌≤◌, ◌<◌, ◌-◌}
+use mathlib.Core.Logic.{inl, inr}
+use Prim.Native.Nat.{ℕ, ◌<◌}
 use native.Mathlib.Omega.{arith}
-use borrow.Author.Rules.{rules, sfits_of}
+use borrow.Author.Rules.{sfits_of}
 use lib.ListN.{length, get_or, length-set}
 use lib.IntN.{pos}
 use mir.Facts.{to_z-of_z}
@@ -13,11 +13,10 @@ use mir.Val.{to_z, of_z}
 use lib.Dec.{eqb}
 use Rattle.lists.specs.CountLaws.{bit-under}
 use Rattle.rules.specs.Codes.{clue_of}
-use Rattle.groups.specs.Grouping.{numbers_in, cells_in}
 use Rattle.blocks.specs.declared.Fault.TheVariants.{InsideEdge}
 use Rattle.blocks.specs.Censuses.{clue_in}
 use Rattle.blocks.specs.Looks.{OwnPut, ClueKept}
-use Rattle.blocks.specs.Looked.{PartLooked, look_none, look-more, looked-few, zero-parted, one-parted, kept-none}
+use Rattle.blocks.specs.Looked.{look_none, look-more, looked-few, zero-parted, one-parted, kept-none}
 use Rattle.blocks.specs.Looked.{settles, looked-stray, looked-clash, looked-scan, looked-clear}
 use Rattle.blocks.proofs.faults.look.Goals.{After-bit-one, After-cell_at-c, After-loop-i, After-t34-1, Joined-clues-c-ge0, Joined-own-one}
 use Rattle.blocks.proofs.faults.look.Goals.{then-own-one+else-own-one-ne1024, else-own-one}
@@ -137,7 +136,7 @@ kept c =
     elim c.if-clues-c-ge0.branch [
       | then-clues-c-ge0+else-clash w ↦
           let e =
-              w.clue_at-clue.ensures ∙ ap (λ y. clue_in (clue_of y)) (signed (goal.at.Joined-clues-c-ge0 c).After-t34-1) in
+          w.clue_at-clue.ensures ∙ ap (λ y. clue_in (clue_of y)) (signed (goal.at.Joined-clues-c-ge0 c).After-t34-1) in
           rw (← e) (w.first-is ∙ w.first_clue-first.ensures, sym w.clash.ensures ∙ w.if-clash.false)
       | else-clues-c-ge0 w ↦
           rw w.first-is
@@ -185,15 +184,13 @@ returns-then-has_room-2 c =
     (rw (all (goal.at.returns-then-has_room-2 c).After-loop-i) at (c.has_room-then-has_room.ensures c.if-has_room-2.true))))
 
 pub returns-else-has_room-2 : goal.returns-else-has_room-2
-returns-else-has_room-2 c =
-    (
-      λ e. let z : ◌≡◌ {A = ℕ} 0 1 = cc in absurd (omega arith),
-      λ e. rw (all (goal.at.returns-else-has_room-2 c).After-loop-i) (looked-scan c.loop-i.invariant.3),
-    )
+returns-else-has_room-2 c = (
+  λ e. let z : ◌≡◌ {A = ℕ} 0 1 = cc in absurd (omega arith),
+  λ e. rw (all (goal.at.returns-else-has_room-2 c).After-loop-i) (looked-scan c.loop-i.invariant.3),
+)
 
 pub returns-else-has_room : goal.returns-else-has_room
-returns-else-has_room c =
-    (
-      λ e. let z : ◌≡◌ {A = ℕ} 0 1 = cc in absurd (omega arith),
-      λ e. rw (all (goal.at.returns-else-has_room c).After-loop-i) (looked-scan c.loop-i.invariant.3),
-    )
+returns-else-has_room c = (
+  λ e. let z : ◌≡◌ {A = ℕ} 0 1 = cc in absurd (omega arith),
+  λ e. rw (all (goal.at.returns-else-has_room c).After-loop-i) (looked-scan c.loop-i.invariant.3),
+)

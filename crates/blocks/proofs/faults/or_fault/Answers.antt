@@ -1,6 +1,5 @@
 -- `or_fault` meets its contract: a case law for each return.
 use mathlib.Core.Path.{sym, ◌∙◌}
-use borrow.Author.Rules.{rules}
 use Rattle.blocks.specs.FaultCases.{or-clear, or-fault}
 use Rattle.blocks.proofs.faults.or_fault.Goals as goal
 

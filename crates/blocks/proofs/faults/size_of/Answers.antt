@@ -1,6 +1,5 @@
 -- `size_of` meets its contract: the two places are read.
 use native.Mathlib.Omega.{arith}
-use borrow.Author.Rules.{rules}
 use Rattle.blocks.specs.Arrays.{size_in}
 use Rattle.blocks.proofs.faults.size_of.Goals as goal
 

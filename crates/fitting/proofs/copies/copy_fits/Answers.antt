@@ -3,16 +3,11 @@ use mathlib.Core.Path.{◌≡◌, sym, ◌∙◌}
 use Prim.Native.Nat.{ℕ, ◌+◌, ◌-◌, ◌*◌, ◌/◌, ◌%◌, ◌≤◌, ◌<◌}
 use native.Mathlib.Omega.{arith}
 use lib.ListN.{get_or}
-use Rattle.lists.specs.Lists.{all}
-use Rattle.lists.specs.Parts.{part}
 use Rattle.lists.specs.PartLaws.{all-ends, all-next, all_done}
-use Rattle.rules.specs.Codes.{states_in, unclued}
-use Rattle.rules.specs.Flat.{flat}
+use Rattle.rules.specs.Codes.{states_in}
 use Rattle.rules.specs.Groups.{entry}
-use Rattle.rules.specs.Shapes.{shape_of}
 use Rattle.laws.specs.FlatLaws.{row_of}
 use Rattle.groups.specs.Grouping.{numbers_in, cells_in}
-use Rattle.planes.specs.Placing.{fits_of}
 use Rattle.fitting.specs.Copies.{cell_clear}
 use Rattle.fitting.specs.CopyLaws.{copy-unit-low, shift_of, copied-cells}
 use Rattle.fitting.proofs.copies.copy_fits.Goals.{After-cell_at-f, After-cell_clear}

@@ -1,23 +1,15 @@
 -- The loop's invariant: the answer is that of the first cells from i on.
 -- the unit's shape fits at a cell
 use mathlib.Core.Path.{◌≡◌, sym, ap₂, ◌∙◌}
-use mathlib.Core.Bool.{Bool}
-use mathlib.Core.List.{List}
-use Prim.Native.Nat.{ℕ, ◌+◌, ◌-◌, ◌≤◌}
+use Prim.Native.Nat.{◌+◌}
 use native.Mathlib.Omega.{arith}
-use borrow.Author.Rules.{rules}
 use lib.ListN.{get_or}
 use Rattle.lists.specs.Lists.{any}
 use Rattle.lists.specs.Parts.{part}
 use Rattle.lists.specs.PartLaws.{any-done, any_found, any_next}
-use Rattle.rules.specs.Codes.{states_in, unclued}
-use Rattle.rules.specs.Flat.{flat}
-use Rattle.rules.specs.Groups.{entry}
-use Rattle.rules.specs.Shapes.{shape_of}
-use Rattle.groups.specs.Grouping.{numbers_in, cells_in, starts_in}
+use Rattle.groups.specs.Grouping.{cells_in, starts_in}
 use Rattle.reasons.specs.Arrays.{Cells}
 use Rattle.reasons.specs.CellLaws.{cells-reach, cells_at}
-use Rattle.planes.specs.Placing.{fits_of}
 use Rattle.planes.specs.Laying.{fits_among}
 use Rattle.fitting.specs.Copies.{soon_end, soon_in}
 use Rattle.fitting.specs.CopyLaws.{soon-cells}
@@ -54,12 +46,11 @@ pub cell_at-o-requires : goal.cell_at-o-requires
 cell_at-o-requires c = omega (arith, (soon (goal.at.cell_at-o-requires c).After-soon_end-to).end)
 
 pub copy_fits-requires : goal.copy_fits-requires
-copy_fits-requires c =
-    (
-      c.requires.0,
-      c.requires.1,
-      rw c.cell_at-o.ensures (cells_at (soon (goal.at.copy_fits-requires c).After-soon_end-to) c.loop-i.i c.loop-i.invariant.0 c.loop-i-test.true),
-    )
+copy_fits-requires c = (
+  c.requires.0,
+  c.requires.1,
+  rw c.cell_at-o.ensures (cells_at (soon (goal.at.copy_fits-requires c).After-soon_end-to) c.loop-i.i c.loop-i.invariant.0 c.loop-i-test.true),
+)
 
 -- the answer at the cell at i
 cell-is : (c : After-copy_fits) → let a = c.args in

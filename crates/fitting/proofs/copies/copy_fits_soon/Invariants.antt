@@ -1,26 +1,19 @@
 -- The loop's invariant: the answer is that of the first cells from i on.
 -- the unit's shape fits at a cell
-use mathlib.Core.Path.{◌≡◌, sym, ap₂, ◌∙◌}
+use mathlib.Core.Path.{◌≡◌}
 use mathlib.Core.Bool.{Bool}
 use mathlib.Core.List.{List}
-use Prim.Native.Nat.{ℕ, ◌+◌, ◌-◌, ◌≤◌}
-use native.Mathlib.Omega.{arith}
-use borrow.Author.Rules.{rules}
-use lib.ListN.{get_or}
+use Prim.Native.Nat.{ℕ, ◌-◌, ◌≤◌}
 use Rattle.lists.specs.Lists.{any}
 use Rattle.lists.specs.Parts.{part}
-use Rattle.lists.specs.PartLaws.{any-done, any_found, any_next}
 use Rattle.rules.specs.Codes.{states_in, unclued}
 use Rattle.rules.specs.Flat.{flat}
 use Rattle.rules.specs.Groups.{entry}
 use Rattle.rules.specs.Shapes.{shape_of}
 use Rattle.groups.specs.Grouping.{numbers_in, cells_in, starts_in}
-use Rattle.reasons.specs.Arrays.{Cells}
-use Rattle.reasons.specs.CellLaws.{cells-reach, cells_at}
 use Rattle.planes.specs.Placing.{fits_of}
 use Rattle.planes.specs.Laying.{fits_among}
-use Rattle.fitting.specs.Copies.{soon_end, soon_in}
-use Rattle.fitting.specs.CopyLaws.{soon-cells}
+use Rattle.fitting.specs.Copies.{soon_in}
 use Rattle.fitting.proofs.copies.copy_fits_soon.Given as goal
 
 abbrev pub fit : ℕ → ℕ → List ℕ → List ℕ → List ℕ → ℕ → ℕ → Bool

@@ -1,7 +1,6 @@
 -- Each return is a case of the definition.
 use mathlib.Core.Path.{sym}
 use Prim.Native.Nat.{◌+◌}
-use borrow.Author.Rules.{rules}
 use borrow.Author.Tests.{lt-ltb, le-ltb}
 use Rattle.fitting.proofs.copies.soon_end.Goals as goal
 

@@ -1,16 +1,13 @@
 -- The loop's invariant: where row 0 does not fit, no row before `row` does.
 use mathlib.Core.Path.{◌≡◌, sym, ◌∙◌}
-use mathlib.Core.Bool.{Bool, false}
+use mathlib.Core.Bool.{Bool}
 use mathlib.Core.List.{List}
-use Prim.Native.Nat.{ℕ, ◌≤◌, ◌-◌}
+use Prim.Native.Nat.{ℕ}
 use native.Mathlib.Omega.{arith}
-use lib.ListN.{length}
-use Rattle.lists.specs.Tests.{any_below}
 use Rattle.lists.specs.TestLaws.{any_none, any_some, none_more}
 use Rattle.rules.specs.Page.{Point}
 use Rattle.shapes.specs.Spots.{cell_spots, joint_spots}
 use Rattle.shapes.specs.Images.{image_joints}
-use Rattle.planes.specs.Masks.{MaskAnswers}
 use Rattle.fitting.proofs.images.others_fit.Goals.{Start}
 use Rattle.fitting.proofs.images.others_fit.Goals as goal
 

@@ -1,12 +1,11 @@
 -- The loop's invariant: the units before u fit.
 use mathlib.Core.Bool.{Bool}
-use Prim.Native.Nat.{ℕ, ◌-◌}
+use Prim.Native.Nat.{ℕ}
 use native.Mathlib.Omega.{arith}
 use Rattle.rules.specs.Codes.{states_in, unclued}
 use Rattle.groups.specs.Grouping.{count_in}
 use Rattle.adjacent.specs.HomeLaws.{unit-few, home_at}
-use Rattle.fitting.specs.Held.{Nearby}
-use Rattle.fitting.specs.FirstStuck.{Passed, fits_unit}
+use Rattle.fitting.specs.FirstStuck.{fits_unit}
 use Rattle.fitting.specs.FirstStuckLaws.{passed_start, passed-next, passed-all}
 use Rattle.fitting.proofs.singles.after_singles.Goals.{Start}
 use Rattle.fitting.proofs.singles.after_singles.Goals as goal
@@ -22,13 +21,12 @@ pub loop-u-init : goal.loop-u-init
 loop-u-init c = (passed_start (test (goal.at.loop-u-init c).Start) (count_in c.args.units.now), c.all_near-sure.ensures.1)
 
 pub single_fits-requires : goal.single_fits-requires
-single_fits-requires c =
-    (
-      c.requires.0,
-      rw c.count_of-count.ensures at c.loop-u-test.true,
-      c.all_near-sure.ensures.0,
-      c.loop-u.invariant.1,
-    )
+single_fits-requires c = (
+  c.requires.0,
+  rw c.count_of-count.ensures at c.loop-u-test.true,
+  c.all_near-sure.ensures.0,
+  c.loop-u.invariant.1,
+)
 
 pub overflow_add-u : goal.overflow_add-u
 overflow_add-u c = omega (arith, c.loop-u-test.true, c.count_of-count.ensures, unit-few c.requires.0)

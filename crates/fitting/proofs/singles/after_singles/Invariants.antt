@@ -1,13 +1,9 @@
 -- The loop's invariant: the units before u fit.
-use mathlib.Core.Bool.{Bool}
-use Prim.Native.Nat.{ℕ, ◌-◌}
-use native.Mathlib.Omega.{arith}
+use Prim.Native.Nat.{◌-◌}
 use Rattle.rules.specs.Codes.{states_in, unclued}
 use Rattle.groups.specs.Grouping.{count_in}
-use Rattle.adjacent.specs.HomeLaws.{unit-few, home_at}
 use Rattle.fitting.specs.Held.{Nearby}
 use Rattle.fitting.specs.FirstStuck.{Passed, fits_unit}
-use Rattle.fitting.specs.FirstStuckLaws.{passed_start, passed-next, passed-all}
 use Rattle.fitting.proofs.singles.after_singles.Given as goal
 
 abbrev pub invariant-loop-u : goal.invariant-loop-u

@@ -33,11 +33,10 @@ one-is : (c : Else-last-first) → get_or (starts_in c.args.units.now) (c.args.u
 one-is c = rw (c.start_of-first.ensures, c.start_of-last.ensures) at c.if-last-first.false
 
 pub returns-then-sure : goal.returns-then-sure
-returns-then-sure c =
-    (
-      λ e. sure-unit c.requires.0 c.args.u c.requires.1 (one-is (goal.at.returns-then-sure c).Else-last-first) (c.requires.2 c.if-sure.true),
-      c.requires.3,
-    )
+returns-then-sure c = (
+  λ e. sure-unit c.requires.0 c.args.u c.requires.1 (one-is (goal.at.returns-then-sure c).Else-last-first) (c.requires.2 c.if-sure.true),
+  c.requires.3,
+)
 
 pub cell_at-c-requires : goal.cell_at-c-requires
 cell_at-c-requires c =
@@ -68,10 +67,9 @@ pub near_mate-requires : goal.near_mate-requires
 near_mate-requires c = (rw (home-is (goal.at.near_mate-requires c).After-group_of-p) (home_of c.requires.0 c.args.u c.requires.1), c.requires.3)
 
 pub returns : goal.returns
-returns c =
-    (
-      λ e.
-          single-unit c.requires.0 c.args.u c.requires.1 (one-is (goal.at.returns c).Else-last-first)
-          (rw (home-is (goal.at.returns c).After-group_of-p) at (c.near_mate.ensures.0.some (ltb-true _ _ e))),
-      c.near_mate.ensures.1,
-    )
+returns c = (
+  λ e.
+      single-unit c.requires.0 c.args.u c.requires.1 (one-is (goal.at.returns c).Else-last-first)
+      (rw (home-is (goal.at.returns c).After-group_of-p) at (c.near_mate.ensures.0.some (ltb-true _ _ e))),
+  c.near_mate.ensures.1,
+)

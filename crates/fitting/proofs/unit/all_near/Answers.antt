@@ -1,9 +1,8 @@
 -- The loop's invariant: each potential unit before p has an adjacent one.
 use mathlib.Core.Path.{◌≡◌}
-use Prim.Native.Nat.{ℕ, ◌-◌, ◌≤◌}
+use Prim.Native.Nat.{ℕ}
 use native.Mathlib.Omega.{arith}
 use Rattle.groups.specs.Grouping.{count_in}
-use Rattle.fitting.specs.Held.{Nearby, Adjoined}
 use Rattle.fitting.specs.HeldLaws.{adjoined-none, adjoined-more}
 use Rattle.fitting.proofs.unit.all_near.Goals as goal
 
@@ -24,8 +23,7 @@ loop-p-smaller c = omega (arith, c.loop-p-test.true)
 
 pub loop-p-preserved : goal.loop-p-preserved
 loop-p-preserved c =
-    let m = c.near_mate-q.ensures in
-    (
+    let m = c.near_mate-q.ensures in (
       omega (arith, c.loop-p-test.true),
       adjoined-more c.loop-p.invariant.1 (m.0.some c.if-q-ge1024.false),
       m.1,

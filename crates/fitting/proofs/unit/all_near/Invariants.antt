@@ -1,10 +1,6 @@
 -- The loop's invariant: each potential unit before p has an adjacent one.
-use mathlib.Core.Path.{◌≡◌}
-use Prim.Native.Nat.{ℕ, ◌-◌, ◌≤◌}
-use native.Mathlib.Omega.{arith}
-use Rattle.groups.specs.Grouping.{count_in}
+use Prim.Native.Nat.{◌-◌, ◌≤◌}
 use Rattle.fitting.specs.Held.{Nearby, Adjoined}
-use Rattle.fitting.specs.HeldLaws.{adjoined-none, adjoined-more}
 use Rattle.fitting.proofs.unit.all_near.Given as goal
 
 abbrev pub invariant-loop-p : goal.invariant-loop-p

@@ -1,7 +1,6 @@
 -- A mate is kept from before, or one is asked for and kept.
 use Prim.Native.Nat.{◌-◌}
 use native.Mathlib.Omega.{arith}
-use borrow.Author.Rules.{rules}
 use Rattle.adjacent.specs.HomeLaws.{home-few, home-cells}
 use Rattle.fitting.specs.HeldLaws.{mate-kept, nearby-more}
 use Rattle.fitting.proofs.unit.near_mate.Goals as goal
@@ -14,8 +13,7 @@ bounds-near-p c = omega (arith, home-few c.requires.0, c.requires.1.long)
 
 pub returns-then-kept-gt0 : goal.returns-then-kept-gt0
 returns-then-kept-gt0 c =
-    let n = c.index-kept in
-    (
+    let n = c.index-kept in (
       mate-kept c.requires.0 (c.requires.1.some c.args.p (n.result - 1) (omega (arith, n.ensures, c.if-kept-gt0.true))),
       c.requires.1,
     )

@@ -1,9 +1,7 @@
 -- Planes are drawn once, and a mask for each potential unit that is asked for after another.
 use mathlib.Core.Path.{◌∙◌}
-use mathlib.Core.Logic.{⊎_elim}
 use Prim.Native.Nat.{zero}
 use native.Mathlib.Omega.{arith}
-use borrow.Author.Rules.{rules}
 use lib.ListN.{length-replicate}
 use Rattle.adjacent.specs.BesideLaws.{beside-gathered}
 use Rattle.adjacent.specs.HomeLaws.{home-few, home-cells}

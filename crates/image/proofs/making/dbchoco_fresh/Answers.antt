@@ -2,7 +2,6 @@
 -- the number that making the board has
 use mathlib.Core.Path.{◌≡◌, ap, sym, ◌∙◌}
 use native.Mathlib.Omega.{arith}
-use borrow.Author.Rules.{rules}
 use Rattle.laws.specs.FlatLaws.{counts}
 use Rattle.board.specs.Board.{fresh_of, number_of}
 use Rattle.board.specs.FreshLaws.{Made}
@@ -40,8 +39,8 @@ returns-then-image-ne-LENGTH c =
     let a = c.args in
     let said = here (goal.at.returns-then-image-ne-LENGTH c).After-number-number in
     let e =
-        making-other _ _ _ _ a.image.now (sym said ∙ c.if-number-ne0.false)
-        c.if-image-ne-LENGTH.true in
+    making-other _ _ _ _ a.image.now (sym said ∙ c.if-number-ne0.false)
+    c.if-image-ne-LENGTH.true in
     record {
       number = sym e;
       bytes = sym (bytes-refused _ _ _ _ _ (λ z. let y : 5 ≡ 0 = sym e ∙ z in omega arith));
@@ -67,8 +66,8 @@ returns c =
     let m = puzzle (goal.at.returns c).After-number-number c.if-number-ne0.false in
     let a = c.args in
     let e =
-        number-done _ _ _ _ a.image.now (sym said ∙ c.if-number-ne0.false)
-        c.if-image-ne-LENGTH.false in
+    number-done _ _ _ _ a.image.now (sym said ∙ c.if-number-ne0.false)
+    c.if-image-ne-LENGTH.false in
     record {
       number = sym e;
       bytes = c.put_fresh.ensures ∙ sym (bytes-done _ _ _ _ _ e ∙ ap image_of m.is);

@@ -1,11 +1,10 @@
 -- `put_clues` meets its contract. The loop's invariant: the clues before i are stored.
 use mathlib.Core.Path.{◌≡◌, refl, ap, ◌∙◌}
-use Prim.Native.Nat.{◌-◌, ◌≤◌}
 use native.Mathlib.Omega.{arith}
 use borrow.Author.Rules.{rules, sfits_of}
 use lib.IntN.{pos}
 use lib.ListN.{length, take, get_or}
-use lib.Seq.{sets, length-sets, take_all}
+use lib.Seq.{length-sets, take_all}
 use mir.Facts.{to_z-of_z}
 use mir.Syntax.{w32}
 use Rattle.lists.specs.Lists.{flat_map}

@@ -1,10 +1,9 @@
 -- `put_colours` meets its contract. The loop's invariant: the colours before i are stored.
-use mathlib.Core.Path.{◌≡◌, refl, ap, ◌∙◌}
-use Prim.Native.Nat.{◌-◌, ◌≤◌}
+use mathlib.Core.Path.{refl, ap, ◌∙◌}
 use native.Mathlib.Omega.{arith}
 use borrow.Author.Rules.{rules}
 use lib.ListN.{length, take}
-use lib.Seq.{sets, length-sets, take_all}
+use lib.Seq.{length-sets, take_all}
 use Rattle.lists.specs.Stores.{sets_more}
 use Rattle.image.proofs.making.put_colours.Goals as goal
 

@@ -1,11 +1,8 @@
 -- `put_colours` meets its contract. The loop's invariant: the colours before i are stored.
-use mathlib.Core.Path.{◌≡◌, refl, ap, ◌∙◌}
+use mathlib.Core.Path.{◌≡◌}
 use Prim.Native.Nat.{◌-◌, ◌≤◌}
-use native.Mathlib.Omega.{arith}
-use borrow.Author.Rules.{rules}
 use lib.ListN.{length, take}
-use lib.Seq.{sets, length-sets, take_all}
-use Rattle.lists.specs.Stores.{sets_more}
+use lib.Seq.{sets}
 use Rattle.image.proofs.making.put_colours.Given as goal
 
 abbrev pub invariant-loop-i : goal.invariant-loop-i

@@ -1,7 +1,6 @@
 -- `put_four` meets its contract: two bytes and two bytes.
 use mathlib.Core.Path.{sym, ◌∙◌}
 use Prim.Native.Nat.{◌/◌}
-use borrow.Author.Rules.{rules}
 use Rattle.lists.specs.Stores.{sets-append}
 use Rattle.image.specs.Image.{two_bytes, four_bytes}
 use Rattle.image.proofs.making.put_four.Goals as goal

@@ -1,6 +1,5 @@
 -- `board` meets its contract: each field is what its reader returns.
 use mathlib.Core.Path.{◌∙◌}
-use borrow.Author.Rules.{rules}
 use Rattle.board.specs.Alien.{board_of}
 use Rattle.image.specs.Image.{spelled_board}
 use Rattle.image.proofs.reading.board.Goals as goal

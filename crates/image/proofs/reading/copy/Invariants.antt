@@ -1,11 +1,7 @@
 -- `copy` meets its contract. The loop's invariant: the bytes before i are stored.
-use mathlib.Core.Path.{◌≡◌, refl}
+use mathlib.Core.Path.{◌≡◌}
 use Prim.Native.Nat.{ℕ, ◌+◌, ◌-◌, ◌<◌, ◌≤◌}
-use native.Mathlib.Nat.{not-suc-le-zero}
-use native.Mathlib.Omega.{arith}
-use borrow.Author.Rules.{rules}
-use lib.ListN.{length, get_or, length-set}
-use Rattle.lists.specs.TableLaws.{table_is, stored_more}
+use lib.ListN.{length, get_or}
 use Rattle.image.proofs.reading.copy.Given as goal
 
 abbrev pub invariant-loop-i : goal.invariant-loop-i

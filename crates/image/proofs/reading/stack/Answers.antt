@@ -1,10 +1,10 @@
 -- `stack` meets its contract. The loop's invariant: the entries before i are read.
-use mathlib.Core.Path.{◌≡◌, refl}
-use Prim.Native.Nat.{ℕ, ◌+◌, ◌*◌, ◌-◌, ◌<◌, ◌≤◌}
+use mathlib.Core.Path.{refl}
+use Prim.Native.Nat.{◌+◌, ◌*◌}
 use native.Mathlib.Nat.{not-suc-le-zero}
 use native.Mathlib.Omega.{arith}
 use borrow.Author.Rules.{rules}
-use lib.ListN.{length, get_or, length-set}
+use lib.ListN.{length-set}
 use Rattle.lists.specs.TableLaws.{table_is, stored_more}
 use Rattle.image.specs.Image.{pair}
 use Rattle.image.proofs.reading.stack.Goals as goal

@@ -1,6 +1,5 @@
 -- `tally` meets its contract: each count is its two bytes.
 use mathlib.Core.Path.{◌∙◌}
-use borrow.Author.Rules.{rules}
 use Rattle.rules.specs.Book.{tally_of}
 use Rattle.image.proofs.reading.tally.Goals as goal
 

@@ -1,7 +1,6 @@
 -- `two` meets its contract: a byte is below 256.
 use Prim.Native.Nat.{◌+◌}
 use native.Mathlib.Omega.{arith}
-use borrow.Author.Rules.{rules}
 use Rattle.image.proofs.reading.two.Goals as goal
 
 pub overflow_cast-result : goal.overflow_cast-result

@@ -1,6 +1,5 @@
 -- `border_count` meets its contract: the first two bytes are height and width.
 use mathlib.Core.Path.{◌∙◌, ap₂}
-use borrow.Author.Rules.{rules}
 use Rattle.board.specs.Alien.{borders_of}
 use Rattle.image.proofs.series.border_count.Goals as goal
 

@@ -2,12 +2,10 @@
 use mathlib.Core.Path.{◌≡◌, ◌∙◌, sym}
 use mathlib.Core.Bool.{false}
 use mathlib.Core.List.{List}
-use Prim.Native.Nat.{ℕ, ◌-◌}
+use Prim.Native.Nat.{ℕ}
 use native.Mathlib.Omega.{arith}
-use borrow.Author.Rules.{rules}
-use lib.ListN.{length}
 use Rattle.image.specs.Image.{Bytes, image_alien}
-use Rattle.image.specs.SeriesLaws.{long, Running, alien-none, running-first, running-long}
+use Rattle.image.specs.SeriesLaws.{long, alien-none, running-first, running-long}
 use Rattle.image.specs.SeriesLaws.{running-next, running-stop, running-end}
 use Rattle.image.proofs.series.dbchoco_calls.Goals.{Else-alien}
 use Rattle.image.proofs.series.dbchoco_calls.Goals as goal
@@ -48,8 +46,8 @@ shape_of-image-else-step-eq0 c = c.step.auto.image ∙ running-long (bytes (goal
 pub returns-else-step-eq0 : goal.returns-else-step-eq0
 returns-else-step-eq0 c =
     let told =
-        running-stop c.loop-i.invariant c.loop-i-test.true
-        c.step.ensures c.if-step-eq0.false in
+    running-stop c.loop-i.invariant c.loop-i-test.true
+    c.step.ensures c.if-step-eq0.false in
     record { number = told.0; bytes = told.1 }
 
 pub shape_of-image : goal.shape_of-image
@@ -58,5 +56,5 @@ shape_of-image c = running-long (bytes (goal.at.shape_of-image c).Else-alien) (k
 pub returns : goal.returns
 returns c =
     let told =
-        running-end c.loop-i.invariant (omega (arith, c.loop-i-test.false)) in
+    running-end c.loop-i.invariant (omega (arith, c.loop-i-test.false)) in
     record { number = told.0; bytes = told.1 }

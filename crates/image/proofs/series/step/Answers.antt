@@ -1,5 +1,4 @@
 -- `step` meets its contract: the code says which call it is.
-use borrow.Author.Rules.{rules}
 use borrow.Author.Tests.{eq-eqb, ne_eqb}
 use Rattle.image.specs.Series.{code_call}
 use Rattle.image.proofs.series.step.Goals as goal

@@ -1,11 +1,7 @@
 -- `put_codes` meets its contract. The loop's invariant: the codes before i are stored.
-use mathlib.Core.Path.{◌≡◌, ap, ◌∙◌}
+use mathlib.Core.Path.{◌≡◌}
 use Prim.Native.Nat.{◌-◌, ◌≤◌}
-use native.Mathlib.Omega.{arith}
-use borrow.Author.Rules.{rules}
-use lib.ListN.{length}
 use Rattle.image.specs.Image.{put_codes}
-use Rattle.image.specs.MemoryLaws.{codes-none, length-put-codes, codes-more}
 use Rattle.image.proofs.writing.put_codes.Given as goal
 
 abbrev pub invariant-loop-i : goal.invariant-loop-i

@@ -1,6 +1,5 @@
 -- `put_tally` meets its contract: its stores are those of the six bytes.
 use mathlib.Core.Path.{◌∙◌}
-use borrow.Author.Rules.{rules}
 use Rattle.lists.specs.Lists.{flat_map}
 use Rattle.image.specs.Image.{two_bytes}
 use Rattle.image.proofs.writing.put_tally.Goals as goal

@@ -1,6 +1,5 @@
 -- `put_two` meets its contract: the two stores are those of `sets`.
 use native.Mathlib.Numerals.{add-one}
-use borrow.Author.Rules.{rules}
 use Rattle.image.specs.Image.{two_bytes}
 use Rattle.image.proofs.writing.put_two.Goals as goal
 

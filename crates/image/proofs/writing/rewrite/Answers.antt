@@ -1,7 +1,6 @@
 -- `rewrite` meets its contract: its four stores are those of `image_written`.
 use mathlib.Core.Path.{◌∙◌}
 use native.Mathlib.Omega.{arith}
-use borrow.Author.Rules.{rules}
 use lib.ListN.{length-set}
 use Rattle.image.specs.Image.{image_written}
 use Rattle.image.proofs.writing.rewrite.Goals as goal

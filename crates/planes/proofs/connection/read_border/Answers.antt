@@ -1,5 +1,4 @@
 -- Each return is one of the laws of `between`.
-use borrow.Author.Rules.{rules}
 use Rattle.planes.specs.PlacingLaws.{between_ends, between-wall, between-clear}
 use Rattle.planes.proofs.connection.read_border.Goals as goal
 

@@ -2,7 +2,6 @@
 -- the page's counts, and those of the cell at the place
 use Prim.Native.Nat.{◌-◌, ◌/◌}
 use native.Mathlib.Omega.{arith}
-use borrow.Author.Rules.{rules}
 use Rattle.rules.specs.Codes.{states_in}
 use Rattle.laws.specs.FlatLaws.{Counts, counts, Spot, spot}
 use Rattle.planes.specs.PlacingLaws.{below-reading, right-reading, off-ends, off-above, off-left, off-below}

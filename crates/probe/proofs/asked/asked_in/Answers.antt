@@ -2,7 +2,6 @@
 use mathlib.Core.Path.{ap, ◌∙◌}
 use Rattle.groups.specs.Asked.{asked_of}
 use Rattle.probe.specs.ProbeAskedLaws.{asked-other, asked-right}
-use borrow.Author.Rules.{rules}
 use Rattle.probe.proofs.asked.asked_in.Goals as goal
 
 pub returns-then-s-ne-LENGTH : goal.returns-then-s-ne-LENGTH

@@ -4,7 +4,6 @@ use native.Mathlib.Omega.{arith}
 use lib.ListN.{length}
 use Rattle.probe.specs.ProbeAsked.{which_of, part_in}
 use Rattle.probe.specs.ProbeAskedLaws.{part-few, told-short, told-words}
-use borrow.Author.Rules.{rules}
 use Rattle.probe.proofs.asked.probe_part.Goals.{After-part_in-cells}
 use Rattle.probe.proofs.asked.probe_part.Goals as goal
 

@@ -2,7 +2,6 @@
 use mathlib.Core.Path.{ap, ◌∙◌}
 use Rattle.calls.specs.Answers.{answer_number}
 use Rattle.probe.specs.ProbeChecksLaws.{check-in-range}
-use borrow.Author.Rules.{rules}
 use Rattle.probe.proofs.checks.check_once.Goals as goal
 
 pub number-requires : goal.number-requires

@@ -1,14 +1,9 @@
 -- The loop's invariant: the number and the memory after i checks.
-use mathlib.Core.Path.{◌≡◌, refl, ap, ◌∙◌}
+use mathlib.Core.Path.{◌≡◌}
 use Prim.Native.Nat.{◌-◌, ◌≤◌}
-use native.Mathlib.Omega.{arith}
-use borrow.Author.Rules.{rules}
 use lib.ListN.{length}
-use Rattle.board.specs.declared.Board.{Board}
 use Rattle.board.specs.Alien.{board_of}
-use Rattle.calls.specs.Answers.{answer_number, check_answer, check_memory}
 use Rattle.probe.specs.ProbeChecks.{checks_number, checks_memory}
-use Rattle.probe.specs.ProbeChecksLaws.{checks-length, checks-memory-more, number_more}
 use Rattle.probe.proofs.checks.checks.Given as goal
 
 abbrev pub invariant-loop-i : goal.invariant-loop-i

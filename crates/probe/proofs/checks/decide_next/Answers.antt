@@ -1,7 +1,6 @@
 -- The literal of the code, decided; a decide that is done had room on the stack.
 use mathlib.Core.Path.{◌≡◌, ap, sym, ◌∙◌}
 use native.Mathlib.Omega.{arith}
-use borrow.Author.Rules.{rules}
 use borrow.Author.Tests.{eq-eqb, ne_eqb}
 use Rattle.board.specs.declared.Returned.{Returned}
 use Rattle.board.specs.Board.{number_of, decide_of}

@@ -1,16 +1,12 @@
 -- The loop's invariant: deciding and checking what is left gives the whole.
-use mathlib.Core.Path.{◌≡◌, refl, ap, sym, ◌∙◌}
+use mathlib.Core.Path.{◌≡◌}
 use mathlib.Core.List.{map}
-use Prim.Native.Nat.{◌+◌, ◌-◌, ◌≤◌}
-use native.Mathlib.Omega.{arith}
-use borrow.Author.Rules.{rules}
+use Prim.Native.Nat.{◌-◌, ◌≤◌}
 use lib.ListN.{length, drop}
-use Rattle.board.specs.declared.Board.{Board}
 use Rattle.board.specs.Alien.{board_of}
 use Rattle.board.specs.Accepted.{decides_of}
 use Rattle.calls.specs.Answers.{literal_of}
-use Rattle.probe.specs.ProbeChecks.{checks_memory, decides_memory}
-use Rattle.probe.specs.ProbeChecksLaws.{decides-more, decides-none, checked-more, checked-none, checks-length}
+use Rattle.probe.specs.ProbeChecks.{decides_memory}
 use Rattle.probe.proofs.checks.decided.Given as goal
 
 abbrev pub invariant-loop-i : goal.invariant-loop-i

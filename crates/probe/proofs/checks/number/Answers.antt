@@ -2,7 +2,6 @@
 use mathlib.Core.Path.{ap, sym}
 use native.Mathlib.Omega.{arith}
 use Rattle.calls.specs.Answers.{answer_number}
-use borrow.Author.Rules.{rules}
 use Rattle.probe.proofs.checks.number.Goals as goal
 
 pub overflow_add-result : goal.overflow_add-result

@@ -1,7 +1,6 @@
 -- The checks, on the board that the image spells.
 use mathlib.Core.Path.{ap, ◌∙◌}
 use lib.ListN.{length}
-use borrow.Author.Rules.{rules}
 use Rattle.board.specs.declared.Board.{Board}
 use Rattle.probe.specs.ProbeChecks.{checks_number, checks_memory}
 use Rattle.probe.proofs.checks.probe_board_checks.Goals as goal

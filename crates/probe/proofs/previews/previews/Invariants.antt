@@ -1,13 +1,8 @@
 -- The loop's invariant: the number and the memory after i previews.
-use mathlib.Core.Path.{◌≡◌, refl, ap, ◌∙◌}
+use mathlib.Core.Path.{◌≡◌}
 use Prim.Native.Nat.{◌-◌, ◌≤◌}
-use native.Mathlib.Omega.{arith}
-use borrow.Author.Rules.{rules}
 use lib.ListN.{length}
-use Rattle.calls.specs.Answers.{answer_number, preview_answer, preview_memory}
 use Rattle.probe.specs.ProbePreviews.{previews_number, previews_memory}
-use Rattle.probe.specs.ProbePreviewsLaws.{preview-in-range, previews-length, previews-memory-more}
-use Rattle.probe.specs.ProbePreviewsLaws.{previews-number-more}
 use Rattle.probe.proofs.previews.previews.Given as goal
 
 abbrev pub invariant-loop-i : goal.invariant-loop-i

@@ -1,7 +1,6 @@
 -- The previews, on the board that the image spells and with the code's literal.
 use mathlib.Core.Path.{ap₂, ◌∙◌}
 use lib.ListN.{length}
-use borrow.Author.Rules.{rules}
 use Rattle.rules.specs.declared.Literal.{Literal}
 use Rattle.board.specs.declared.Board.{Board}
 use Rattle.probe.specs.ProbePreviews.{previews_number, previews_memory}

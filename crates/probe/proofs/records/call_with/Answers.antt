@@ -1,5 +1,4 @@
 -- Each return is the case of its number.
-use borrow.Author.Rules.{rules}
 use borrow.Author.Tests.{eq-eqb, ne_eqb}
 use Rattle.probe.proofs.records.call_with.Goals as goal
 

@@ -6,7 +6,6 @@ use Rattle.board.specs.declared.Board.{Board}
 use Rattle.calls.specs.declared.Counted.{Counted}
 use Rattle.calls.specs.Answers.{answer_number}
 use Rattle.calls.specs.Counted.{counted_of, counted_memory}
-use borrow.Author.Rules.{rules}
 use Rattle.image.specs.Image.{tally_counts}
 use Rattle.probe.specs.ProbeRecords.{tally_from}
 use Rattle.probe.specs.ProbeRecordsLaws.{counted-range, record-other, record-three}

@@ -4,7 +4,6 @@ use lib.ListN.{length}
 use lib.Seq.{sets}
 use Rattle.transforms.specs.Transforms.{transform_of, memory_after}
 use Rattle.probe.specs.ProbeTransform.{counts_of, other-answer, other-memory, right_answer, right-memory}
-use borrow.Author.Rules.{rules}
 use Rattle.probe.proofs.transform.probe_transform.Goals as goal
 
 pub returns-then-s-ne-LENGTH : goal.returns-then-s-ne-LENGTH

@@ -2,7 +2,6 @@
 use mathlib.Core.Path.{sym}
 use native.Mathlib.Omega.{arith}
 use lib.Seq.{set_out}
-use borrow.Author.Rules.{rules}
 use Rattle.probe.proofs.transform.put_count.Goals as goal
 
 pub returns-else-i-counts : goal.returns-else-i-counts

@@ -1,6 +1,5 @@
 -- Four stores, one after the other.
 use Rattle.probe.specs.ProbeTransform.{four-stores}
-use borrow.Author.Rules.{rules}
 use Rattle.probe.proofs.transform.put_counts.Goals as goal
 
 pub returns : goal.returns

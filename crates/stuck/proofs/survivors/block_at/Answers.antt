@@ -6,7 +6,6 @@ use mathlib.Core.Path.{◌≡◌, refl, ap₂, ◌∙◌}
 use Prim.Native.Nat.{ℕ, ◌/◌, ◌%◌, ◌<◌}
 use native.Mathlib.Nat.{mod-lt, div-lt_iff_lt-mul}
 use native.Mathlib.Omega.{arith}
-use borrow.Author.Rules.{rules}
 use lib.ListN.{get_or}
 use Rattle.rules.specs.declared.Placement.{Placement}
 use Rattle.rules.specs.declared.Placement.TheVariants.{Fits, Blocked, Cannot}
@@ -55,14 +54,13 @@ pub overflow_cast-place : goal.overflow_cast-place
 overflow_cast-place c = omega (arith, row (goal.at.overflow_cast-place c).Start, column (goal.at.overflow_cast-place c).Start, low (goal.at.overflow_cast-place c).Start, slim (goal.at.overflow_cast-place c).Start, c.requires.0.tall, c.requires.0.broad)
 
 pub placed-requires : goal.placed-requires
-placed-requires c =
-    (
-      c.requires.0,
-      c.requires.1,
-      c.requires.2,
-      omega (arith, row (goal.at.placed-requires c).Start, low (goal.at.placed-requires c).Start),
-      omega (arith, column (goal.at.placed-requires c).Start, slim (goal.at.placed-requires c).Start),
-    )
+placed-requires c = (
+  c.requires.0,
+  c.requires.1,
+  c.requires.2,
+  omega (arith, row (goal.at.placed-requires c).Start, low (goal.at.placed-requires c).Start),
+  omega (arith, column (goal.at.placed-requires c).Start, slim (goal.at.placed-requires c).Start),
+)
 
 -- a placement that is not blocked
 other : (p : Placement) → ((x : ℕ) → p ≡ Blocked x → ⊥) → (p ≡ Fits) ⊎ (p ≡ Cannot)

@@ -1,14 +1,10 @@
 -- The loop's invariant: the blockers at the cells before i are written.
 use mathlib.Core.Path.{◌≡◌}
 use mathlib.Core.List.{List}
-use Prim.Native.Nat.{ℕ, ◌≤◌, ◌-◌}
+use Prim.Native.Nat.{ℕ}
 use native.Mathlib.Omega.{arith}
-use borrow.Author.Rules.{rules}
-use Rattle.lists.specs.Lists.{flat_map}
-use Rattle.lists.specs.Parts.{part}
 use Rattle.rules.specs.declared.Literal.{Literal}
 use Rattle.groups.specs.Grouping.{cells_in}
-use Rattle.reasons.specs.Memory.{Wrote}
 use Rattle.reasons.specs.MemoryLaws.{write-none, write-more}
 use Rattle.reasons.specs.CellLaws.{cells-reach, cells_at}
 use Rattle.stuck.specs.Survivors.{block_in}
@@ -22,8 +18,7 @@ each s o =
     s.args.n o
 
 pub loop-i-init : goal.loop-i-init
-loop-i-init c =
-    (
+loop-i-init c = (
   omega arith,
   c.requires.4.order,
   write-none (each (goal.at.loop-i-init c).Start) (cells_in c.args.potential.now) c.args.from c.requires.5,
@@ -45,15 +40,14 @@ block_at-at-requires c =
     )
 
 pub loop-i-preserved : goal.loop-i-preserved
-loop-i-preserved c =
-    (
-      omega arith,
-      omega arith,
-      write-more (each (goal.at.loop-i-preserved c).Start) (cells_in c.args.potential.now) _ _
-          c.loop-i.invariant.0
-          c.loop-i.invariant.2 (omega (arith, cells-reach c.requires.4))
-          (rw c.cell_at.ensures at c.block_at-at.ensures),
-    )
+loop-i-preserved c = (
+  omega arith,
+  omega arith,
+  write-more (each (goal.at.loop-i-preserved c).Start) (cells_in c.args.potential.now) _ _
+      c.loop-i.invariant.0
+      c.loop-i.invariant.2 (omega (arith, cells-reach c.requires.4))
+      (rw c.cell_at.ensures at c.block_at-at.ensures),
+)
 
 pub shape_of-memory : goal.shape_of-memory
 shape_of-memory c = c.loop-i.invariant.2.long

@@ -1,16 +1,9 @@
 -- The loop's invariant: the blockers at the cells before i are written.
-use mathlib.Core.Path.{◌≡◌}
-use mathlib.Core.List.{List}
-use Prim.Native.Nat.{ℕ, ◌≤◌, ◌-◌}
-use native.Mathlib.Omega.{arith}
-use borrow.Author.Rules.{rules}
+use Prim.Native.Nat.{◌≤◌, ◌-◌}
 use Rattle.lists.specs.Lists.{flat_map}
 use Rattle.lists.specs.Parts.{part}
-use Rattle.rules.specs.declared.Literal.{Literal}
 use Rattle.groups.specs.Grouping.{cells_in}
 use Rattle.reasons.specs.Memory.{Wrote}
-use Rattle.reasons.specs.MemoryLaws.{write-none, write-more}
-use Rattle.reasons.specs.CellLaws.{cells-reach, cells_at}
 use Rattle.stuck.specs.Survivors.{block_in}
 use Rattle.stuck.proofs.survivors.block_group.Given as goal
 

@@ -1,16 +1,13 @@
 -- The loop's invariant: the blockers beside the groups before i are written.
 use mathlib.Core.Path.{◌≡◌}
 use mathlib.Core.List.{List}
-use Prim.Native.Nat.{ℕ, ◌≤◌, ◌<◌, ◌-◌}
+use Prim.Native.Nat.{ℕ, ◌<◌}
 use native.Mathlib.Omega.{arith}
-use borrow.Author.Rules.{rules}
 use lib.ListN.{get_or}
 use Rattle.lists.specs.Lists.{flat_map}
-use Rattle.lists.specs.Parts.{part}
 use Rattle.rules.specs.declared.Literal.{Literal}
 use Rattle.groups.specs.Grouping.{cells_in, starts_in}
 use Rattle.groups.specs.Parts.{part_of}
-use Rattle.reasons.specs.Memory.{Wrote}
 use Rattle.reasons.specs.MemoryLaws.{write-none, write-more}
 use Rattle.adjacent.specs.Mates.{mate_count}
 use Rattle.adjacent.specs.BesideLaws.{mates-reach}
@@ -71,14 +68,13 @@ overflow_add-i c = omega (arith, next (goal.at.overflow_add-i c).In-loop-i, c.re
 
 pub loop-i-preserved : goal.loop-i-preserved
 unfolding part_of
-loop-i-preserved c =
-    (
-      omega (arith, next (goal.at.loop-i-preserved c).In-loop-i),
-      write-more (each (goal.at.loop-i-preserved c).Start) c.args.mates.now _ _ (omega arith) c.loop-i.invariant.1
-          (omega (arith, next (goal.at.loop-i-preserved c).In-loop-i, mates-reach c.requires.4))
-          (rw (c.start_of-in-loop-i.ensures, c.start_of.ensures) at
-          c.block_group-at.ensures),
-    )
+loop-i-preserved c = (
+  omega (arith, next (goal.at.loop-i-preserved c).In-loop-i),
+  write-more (each (goal.at.loop-i-preserved c).Start) c.args.mates.now _ _ (omega arith) c.loop-i.invariant.1
+      (omega (arith, next (goal.at.loop-i-preserved c).In-loop-i, mates-reach c.requires.4))
+      (rw (c.start_of-in-loop-i.ensures, c.start_of.ensures) at
+      c.block_group-at.ensures),
+)
 
 pub shape_of-memory : goal.shape_of-memory
 shape_of-memory c = c.loop-i.invariant.1.long

@@ -3,7 +3,6 @@
 use mathlib.Core.Path.{sym}
 use Prim.Native.Nat.{◌-◌, ◌/◌}
 use native.Mathlib.Omega.{arith}
-use borrow.Author.Rules.{rules}
 use Rattle.rules.specs.Flat.{below_of, right_of}
 use Rattle.laws.specs.FlatLaws.{counts}
 use Rattle.planes.specs.DrawLaws.{Line, line-in}

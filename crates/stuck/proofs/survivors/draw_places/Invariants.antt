@@ -1,14 +1,7 @@
 -- The loop's invariant: the places of the cells before c are written, and c is (y, x).
-use mathlib.Core.Path.{◌≡◌, ap, ◌∙◌}
-use mathlib.Core.Logic.{⊎_elim}
+use mathlib.Core.Path.{◌≡◌}
 use Prim.Native.Nat.{ℕ, ◌+◌, ◌-◌, ◌*◌, ◌/◌, ◌%◌, ◌≤◌, ◌<◌}
-use native.Mathlib.Nat.{div-lt_iff_lt-mul}
-use native.Mathlib.Omega.{arith}
-use lib.Arith.{digits_div, digits_mod}
-use lib.ListN.{length, get_or, length-set}
-use Rattle.lists.specs.TableLaws.{stored_more}
-use Rattle.laws.specs.FlatLaws.{counts}
-use Rattle.stuck.specs.PlacedLaws.{next_row, next-column}
+use lib.ListN.{length, get_or}
 use Rattle.stuck.proofs.survivors.draw_places.Given as goal
 
 abbrev pub invariant-loop-c : goal.invariant-loop-c

@@ -1,6 +1,5 @@
 -- The digit of the shifted word.
 use mathlib.Core.Path.{refl}
-use borrow.Author.Rules.{rules}
 use Rattle.planes.specs.Bits.{bit_at}
 use Rattle.stuck.proofs.survivors.has.Goals as goal
 

@@ -1,13 +1,13 @@
 -- The loop's invariant: the connections from j on are no walls.
 use mathlib.Core.Path.{◌≡◌, refl, sym, ap, ◌∙◌}
-use Prim.Native.Nat.{ℕ, ◌+◌, ◌-◌, ◌*◌, ◌≤◌}
+use Prim.Native.Nat.{ℕ, ◌+◌, ◌-◌, ◌*◌}
 use native.Mathlib.Omega.{arith}
 use lib.ListN.{get_or}
 use Rattle.lists.specs.SectionLaws.{section-at, front_at}
 use Rattle.rules.specs.declared.Placement.TheVariants.{Blocked}
 use Rattle.shapes.specs.Raising.{ys_in, xs_in, RaisedAt}
 use Rattle.stuck.specs.PlacedLaws.{border-low, back_none, back-next, back-wall}
-use Rattle.stuck.specs.Survivors.{On, border_at, back_of}
+use Rattle.stuck.specs.Survivors.{On, border_at}
 use Rattle.stuck.proofs.survivors.laid_back.Goals.{After-border_at-border, In-loop-j}
 use Rattle.stuck.proofs.survivors.laid_back.Goals as goal
 

@@ -1,19 +1,17 @@
 -- The two cases of the definition.
 use mathlib.Core.Path.{sym, ◌∙◌}
 use native.Mathlib.Omega.{arith}
-use borrow.Author.Rules.{rules}
 use Rattle.stuck.specs.PlacedLaws.{placed-some, drawn-places-none}
 use Rattle.stuck.proofs.survivors.placed.Goals as goal
 
 pub laid_back-requires : goal.laid_back-requires
-laid_back-requires c =
-    (
-      c.requires.0,
-      c.requires.1,
-      omega (arith, c.requires.3, c.requires.0.tall),
-      omega (arith, c.requires.4, c.requires.0.broad),
-      c.requires.2.each _ _ c.requires.3 c.requires.4 (sym c.has.ensures ∙ c.if-has.true),
-    )
+laid_back-requires c = (
+  c.requires.0,
+  c.requires.1,
+  omega (arith, c.requires.3, c.requires.0.tall),
+  omega (arith, c.requires.4, c.requires.0.broad),
+  c.requires.2.each _ _ c.requires.3 c.requires.4 (sym c.has.ensures ∙ c.if-has.true),
+)
 
 pub returns-then-has : goal.returns-then-has
 returns-then-has c =

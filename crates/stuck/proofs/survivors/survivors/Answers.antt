@@ -1,8 +1,8 @@
 -- The loop's invariant: the rows before y are written.
-use mathlib.Core.Path.{◌≡◌, ◌∙◌}
-use Prim.Native.Nat.{ℕ, ◌-◌, ◌≤◌, ◌<◌}
+use mathlib.Core.Path.{◌∙◌}
+use Prim.Native.Nat.{◌<◌}
 use native.Mathlib.Omega.{arith}
-use lib.ListN.{length, get_or, length-set}
+use lib.ListN.{get_or, length-set}
 use Rattle.lists.specs.TableLaws.{stored_more}
 use Rattle.planes.specs.Masks.{clear_word}
 use Rattle.stuck.proofs.survivors.survivors.Goals.{In-loop-y}
@@ -38,8 +38,7 @@ loop-y-smaller c = omega (arith, c.loop-y-test.true)
 
 pub loop-y-preserved : goal.loop-y-preserved
 loop-y-preserved c =
-    let l = c.loop-y in
-    (
+    let l = c.loop-y in (
       omega (arith, c.loop-y-test.true),
       length-set l.rows l.y _ ∙ l.invariant.1,
       stored_more (λ y. clear_word c.args.planes.now y c.args.turned.now

@@ -1,9 +1,7 @@
 -- The loop's invariant: the rows before y are written.
-use mathlib.Core.Path.{◌≡◌, ◌∙◌}
+use mathlib.Core.Path.{◌≡◌}
 use Prim.Native.Nat.{ℕ, ◌-◌, ◌≤◌, ◌<◌}
-use native.Mathlib.Omega.{arith}
-use lib.ListN.{length, get_or, length-set}
-use Rattle.lists.specs.TableLaws.{stored_more}
+use lib.ListN.{length, get_or}
 use Rattle.planes.specs.Masks.{clear_word}
 use Rattle.stuck.proofs.survivors.survivors.Given as goal
 

@@ -1,15 +1,11 @@
 -- The loop's invariant: Edge of each of the groups before i is written.
 use mathlib.Core.Path.{◌≡◌}
 use mathlib.Core.List.{List}
-use Prim.Native.Nat.{ℕ, ◌≤◌, ◌<◌, ◌-◌}
+use Prim.Native.Nat.{ℕ, ◌<◌}
 use native.Mathlib.Omega.{arith}
-use borrow.Author.Rules.{rules}
-use Rattle.lists.specs.Lists.{flat_map}
-use Rattle.lists.specs.Parts.{part}
 use Rattle.rules.specs.declared.Literal.{Literal}
 use Rattle.groups.specs.Grouping.{numbers_in}
-use Rattle.reasons.specs.Arrays.{no_flags, edge_in}
-use Rattle.reasons.specs.Memory.{Wrote}
+use Rattle.reasons.specs.Arrays.{edge_in}
 use Rattle.reasons.specs.MemoryLaws.{write-none, write-more}
 use Rattle.adjacent.specs.Mates.{mate_count}
 use Rattle.stuck.specs.Writing.{edges_in}

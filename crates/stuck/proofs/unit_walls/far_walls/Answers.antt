@@ -1,5 +1,4 @@
 -- A scan with the mates flagged.
-use borrow.Author.Rules.{rules}
 use Rattle.stuck.specs.Writing.{far_in}
 use Rattle.stuck.specs.FlagLaws.{flags_long}
 use Rattle.stuck.proofs.unit_walls.far_walls.Goals as goal

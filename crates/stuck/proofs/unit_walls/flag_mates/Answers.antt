@@ -1,11 +1,9 @@
 -- The loop's invariant: the groups before i are flagged, and no others.
 use mathlib.Core.Path.{◌≡◌}
-use Prim.Native.Nat.{◌≤◌, ◌<◌, ◌-◌}
+use Prim.Native.Nat.{◌<◌}
 use native.Mathlib.Omega.{arith}
-use borrow.Author.Rules.{rules}
-use Rattle.lists.specs.Parts.{part}
 use Rattle.adjacent.specs.Mates.{mate_count}
-use Rattle.stuck.specs.FlagLaws.{Flagged, flagged-none, flagged-more, flagged-all}
+use Rattle.stuck.specs.FlagLaws.{flagged-none, flagged-more, flagged-all}
 use Rattle.stuck.proofs.unit_walls.flag_mates.Goals.{In-loop-i}
 use Rattle.stuck.proofs.unit_walls.flag_mates.Goals as goal
 
@@ -33,13 +31,12 @@ pub loop-i-smaller : goal.loop-i-smaller
 loop-i-smaller c = omega (arith, c.loop-i-test.true)
 
 pub loop-i-preserved : goal.loop-i-preserved
-loop-i-preserved c =
-    (
-      omega (arith, next (goal.at.loop-i-preserved c).In-loop-i),
-      rw c.index-q.ensures
-          (flagged-more c.args.mates.now 0 _ (omega arith) (omega (arith, next (goal.at.loop-i-preserved c).In-loop-i, c.requires.0.end, c.requires.0.long))
-          (c.requires.0.each _ (next (goal.at.loop-i-preserved c).In-loop-i)) c.loop-i.invariant.1),
-    )
+loop-i-preserved c = (
+  omega (arith, next (goal.at.loop-i-preserved c).In-loop-i),
+  rw c.index-q.ensures
+      (flagged-more c.args.mates.now 0 _ (omega arith) (omega (arith, next (goal.at.loop-i-preserved c).In-loop-i, c.requires.0.end, c.requires.0.long))
+      (c.requires.0.each _ (next (goal.at.loop-i-preserved c).In-loop-i)) c.loop-i.invariant.1),
+)
 
 pub returns : goal.returns
 returns c =

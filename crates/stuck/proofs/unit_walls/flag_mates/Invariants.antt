@@ -1,11 +1,8 @@
 -- The loop's invariant: the groups before i are flagged, and no others.
-use mathlib.Core.Path.{◌≡◌}
-use Prim.Native.Nat.{◌≤◌, ◌<◌, ◌-◌}
-use native.Mathlib.Omega.{arith}
-use borrow.Author.Rules.{rules}
+use Prim.Native.Nat.{◌≤◌, ◌-◌}
 use Rattle.lists.specs.Parts.{part}
 use Rattle.adjacent.specs.Mates.{mate_count}
-use Rattle.stuck.specs.FlagLaws.{Flagged, flagged-none, flagged-more, flagged-all}
+use Rattle.stuck.specs.FlagLaws.{Flagged}
 use Rattle.stuck.proofs.unit_walls.flag_mates.Given as goal
 
 abbrev pub invariant-loop-i : goal.invariant-loop-i
