@@ -67,8 +67,7 @@ fn literal(border: u32, side: u32) -> Literal
 }
 
 // Decides a border of the image; side 0 is open, any other wall. The refusal's number, or 0.
-#[unsafe(no_mangle)]
-pub extern "C" fn dbchoco_decide(image: &mut [u8], border: u32, side: u32) -> u32
+pub fn dbchoco_decide(image: &mut [u8], border: u32, side: u32) -> u32
     ensures number { result ≡ image_number image.old (decide border side) }
     ensures bytes { image.new ≡ image_after image.old (decide border side) }
 {
@@ -79,8 +78,7 @@ pub extern "C" fn dbchoco_decide(image: &mut [u8], border: u32, side: u32) -> u3
 }
 
 // Takes the last decision of the image back. The refusal's number, or 0.
-#[unsafe(no_mangle)]
-pub extern "C" fn dbchoco_undo(image: &mut [u8]) -> u32
+pub fn dbchoco_undo(image: &mut [u8]) -> u32
     ensures number { result ≡ image_number image.old undo }
     ensures bytes { image.new ≡ image_after image.old undo }
 {
@@ -123,8 +121,7 @@ fn answered<'a>(
 
 // Checks the image. The refusal's number, 32 plus the count of undecided borders for a pass, or 65,536 plus the count
 // of literals for a conflict; a reason's literals stand from the start of the memory, two bytes each.
-#[unsafe(no_mangle)]
-pub extern "C" fn dbchoco_check(image: &[u8], memory: &mut [u8]) -> u32
+pub fn dbchoco_check(image: &[u8], memory: &mut [u8]) -> u32
     ensures number { result ≡ check_number image.now memory.old }
     ensures bytes { memory.new ≡ check_bytes image.now memory.old }
 {

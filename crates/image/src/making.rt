@@ -83,8 +83,7 @@ fn put_fresh(s: &mut [u8], height: u8, width: u8, colours: &[u8], clues: &[i32])
 }
 
 // Makes the fresh image of a puzzle in the lent bytes. The refusal's number, 1 to 5, or 0.
-#[unsafe(no_mangle)]
-pub extern "C" fn dbchoco_fresh(
+pub fn dbchoco_fresh(
     image: &mut [u8],
     height: u32,
     width: u32,

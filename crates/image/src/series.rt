@@ -74,8 +74,7 @@ fn step(image: &mut [u8], code: u16) -> u32
 
 // Makes the calls of the codes one after another, up to the first that is refused; none on an alien image. How many are
 // done.
-#[unsafe(no_mangle)]
-pub extern "C" fn dbchoco_calls(image: &mut [u8], codes: &[u16]) -> usize
+pub fn dbchoco_calls(image: &mut [u8], codes: &[u16]) -> usize
     ensures number { result ≡ done_of image.old codes.now }
     ensures bytes { image.new ≡ image_done image.old codes.now }
 {

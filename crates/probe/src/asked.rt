@@ -36,8 +36,7 @@ fn asked_in(s: &[u8], kind: Kind) -> BoardGroups
 }
 
 // The groups of one kind, as `probe_groups` writes them; of an alien image the refusal's number, and the memory stays.
-#[unsafe(no_mangle)]
-pub extern "C" fn probe_asked(s: &[u8], kind: u32, memory: &mut [u16]) -> usize
+pub fn probe_asked(s: &[u8], kind: u32, memory: &mut [u16]) -> usize
     ensures { AskedTold (number_of (asked_in s.now (kind_of kind)).outcome) memory.old
         (asked_in s.now (kind_of kind)).groups memory.new result }
 {
@@ -72,8 +71,7 @@ fn part_in<'a>(units: &'a [u16], potential: &'a [u16], which: Which, g: usize) -
 
 // The cells of group g, as the part of the chosen list. There are none where no group has the number, and so of an
 // alien image.
-#[unsafe(no_mangle)]
-pub extern "C" fn probe_part(s: &[u8], which: u32, g: usize, memory: &mut [u16]) -> usize
+pub fn probe_part(s: &[u8], which: u32, g: usize, memory: &mut [u16]) -> usize
     ensures { AskedTold 0 memory.old (part_in s.now (which_of which) g) memory.new
         result }
 {

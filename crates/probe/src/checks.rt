@@ -180,8 +180,7 @@ fn decided<'a>(
 
 // Makes the board of a puzzle, decides the literals, with so many checks after each, and then checks so many times. The
 // number of the last answer; 0 without a check at the end; the refusal's number if no board is made.
-#[unsafe(no_mangle)]
-pub extern "C" fn probe_checks(
+pub fn probe_checks(
     h: usize,
     w: usize,
     colours: &[u8],
@@ -225,8 +224,7 @@ pub extern "C" fn probe_checks(
 }
 
 // So many checks of the board that the image s spells: the number of the last answer, 0 if there was none.
-#[unsafe(no_mangle)]
-pub extern "C" fn probe_board_checks(s: &[u8], times: usize, memory: &mut [u16]) -> usize
+pub fn probe_board_checks(s: &[u8], times: usize, memory: &mut [u16]) -> usize
     ensures { (result ≡ checks_number (board_from s.now) (length memory.old) times)
         × (memory.new ≡ checks_memory (board_from s.now) times memory.old) }
 {

@@ -17,11 +17,11 @@ use board::Board;
 use groups::{Grouping, Kind, count_of};
 use reasons::{WORK_LENGTH, hand_out};
 
-mod asked; // asked.rt: the groups asked of a board, and their parts
-mod checks; // checks.rt: many checks in one call
-mod previews; // previews.rt: many previews in one call
-mod records; // records.rt: a call with a tally record
-mod transform; // transform.rt: the transforms of a board's units
+pub mod asked; // asked.rt: the groups asked of a board, and their parts
+pub mod checks; // checks.rt: many checks in one call
+pub mod previews; // previews.rt: many previews in one call
+pub mod records; // records.rt: a call with a tally record
+pub mod transform; // transform.rt: the transforms of a board's units
 
 // The least memory that is lent to a call.
 const ROOM: usize = 16384;
@@ -158,8 +158,7 @@ fn put_path(memory: &mut [u16], h: usize, w: usize, borders: &[u8], a: usize, b:
 
 // The groups of one kind, as they stand in a grouping: the cells' numbers (1,024 places), the cells group by group
 // (1,024), where each group starts (1,025), and the count.
-#[unsafe(no_mangle)]
-pub extern "C" fn probe_groups(
+pub fn probe_groups(
     h: usize,
     w: usize,
     colours: &[u8],
@@ -178,8 +177,7 @@ pub extern "C" fn probe_groups(
 }
 
 // Inside (side 0) or Edge (any other side) of a group of one kind; no literals if no group has the number.
-#[unsafe(no_mangle)]
-pub extern "C" fn probe_reason(
+pub fn probe_reason(
     h: usize,
     w: usize,
     colours: &[u8],
@@ -200,8 +198,7 @@ pub extern "C" fn probe_reason(
 }
 
 // Path from cell a to cell b.
-#[unsafe(no_mangle)]
-pub extern "C" fn probe_path(
+pub fn probe_path(
     h: usize,
     w: usize,
     borders: &[u8],

@@ -40,8 +40,7 @@ fn previews(board: Board, l: Literal, times: usize, memory: &mut [u16]) -> usize
 
 // So many previews of the literal with this code on the board that the image s spells: the number of the last answer, 0
 // if there was none.
-#[unsafe(no_mangle)]
-pub extern "C" fn probe_previews(s: &[u8], code: usize, times: usize, memory: &mut [u16]) -> usize
+pub fn probe_previews(s: &[u8], code: usize, times: usize, memory: &mut [u16]) -> usize
     ensures { (result ≡ previews_number (board_from s.now) (literal_of code) (length memory.old) times)
         × (memory.new ≡ previews_memory (board_from s.now) (literal_of code) times
         memory.old) }

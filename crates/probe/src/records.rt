@@ -43,8 +43,7 @@ fn put_tally(words: &mut [usize], t: Tally)
 
 // Makes the call on the board that the image s spells, with the record of these words: undecided, walls, opens. The
 // number of the answer; the words are the record afterwards. Words that are not three are a record that disagrees.
-#[unsafe(no_mangle)]
-pub extern "C" fn probe_counted(
+pub fn probe_counted(
     s: &[u8],
     which: usize,
     code: usize,

@@ -28,14 +28,7 @@ fn put_counts(counts: &mut [usize], a: Transformed)
 }
 
 // Transform `k` of unit `u` of the board that the image s spells; an image of another length is alien.
-#[unsafe(no_mangle)]
-pub extern "C" fn probe_transform(
-    s: &[u8],
-    u: usize,
-    k: usize,
-    counts: &mut [usize],
-    memory: &mut [i32],
-)
+pub fn probe_transform(s: &[u8], u: usize, k: usize, counts: &mut [usize], memory: &mut [i32])
     ensures { (counts.new ≡ sets counts.old 0
         (counts_of (answer_in s.now u k (length memory.old))))
         × (memory.new ≡ memory_in s.now u k memory.old) }
