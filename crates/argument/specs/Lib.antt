@@ -27,9 +27,7 @@ pub mod Complete
 pub mod Agrees
 -- the answers of check and of the book
 pub mod Checks
-pub mod DemandLaws
 -- flat pages
-pub mod FlatDemand
 -- small boards: those of document 01, and a solution
 pub mod Boards
 pub mod Witness

@@ -23,7 +23,7 @@ use Rattle.rules.specs.Codes.{literal_code}
 use Rattle.rules.specs.Check.{Reason, Verdict, pass, conflict, borders_named, check}
 use Rattle.rules.specs.Book.{Reply, refused, done, answered, states, with_last, then_reply, check_reply, reply_to}
 use Rattle.laws.specs.FlatLaws.{borders-le}
-use Rattle.argument.specs.FlatDemand.{flat-once, flat-few}
+use Rattle.argument.proofs.FlatDemand.{flat-once, flat-few}
 use Rattle.board.specs.declared.Board.{Board}
 use Rattle.board.specs.declared.Outcome.{Outcome}
 use Rattle.board.specs.declared.Outcome.TheVariants.{Short}

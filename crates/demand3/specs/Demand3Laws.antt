@@ -19,7 +19,7 @@ use Rattle.rules.specs.Check.{Reason, Verdict, pass, conflict}
 use Rattle.rules.specs.Book.{Asked, answered, fresh_book, states, looked, reply, book_after}
 use Rattle.laws.specs.BookLaws.{plain-answered}
 use Rattle.argument.specs.Demand.{Full, SameSides, BookAnswered, BookRuledOut, BookStoodAt, Passes, BookDemand}
-use Rattle.argument.specs.FlatDemand.{flat-demand}
+use Rattle.argument.proofs.FlatDemand.{flat-demand}
 use Rattle.board.specs.declared.Board.{Board}
 use Rattle.board.specs.declared.Outcome.{Outcome}
 use Rattle.board.specs.Board.{returned, decide_of}

@@ -20,7 +20,7 @@ use Rattle.rules.specs.Page.{Contains}
 use Rattle.rules.specs.Codes.{side_code, literal_code, put}
 use Rattle.rules.specs.Check.{Reason, conflict, check}
 use Rattle.laws.specs.CodeLaws.{decided-below}
-use Rattle.argument.specs.FlatDemand.{flat-holds}
+use Rattle.argument.proofs.FlatDemand.{flat-holds}
 use Rattle.board.specs.declared.Board.{Board}
 use Rattle.board.specs.Alien.{is_alien}
 use Rattle.board.specs.Board.{Typed}

@@ -15,7 +15,7 @@ use Rattle.argument.specs.Hits.{Each, each-some}
 use Rattle.argument.specs.Forms.{Forms, blocks-form, walls-form, units-form}
 use Rattle.argument.specs.Held.{held-forms}
 use Rattle.argument.specs.EarlyOnce.{NoTwice}
-use Rattle.argument.specs.FlatDemand.{flat-blocks-once, flat-walls-once}
+use Rattle.argument.proofs.FlatDemand.{flat-blocks-once, flat-walls-once}
 use Rattle.groups.specs.declared.Kind.TheVariants.{Blocks, Potential}
 use Rattle.groups.specs.Parts.{groups_of}
 use Rattle.groups.specs.Grouping.{numbers_in, Filled, Vacant}

@@ -23,7 +23,7 @@ use Rattle.argument.specs.Demand.{Full, Passes, BookDemand}
 use Rattle.argument.specs.Checks.{check-holds, check-once, check-few, check_sound, check-full}
 use Rattle.argument.specs.Hits.{Each}
 use Rattle.argument.specs.EarlyOnce.{NoTwice, blocks-once, walls-once}
-use Rattle.argument.specs.DemandLaws.{book-demand}
+use Rattle.argument.proofs.DemandLaws.{book-demand}
 
 module _ (h w : ℕ) (hw : 0 < w) (colour : ℕ → Bool) (clue : ℕ → Option ℕ) where
   pub flat-demand : (calls : List Asked) → BookDemand (flat_puzzle h w colour clue) calls
