@@ -18,7 +18,7 @@ use Rattle.rules.specs.Check.{Reason, conflict, borders_named, block_hit, wall_h
 use Rattle.rules.specs.Book.{Asked, states}
 use Rattle.laws.specs.FlatPage.{flat-bordered, flat-placed, flat-listed}
 use Rattle.laws.specs.FlatHops.{flat-hops}
-use Rattle.laws.specs.FlatShapes.{flat_puzzle}
+use Rattle.laws.proofs.FlatShapes.{flat_puzzle}
 use Rattle.argument.specs.Demand.{Full, Passes, BookDemand}
 use Rattle.argument.specs.Checks.{check-holds, check-once, check-few, check_sound, check-full}
 use Rattle.argument.specs.Hits.{Each}

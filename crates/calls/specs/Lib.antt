@@ -2,9 +2,5 @@ pub mod Answers
 pub mod Known
 pub mod Counted
 pub mod AnswerLaws
-pub mod PreviewLaws
-pub mod CallLaws
-pub mod OnceLaws
 pub mod NumberLaws
 pub mod CheckLaws
-pub mod CountedLaws

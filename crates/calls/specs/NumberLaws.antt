@@ -9,17 +9,14 @@
 --   answer-from       the answer is read back from its number
 --   number-once       two answers with one number are equal
 --   answer-never-eleven   no answer has the number 11
-use Rattle.std.specs.Prelude.{◌≡◌, refl, Bool, true, false, cond, List, ℕ, ◌+◌, ◌-◌, ◌<◌, ◌≤◌, eqb, ltb, length}
+use Rattle.std.specs.Prelude.{◌≡◌, refl, Bool, true, false, cond, ℕ, ◌+◌, ◌-◌, ◌<◌, ◌≤◌, eqb, ltb}
 use Rattle.std.proofs.Common.{ap, sym, ◌∙◌, arith, ne_eqb, lt-ltb, le-ltb}
 use Rattle.std.proofs.Math.Option.{Option, some, none}
 use Rattle.std.proofs.lemmas.Bool.{eqb-false}
 use Rattle.lists.specs.CountLaws.{count-le}
-use Rattle.rules.specs.declared.Literal.{Literal}
-use Rattle.rules.specs.declared.Call.{Call}
-use Rattle.rules.specs.declared.Call.TheVariants.{Decide, Undo, Check, Preview}
 use Rattle.rules.specs.Page.{Puzzle, State, is_undecided}
 use Rattle.rules.specs.Flat.{flat}
-use Rattle.rules.specs.Check.{Reason, Verdict as Found, pass, conflict, hit, undecided_count}
+use Rattle.rules.specs.Check.{Reason, pass, hit, undecided_count}
 use Rattle.rules.specs.Check.{once_in, verdict_of, check}
 use Rattle.laws.specs.FlatLaws.{borders-le}
 use Rattle.board.specs.declared.Board.{Board}
@@ -27,14 +24,13 @@ use Rattle.board.specs.declared.Outcome.{Outcome}
 use Rattle.board.specs.declared.Outcome.TheVariants.{Done as Fine, Size, Ragged, Colour, Clue}
 use Rattle.board.specs.declared.Outcome.TheVariants.{Alien, Border, Taken, Bare, Short}
 use Rattle.board.specs.Alien.{is_alien}
-use Rattle.board.specs.Board.{number_of, is_done, decide_of, undo_of}
+use Rattle.board.specs.Board.{number_of, is_done}
 use Rattle.board.specs.View.{puzzle_of, states_of}
 use Rattle.board.specs.Cases.{outcome-never-eleven}
 use Rattle.board.specs.NativeLaws.{native-has}
 use Rattle.calls.specs.declared.Answer.{Answer}
 use Rattle.calls.specs.declared.Answer.TheVariants.{Done, Pass, Conflict, Refused}
-use Rattle.calls.specs.Answers.{answer_number, as_answer, check_answer, preview_answer, ended, call_of}
-use Rattle.calls.specs.CallLaws.{reason-short}
+use Rattle.calls.specs.Answers.{answer_number, ended}
 
 unfoldable pub outcome_of : ℕ → Outcome
 outcome_of v =
@@ -71,17 +67,17 @@ check-count Z s n e = go (hit Z s) e
     go (some r) f = let z : ◌≡◌ {A = ℕ} 0 1 = cc in absurd (omega arith)
 
 -- the answer a where the outcome is done, otherwise the refusal
-ended_by : (o : Outcome) (a : Answer) → InRange a → InRange (cond (is_done o) a (Refused o))
+pub ended_by : (o : Outcome) (a : Answer) → InRange a → InRange (cond (is_done o) a (Refused o))
 ended_by o a h = go (is_done o) refl
   where
     go : (x : Bool) → is_done o ≡ x → InRange (cond x a (Refused o))
     go true e = h
     go false e = let k = eqb-false (number_of o) 0 e in omega arith
 
-ended-range : (o : Outcome) → InRange (ended o)
+pub ended-range : (o : Outcome) → InRange (ended o)
 ended-range o = ended_by o Done tt
 
-pass-range : (b : Board) → is_alien b ≡ false → (n : ℕ) → check (puzzle_of b) (states_of b) ≡ pass n → n ≤ 1984
+pub pass-range : (b : Board) → is_alien b ≡ false → (n : ℕ) → check (puzzle_of b) (states_of b) ≡ pass n → n ≤ 1984
 unfolding puzzle_of undecided_count flat
 pass-range b t n e =
     let c = check-count (puzzle_of b) (states_of b) n e in
@@ -91,33 +87,6 @@ pass-range b t n e =
       count-le (puzzle_of b).page.borders (λ x. is_undecided (states_of b x)),
       borders-le (native-has b t).size,
     )
-
-pub found-range : (b : Board) → is_alien b ≡ false → (f : Found) → check (puzzle_of b) (states_of b) ≡ f
-    → InRange (as_answer f)
-found-range b t (pass n) e = pass-range b t n e
-found-range b t (conflict r) e = reason-short b t r e
-
-check-range : (b : Board) (n : ℕ) → InRange (check_answer b n)
-unfolding check_answer
-check-range b n = go (is_alien b) (ltb n 1984) refl
-  where
-    go : (x y : Bool) → is_alien b ≡ x
-        → InRange (cond x (Refused Alien) (cond y (Refused Short) (as_answer (check (puzzle_of b) (states_of b)))))
-    go true y e = omega arith
-    go false true e = omega arith
-    go false false e = found-range b e (check (puzzle_of b) (states_of b)) refl
-
-preview-range : (b : Board) (l : Literal) (n : ℕ) → InRange (preview_answer b l n)
-unfolding preview_answer
-preview-range b l n =
-    ended_by (decide_of b l).outcome (check_answer (decide_of b l).board n) (check-range (decide_of b l).board n)
-
-pub call-range : (b : Board) (c : Call) (m : List ℕ) → InRange (call_of b c m).answer
-unfolding call_of
-call-range b (Decide l) m = ended-range (decide_of b l).outcome
-call-range b Undo m = ended-range (undo_of b).outcome
-call-range b Check m = check-range b (length m)
-call-range b (Preview l) m = preview-range b l (length m)
 
 -- ---- read back
 outcome-of : (o : Outcome) → (outcome_of (number_of o) ≡ o) × (number_of o < 32)

@@ -1,6 +1,5 @@
 pub mod Runs
 pub mod Demand3
 pub mod RunLaws
-pub mod Demand3Laws
 pub mod SmallRuns
 pub mod RunWitness

@@ -51,8 +51,8 @@ use Rattle.board.specs.LiteralLaws.{literals-decided}
 use Rattle.board.specs.StepLaws.{decide-reply, reply-done}
 use Rattle.calls.specs.Answers.{told, memory_as, call_of, call_memory}
 use Rattle.calls.specs.Counted.{counted_of, counted_memory}
-use Rattle.calls.specs.CallLaws.{call-told, call-written}
-use Rattle.calls.specs.CountedLaws.{counted_same, counted-other}
+use Rattle.calls.proofs.CallLaws.{call-told, call-written}
+use Rattle.calls.proofs.CountedLaws.{counted_same, counted-other}
 use Rattle.demand3.specs.Runs.{Lent, asked_by, Given, stepped_on, memory_on, tally_on, given_by, told_by, looked_on}
 use Rattle.demand3.specs.Runs.{next_board, board_after, run_from, memories}
 

@@ -21,10 +21,10 @@ use Rattle.rules.specs.Flat.{flat}
 use Rattle.rules.specs.Groups.{members}
 use Rattle.rules.specs.Check.{laid, is_fit}
 use Rattle.rules.specs.Shapes.{shape_of}
-use Rattle.laws.specs.FlatOnce.{flat-listing}
-use Rattle.laws.specs.FlatShapes.{shape-canonical}
+use Rattle.laws.proofs.FlatOnce.{flat-listing}
+use Rattle.laws.proofs.FlatShapes.{shape-canonical}
 use Rattle.laws.specs.ShapeLaws.{Canonical}
-use Rattle.laws.specs.Sums.{turned-connections}
+use Rattle.laws.proofs.Sums.{turned-connections}
 use Rattle.groups.specs.Parts.{part_of}
 use Rattle.shapes.specs.Rows.{turn_at, image, rows_of}
 use Rattle.shapes.specs.Spots.{places}

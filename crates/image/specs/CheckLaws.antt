@@ -19,8 +19,9 @@ use Rattle.calls.specs.Answers.{answer_number, as_answer, written, check_answer}
 use Rattle.calls.specs.AnswerLaws.{length-written}
 use Rattle.calls.specs.Known.{KnownBoard, found_in}
 use Rattle.calls.specs.CheckLaws.{same-found}
-use Rattle.calls.specs.CallLaws.{reason-short}
-use Rattle.calls.specs.NumberLaws.{InRange, found-range}
+use Rattle.calls.proofs.CallLaws.{reason-short}
+use Rattle.calls.specs.NumberLaws.{InRange}
+use Rattle.calls.proofs.RangeLaws.{found-range}
 use Rattle.image.specs.Image.{spelled_board, right_length, put_codes, is_short, place_count, bytes_after, bytes_by}
 use Rattle.image.specs.Image.{check_number}
 use Rattle.image.specs.Image.{check_bytes}

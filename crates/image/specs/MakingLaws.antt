@@ -29,7 +29,7 @@ use Rattle.board.specs.Board.{number_of, fresh_board, fresh_of, SmallClues}
 use Rattle.board.specs.Accepted.{Accepted, made_board}
 use Rattle.board.specs.DecideLaws.{done-returned}
 use Rattle.board.specs.FreshLaws.{Made, made-is}
-use Rattle.demand3.specs.Demand3Laws.{start-bare}
+use Rattle.demand3.proofs.Demand3Laws.{start-bare}
 use Rattle.image.specs.Image.{two_bytes, four_bytes, bits_of, clue_bytes, tally_bytes, image_of, right_length}
 use Rattle.image.specs.Image.{image_alien}
 use Rattle.image.specs.Making.{fresh_number, fresh_image}

@@ -21,9 +21,9 @@ use Rattle.board.specs.Accepted.{Accepted, made_board}
 use Rattle.board.specs.View.{puzzle_of, states_of}
 use Rattle.board.specs.StepLaws.{BoardKept, decide-kept, undo-kept}
 use Rattle.calls.specs.Answers.{answer_number, written, check_answer, check_memory, ended, call_of, call_memory}
-use Rattle.calls.specs.CallLaws.{reason-short}
+use Rattle.calls.proofs.CallLaws.{reason-short}
 use Rattle.demand3.specs.Runs.{Given, given_by, next_board, board_after, run_from}
-use Rattle.demand3.specs.Demand3Laws.{start-bare, demand3}
+use Rattle.demand3.proofs.Demand3Laws.{start-bare, demand3}
 use Rattle.image.specs.Image.{image_of, Proper, side_of, decide_literal, ImageCall, decide, undo, number_by}
 use Rattle.image.specs.Image.{board_by, image_number, image_after, place_count, bytes_after, bytes_by}
 use Rattle.image.specs.Image.{check_number, check_bytes}

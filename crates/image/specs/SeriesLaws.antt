@@ -193,15 +193,6 @@ alien-number s k a = go (right_length s) k a
     go true e undo = sym (ap (λ (r : Returned). number_of r.outcome) (undo-alien (spelled_board s) e))
     go false e c = refl
 
-pub alien-stays : (s : List ℕ) → Bytes s → image_alien s ≡ true → (a : ImageCall) → s ≡ image_after s a
-alien-stays s h k a = go (ℕ_discrete (length s) 11082)
-  where
-    go : Dec (length s ≡ 11082) → s ≡ image_after s a
-    go (yes l) =
-        after-refused s h l (spelled_board s) refl a
-        (λ z. let g : 5 ≡ 0 = sym (alien-number s k a) ∙ z in omega arith)
-    go (no l) = length-after s a l
-
 pub alien-none : (s codes : List ℕ) → image_alien s ≡ true → (0 ≡ done_of s codes) × (s ≡ image_done s codes)
 unfolding done_of image_done
 alien-none s [] k = (refl, refl)

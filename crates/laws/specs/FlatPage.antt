@@ -27,7 +27,6 @@ use Rattle.laws.specs.PointLaws.{point-eq}
 use Rattle.laws.specs.PageLaws.{OneStep, six_steps, at3, Bordered, CellsPlaced, TurnsListed, Moved}
 use Rattle.laws.specs.Links.{Linking, linking-hop, linking-in, linking-reads, linked-bordered, linked-near}
 use Rattle.laws.specs.Links.{linked-reads}
-use Rattle.laws.specs.TurnLaws.{Swaps, table-swaps}
 use Rattle.laws.specs.FlatList.{flat-are, flat-cover, flat-turns}
 use Rattle.laws.specs.FlatLinks.{flat-linked, down-link, right-link, place_at, cell-is, row_in, column-in}
 use Rattle.laws.specs.FlatLinks.{step_back, plus_none}
@@ -270,8 +269,3 @@ flat-listed h w =
             subst (λ (f : Point → Point). Moved f c.2.shift t.cells c.0.cells) (sym r.2) c.2.moved,
           );
     }
-
--- "shift, quarter turns, reflection": congruence on a flat page allows the eight signed swaps and nothing else
-pub flat-swaps : (h w : ℕ) → Swaps (flat h w).turns
-unfolding flat
-flat-swaps h w = table-swaps

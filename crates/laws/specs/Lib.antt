@@ -15,9 +15,6 @@ pub mod ShapeLaws
 pub mod Copies
 -- Shapes: the listed transforms of a flat page, each of the eight images once
 pub mod FlatList
-pub mod FlatOnce
-pub mod FlatShapes
-pub mod Sums
 -- Flat: the numbers of a page, its borders as links, and all that is asked of a page
 pub mod FlatLaws
 pub mod FlatLinks

@@ -13,18 +13,17 @@
 --   undone ts a         the table ts has a row that undoes a
 --   Swaps ts            the functions ts are the eight signed swaps, each once
 use Rattle.std.specs.Prelude.{◌≡◌, refl, ◌⊎◌, Bool, true, false, not, ◌&&◌, ◌||◌, List, [], ◌∷◌, map, T, ℤ, pos, ◌+ℤ◌}
-use Rattle.std.proofs.Common.{sym, ap, ◌∙◌, subst, inl, inr, T_not}
+use Rattle.std.proofs.Common.{sym, ap, ◌∙◌, inl, inr}
 use Rattle.std.specs.Bool.{beq}
 use Rattle.std.proofs.Math.Bool.{xor}
 use mathlib.Core.List.Memᴰ
 use Rattle.std.proofs.Math.IntN.{neg_ℤ-neg_ℤ, neg_ℤ-+ℤ}
 use Rattle.lists.specs.Lists.{◌∈◌, Distinct, any, all}
-use Rattle.lists.specs.ListLaws.{any-find, all-mem, mem-map, map-find}
-use Rattle.lists.specs.Pairs.{pairwise, distinct-pairwise, distinct-map}
+use Rattle.lists.specs.ListLaws.{any-find, all-mem}
 use Rattle.lists.specs.Booleans.{T_and, T-and-l, T-and-r, T-or, beq-eq}
 use Rattle.rules.specs.Page.{Point, ◌⊕◌}
 use Rattle.rules.specs.Turns.{Axis, layerward, rowward, columnward, Row, Turn, coordinate, signed, read, apply, row_of}
-use Rattle.rules.specs.Turns.{compose_row, compose, plus, minus, flat_turn, keep, quarter, flip, flat_table}
+use Rattle.rules.specs.Turns.{compose_row, compose, plus, minus, keep, quarter, flip, flat_table}
 use Rattle.rules.specs.Shapes.{sameℤ}
 use Rattle.laws.specs.PointLaws.{point-eq}
 use Rattle.laws.specs.PageLaws.{at3}
@@ -62,7 +61,7 @@ same_axis→eq columnward layerward t = absurd t
 same_axis→eq columnward rowward t = absurd t
 same_axis→eq columnward columnward t = refl
 
-same_row→eq : (r q : Row) → T (same_row r q) → r ≡ q
+pub same_row→eq : (r q : Row) → T (same_row r q) → r ≡ q
 same_row→eq r q t =
     let a = same_axis→eq r.axis q.axis (T-and-l (same_axis r.axis q.axis) _ t) in
     let b = beq-eq r.minus q.minus (T-and-r (same_axis r.axis q.axis) _ t) in
@@ -90,7 +89,7 @@ same_row-refl r = T_and (same_axis r.axis r.axis) (beq r.minus r.minus) (axis r.
     sign true = tt
     sign false = tt
 
-same_turn-refl : (a : Turn) → T (same_turn a a)
+pub same_turn-refl : (a : Turn) → T (same_turn a a)
 same_turn-refl a = search (T_and, same_row-refl)
 
 pub has-turn : (a : Turn) (ts : List Turn) → T (has_turn a ts) → a ∈ ts
@@ -237,7 +236,7 @@ inverses a b = same_turn (compose b a) keep && same_turn (compose a b) keep
 abbrev pub undone : List Turn → Turn → Bool
 undone ts a = any (inverses a) ts
 
-undo : (ts : List Turn) (a : Turn) → T (undone ts a)
+pub undo : (ts : List Turn) (a : Turn) → T (undone ts a)
     → (b : Turn) × b ∈ ts × (compose b a ≡ keep) × (compose a b ≡ keep)
 undo ts a t =
     let r = any-find (inverses a) ts t in (
@@ -254,64 +253,15 @@ apply-undo ts a t =
     (r.0, r.1, λ p. sym (apply-compose r.0 a p) ∙ (ap (λ z. apply z p) r.2 ∙ apply-keep p))
 
 -- "its composition rules are tested over the table": each row has its inverse there, and composes with each to a row
-abbrev composes : Turn → Bool
+abbrev pub composes : Turn → Bool
 composes a = undone flat_table a && all (λ b. has_turn (compose a b) flat_table) flat_table
 
-composition : T (all composes flat_table)
+pub composition : T (all composes flat_table)
 unfolding all any xor
 composition = tt
-
-pub table-rules : TableRules flat_table
-unfolding all any pairwise product xor
-table-rules =
-    record {
-      once = distinct-pairwise (λ a. a) (λ a b. not (same_turn a b)) differ flat_table tt;
-      whole = swap-listed;
-      only = λ t m. all-mem signed_swap flat_table tt m;
-      closed = λ a b m n. has-turn (compose a b) flat_table
-          (all-mem (λ b. has_turn (compose a b) flat_table) flat_table
-          (T-and-r (undone flat_table a) _ (all-mem composes flat_table composition m)) n);
-      inverse = λ a m. undo flat_table a (T-and-l (undone flat_table a) _ (all-mem composes flat_table composition m));
-      made = refl;
-      made_of = tt;
-    }
-  where
-    differ : (a b : Turn) → T (not (same_turn a b)) → a ≡ b → ⊥
-    differ a b t e = T_not (same_turn a b) t (rw e (same_turn-refl b))
-
-    signs : (a b : Axis) → T (both_axes a b) → (i j : Bool)
-        → flat_turn (record { axis = a; minus = i }) (record { axis = b; minus = j }) ∈ flat_table
-    signs rowward columnward t true true = has-turn _ flat_table tt
-    signs rowward columnward t true false = has-turn _ flat_table tt
-    signs rowward columnward t false true = has-turn _ flat_table tt
-    signs rowward columnward t false false = has-turn _ flat_table tt
-    signs columnward rowward t true true = has-turn _ flat_table tt
-    signs columnward rowward t true false = has-turn _ flat_table tt
-    signs columnward rowward t false true = has-turn _ flat_table tt
-    signs columnward rowward t false false = has-turn _ flat_table tt
-    signs layerward b t i j = absurd t
-    signs rowward layerward t i j = absurd t
-    signs rowward rowward t i j = absurd t
-    signs columnward layerward t i j = absurd t
-    signs columnward columnward t i j = absurd t
-
-    swap-listed : (t : Turn) → T (signed_swap t) → t ∈ flat_table
-    swap-listed t s =
-        let l = same_row→eq t.layers (plus layerward) (T-and-l (same_row t.layers (plus layerward)) _ s) in
-        let m = signs t.rows.axis t.columns.axis (T-and-r (same_row t.layers (plus layerward)) _ s)
-        t.rows.minus t.columns.minus in
-        subst (λ (r : Row). record { layers = r; rows = t.rows; columns = t.columns } ∈ flat_table) (sym l) m
 
 -- a list of turns that is exactly the eight signed swaps, each once
 pub record Swaps (ts : List (Point → Point)) : Type 0 where
   pub whole : (t : Turn) → T (signed_swap t) → apply t ∈ ts
   pub only : (g : Point → Point) → g ∈ ts → (t : Turn) × T (signed_swap t) × (g ≡ apply t)
   pub once : Distinct ts
-
-pub table-swaps : Swaps (map apply flat_table)
-table-swaps =
-    record {
-      whole = λ t s. mem-map apply (table-rules.whole t s);
-      only = λ g m. let r = map-find apply flat_table m in (r.0, table-rules.only r.0 r.1, r.2);
-      once = distinct-map apply apply-inj flat_table table-rules.once;
-    }

@@ -49,15 +49,8 @@ draft_page =
       calls = Check ∷ [];
     }
 
-both-accepted : (judgement_of sample ≡ accepted sample_page) × (judgement_of draft ≡ accepted draft_page)
+pub both-accepted : (judgement_of sample ≡ accepted sample_page) × (judgement_of draft ≡ accepted draft_page)
 unfolding strip also onto give lead followed either or_else both map_r and_on times many rep digit may_follow number_on
     number with_digit digits_on digits size row clue side decide_call call close sheet on_page same_cell clues_fit whole
     page_of all any size_right rows_fit low two_colours judge_sheet judge_read judgement_of
 both-accepted = (refl, refl)
-
-pub sample-accepted : judgement_of sample ≡ accepted sample_page
-sample-accepted = both-accepted.0
-
--- "Such a page is to be loaded like any other"
-pub draft-accepted : judgement_of draft ≡ accepted draft_page
-draft-accepted = both-accepted.1

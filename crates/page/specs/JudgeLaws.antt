@@ -119,10 +119,10 @@ module _ (s : List ℕ) where
   formed p e = rw e
 
 -- the numbers with which a page is rejected
-rejected-is : (k n : ℕ) → rejected k ≡ rejected n → n ≡ k
+pub rejected-is : (k n : ℕ) → rejected k ≡ rejected n → n ≡ k
 rejected-is k n e = cc
 
-sheet-number : (p : Sheet) (n : ℕ) → judge_sheet p ≡ rejected n → n ∈ (1 ∷ 2 ∷ 3 ∷ [])
+pub sheet-number : (p : Sheet) (n : ℕ) → judge_sheet p ≡ rejected n → n ∈ (1 ∷ 2 ∷ 3 ∷ [])
 unfolding judge_sheet
 sheet-number p n e =
     go (size_right p.height p.width) (rows_fit p.height p.width p.rows) (two_colours p.rows) e
@@ -134,12 +134,3 @@ sheet-number p n e =
     go true true false q = Memᴰ.tail (Memᴰ.tail (Memᴰ.head (rejected-is 3 n q)))
     go true false c q = Memᴰ.tail (Memᴰ.head (rejected-is 2 n q))
     go false b c q = Memᴰ.head (rejected-is 1 n q)
-
--- "a page gives 1 to 3, 10", and no other: "Number 11 is retired and not used again"
-pub judgement-number : (s : List ℕ) (n : ℕ) → judgement_of s ≡ rejected n → n ∈ (10 ∷ 1 ∷ 2 ∷ 3 ∷ [])
-unfolding judgement_of judge_read
-judgement-number s n e = go (page_of s) e
-  where
-    go : (o : Option Sheet) → judge_read o ≡ rejected n → n ∈ (10 ∷ 1 ∷ 2 ∷ 3 ∷ [])
-    go none q = Memᴰ.head (rejected-is 10 n q)
-    go (some p) q = Memᴰ.tail (sheet-number p n q)

@@ -61,35 +61,3 @@ pub record PagePuzzle (s : List ℕ) (p : Sheet) : Type 0 where
   pub clues_length : length (clues_of p) ≡ p.height * p.width
   pub colours : take (p.height * p.width) (colour_array p.rows) ≡ colours_of p
   pub clues : take (p.height * p.width) (clue_array p.width p.clues) ≡ clues_of p
-
--- an accepted page is well formed and makes a board, and its arrays begin with the puzzle's lists
-pub page-puzzle : (s : List ℕ) (p : Sheet) → judgement_of s ≡ accepted p → PagePuzzle s p
-unfolding judgement_of judge_read
-page-puzzle s p e = go (page_of s) refl e
-  where
-    all : page_of s ≡ some p → Makes p → PagePuzzle s p
-    all h m =
-        let k : Spells s p = page-sound s p h in
-        let n : p.height * p.width ≤ 1024 = (counts m.size).cells in
-        let l = colours-length p m.rows in
-        record {
-          spells = k;
-          makes = m;
-          cells = n;
-          colours_length = l;
-          clues_length = clues-length p;
-          colours = colours-front p (p.height * p.width) l n;
-          clues = clues-front p k.clues m.size.broad n;
-        }
-
-    go : (o : Option Sheet) → page_of s ≡ o → judge_read o ≡ accepted p → PagePuzzle s p
-    go none h k = let z : ◌≡◌ {A = ℕ} 0 1 = cc in absurd (omega arith)
-    go (some q) h k =
-        let m = makes q p k in
-        let j : Makes p = subst (λ (r : Sheet). Makes r) m.0 m.1 in
-        all (h ∙ ap some m.0) j
-
--- a well formed page of a right size, right rows and two colours is accepted, whatever its clues: "Such a page is to be
--- loaded like any other"
-pub page-accepts : (s : List ℕ) (p : Sheet) → page_of s ≡ some p → Makes p → judgement_of s ≡ accepted p
-page-accepts s p e m = formed s p e ∙ right p (size_is m.size) m.rows m.colours

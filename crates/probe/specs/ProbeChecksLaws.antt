@@ -9,7 +9,8 @@ use Rattle.board.specs.Board.{decide_of}
 use Rattle.board.specs.Accepted.{made_board, decides_of}
 use Rattle.calls.specs.Answers.{literal_of, answer_number, check_answer, check_memory, call_of}
 use Rattle.calls.specs.AnswerLaws.{length-check}
-use Rattle.calls.specs.NumberLaws.{InRange, call-range}
+use Rattle.calls.specs.NumberLaws.{InRange}
+use Rattle.calls.proofs.RangeLaws.{call-range}
 use Rattle.probe.specs.ProbeChecks.{checks_number, checks_memory, decides_memory, made, board_in}
 use Rattle.probe.specs.ProbeChecks.{checked_number, checked_memory}
 

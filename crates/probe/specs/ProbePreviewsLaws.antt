@@ -8,7 +8,8 @@ use Rattle.rules.specs.declared.Call.TheVariants.{Preview}
 use Rattle.board.specs.declared.Board.{Board}
 use Rattle.calls.specs.Answers.{answer_number, preview_answer, preview_memory, call_of, call_memory}
 use Rattle.calls.specs.AnswerLaws.{length-call}
-use Rattle.calls.specs.NumberLaws.{InRange, call-range}
+use Rattle.calls.specs.NumberLaws.{InRange}
+use Rattle.calls.proofs.RangeLaws.{call-range}
 use Rattle.probe.specs.ProbePreviews.{previews_number, previews_memory}
 
 module _ (b : Board) (l : Literal) where

@@ -8,9 +8,10 @@ use Rattle.rules.specs.declared.Tally.{Tally}
 use Rattle.rules.specs.Book.{same_tally}
 use Rattle.board.specs.declared.Board.{Board}
 use Rattle.calls.specs.Answers.{answer_number}
-use Rattle.calls.specs.NumberLaws.{InRange, call-range}
+use Rattle.calls.specs.NumberLaws.{InRange}
+use Rattle.calls.proofs.RangeLaws.{call-range}
 use Rattle.calls.specs.Counted.{counted_of, counted_memory}
-use Rattle.calls.specs.CountedLaws.{counted_same, counted-other}
+use Rattle.calls.proofs.CountedLaws.{counted_same, counted-other}
 use Rattle.image.specs.Image.{tally_counts}
 use Rattle.probe.specs.ProbeRecords.{tally_from, record_number, record_words, record_memory}
 

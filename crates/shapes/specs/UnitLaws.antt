@@ -24,7 +24,7 @@ use Rattle.laws.specs.SameLaws.{same_point→eq, same_point-refl}
 use Rattle.laws.specs.PointLaws.{point-eq}
 use Rattle.laws.specs.ShapeLaws.{turned-keep}
 use Rattle.laws.specs.SortLaws.{Ascending}
-use Rattle.laws.specs.FlatShapes.{members-ascend}
+use Rattle.laws.proofs.FlatShapes.{members-ascend}
 use Rattle.groups.specs.Grouping.{numbers_in}
 use Rattle.shapes.specs.RowLaws.{transforms-rows}
 use Rattle.shapes.specs.FixLaws.{fixes-within, image-normal}

@@ -9,10 +9,11 @@ use Rattle.rules.specs.Page.{wall_at}
 use Rattle.rules.specs.Check.{pass, conflict}
 use Rattle.rules.specs.Book.{Asked, ask, Reply, done, answered, replies}
 use Rattle.demand3.specs.Runs.{Lent, lend}
-use Rattle.demand3.specs.Demand3Laws.{demand3}
-use Rattle.demand3.specs.SmallRuns.{small-runs}
+use Rattle.demand3.proofs.Demand3Laws.{demand3}
+use Rattle.demand3.proofs.SmallRunLaws.{small-runs}
 use Rattle.page.specs.Decimal.{decimal_in, decimal}
-use Rattle.page.specs.Examples.{sample, sample_page, sample-accepted}
+use Rattle.page.specs.Examples.{sample, sample_page}
+use Rattle.page.proofs.JudgedLaws.{sample-accepted}
 use Rattle.page.specs.Judge.{Judgement, colours_of, clue_on, clues_of}
 use Rattle.page.specs.Many.{show_all}
 use Rattle.print.specs.Answers.{show_literal, show_reply, show_answers}

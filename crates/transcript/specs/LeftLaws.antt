@@ -25,7 +25,8 @@ use Rattle.board.specs.declared.Board.{Board}
 use Rattle.calls.specs.declared.Answer.{Answer}
 use Rattle.calls.specs.declared.Stepped.{Stepped}
 use Rattle.calls.specs.Answers.{literal_of, reason_in, told, call_of, call_memory}
-use Rattle.calls.specs.NumberLaws.{InRange, call-range}
+use Rattle.calls.specs.NumberLaws.{InRange}
+use Rattle.calls.proofs.RangeLaws.{call-range}
 use Rattle.page.specs.declared.Parts.{Parts}
 use Rattle.page.specs.FormLaws.{from-none, from_more}
 use Rattle.page.specs.Grammar.{end_word, call}

@@ -18,10 +18,10 @@ use Rattle.board.specs.declared.Board.{Board}
 use Rattle.calls.specs.Answers.{told, call_of, call_memory}
 use Rattle.calls.specs.AnswerLaws.{length-call}
 use Rattle.demand3.specs.Runs.{Lent, lend, asked_by, told_by, run_from}
-use Rattle.demand3.specs.Demand3Laws.{demand3}
+use Rattle.demand3.proofs.Demand3Laws.{demand3}
 use Rattle.page.specs.Grammar.{Sheet, end_word}
 use Rattle.page.specs.Judge.{Judgement, rejected, accepted, judgement_of, colours_of, clues_of}
-use Rattle.page.specs.JudgeLaws.{judgement-number}
+use Rattle.page.proofs.JudgedLaws.{judgement-number}
 use Rattle.page.specs.Many.{show_all}
 use Rattle.print.specs.Answers.{answers_word, show_reply, show_answers}
 use Rattle.transcript.specs.declared.Stage.{Stage}

@@ -25,7 +25,7 @@ use Rattle.laws.specs.PointLaws.{point-eq}
 use Rattle.laws.specs.TurnLaws.{apply-compose, apply-keep}
 use Rattle.laws.specs.SortLaws.{Ascending, mem-sort, sort-mem, sort-ascends, ascending-distinct, ascending-same}
 use Rattle.laws.specs.SortLaws.{shift-ascends}
-use Rattle.laws.specs.FlatShapes.{filter-ascends}
+use Rattle.laws.proofs.FlatShapes.{filter-ascends}
 use Rattle.groups.specs.Grouping.{numbers_in}
 use Rattle.shapes.specs.declared.Pair.{Pair}
 use Rattle.shapes.specs.declared.Signs.{Signs}

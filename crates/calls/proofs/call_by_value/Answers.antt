@@ -2,7 +2,7 @@
 use mathlib.Core.Path.{◌∙◌, sym, ap}
 use Rattle.calls.specs.declared.Stepped.{Stepped}
 use Rattle.calls.specs.Counted.{counted_by}
-use Rattle.calls.specs.CountedLaws.{counted_same, counted-other}
+use Rattle.calls.proofs.CountedLaws.{counted_same, counted-other}
 use Rattle.calls.proofs.call_by_value.Goals as goal
 
 pub returns-then-same : goal.returns-then-same

@@ -14,7 +14,7 @@ use Rattle.board.specs.Board.{number_of, returned, tally_more, decide_of}
 use Rattle.board.specs.TallyLaws.{tally-left}
 use Rattle.calls.specs.Answers.{found_answer, found_memory}
 use Rattle.calls.specs.AnswerLaws.{check-known}
-use Rattle.calls.specs.PreviewLaws.{preview-stopped, preview-goes, preview-known, preview-left}
+use Rattle.calls.proofs.PreviewLaws.{preview-stopped, preview-goes, preview-known, preview-left}
 use Rattle.calls.specs.CheckLaws.{same-found}
 use Rattle.calls.proofs.preview_lent.Goals.{After-decide_lent-outcome, Else-number-ne0, Start}
 use Rattle.calls.proofs.preview_lent.Goals as goal

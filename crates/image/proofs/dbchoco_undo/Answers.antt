@@ -6,7 +6,8 @@ use mathlib.Core.List.{List}
 use Prim.Native.Nat.{ℕ}
 use native.Mathlib.Omega.{arith}
 use Rattle.image.specs.Image.{Bytes, image_alien}
-use Rattle.image.specs.SeriesLaws.{long, alien-number, alien-stays}
+use Rattle.image.specs.SeriesLaws.{long, alien-number}
+use Rattle.image.proofs.AlienLaws.{alien-stays}
 use Rattle.image.proofs.dbchoco_undo.Goals.{After-alien, Else-alien}
 use Rattle.image.proofs.dbchoco_undo.Goals as goal
 

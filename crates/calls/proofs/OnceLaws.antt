@@ -17,7 +17,7 @@ use Rattle.board.specs.View.{puzzle_of, states_of}
 use Rattle.calls.specs.declared.Answer.TheVariants.{Conflict, Refused}
 use Rattle.calls.specs.Answers.{reason_in, as_answer, written, check_answer, check_memory}
 use Rattle.calls.specs.Answers.{preview_answer, preview_memory}
-use Rattle.calls.specs.CallLaws.{reason-once, reason-few, reason-short, reason-read}
+use Rattle.calls.proofs.CallLaws.{reason-once, reason-few, reason-short, reason-read}
 
 -- "no border is named twice, so a reason has at most as many literals as there are decided borders"
 pub record NamesOnce (m : List ℕ) (k n : ℕ) : Type 0 where

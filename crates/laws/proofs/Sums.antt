@@ -19,7 +19,8 @@ use Rattle.rules.specs.Groups.{members}
 use Rattle.rules.specs.Shapes.{sort, shift_by, normal, turned, connections_at, shape_of}
 use Rattle.laws.specs.PointLaws.{add_comm, add_back, twice-shift}
 use Rattle.laws.specs.PageLaws.{Bordered, OneStep, CellsPlaced, near-turn, near-right, near-eq}
-use Rattle.laws.specs.TurnLaws.{apply-compose, apply-keep, apply-sum, table-rules}
+use Rattle.laws.specs.TurnLaws.{apply-compose, apply-keep, apply-sum}
+use Rattle.laws.proofs.TableRules.{table-rules}
 use Rattle.laws.specs.SortLaws.{mem-sort, sort-mem, mem-shift, shift-find}
 use Rattle.laws.specs.GroupLaws.{mem-members, members-lt, members-number}
 use Rattle.laws.specs.FlatList.{flat-turns}

@@ -23,7 +23,7 @@ use Rattle.rules.specs.Shapes.{with_quarter, with_flip, flat_transforms}
 use Rattle.rules.specs.Flat.{flat, flat_place}
 use Rattle.laws.specs.SortLaws.{Ascending}
 use Rattle.laws.specs.ShapeLaws.{Canonical, normal-canonical}
-use Rattle.laws.specs.FlatOnce.{flat-listing}
+use Rattle.laws.proofs.FlatOnce.{flat-listing}
 
 -- a list of numbers that rises
 abbrev Rising : List ℕ → Type 0

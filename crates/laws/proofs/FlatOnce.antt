@@ -21,7 +21,8 @@ use Rattle.rules.specs.Shapes.{same_points, same_shape, turned, with_half, quart
 use Rattle.laws.specs.PointLaws.{add_assoc, add_back}
 use Rattle.laws.specs.SameLaws.{same_points-refl}
 use Rattle.laws.specs.ShapeLaws.{turned_by, Canonical, canonical-same, turned-canonical, turned-cells}
-use Rattle.laws.specs.TurnLaws.{same_turn, same_turn→eq, has_turn, has-turn, table-rules}
+use Rattle.laws.specs.TurnLaws.{same_turn, same_turn→eq, has_turn, has-turn}
+use Rattle.laws.proofs.TableRules.{table-rules}
 use Rattle.laws.specs.FlatList.{Onto, image-onto, image-then, image-keep, flat-turns, rotations, reflections}
 use Rattle.laws.specs.FlatList.{rotations-listed, flat-are, flat-cover}
 

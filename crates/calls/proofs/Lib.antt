@@ -1,0 +1,5 @@
+pub mod CallLaws
+pub mod CountedLaws
+pub mod OnceLaws
+pub mod PreviewLaws
+pub mod RangeLaws

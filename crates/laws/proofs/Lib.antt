@@ -1,0 +1,4 @@
+pub mod FlatOnce
+pub mod FlatShapes
+pub mod Sums
+pub mod TableRules
