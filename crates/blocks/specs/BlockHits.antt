@@ -28,9 +28,9 @@ module _ {h w : ℕ} (z : Sized h w) (cs : List ℕ) (ks : List ℤ) (bs : List 
   abbrev pub faulty_in : Faulty
   faulty_in = first_faulty (fault_in z cs ks bs) (groups_in Blocks h w cs bs).count
 
-  pub block_at : {blocks : List ℕ} → Filled (groups_in Blocks h w cs bs) blocks → is_faultless faulty_in.fault ≡ false
+  pub block_at_lem : {blocks : List ℕ} → Filled (groups_in Blocks h w cs bs) blocks → is_faultless faulty_in.fault ≡ false
       → GroupAt h w blocks faulty_in.block
-  block_at f e =
+  block_at_lem f e =
       group_at z (joins_in Blocks h w cs bs) f faulty_in.block
       (first-wrong (fault_in z cs ks bs) (groups_in Blocks h w cs bs).count e).block
 

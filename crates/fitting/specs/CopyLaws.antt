@@ -27,7 +27,7 @@ use Rattle.rules.specs.Shapes.{shift_by, normal, connections_at, shape_of}
 use Rattle.rules.specs.Codes.{unclued}
 use Rattle.laws.specs.PointLaws.{point-eq, add_assoc, add_comm}
 use Rattle.laws.specs.GroupLaws.{members-lt}
-use Rattle.laws.specs.FlatLaws.{row_of}
+use Rattle.laws.specs.FlatLaws.{row_of_lem}
 use Rattle.groups.specs.Grouping.{numbers_in, cells_in, starts_in}
 use Rattle.groups.specs.Parts.{part_of}
 use Rattle.reasons.specs.Arrays.{Cells}
@@ -124,8 +124,8 @@ module _ {h w g : ℕ} {us : List ℕ} (z : Sized h w) (u : UnitIn h w us g) whe
 
     pub shift_of : o < h * w → Shift down across
     shift_of l =
-        let a = row_of h w (get_or units first 0) (copy-unit-low first (omega arith) u.some) in
-        let b = row_of h w o l in
+        let a = row_of_lem h w (get_or units first 0) (copy-unit-low first (omega arith) u.some) in
+        let b = row_of_lem h w o l in
         record {
           down = omega (arith, b.row, z.tall);
           across = omega (arith, b.column, z.broad);
@@ -149,7 +149,7 @@ module _ {h w g : ℕ} {us : List ℕ} (z : Sized h w) (u : UnitIn h w us g) whe
       back_is : back ≡ raised (64 - 2 * (f / w)) (64 - 2 * (f % w))
       unfolding flat flat_place ◌⊕◌ opposite
       back_is =
-          let r = row_of h w f (copy-unit-low first (omega arith) u.some) in
+          let r = row_of_lem h w f (copy-unit-low first (omega arith) u.some) in
           point-eq refl (sym (lower-raise (pos (f / w)) (omega (arith, r.row, z.tall))))
           (sym (lower-raise (pos (f % w)) (omega (arith, r.column, z.broad))))
 

@@ -15,7 +15,7 @@ use Rattle.rules.specs.Flat.{flat, hop_if, hop_below, hop_right, ahead_at, cell_
 use Rattle.rules.specs.Groups.{entry, members}
 use Rattle.rules.specs.Check.{laid, judge}
 use Rattle.rules.specs.Shapes.{shape_of, normal, shift_by, connections_at}
-use Rattle.laws.specs.FlatLaws.{spot, row_of}
+use Rattle.laws.specs.FlatLaws.{spot, row_of_lem}
 use Rattle.laws.specs.GroupLaws.{mem-members, members-lt}
 use Rattle.groups.specs.Grouping.{numbers_in, cells_in, starts_in}
 use Rattle.groups.specs.Parts.{part_of}
@@ -63,7 +63,7 @@ module _ (h w : ℕ) (number : ℕ → ℕ) (g c : ℕ) (alone : members (flat h
   ahead_none : filter (λ (k : Hop). eqb (number k.to) g) ((flat h w).ahead c) ≡ []
   unfolding flat ahead_at hop_below hop_right cell_at
   ahead_none =
-      let r = row_of h w c inside in
+      let r = row_of_lem h w c inside in
       let m = spot h w (c / w) (c % w) r.row r.column in
       hops-none _ _ _
       (hop-none _ _ _ _

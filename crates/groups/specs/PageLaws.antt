@@ -20,7 +20,7 @@ use Rattle.groups.specs.declared.Kind.{Kind}
 use Rattle.groups.specs.declared.Kind.TheVariants.{Blocks, Units, Potential}
 use Rattle.groups.specs.Parts.{Groups, groups_of, part_of}
 use Rattle.groups.specs.Kinds.{link_of, joins_in}
-use Rattle.groups.specs.PartLaws.{ids-entry, ids-lt, offs-next, offs-le, part-members, cell_at}
+use Rattle.groups.specs.PartLaws.{ids-entry, ids-lt, offs-next, offs-le, part-members, cell_at_lem}
 use Rattle.groups.specs.Pages.{head_of, groups_in, kind_number, kind_count}
 
 -- a page has between 1 and 1,024 cells
@@ -86,7 +86,7 @@ module _ {h w : ℕ} (z : Sized h w) (link : ℕ → Bool) where
   unfolding groups_of
   head_at g l =
       let e : get_or groups.offs g 0 + 0 ≡ get_or groups.offs g 0 = omega arith in
-      rw e at (cell_at (flat h w) link (cells-some z) (cells-few z) g l 0 (full g l))
+      rw e at (cell_at_lem (flat h w) link (cells-some z) (cells-few z) g l 0 (full g l))
 
   -- the cells of every number
   pub parts_are : part_of groups.cells groups.offs ≡ members (flat h w) number

@@ -140,10 +140,10 @@ module _ (G : Page) (link : ℕ → Bool) (some : 1 ≤ G.cells) (few : G.cells 
           rw y (sym (members-none G link g (omega arith)))
 
   -- the i-th cell of a group
-  pub cell_at : (g : ℕ) → g < count → (i : ℕ) → i < length (members G number g)
+  pub cell_at_lem : (g : ℕ) → g < count → (i : ℕ) → i < length (members G number g)
       → get_or (groups_of G link).cells (get_or (groups_of G link).offs g 0 + i) 0 ≡ get_or (members G number g) i 0
   unfolding part_of
-  cell_at g h i l =
+  cell_at_lem g h i l =
       let a = get_or (groups_of G link).offs g 0 in
       let e = get_or (groups_of G link).offs (g + 1) 0 in
       let k : i < e - a = omega (arith, offs-next g h) in

@@ -55,9 +55,9 @@ module _ (h w : ℕ) (link : ℕ → Bool) where
   pub left-start : (y : ℕ) → 1 ≤ w → tied_left h w link (y * w) ≡ false
   left-start y s = left-none (y * w) (rw add-zero at (digits_mod y {m = w} {r = 0} s))
 
-  pub left_at : (y x : ℕ) → x + 1 < w → tied_left h w link (y * w + x + 1) ≡ link (y * (w - 1) + x)
+  pub left_at_lem : (y x : ℕ) → x + 1 < w → tied_left h w link (y * w + x + 1) ≡ link (y * (w - 1) + x)
   unfolding tied_left
-  left_at y x hx =
+  left_at_lem y x hx =
       let e : y * w + x + 1 ≡ y * w + (x + 1) = omega arith in
       let z : x + 1 - 1 ≡ x = omega arith in
       rw (e, digits_div y hx, digits_mod y hx, ne_eqb (x + 1) 0 (λ q. omega arith), z)
@@ -140,7 +140,7 @@ module _ (h w : ℕ) (link : ℕ → Bool) (sized : Sized h w) where
             right-second h w r.row r.column r.high r.slim,
           )
           (rw z at (t.beside (r.row * w + r.column + 1) (omega arith)
-          (left_at h w link r.row r.column r.slim ∙ ap link (sym r.is) ∙ e)))
+          (left_at_lem h w link r.row r.column r.slim ∙ ap link (sym r.is) ∙ e)))
       go (inr r) =
           let z : r.cell + w - w ≡ r.cell = omega arith in
           rw (r.is, below-first h w r.cell, below-second h w r.cell)
@@ -170,7 +170,7 @@ module _ (h w : ℕ) (link : ℕ → Bool) (sized : Sized h w) where
           let q : c / w * w + x + 1 ≡ c = omega (arith, div-add-mod' c w) in
           let o : c / w * w + x ≡ c - 1 = omega arith in
           let on : link (c / w * (w - 1) + x) ≡ true =
-          sym (left_at h w link (c / w) x hx) ∙ ap (tied_left h w link) q ∙ e in
+          sym (left_at_lem h w link (c / w) x hx) ∙ ap (tied_left h w link) q ∙ e in
           let m : get_or all (c / w * w + x) 0 ≡ get_or all (c / w * w + x + 1) 0 =
           rw (right-first h w (c / w) x hy hx, right-second h w (c / w) x hy hx) at
           (meets (c / w * (w - 1) + x) (omega (arith, right_lt h w (c / w) x hy hx)) on) in

@@ -10,7 +10,7 @@ use Rattle.lists.specs.Pairs.{distinct_append}
 use Rattle.rules.specs.Page.{Hop}
 use Rattle.rules.specs.Flat.{hop_if, cell_at, right_of, below_of, hop_above, hop_below, hop_left, hop_right, around_at, ahead_at}
 use Rattle.rules.specs.Flat.{flat}
-use Rattle.laws.specs.FlatLaws.{Spot, spot, row_of}
+use Rattle.laws.specs.FlatLaws.{Spot, spot, row_of_lem}
 use Rattle.laws.specs.FlatLinks.{flat-linked}
 use Rattle.laws.specs.PageLaws.{hop_borders, HopsOnce}
 
@@ -109,6 +109,6 @@ unfolding flat
 flat-hops h w hw =
     record {
       ahead-first = λ x j l m. ((flat-linked h w hw).of-ahead x j l m).first-is;
-      ahead-once = λ x l. let r = row_of h w x l in at_ahead h w (x / w) (x % w) r.row r.column;
-      around-once = λ x l. let r = row_of h w x l in at-around h w (x / w) (x % w) r.row r.column;
+      ahead-once = λ x l. let r = row_of_lem h w x l in at_ahead h w (x / w) (x % w) r.row r.column;
+      around-once = λ x l. let r = row_of_lem h w x l in at-around h w (x / w) (x % w) r.row r.column;
     }

@@ -70,9 +70,9 @@ pub record OnPage (h w c : ℕ) : Type 0 where
   pub column : c % w < w
   pub same : c ≡ c / w * w + c % w
 
-pub row_of : (h w c : ℕ) → c < h * w → OnPage h w c
-row_of h zero c q = absurd (omega (arith, mul-zero h))
-row_of h (suc w) c q =
+pub row_of_lem : (h w c : ℕ) → c < h * w → OnPage h w c
+row_of_lem h zero c q = absurd (omega (arith, mul-zero h))
+row_of_lem h (suc w) c q =
     record {
       broad = omega arith;
       row = (div-lt_iff_lt-mul {k = suc w} {x = c} {y = h} (omega arith)).1 q;

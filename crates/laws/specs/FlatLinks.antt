@@ -97,9 +97,9 @@ module _ (h w : ℕ) where
   unfolding cell_at
   ahead-at y x k = rw (digits_div y k, digits_mod y k)
 
-  pub place_at : (y x : ℕ) → x < w → flat_place h w (cell_at h w y x) ≡ at3 (pos 0) (pos y) (pos x)
+  pub place_at_lem : (y x : ℕ) → x < w → flat_place h w (cell_at h w y x) ≡ at3 (pos 0) (pos y) (pos x)
   unfolding flat_place cell_at
-  place_at y x k = rw (digits_div y k, digits_mod y k)
+  place_at_lem y x k = rw (digits_div y k, digits_mod y k)
 
   above-mem : (y x : ℕ) → record { border = below_of h w y x; to = cell y x } ∈ hop_above h w (y + 1) x
   unfolding hop_above
@@ -187,9 +187,9 @@ module _ (h w : ℕ) where
         forward = rw (ahead-at y x k) (Memᴰ.append_left _ m);
         around-first = rw (around-at y x k) (Memᴰ.append_right (hop_above h w y x) (Memᴰ.append_left _ m));
         around-second = rw (around-at (y + 1) x k) (Memᴰ.append_left _ (above-mem y x));
-        near = rw (place_at y x k, place_at (y + 1) x k) (near_down y x);
-        near-back = rw (place_at y x k, place_at (y + 1) x k) (near_up y x);
-        reads-it = rw (place_at y x k, place_at (y + 1) x k) (reads-below y x l k);
+        near = rw (place_at_lem y x k, place_at_lem (y + 1) x k) (near_down y x);
+        near-back = rw (place_at_lem y x k, place_at_lem (y + 1) x k) (near_up y x);
+        reads-it = rw (place_at_lem y x k, place_at_lem (y + 1) x k) (reads-below y x l k);
       }
 
   pub right-link : (y x : ℕ) → y < h → x + 1 < w
@@ -211,9 +211,9 @@ module _ (h w : ℕ) where
         around-second = rw (around-at y (x + 1) k)
             (Memᴰ.append_right (hop_above h w y (x + 1)) (Memᴰ.append_right (hop_below h w y (x + 1))
             (Memᴰ.append_left _ (left-mem y x))));
-        near = rw (place_at y x j, place_at y (x + 1) k) (near-right y x);
-        near-back = rw (place_at y x j, place_at y (x + 1) k) (near-left y x);
-        reads-it = rw (place_at y x j, place_at y (x + 1) k) (reads-beside y x l k);
+        near = rw (place_at_lem y x j, place_at_lem y (x + 1) k) (near-right y x);
+        near-back = rw (place_at_lem y x j, place_at_lem y (x + 1) k) (near-left y x);
+        reads-it = rw (place_at_lem y x j, place_at_lem y (x + 1) k) (reads-beside y x l k);
       }
 
   -- a cell's row and column

@@ -28,7 +28,7 @@ use Rattle.laws.specs.PageLaws.{OneStep, six_steps, at3, Bordered, CellsPlaced, 
 use Rattle.laws.specs.Links.{Linking, linking-hop, linking-in, linking-reads, linked-bordered, linked-near}
 use Rattle.laws.specs.Links.{linked-reads}
 use Rattle.laws.specs.FlatList.{flat-are, flat-cover, flat-turns}
-use Rattle.laws.specs.FlatLinks.{flat-linked, down-link, right-link, place_at, cell-is, row_in, column-in}
+use Rattle.laws.specs.FlatLinks.{flat-linked, down-link, right-link, place_at_lem, cell-is, row_in, column-in}
 use Rattle.laws.specs.FlatLinks.{step_back, plus_none}
 
 module _ (h w : ℕ) where
@@ -66,7 +66,7 @@ module _ (h w : ℕ) (hw : 0 < w) where
             cell = cell_at h w Y (X + 1);
             over = right_of h w Y X;
             link = inl (right-link h w Y X l j);
-            spot = place_at h w Y (X + 1) j ∙ point-eq refl (ap pos (plus_none Y)) refl;
+            spot = place_at_lem h w Y (X + 1) j ∙ point-eq refl (ap pos (plus_none Y)) refl;
           })
       go (inr t) =
           let j = nltb→le (X + 1) w t in
@@ -90,7 +90,7 @@ module _ (h w : ℕ) (hw : 0 < w) where
             cell = cell_at h w (Y + 1) X;
             over = below_of h w Y X;
             link = inl (down-link h w Y X j k);
-            spot = place_at h w (Y + 1) X k ∙ point-eq refl refl (ap pos (plus_none X));
+            spot = place_at_lem h w (Y + 1) X k ∙ point-eq refl refl (ap pos (plus_none X));
           })
       go (inr t) =
           let j = nltb→le (Y + 1) h t in
@@ -118,7 +118,7 @@ module _ (h w : ℕ) (hw : 0 < w) where
         cell = cell_at h w Y X;
         over = right_of h w Y X;
         link = inr (right-link h w Y X l j);
-        spot = place_at h w Y X (omega arith) ∙ point-eq refl (ap pos (plus_none Y)) (step_back X);
+        spot = place_at_lem h w Y X (omega arith) ∙ point-eq refl (ap pos (plus_none Y)) (step_back X);
       }))
 
   up : (Y X : ℕ) → Y < h → X < w
@@ -137,7 +137,7 @@ module _ (h w : ℕ) (hw : 0 < w) where
         cell = cell_at h w Y X;
         over = below_of h w Y X;
         link = inr (down-link h w Y X j k);
-        spot = place_at h w Y X k ∙ point-eq refl (step_back Y) (ap pos (plus_none X));
+        spot = place_at_lem h w Y X k ∙ point-eq refl (step_back Y) (ap pos (plus_none X));
       }))
 
   layer : (Y X : ℕ) → Off h w Y X (at3 (pos 1) (pos 0) (pos 0))

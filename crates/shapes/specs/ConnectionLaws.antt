@@ -99,10 +99,10 @@ unfolding flat_place
 cells-back h w [] = refl
 cells-back h w (c ∷ cs) = ap₂ (λ x xs. x ∷ xs) (div-add-mod' c w) (cells-back h w cs)
 
-pub unit_cells : {h w : ℕ} {units : List ℕ} {g : ℕ} {o : List ℕ} → UnitAt h w units g o
+pub unit_cells_lem : {h w : ℕ} {units : List ℕ} {g : ℕ} {o : List ℕ} → UnitAt h w units g o
     → members (flat h w) (entry (numbers_in units)) g
     ≡ table (cell_count o) (λ i. get_or (rows_in o) i 0 * w + get_or (columns_in o) i 0)
 unfolding places spots flat
-unit_cells {h} {w} {units} {g} {o} u =
+unit_cells_lem {h} {w} {units} {g} {o} u =
     sym (cells-back h w (members (flat h w) (entry (numbers_in units)) g))
     ∙ (ap (map (cell_of w)) (sym u.here) ∙ map-table (cell_of w) (cell_count o) (cell_spot o))

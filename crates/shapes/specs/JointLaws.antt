@@ -26,7 +26,7 @@ use Rattle.shapes.specs.PartLaws.{mem-spots}
 use Rattle.shapes.specs.Outlines.{rows_in, columns_in, down_in, across_in, cell_count, joint_count}
 use Rattle.shapes.specs.Spots.{place_at, spots, joint_spot, joints, UnitAt}
 use Rattle.shapes.specs.SpotLaws.{spots-more, spots-cong, length-spots}
-use Rattle.shapes.specs.ConnectionLaws.{connections-at, unit_cells}
+use Rattle.shapes.specs.ConnectionLaws.{connections-at, unit_cells_lem}
 use Rattle.shapes.specs.Joints.{joint_if, JointRoom, Grown, Joining, OutlineJoined, JointIn}
 
 pub grown-none : (o : List ℕ) (k : ℕ) → Grown o k [] o k
@@ -209,7 +209,7 @@ joining-all {units} {o₀} {o} {h} {w} {g} {k} {i} u a b j =
           (j.here
           ∙ (ap (λ m. flat_map (connections_at (flat h w) number g)
           (table m (λ j. get_or (rows_in o₀) j 0 * w + get_or (columns_in o₀) j 0))) e
-          ∙ ap (flat_map (connections_at (flat h w) number g)) (sym (unit_cells u))));
+          ∙ ap (flat_map (connections_at (flat h w) number g)) (sym (unit_cells_lem u))));
     }
 
 -- the image of a doubled place is small

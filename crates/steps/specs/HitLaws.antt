@@ -27,7 +27,7 @@ use Rattle.reasons.specs.MemoryLaws.{once-handed, plain-handed}
 use Rattle.blocks.specs.declared.Faulty.{Faulty}
 use Rattle.blocks.specs.Faults.{is_faultless}
 use Rattle.blocks.specs.Written.{fault_unit, faulty_literals}
-use Rattle.blocks.specs.BlockHits.{faulty_in, block_at, fault-unit-at, one_hit, one_none}
+use Rattle.blocks.specs.BlockHits.{faulty_in, block_at_lem, fault-unit-at, one_hit, one_none}
 use Rattle.walls.specs.declared.Breach.{Breach}
 use Rattle.walls.specs.Written.{breach_literals}
 use Rattle.walls.specs.WallHits.{breach_in, two-hit, two_none}
@@ -155,7 +155,7 @@ module _ {h w : ℕ} (z : Sized h w) (cs : List ℕ) (ks : List ℤ) (bs : List 
   -- the block and the potential unit that a fault names have their parts
   pub fault-block : {blocks : List ℕ} → Filled (groups_in Blocks h w cs bs) blocks → is_faultless r.fault ≡ false
       → GroupAt h w blocks r.block
-  fault-block f e = rw is (block_at z cs ks bs f (ap (λ (f : Faulty). is_faultless f.fault) (sym is) ∙ e))
+  fault-block f e = rw is (block_at_lem z cs ks bs f (ap (λ (f : Faulty). is_faultless f.fault) (sym is) ∙ e))
 
   pub fault-unit : {potential : List ℕ} → Filled (groups_in Potential h w cs bs) potential
       → GroupAt h w potential (fault_unit r.fault)

@@ -7,7 +7,7 @@ use Rattle.rules.specs.Page.{State}
 use Rattle.rules.specs.Flat.{Sized, flat, hop_if}
 use Rattle.rules.specs.Codes.{states_in}
 use Rattle.rules.specs.Groups.{entry}
-use Rattle.laws.specs.FlatLaws.{row_of}
+use Rattle.laws.specs.FlatLaws.{row_of_lem}
 use Rattle.reasons.specs.declared.Neighbour.{Neighbour}
 use Rattle.reasons.specs.Arrays.{Stepped, hops_in, hop_of}
 use Rattle.reasons.specs.StepLaws.{step-any}
@@ -42,7 +42,7 @@ hop-small s block c r p = go r.some refl
 module _ {h w : ℕ} (z : Sized h w) (bs ids : List ℕ) where
   cell-small : (c : ℕ) → c < h * w → (breach_at h w bs ids c).border < 1984
   cell-small c q =
-      let r = row_of h w c q in
+      let r = row_of_lem h w c q in
       let n = step-any z r.row r.column 1 in
       let k = step-any z r.row r.column 3 in
       let e = ap (breach_at h w bs ids) r.same

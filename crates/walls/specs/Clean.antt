@@ -9,7 +9,7 @@ use Rattle.std.proofs.Common.{◌∙◌, arith, ltb-true}
 use Rattle.std.proofs.Math.Bool.{true, false}
 use Rattle.rules.specs.Page.{State}
 use Rattle.rules.specs.Flat.{flat, ahead_at, hop_below, hop_right, below_of, right_of, cell_at, hop_if}
-use Rattle.laws.specs.FlatLaws.{Spot, spot, row_of}
+use Rattle.laws.specs.FlatLaws.{Spot, spot, row_of_lem}
 use Rattle.walls.specs.Breaches.{no_breach, or_breach, is_breach, hop_breach, breach_on, breach_from, first_breach}
 use Rattle.walls.specs.WallCases.{on-append}
 
@@ -54,7 +54,7 @@ module _ (s : ℕ → State) (block : ℕ → ℕ) where
       where
         at : (i : ℕ) → i < h * w → breach_on s block i (ahead_at h w (i / w) (i % w)) ≡ no_breach
         at i q =
-            let r = row_of h w i q in
+            let r = row_of_lem h w i q in
             ap (λ c. breach_on s block c (ahead_at h w (i / w) (i % w))) r.same
             ∙ cell-clean (i / w) (i % w) r.row r.column
 

@@ -7,7 +7,7 @@ use native.Mathlib.Omega.{arith}
 use lib.Dec.{ltb}
 use Rattle.rules.specs.Codes.{states_in}
 use Rattle.rules.specs.Groups.{entry}
-use Rattle.laws.specs.FlatLaws.{counts, row_of}
+use Rattle.laws.specs.FlatLaws.{counts, row_of_lem}
 use Rattle.groups.specs.Grouping.{numbers_in}
 use Rattle.shapes.specs.JointLaws.{cell_room}
 use Rattle.fitting.specs.CopyLaws.{copy-cell-yes, copy-cell-no}
@@ -15,20 +15,20 @@ use Rattle.fitting.proofs.copies.cell_clear.Goals.{Start}
 use Rattle.fitting.proofs.copies.cell_clear.Goals as goal
 
 row_low : (s : Start) → s.args.c / s.args.w < 32
-row_low s = let z = s.requires.0.sized in omega (arith, (row_of _ _ _ s.requires.1).row)
+row_low s = let z = s.requires.0.sized in omega (arith, (row_of_lem _ _ _ s.requires.1).row)
 
 column-low : (s : Start) → s.args.c % s.args.w < 32
-column-low s = let z = s.requires.0.sized in omega (arith, (row_of _ _ _ s.requires.1).column)
+column-low s = let z = s.requires.0.sized in omega (arith, (row_of_lem _ _ _ s.requires.1).column)
 
 -- the cells below and right of it
 below-low : (s : Start) → ltb (s.args.c / s.args.w + 1) s.args.h ≡ true → s.args.c + s.args.w < 1024
 below-low s t =
-    let r = row_of _ _ _ s.requires.1 in
+    let r = row_of_lem _ _ _ s.requires.1 in
     omega (arith, (cell_room s.requires.0.sized r.row r.column).1 t, r.same)
 
 right-low : (s : Start) → ltb (s.args.c % s.args.w + 1) s.args.w ≡ true → s.args.c + 1 < 1024
 right-low s t =
-    let r = row_of _ _ _ s.requires.1 in
+    let r = row_of_lem _ _ _ s.requires.1 in
     omega (arith, (cell_room s.requires.0.sized r.row r.column).2 t, r.same)
 
 pub overflow_mul-down : goal.overflow_mul-down
@@ -84,11 +84,11 @@ joint_clear-requires-then-joint_clear c =
 pub returns-then-joint_clear : goal.returns-then-joint_clear
 returns-then-joint_clear c =
     copy-cell-yes c.args.h c.args.w c.args.colours.now (states_in c.args.borders.now) c.args.y
-    c.args.x (entry (numbers_in c.args.units.now)) c.args.g c.args.c (row_of _ _ _ c.requires.1).column
+    c.args.x (entry (numbers_in c.args.units.now)) c.args.g c.args.c (row_of_lem _ _ _ c.requires.1).column
     c.joint_clear.ensures c.if-joint_clear.true c.joint_clear-then-joint_clear.ensures
 
 pub returns : goal.returns
 returns c =
     copy-cell-no c.args.h c.args.w c.args.colours.now (states_in c.args.borders.now) c.args.y
-    c.args.x (entry (numbers_in c.args.units.now)) c.args.g c.args.c (row_of _ _ _ c.requires.1).column
+    c.args.x (entry (numbers_in c.args.units.now)) c.args.g c.args.c (row_of_lem _ _ _ c.requires.1).column
     c.joint_clear.ensures c.if-joint_clear.false

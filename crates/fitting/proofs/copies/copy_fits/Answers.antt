@@ -6,7 +6,7 @@ use lib.ListN.{get_or}
 use Rattle.lists.specs.PartLaws.{all-ends, all-next, all_done}
 use Rattle.rules.specs.Codes.{states_in}
 use Rattle.rules.specs.Groups.{entry}
-use Rattle.laws.specs.FlatLaws.{row_of}
+use Rattle.laws.specs.FlatLaws.{row_of_lem}
 use Rattle.groups.specs.Grouping.{numbers_in, cells_in}
 use Rattle.fitting.specs.Copies.{cell_clear}
 use Rattle.fitting.specs.CopyLaws.{copy-unit-low, shift_of, copied-cells}
@@ -25,9 +25,9 @@ low : (c : After-cell_at-f) → let a = c.args in Low a.w a.o
     c.cell_at-f.result
 low c =
     let z = c.requires.0.sized in
-    let k = row_of c.args.h c.args.w c.args.o c.requires.2 in
+    let k = row_of_lem c.args.h c.args.w c.args.o c.requires.2 in
     let e = c.cell_at-f.ensures in
-    let r = row_of c.args.h c.args.w c.cell_at-f.result
+    let r = row_of_lem c.args.h c.args.w c.cell_at-f.result
     (rw (e, c.start_of-first.ensures) (copy-unit-low z c.requires.1 _ (omega arith) c.requires.1.some)) in
     record {
       broad = z.columns;

@@ -8,7 +8,7 @@ use native.Mathlib.Decide.{ℕ_discrete}
 use borrow.Author.Rules.{rules}
 use Rattle.laws.specs.FlatLaws.{Counts, Spot, counts, spot}
 use Rattle.groups.specs.GridLaws.{joins-right}
-use Rattle.groups.specs.TieLaws.{left-start, left_at, tie-flags-more, flagged-past}
+use Rattle.groups.specs.TieLaws.{left-start, left_at_lem, tie-flags-more, flagged-past}
 use Rattle.groups.proofs.linking.row.Goals.{Start}
 use Rattle.groups.proofs.linking.row.Goals as goal
 
@@ -72,7 +72,7 @@ loop-x-preserved c =
           let t = joins-right a.h a.w a.y l.x c.requires.1 hx a.kind a.colours.now
           a.borders.now in
           tie-flags-more (a.y * a.w + l.x + 1) _ _ _ _ (omega (arith, begin (goal.at.loop-x-preserved c).Start))
-          (c.joins.ensures ∙ sym t ∙ sym (left_at a.h a.w _ a.y l.x hx)) (omega arith) done,
+          (c.joins.ensures ∙ sym t ∙ sym (left_at_lem a.h a.w _ a.y l.x hx)) (omega arith) done,
       λ k.
           let e : a.y * a.w + a.w ≡ a.y * a.w + l.x + 1 = omega arith in
           rw e (flagged-past (a.y * a.w + l.x + 1) (a.y * a.w + l.x + 1) _ _ _ (omega arith) done),

@@ -3,7 +3,7 @@ use mathlib.Core.Path.{refl}
 use mathlib.Core.List.{List}
 use Prim.Native.Nat.{ℕ, ◌/◌, ◌%◌}
 use Rattle.rules.specs.Page.{Hop}
-use Rattle.laws.specs.FlatLaws.{OnPage, row_of}
+use Rattle.laws.specs.FlatLaws.{OnPage, row_of_lem}
 use Rattle.reasons.specs.Arrays.{hop_at}
 use Rattle.reasons.specs.StepLaws.{around-is}
 use Rattle.reasons.specs.SearchLaws.{looked-none, looked-more}
@@ -11,7 +11,7 @@ use Rattle.reasons.proofs.paths.expand.Goals.{Start}
 use Rattle.reasons.proofs.paths.expand.Goals as goal
 
 row : (s : Start) → OnPage s.args.h s.args.w s.args.c
-row s = row_of _ _ _ s.requires.2
+row s = row_of_lem _ _ _ s.requires.2
 
 abbrev hops : Start → ℕ → List Hop
 hops s = let a = s.args in hop_at a.h a.w (a.c / a.w) (a.c % a.w)

@@ -4,14 +4,14 @@ use mathlib.Core.Bool.{true}
 use Prim.Native.Nat.{◌*◌, ◌/◌, ◌%◌, ◌<◌}
 use native.Mathlib.Omega.{arith}
 use borrow.Author.Tests.{not-true, not-false}
-use Rattle.laws.specs.FlatLaws.{Counts, counts, OnPage, row_of}
+use Rattle.laws.specs.FlatLaws.{Counts, counts, OnPage, row_of_lem}
 use Rattle.reasons.specs.Arrays.{NeighbourOn, Stepped}
 use Rattle.reasons.specs.SearchLaws.{looked-off, looked-shut, looked-old, looked-new, push-room}
 use Rattle.reasons.proofs.paths.visit.Goals.{After-beside-n, Else-found-to-eq1, Else-not-n, Start}
 use Rattle.reasons.proofs.paths.visit.Goals as goal
 
 row : (s : Start) → OnPage s.args.h s.args.w s.args.c
-row s = row_of _ _ _ s.requires.2
+row s = row_of_lem _ _ _ s.requires.2
 
 few : (s : Start) → Counts s.args.h s.args.w
 few s = counts s.requires.0

@@ -9,7 +9,7 @@ use Rattle.rules.specs.Flat.{flat}
 use Rattle.rules.specs.Codes.{states_in}
 use Rattle.rules.specs.Groups.{entry}
 use Rattle.rules.specs.Reasons.{gather, inside_at}
-use Rattle.laws.specs.FlatLaws.{OnPage, row_of}
+use Rattle.laws.specs.FlatLaws.{OnPage, row_of_lem}
 use Rattle.groups.specs.Grouping.{numbers_in}
 use Rattle.reasons.specs.Memory.{Wrote}
 use Rattle.reasons.specs.Arrays.{hop_at, open_kept}
@@ -19,7 +19,7 @@ use Rattle.reasons.proofs.scans.open_cell.Goals.{Start}
 use Rattle.reasons.proofs.scans.open_cell.Goals as goal
 
 row : (s : Start) → OnPage s.args.h s.args.w s.args.c
-row s = row_of _ _ _ s.requires.2
+row s = row_of_lem _ _ _ s.requires.2
 
 abbrev number : Start → ℕ → ℕ
 number s = entry (numbers_in s.args.grouping.now)

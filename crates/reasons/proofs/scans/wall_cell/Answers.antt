@@ -5,7 +5,7 @@ use Prim.Native.Nat.{ℕ, ◌<◌}
 use native.Mathlib.Omega.{arith}
 use Rattle.lists.specs.UpTo.{up_to}
 use Rattle.rules.specs.declared.Literal.{Literal}
-use Rattle.laws.specs.FlatLaws.{counts, OnPage, row_of}
+use Rattle.laws.specs.FlatLaws.{counts, OnPage, row_of_lem}
 use Rattle.groups.specs.Grouping.{numbers_in}
 use Rattle.reasons.specs.Arrays.{scan_to, scan_at}
 use Rattle.reasons.specs.MemoryLaws.{turns-none, turns_more, turns-end}
@@ -14,7 +14,7 @@ use Rattle.reasons.proofs.scans.wall_cell.Goals.{Start}
 use Rattle.reasons.proofs.scans.wall_cell.Goals as goal
 
 row : (s : Start) → OnPage s.args.h s.args.w s.args.c
-row s = row_of _ _ _ s.requires.4
+row s = row_of_lem _ _ _ s.requires.4
 
 abbrev at : Start → ℕ → List Literal
 at s =
