@@ -6,7 +6,7 @@
 --   flat-holds          a reason holds on its board
 --   flat-once           a reason names no border twice
 --   flat-few            so it has at most as many literals as there are decided borders
---   flat-blocks-once, flat-walls-once   in steps 1 and 2 none is struck for it
+--   flat-blocks-once, flat-walls-once  in steps 1 and 2 none is struck for it
 use Rattle.std.specs.Prelude.{◌≡◌, ◌↔◌, Bool, List, ℕ, ◌<◌, ◌≤◌, length}
 use Rattle.std.proofs.Math.Option.{Option}
 use Rattle.lists.specs.Lists.{Distinct, first_hit, range}

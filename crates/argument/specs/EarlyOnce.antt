@@ -2,8 +2,8 @@
 -- and Edge has walls. So repeats come from step 3 alone.
 --
 --   NoTwice r           no border is named twice in r
---   inside-once, edge-once, path-once   Inside, Edge and Path are so
---   blocks-once, walls-once   every hit of step 1, and of step 2, is so
+--   inside-once, edge-once, path-once  Inside, Edge and Path are so
+--   blocks-once, walls-once  every hit of step 1, and of step 2, is so
 use Rattle.std.specs.Prelude.{◌≡◌, refl, ◌⊎◌, Bool, true, false, ◌&&◌, cond, ℕ, ◌<◌, eqb}
 use Rattle.std.proofs.Common.{◌∙◌, inl, inr}
 use Rattle.std.proofs.Math.Path.{ap, sym, subst}

@@ -2,7 +2,7 @@
 --
 --   EarlyForms Z s Q    the claim Q holds of each form that steps 1 and 2 give
 --   Forms Z s Q         it holds of step 3's form too
---   blocks-form, walls-form, units-form   so it holds of every hit of each step ..
+--   blocks-form, walls-form, units-form  so it holds of every hit of each step ..
 --   each-form           .. and of every hit
 use Rattle.std.specs.Prelude.{Bool, true, false, cond, ℕ, ◌<◌, T}
 use mathlib.Core.List.{List, [], ◌∷◌, ◌++◌}

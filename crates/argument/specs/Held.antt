@@ -1,7 +1,7 @@
 -- Every form of a reason holds on the board it is given on: each literal is collected under a test of its own side.
 --
 --   held-inside, held-edge, held-path, held-nil   Inside, Edge and Path hold, and no literals do
---   held-forms          each of the six forms holds
+--   held-forms                                    each of the six forms holds
 use Rattle.std.proofs.Math.Path.{◌≡◌, refl, subst}
 use Rattle.std.proofs.Common.{ap, sym, inl, inr, arith}
 use Rattle.std.specs.Prelude.{◌⊎◌, Bool, ◌&&◌, eqb, T}

@@ -1,7 +1,7 @@
 -- A claim about every reason that a hit can give: none is given, or the claim holds of it.
 --
 --   Each Q o                        there is no hit, or the claim Q holds of its reason
---   each-hit, each-else, each_or, each_first, each_none Each for hit_if, or_else, first_hit, none
+--   each-hit, each-else, each_or, each_first, each_none  Each for hit_if, or_else, first_hit, none
 --   each-some                       what it says of a reason that was given
 --   hit-misses, else-none           what a search that gives none has passed
 use Rattle.std.specs.Prelude.{◌≡◌, Bool, ℕ, T}

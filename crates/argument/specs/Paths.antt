@@ -1,7 +1,7 @@
 -- Path(a, b): the search finds every cell that is joined to a, and a setting that contains the path joins its ends.
 --
 --   PathReached a f x   x is the start, or is among the found cells f
---   reached-new, reached-old   a cell that is found is reached, and stays so
+--   reached-new, reached-old  a cell that is found is reached, and stays so
 --   Chain, FoundLinked  each found cell was found once, from a cell reached before it, over an open border
 --   Shut f y            every neighbour of y over an open border is reached
 --   Searched f          the found cells f are a chain, and every reached cell is shut

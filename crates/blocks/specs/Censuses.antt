@@ -1,17 +1,17 @@
 -- Censuses: what step 1 counts of a block's cells, and that it may be counted cell by cell.
 --
---   first_in f xs       what f gives for the first of xs, 0 if there is none
---   option_of k         a clue as the rules have it
---   clue_in o           a clue of the rules as the code has it
---   next_part p u k     the part p with one cell more, of potential unit u; k says whether it has a clue
---   first_clue j k      the clue j, or k where j is none
---   next_census t c u k the census t with one cell more, of colour c, potential unit u and clue k
+--   first_in f xs        what f gives for the first of xs, 0 if there is none
+--   option_of k          a clue as the rules have it
+--   clue_in o            a clue of the rules as the code has it
+--   next_part p u k      the part p with one cell more, of potential unit u; k says whether it has a clue
+--   first_clue j k       the clue j, or k where j is none
+--   next_census t c u k  the census t with one cell more, of colour c, potential unit u and clue k
 --   no_part, no_census   the part and the census of no cell
---   of_colour c xs      the cells of colour c among xs
---   colour_unit xs c    the potential unit of the first of them, 0 if there is none
---   has_clue xs         one of the cells xs has a clue
---   colour_part c xs    what step 1 asks of the cells of colour c among xs
---   census_of xs        what step 1 asks of the cells xs
+--   of_colour c xs       the cells of colour c among xs
+--   colour_unit xs c     the potential unit of the first of them, 0 if there is none
+--   has_clue xs          one of the cells xs has a clue
+--   colour_part c xs     what step 1 asks of the cells of colour c among xs
+--   census_of xs         what step 1 asks of the cells xs
 use Rattle.std.specs.Prelude.{◌≡◌, Bool, ◌||◌, List, [], ◌∷◌, ◌++◌, ℕ, ◌+◌, eqb}
 use Rattle.std.proofs.Math.Path.{refl, ap}
 use Rattle.std.proofs.Common.{sym, ◌∙◌, append-nil, arith, ne_eqb}

@@ -1,20 +1,21 @@
 -- Faults: what step 1 finds wrong with a block, by numbers alone, and the reason that goes with it.
 --
---   or_fault f g         f, or g where f is Clear
---   is_faultless f       nothing is wrong
---   first_fault f xs     the first fault that f gives
---   scan_fault q n c u k the fault at a cell of colour c, potential unit u and clue k
---   small_fault p o size the fault where the potential unit of the part p, of this size, is smaller than the other part
---                        o
---   big_fault n p size   the fault where the clue n is above the size of the part p's potential unit
---   clue_fault k p o a b the fault of the clue k; p and o are the two parts, a and b the sizes of their potential units
---   census_fault t a b   the fault that a census shows; a and b are the sizes of the two potential units
---   cell_fault q n x     the fault at cell x
---   scan_on xs           the first fault at one of the cells xs
+--   or_fault f g          f, or g where f is Clear
+--   is_faultless f        nothing is wrong
+--   first_fault f xs      the first fault that f gives
+--   scan_fault q n c u k  the fault at a cell of colour c, potential unit u and clue k
+--   small_fault p o size  the fault where the potential unit of the part p, of this size, is smaller than the other
+--                         part o
+--   big_fault n p size    the fault where the clue n is above the size of the part p's potential unit
+--   clue_fault k p o a b  the fault of the clue k; p and o are the two parts, a and b the sizes of their potential
+--                         units
+--   census_fault t a b    the fault that a census shows; a and b are the sizes of the two potential units
+--   cell_fault q n x      the fault at cell x
+--   scan_on xs            the first fault at one of the cells xs
 --   fault_on size_at xs   the fault of the cells xs
---   fault_reason B f     the reason of block B with the fault f
---   block_fault B        the fault of block B
---   block-fault          step 1's hit at block B is the reason of its fault
+--   fault_reason B f      the reason of block B with the fault f
+--   block_fault B         the fault of block B
+--   block-fault           step 1's hit at block B is the reason of its fault
 use Rattle.std.specs.Prelude.{◌≡◌, Bool, not, ◌&&◌, ◌||◌, ℕ, eqb, length}
 use Rattle.std.proofs.Math.Path.{refl, sym, ap}
 use Rattle.std.proofs.Common.{◌∙◌, arith, lt-ltb}

@@ -1,8 +1,8 @@
 -- One look at a part of a list of cells, over the arrays of a board.
 --
 --   PartLooked          what was seen of the part from `from` to i
---   look_none, look-more   of no cell, and of one cell more
---   looked-stray, looked-clash   the fault of the whole part, where the look ends at a cell
+--   look_none, look-more  of no cell, and of one cell more
+--   looked-stray, looked-clash  the fault of the whole part, where the look ends at a cell
 --   looked-scan         no cell that was seen has a fault
 --   looked-clear        nothing is wrong, where both colours have room
 --   settles             what a look that settles it promises

@@ -1,6 +1,6 @@
 -- Looks: one look at a block's cells, which ends at the first cell at which something is wrong.
 --
---   OwnPut own j u after   own, where u stands at j; or with u put at j, where 1,024 stood for none
+--   OwnPut own j u after  own, where u stands at j; or with u put at j, where 1,024 stood for none
 --   ClueKept k j after  the clue k, or the clue j after none; the two do not clash
 --   ColourRoom m o k a  m cells of one colour fit o of the other and the clue k, where their potential unit has a
 --                             cells

@@ -1,32 +1,33 @@
 -- Alien: the conditions on a board's places, and which boards are alien.
 --
---   size_right h w          h and w are a page's
+--   size_right h w           h and w are a page's
 --   cells_of h w             the cell count of a page; 0 for another size
---   borders_of h w          its border count; 0 for another size
---   colours_right cs n      the first n colours are right
---   clue_right k            k is a clue, or none
---   clues_right ks n        the first n clues are right
---   stacked s n x           border x is among the first n entries of the stack s
---   entries_right s m n     the first n entries are numbers of m borders
---   once_each s n           none of the first n entries is an earlier one
---   border_right v on       the border place v is right, where `on` says that its border is on the stack
---   borders_right bs s n m  the first m borders are right beside the first n entries of s
---   borders_by bs seen m    the same, where a list says which borders are on the stack
---   Flags s n once seen     what a run over n entries finds: whether none is an earlier one, and which borders they are
---   zeros_from l from       the places of l from `from` on are 0
---   clue_zero k             k is 0
---   zero_clues_from ks from the clues from `from` on are 0
---   puzzle_right n cs ks    the colours and the clues of n cells are right
---   decisions_in m bs s k   the k entries of the stack s are exactly the decided of m borders, each once
---   code_count bs m v       how many of the first m borders have the code v
---   tally_in bs m           the tally of the first m borders
---   decided_in m bs s k t  decisions_in, and t is the tally of the m borders
+--   borders_of h w           its border count; 0 for another size
+--   colours_right cs n       the first n colours are right
+--   clue_right k             k is a clue, or none
+--   clues_right ks n         the first n clues are right
+--   stacked s n x            border x is among the first n entries of the stack s
+--   entries_right s m n      the first n entries are numbers of m borders
+--   once_each s n            none of the first n entries is an earlier one
+--   border_right v on        the border place v is right, where `on` says that its border is on the stack
+--   borders_right bs s n m   the first m borders are right beside the first n entries of s
+--   borders_by bs seen m     the same, where a list says which borders are on the stack
+--   Flags s n once seen      what a run over n entries finds: whether none is an earlier one, and which borders they
+--                            are
+--   zeros_from l from        the places of l from `from` on are 0
+--   clue_zero k              k is 0
+--   zero_clues_from ks from  the clues from `from` on are 0
+--   puzzle_right n cs ks     the colours and the clues of n cells are right
+--   decisions_in m bs s k    the k entries of the stack s are exactly the decided of m borders, each once
+--   code_count bs m v        how many of the first m borders have the code v
+--   tally_in bs m            the tally of the first m borders
+--   decided_in m bs s k t    decisions_in, and t is the tally of the m borders
 --   unused_in n m cs ks bs s k  the places that n cells, m borders and k entries do not use are 0
---   cell_count_of b, border_count_of b how many cells and borders the page of a board has
---   cells_right b, decisions_right b, unused_zero b the three of a board
+--   cell_count_of b, border_count_of b  how many cells and borders the page of a board has
+--   cells_right b, decisions_right b, unused_zero b  the three of a board
 --   board_of h w cs ks bs st n t  the board with these arrays, this count and this tally
---   board_with b bs st n t  the board b with these borders, this stack, this count and this tally
---   is_alien b              decides and undos cannot produce b from a fresh board; crate reach has the proof
+--   board_with b bs st n t   the board b with these borders, this stack, this count and this tally
+--   is_alien b               decides and undos cannot produce b from a fresh board; crate reach has the proof
 use Rattle.std.specs.Prelude.{◌≡◌, Bool, false, not, cond, ◌&&◌, List, ℕ, ◌*◌, ◌<◌, leb, ltb, eqb, ℤ, pos, negsuc, length, get_or}
 use Rattle.std.specs.Bool.{beq}
 use Rattle.std.specs.Int.Signed.{le_z}

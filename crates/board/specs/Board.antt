@@ -1,26 +1,26 @@
 -- Board: what making a board, a decide and an undo return, refused ones too.
 --
 --   number_of o       the number of a refusal; 0 where the call is done
---   is_done o        the outcome o is no refusal
---   zero_board       the all-zero board
---   fresh_board      the board of a puzzle, every border undecided
---   returned o b     an outcome with a board
+--   is_done o         the outcome o is no refusal
+--   zero_board        the all-zero board
+--   fresh_board       the board of a puzzle, every border undecided
+--   returned o b      an outcome with a board
 --   puzzle_refusal n cs ks  how making a board of n cells ends after the test of its size: refused, or done
---   ended_by b d o   the outcome o with the board d where it is done, with b where it is a refusal
+--   ended_by b d o    the outcome o with the board d where it is done, with b where it is a refusal
 --   fresh_of          what making a board returns
---   side_count t d   how many borders the tally t has on the side d
---   tally_more t d   the tally t with one border more decided, on the side d
---   tally_less t d   the tally t with one border less decided, which was on the side d
---   pushed b n v     the board with border n set to v and put on the stack
---   popped b         the board with the last border taken off the stack and made undecided
+--   side_count t d    how many borders the tally t has on the side d
+--   tally_more t d    the tally t with one border more decided, on the side d
+--   tally_less t d    the tally t with one border less decided, which was on the side d
+--   pushed b n v      the board with border n set to v and put on the stack
+--   popped b          the board with the last border taken off the stack and made undecided
 --   decide_refusal m bs n  how a decide of border n ends, where the m borders are bs: refused, or done
---   decide_of b l    what a decide returns
---   count_after o n  the count of a board after a decide with the outcome o, where it was n
---   tallied_by o t v its tally after a decide with the outcome o of a border to the code v, where it was t
---   undo_refusal n   how an undo ends, where the stack has n borders: refused, or done
---   undo_of b        what an undo returns
---   SmallClues ks    the clues fit 32 bits
---   Typed b          what every value of the code's type Board has
+--   decide_of b l     what a decide returns
+--   count_after o n   the count of a board after a decide with the outcome o, where it was n
+--   tallied_by o t v  its tally after a decide with the outcome o of a border to the code v, where it was t
+--   undo_refusal n    how an undo ends, where the stack has n borders: refused, or done
+--   undo_of b         what an undo returns
+--   SmallClues ks     the clues fit 32 bits
+--   Typed b           what every value of the code's type Board has
 use Rattle.std.specs.Prelude.{◌≡◌, Bool, true, cond, ◌&&◌, List, ℕ, ◌+◌, ◌-◌, ◌*◌, ltb, eqb, ℤ, pos, length, get_or, set, replicate}
 use Rattle.std.specs.Int.Signed.{le_z}
 use Rattle.lists.specs.Padded.{padded}

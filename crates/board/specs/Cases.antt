@@ -1,5 +1,5 @@
--- The definitions by cases: what `is_alien`, `fresh_of`, `decide_of` and `undo_of` give where their tests are known. And
--- the number that no outcome has.
+-- The definitions by cases: what `is_alien`, `fresh_of`, `decide_of` and `undo_of` give where their tests are known.
+-- And the number that no outcome has.
 use Rattle.std.specs.Prelude.{◌≡◌, Bool, not, cond, List, ℕ, ◌*◌, ◌<◌, ◌≤◌, ℤ, length, get_or}
 use Rattle.std.proofs.Math.Path.{refl, ap}
 use Rattle.std.proofs.Common.{◌∙◌, arith}

@@ -2,13 +2,13 @@
 --
 --   Native b            what a board that is not alien has
 --   Decisions m bs s k  what right decisions have: k entries of the stack s beside m borders
---   zeros-at, zeros_of, zero-clues-at, zero-clues-of   places that are 0
+--   zeros-at, zeros_of, zero-clues-at, zero-clues-of  places that are 0
 --   has-decisions       right decisions have that
---   walls-few, walls-tell   the walls tell the tally
---   native-has, native-of   a board is not alien exactly if it has what Native says
---   cells_fit, borders-fit, tally-fits   its counts are at most those of the largest page
+--   walls-few, walls-tell  the walls tell the tally
+--   native-has, native-of  a board is not alien exactly if it has what Native says
+--   cells_fit, borders-fit, tally-fits  its counts are at most those of the largest page
 --   tally-bare          with an empty stack every border is undecided
---   free-unstacked, stack-room, free-left   an undecided border is not on the stack, leaves room there, and is counted
+--   free-unstacked, stack-room, free-left  an undecided border is not on the stack, leaves room there, and is counted
 --   free-places         what a decide that is not refused may rely on
 use Rattle.std.specs.Prelude.{◌≡◌, refl, true, false, ◌&&◌, ◌||◌, List, ℕ, zero, suc, ◌-◌, ◌<◌, ◌≤◌, ℤ, pos, negsuc, length, get_or}
 use Rattle.std.proofs.Common.{ap, sym, ◌∙◌, add-one}

@@ -8,7 +8,7 @@
 --   codes-three            each border is undecided, wall or open
 --   codes-some             a code that a border has is counted
 --   tally-fresh            the tally of borders that are all undecided
---   tally-none, tally-last   the tally of the empty sequence, and of one with a literal put last
+--   tally-none, tally-last  the tally of the empty sequence, and of one with a literal put last
 use Rattle.std.specs.Prelude.{◌≡◌, Bool, true, not, ◌&&◌, List, [], ◌∷◌, ℕ, zero, suc, ◌+◌, ◌-◌, ◌<◌, ◌≤◌, eqb, get_or, set, replicate}
 use Rattle.std.proofs.Math.Path.{refl, ap}
 use Rattle.std.proofs.Common.{sym, ◌∙◌, eq-eqb, eqb-true, get_or-set_same, get_or-set_other}

@@ -2,9 +2,9 @@
 --
 --   preview-stopped     the decide is refused, and so is the preview
 --   preview-goes        the decide is done, and the preview is the check of d
---   preview-known, preview-left   d is not alien then, and b has an undecided border
---   check-stored, preview-stored   the number after a pass is the stored one
---   preview-checks, preview-stops   a preview, by the answers of a decide and of a check after it
+--   preview-known, preview-left  d is not alien then, and b has an undecided border
+--   check-stored, preview-stored  the number after a pass is the stored one
+--   preview-checks, preview-stops  a preview, by the answers of a decide and of a check after it
 --   preview-keeps       the board given is returned
 --   preview-order       the refusals of a preview in their order, and the check of the copy after them
 use Rattle.std.specs.Prelude.{◌≡◌, true, false, List, ℕ, ◌<◌, eqb, ltb, length, get_or}

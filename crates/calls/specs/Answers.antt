@@ -1,23 +1,23 @@
 -- Answers: what a check, a preview and a call return, refused ones too, and the memory lent to them afterwards.
 --
---   answer_number a   an answer as one number
---   literal_of v      the literal that the number v stands for in reason memory
---   reason_in m n     the n literals at the start of the memory m
---   told a m          an answer as the book's reply; a reason is read from the memory m
---   memory_as m r     the memory m after the reply r of the book
---   as_answer f       what Check gives, as the answer of a call
---   written m f       the memory m after that answer
---   found_answer f n  what a check answers where Check gives f, and n is the length of the memory
---   found_memory f m  the memory m after it
---   check_answer b n  what a check of the board b answers, where n is the length of the memory
---   check_memory b m  the memory m after it
+--   answer_number a    an answer as one number
+--   literal_of v       the literal that the number v stands for in reason memory
+--   reason_in m n      the n literals at the start of the memory m
+--   told a m           an answer as the book's reply; a reason is read from the memory m
+--   memory_as m r      the memory m after the reply r of the book
+--   as_answer f        what Check gives, as the answer of a call
+--   written m f        the memory m after that answer
+--   found_answer f n   what a check answers where Check gives f, and n is the length of the memory
+--   found_memory f m   the memory m after it
+--   check_answer b n   what a check of the board b answers, where n is the length of the memory
+--   check_memory b m   the memory m after it
 --   preview_answer b l n  what a preview of the literal l answers on the board b, where n is the length of the memory
 --   preview_memory b l m  the memory m after it
---   ended o           how a decide or an undo ended, as the answer of a call
---   stepped b a       a board with an answer
---   stepped_by r      what a decide or an undo returned, as a board with an answer
+--   ended o            how a decide or an undo ended, as the answer of a call
+--   stepped b a        a board with an answer
+--   stepped_by r       what a decide or an undo returned, as a board with an answer
 --   call_of b c m      what the call c returns on the board b with the memory m lent
---   call_memory b c m the memory m after it
+--   call_memory b c m  the memory m after it
 use Rattle.std.specs.Prelude.{cond, List, ◌++◌, map, ℕ, ◌+◌, ◌/◌, ◌%◌, eqb, ltb, length, take, drop}
 use Rattle.rules.specs.declared.Side.TheVariants.{Wall, Open}
 use Rattle.rules.specs.declared.Literal.{Literal}

@@ -2,7 +2,7 @@
 --
 --   drawn-of            what the search needs of a board that is not alien
 --   same-found          what Check gives of a board is what it gives of the board's arrays
---   nothing-found, reason-found   what the search found, as the answer of a check; a pass has the stored number
+--   nothing-found, reason-found  what the search found, as the answer of a check; a pass has the stored number
 use Rattle.std.proofs.Math.Path.{◌≡◌, refl, sym, ap}
 use Rattle.std.proofs.Common.{◌∙◌, arith}
 use Rattle.std.specs.Prelude.{false, List, ℕ, ◌*◌}

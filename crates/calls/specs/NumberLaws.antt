@@ -8,7 +8,7 @@
 --   call-range        what a call answers is in range, on every board
 --   answer-from       the answer is read back from its number
 --   number-once       two answers with one number are equal
---   answer-never-eleven   no answer has the number 11
+--   answer-never-eleven  no answer has the number 11
 use Rattle.std.specs.Prelude.{◌≡◌, refl, Bool, true, false, cond, ℕ, ◌+◌, ◌-◌, ◌<◌, ◌≤◌, eqb, ltb}
 use Rattle.std.proofs.Common.{ap, sym, ◌∙◌, arith, ne_eqb, lt-ltb, le-ltb}
 use Rattle.std.proofs.Math.Option.{Option, some, none}

@@ -1,5 +1,5 @@
 // A call on a tally record that the host lends: the record is read and written whole, and the call is made on its
-// value. It is the one function over a lent struct; its proof is a walk of the code by hand.
+// value. It is the one function over a lent struct.
 ghost use Rattle.std.specs.Prelude.{◌≡◌};
 ghost use Rattle.calls.specs.Counted.{counted_by, counted_of, counted_memory};
 

@@ -8,9 +8,9 @@
 --   PassedAt start calls σ      σ stood at a check or a preview of the list that was answered with a pass
 --   Demand3 start Z calls       the claim
 --
--- All of it speaks of what fresh_of, call_of and call_memory give, and counted_of and counted_memory where a tally record is
--- lent, which the contracts of the code cite, on the boards that the calls return. The book (crate rules, Book) takes
--- the puzzle and the calls, and no board.
+-- All of it speaks of what fresh_of, call_of and call_memory give, and counted_of and counted_memory where a tally
+-- record is lent, which the contracts of the code cite, on the boards that the calls return. The book (crate rules,
+-- Book) takes the puzzle and the calls, and no board.
 use Rattle.std.specs.Prelude.{◌≡◌, false, ◌↔◌, List, ◌∷◌, ◌++◌, map, ℕ, ◌≤◌, length}
 use Rattle.lists.specs.Lists.{Distinct}
 use Rattle.rules.specs.Page.{Puzzle, State, Contains}

@@ -6,8 +6,8 @@
 --   Bare start          a board that is not alien, with an empty stack
 --   built-step          a call leads to the board with the book's sequence decided
 --   built-looked        the board that an answered call looked at is the one with the sequence that the book looked at
---   step-told, step-written, step-tally   the answer of a call is the book's, the memory afterwards what that answer
---                                         says, and the record afterwards the book's
+--   step-told, step-written, step-tally  the answer of a call is the book's, the memory afterwards what that answer
+--                                        says, and the record afterwards the book's
 --   built-after         and so does a list of calls
 --   run-told            the answers of a list of calls are the book's
 --   run-written         the memories afterwards are what the book's answers say

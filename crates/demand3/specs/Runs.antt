@@ -12,7 +12,7 @@
 --   looked_on b c        the board that the call c is answered from, where b is the board given
 --   next_board b c       the board that the call c returns on the board b
 --   board_after b calls  the board after the calls, from the board b
---   run_from b calls      what the calls give, from the board b
+--   run_from b calls     what the calls give, from the board b
 --   memories calls rs    the memories lent to the calls, each after its reply
 use Rattle.std.specs.Prelude.{List, [], ◌∷◌, ℕ, length}
 use Rattle.std.proofs.Math.Option.{Option, some, none}

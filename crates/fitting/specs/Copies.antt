@@ -1,9 +1,9 @@
 -- A unit shifted: its connections at another place of the page.
 --
---   Shift y x           the doubled shift (y,x), raised, is small and even
---   clear_shifted .. y x d   the connection d, shifted by what y and x stand for, is clear
+--   Shift y x            the doubled shift (y,x), raised, is small and even
+--   clear_shifted .. y x d  the connection d, shifted by what y and x stand for, is clear
 --   cell_clear .. g y x c  so are the connections of cell c of group g, below then right
---   soon_end first last where the first eight of the places first to last end
+--   soon_end first last  where the first eight of the places first to last end
 --   soon_in cells offs Q  the first eight cells of group Q
 use Rattle.std.specs.Prelude.{◌≡◌, Bool, cond, List, ℕ, ◌+◌, ◌%◌, ◌<◌, ltb, get_or}
 use Rattle.lists.specs.Lists.{all}

@@ -1,6 +1,6 @@
 -- A unit shifted fits exactly if the connections of each of its cells are clear where the shift lays them.
 --
---   copy-cell-yes, copy-cell-no   the connections of a cell: below, then right
+--   copy-cell-yes, copy-cell-no  the connections of a cell: below, then right
 --   copy-unit-low       the unit's cells are on the page
 --   shift_of            the shift from the unit's first cell to an origin
 --   copied-cells        the unit's shape fits at an origin exactly if each cell's connections are clear

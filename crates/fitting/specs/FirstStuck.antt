@@ -1,6 +1,6 @@
 -- Step 3's search for a unit that does not fit.
 --
---   first_from f i n, first_fail f n the first number from i on, from 0 on, that fails the test, among n
+--   first_from f i n, first_fail f n  the first number from i on, from 0 on, that fails the test, among n
 --   Passed f n i        the first of n numbers that fails the test is the first from i on
 --   fits_on U xs        a placement of unit U fits; xs are its cells
 --   fits_unit U         the same

@@ -3,7 +3,7 @@
 --   Blank N n l      l has N places, and those from n on are 0
 --   Stored n f l m   m is l with the values of f in its first n places
 --   Ranked n f p     p has for each of the first n cells how many cells of its group stand before it, and is a forest
---   Numbering n count ids     ids numbers n cells below count; where count is n, each by its own place
+--   Numbering n count ids  ids numbers n cells below count; where count is n, each by its own place
 use Rattle.std.specs.Prelude.{◌≡◌, List, ℕ, ◌<◌, ◌≤◌, length, get_or}
 use Rattle.groups.specs.Forests.{Forest}
 use Rattle.groups.specs.Parts.{size_among}

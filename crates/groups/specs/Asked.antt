@@ -1,7 +1,7 @@
 -- Groups asked of a board.
 --
---   no_groups        no groups: every place is 0
---   board_groups o g an outcome with groups
+--   no_groups         no groups: every place is 0
+--   board_groups o g  an outcome with groups
 --   asked_of b kind   what asking a board for its groups of one kind returns
 use Rattle.std.specs.Prelude.{cond, List, ℕ, replicate}
 use Rattle.board.specs.declared.Board.{Board}

@@ -2,7 +2,7 @@
 --
 --   Forest p            p has for each of 1,024 cells a parent that is no later
 --   Rep n p L           each cell's root in the forest p is its label in L
---   ForestLinked h w link p   p represents the labels once all borders of a page are taken
+--   ForestLinked h w link p  p represents the labels once all borders of a page are taken
 use Rattle.std.specs.Prelude.{◌≡◌, Bool, List, ℕ, ◌*◌, ◌<◌, ◌≤◌, length, get_or}
 use Rattle.rules.specs.Flat.{flat, border_count}
 use Rattle.laws.specs.LabelLaws.{labels_after, Labelled}

@@ -1,12 +1,12 @@
 -- A grouping: a page's groups in one array of 3,074 numbers.
 --
 --   numbers_in g     the number of each cell's group: places 0 to 1,023
---   cells_in g        the cells group by group: places 1,024 to 2,047
+--   cells_in g       the cells group by group: places 1,024 to 2,047
 --   starts_in g      where each group's cells start, and where the last's end: places 2,048 to 3,072
 --   count_in g       how many groups there are: the last place
---   start_in g k      where group k's cells start in the list of cells
+--   start_in g k     where group k's cells start in the list of cells
 --   group_cells g k  the cells of group k
---   array_of G        the array of the groups G
+--   array_of G       the array of the groups G
 --   Filled G g       the array holds the groups G
 --   Vacant n g       an array that may be lent for n cells: its places past the page are 0
 use Rattle.std.specs.Prelude.{◌≡◌, List, [], ◌∷◌, ◌++◌, ℕ, ◌+◌, ◌-◌, length, get_or, take, drop}

@@ -1,9 +1,9 @@
 -- The three kinds of groups, by the borders that join their cells.
 --
 --   link_of kind Z s         the test of a border, for the puzzle Z with the borders s
---   joins_in kind h w cs bs the same test, for arrays of colours and borders
---   one_colour_by a b       the colours a and b are one
---   joins_by kind v a b     the same of a border's number and its two cells' colours: what the code computes
+--   joins_in kind h w cs bs  the same test, for arrays of colours and borders
+--   one_colour_by a b        the colours a and b are one
+--   joins_by kind v a b      the same of a border's number and its two cells' colours: what the code computes
 use Rattle.std.specs.Prelude.{Bool, not, ◌&&◌, List, ℕ, eqb}
 use Rattle.std.specs.Bool.{beq}
 use Rattle.rules.specs.Page.{Puzzle, State, is_open, is_wall}

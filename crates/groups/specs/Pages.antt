@@ -1,9 +1,9 @@
 -- Pages: the groups of a page, by kind.
 --
 --   groups_in kind h w cs bs  the page's groups of one kind, from its arrays of colours and borders
---   kind_number kind Z s     block_of, unit_of or potential_of, by kind
---   kind_count kind Z s    block_count, unit_count or potential_count, by kind
---   head_of xs                 the first of some cells
+--   kind_number kind Z s      block_of, unit_of or potential_of, by kind
+--   kind_count kind Z s       block_count, unit_count or potential_count, by kind
+--   head_of xs                the first of some cells
 --   potential_in Z s U        the potential unit of unit U: that of its first cell
 --   Drawn h w cs              the page's size is right, and the colours are 0 and 1
 use Rattle.std.specs.Prelude.{List, ℕ, ◌≤◌, get_or}

@@ -5,7 +5,7 @@
 --   flag_at flags c         flag c of a list of flags
 --   TieFlags n f flags      the list has 1,024 flags, and the first n are those of f
 --   Tied n w left above L   of the first n cells, any two that are joined have one label in L
---   Scanned n w left above p cs k   of the first n cells: each has a root for parent, no two cells that are not joined
+--   Scanned n w left above p cs k  of the first n cells: each has a root for parent, no two cells that are not joined
 --                           step by step have the same, and any labels that follow the parents, and do not part the
 --                           first k cells of the list cs from the cells left of them, part no joined cells
 --   joined L cs k           the labels L once the first k cells of cs are joined to the cells left of them

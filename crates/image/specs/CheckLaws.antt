@@ -1,7 +1,7 @@
 -- A check on an image by cases: another length, an alien board, short memory, and what Check gives.
 --
---   other-number, other-bytes   an image of another length
---   alien-checked, short-checked, found-checked   an alien board, short memory, and neither
+--   other-number, other-bytes  an image of another length
+--   alien-checked, short-checked, found-checked  an alien board, short memory, and neither
 --   Quiet a             the answer a is no conflict
 --   AnswerFits n a      the literals of the answer a fit n places
 --   Checks m codes f a  what the answer a of a check, with its codes, says where Check gives f and m is the memory

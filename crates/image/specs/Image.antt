@@ -1,37 +1,37 @@
 -- Image: the board that an image spells, the image of a board, and what the calls on an image give.
 --
---   pair s k           the number of two bytes of s, from place k on
---   quad s k           the number of four bytes
---   from_bits n        the signed number of the 32 bits n
---   spelled_tally s    the tally that the image s spells
---   spelled_board s    the board that the image s spells
---   two_bytes v        two bytes of a number
---   four_bytes v       four bytes of a number
+--   pair s k            the number of two bytes of s, from place k on
+--   quad s k            the number of four bytes
+--   from_bits n         the signed number of the 32 bits n
+--   spelled_tally s     the tally that the image s spells
+--   spelled_board s     the board that the image s spells
+--   two_bytes v         two bytes of a number
+--   four_bytes v        four bytes of a number
 --   bits_of k           the 32 bits of a signed number
---   clue_bytes k       the four bytes of a clue
---   tally_counts t     the three counts of a tally
---   tally_bytes t      their six bytes
+--   clue_bytes k        the four bytes of a clue
+--   tally_counts t      the three counts of a tally
+--   tally_bytes t       their six bytes
 --   image_of b          the image of a board
---   right_length s     the image s has the right length
---   image_alien s      decides and undos cannot produce the image s
---   Bytes s            every element of s is a byte
---   Proper b           b is a value of the code's type Board, and not alien
+--   right_length s      the image s has the right length
+--   image_alien s       decides and undos cannot produce the image s
+--   Bytes s             every element of s is a byte
+--   Proper b            b is a value of the code's type Board, and not alien
 --   side_of d           the side of a decide's number d
---   decide_literal n d the literal of a decide on an image
---   ImageCall          a call on an image, with its numbers
---   number_by b a      the number of the call a on the board b, by value
---   board_by b a       the board that it returns
---   image_number s a   the number that the call a returns on the image s
---   image_after s a    the image afterwards
---   image_written s .. the image s with one border, the count, one entry of the stack and the tally rewritten
---   put_codes m xs n   reason memory with the first n codes of xs written from its start, in two bytes each
---   put_bytes m ls     reason memory beside an image with the literals ls written from its start
---   is_short m         reason memory below 1,984 literals
---   place_count m      how many literals reason memory of bytes holds
---   bytes_after m f    reason memory of bytes after the answer f of Check
---   bytes_by b m       reason memory of bytes after a check of the board b
---   check_number s m   the number that a check returns on the image s with the bytes m lent
---   check_bytes s m    the bytes m afterwards
+--   decide_literal n d  the literal of a decide on an image
+--   ImageCall           a call on an image, with its numbers
+--   number_by b a       the number of the call a on the board b, by value
+--   board_by b a        the board that it returns
+--   image_number s a    the number that the call a returns on the image s
+--   image_after s a     the image afterwards
+--   image_written s ..  the image s with one border, the count, one entry of the stack and the tally rewritten
+--   put_codes m xs n    reason memory with the first n codes of xs written from its start, in two bytes each
+--   put_bytes m ls      reason memory beside an image with the literals ls written from its start
+--   is_short m          reason memory below 1,984 literals
+--   place_count m       how many literals reason memory of bytes holds
+--   bytes_after m f     reason memory of bytes after the answer f of Check
+--   bytes_by b m        reason memory of bytes after a check of the board b
+--   check_number s m    the number that a check returns on the image s with the bytes m lent
+--   check_bytes s m     the bytes m afterwards
 use Rattle.std.specs.Prelude.{◌≡◌, Bool, true, false, cond, List, [], ◌∷◌, ◌++◌, map, ℕ, ◌+◌, ◌-◌, ◌*◌, ◌/◌, ◌%◌, ◌<◌, eqb, ltb, ℤ, pos, negsuc, length, get_or, set, take}
 use Rattle.std.proofs.lemmas.List.Edits.{sets}
 use Rattle.lists.specs.Lists.{flat_map}

@@ -1,7 +1,7 @@
 -- Making a fresh image: what is stored is the image of the fresh board; when the number is 0; and demand 3 from there.
 --
 --   fresh-bytes      tally, height, width, colours and clues stored over zeros are the image of the fresh board
---   number-refused, making-other, number-done, bytes-refused, bytes-done   the definitions by cases
+--   number-refused, making-other, number-done, bytes-refused, bytes-done  the definitions by cases
 --   fresh-exact      the number is 0 exactly if the puzzle is accepted and the bytes have an image's length
 --   fresh-image      then the bytes are the image of the fresh board that `host-demand` starts from
 --   fresh-known      and not alien

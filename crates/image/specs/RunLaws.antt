@@ -2,7 +2,7 @@
 -- fresh board.
 --
 --   number-image, after-image   a decide or an undo on the image of a board
---   step-number, step-codes, step-image   any call on it: its number, the memory, and the image afterwards
+--   step-number, step-codes, step-image  any call on it: its number, the memory, and the image afterwards
 --   image-demand                demand 3 for a list of calls on images
 use Rattle.std.specs.Prelude.{◌≡◌, Bool, true, false, cond, List, [], ◌∷◌, map, ℕ, ◌/◌, ◌≤◌, ltb, ℤ, length}
 use Rattle.std.proofs.Math.Path.{refl, ap, sym}

@@ -1,9 +1,9 @@
 -- Series: a list of decides and undos on an image in one call.
 --
 --   code_call c       the call of a code: 65,535 is an undo, any other the decide of the literal with that code
---   done_of s cs       how many of the calls are done one after another, up to the first that is refused
+--   done_of s cs      how many of the calls are done one after another, up to the first that is refused
 --   image_done s cs   the image after those
---   SeriesStepped s a t r   one call: r is the number of the call a on the image s, and t is the image afterwards
+--   SeriesStepped s a t r  one call: r is the number of the call a on the image s, and t is the image afterwards
 use Rattle.std.specs.Prelude.{◌≡◌, cond, List, [], ◌∷◌, ℕ, suc, ◌/◌, ◌%◌, eqb}
 use Rattle.image.specs.Image.{ImageCall, decide, undo, image_number, image_after}
 

@@ -6,17 +6,17 @@
 --   states-all          where each literal of a sequence holds, the borders that it names have their states by it
 --   without-last        taking the last literal off undoes putting it last
 --   Clean Z ls          the sequence names borders of the page, none of them twice
---   clean-none, clean-with, clean-without   the empty sequence is so; with a literal put last; with the last taken off
+--   clean-none, clean-with, clean-without  the empty sequence is so; with a literal put last; with the last taken off
 --   decided-mem         a decided border has its literal in the sequence
 --   states-exact        exactly the sequence's literals are decided
 --   undecided-left      so the undecided borders are those that the sequence leaves
---   after-clean, book-clean           the book's sequence is so
---   from-append, book-append, replies-append   the book and the answers of a list that is followed by another
+--   after-clean, book-clean  the book's sequence is so
+--   from-append, book-append, replies-append  the book and the answers of a list that is followed by another
 --   plain-answered      a call that is answered, with a record or none, is so without one
---   alien-after, agreed-after   a record that disagrees leaves the book; with another it goes on as with none
+--   alien-after, agreed-after  a record that disagrees leaves the book; with another it goes on as with none
 --   undo-takes          an undo takes the last literal off
---   check-leaves, preview-leaves       a check and a preview leave the book as it is
---   preview-follows, preview-refused   a preview is answered as the check after the decide, or refused as the decide
+--   check-leaves, preview-leaves  a check and a preview leave the book as it is
+--   preview-follows, preview-refused  a preview is answered as the check after the decide, or refused as the decide
 --   preview-decides     the decide of a preview that is answered is done
 --   answered-check      an answered call is answered with what check gives of the sequence that it looked at ..
 --   looked-clean        .. which names borders of the page, none of them twice

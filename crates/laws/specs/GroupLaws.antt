@@ -3,7 +3,7 @@
 --
 --   FirstOf G number x              x is the first cell of its group
 --   Numbered G link number count    01's sentence on numbers, for any numbering
---   mem-members, members-lt, members-number   what is a member of a group
+--   mem-members, members-lt, members-number  what is a member of a group
 --   members-distinct                no cell stands in a group twice
 --   members-same                    they come from the numbers of the page's cells alone
 --   numbers-length, number_at       there is a number for each cell: how many first cells stand before its label
@@ -15,8 +15,8 @@
 --   number-first, number-order      each number has a first cell; an earlier first cell has the smaller number
 --   numbered                        the numbers of Groups are such a numbering
 --   number-has, members-some        each number below the count is that of a cell
---   block_cells, unit_cells, potential_cells the cells of a block, of a unit, of a potential unit
---   own_block, own_unit, own_potential      the cells of a cell's own block, unit, potential unit
+--   block_cells, unit_cells, potential_cells  the cells of a block, of a unit, of a potential unit
+--   own_block, own_unit, own_potential  the cells of a cell's own block, unit, potential unit
 use Rattle.std.specs.Prelude.{◌≡◌, refl, Bool, List, [], ◌∷◌, ℕ, ◌≤◌, ◌<◌, length, get_or}
 use Rattle.std.proofs.Common.{◌∙◌, ap, sym, arith}
 use mathlib.Core.List.Memᴰ

@@ -1,18 +1,18 @@
 -- Laws of labels: what a merge does to them, those after each border, and that two cells have the same label exactly
 -- when they are joined, the first cell of the group.
 --
---   labels_after G link k     the labels once the first k borders are taken
+--   labels_after G link k  the labels once the first k borders are taken
 --   Labelled n L        L has for each of n cells a label that is no later, and is its own label
---   rename-hit, rename-miss, rename-same, renamed, labelled-renamed   one label renamed
---   merge-earlier, merge-later, merge-same, labelled-merge   the merge of two cells, by how their labels stand
---   merge_keeps, merge-meets, merge-within   equal labels stay so, those of the two cells become so, and no others
+--   rename-hit, rename-miss, rename-same, renamed, labelled-renamed  one label renamed
+--   merge-earlier, merge-later, merge-same, labelled-merge  the merge of two cells, by how their labels stand
+--   merge_keeps, merge-meets, merge-within  equal labels stay so, those of the two cells become so, and no others
 --   merge-sound         the same of labels that a list gives
---   after_none, after_more, after-all   no border, one more, and all of them
---   labelled-range, labelled-after, labelled   labels are such from the first to the last border
---   after-meets, after-within, after-sound   the same border by border
+--   after_none, after_more, after-all  no border, one more, and all of them
+--   labelled-range, labelled-after, labelled  labels are such from the first to the last border
+--   after-meets, after-within, after-sound  the same border by border
 --   labels-one          labels of the same groups are the same labels
---   label-le, label-idem            a label is no later than its cell, and is its own label
---   label-joined, joined-label      equal labels are joined cells, and the other way round
+--   label-le, label-idem  a label is no later than its cell, and is its own label
+--   label-joined, joined-label  equal labels are joined cells, and the other way round
 --   hop-label           the two cells of a hop over a border that links have one label
 use Rattle.std.specs.Prelude.{◌≡◌, Bool, List, [], ◌∷◌, ◌++◌, map, ◌⊎◌, ℕ, zero, suc, ◌+◌, ◌<◌, ◌≤◌, T, length, get_or}
 use Rattle.std.proofs.Math.Path.{refl}

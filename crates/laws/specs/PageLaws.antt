@@ -12,7 +12,7 @@
 --   CellsPlaced G       cells have different places, and a doubled place reads the border between two near cells
 --   Moved g k ps qs     qs are the places ps turned by g and shifted by k
 --   TurnsListed G       every listed transform is the shape moved by a turn, and every turn is listed
---   near-turn, near-right, near-left   near places are near when turned; shifted, the shift on the right or on the left
+--   near-turn, near-right, near-left  near places are near when turned; shifted, the shift on the right or on the left
 --   near-eq             places that are equal to near ones
 use Rattle.std.specs.Prelude.{◌≡◌, ◌⊎◌, List, [], ◌∷◌, map, ℕ, ◌<◌, ℤ, pos, negsuc}
 use Rattle.std.proofs.Common.{◌∙◌, ap, sym, subst}

@@ -2,7 +2,7 @@
 --
 --   mem-gather          a literal that is gathered
 --   gather-same         tests that agree on the hops gather the same
---   inside-same, edge_same   another numbering with the same numbers on the page gives the same
+--   inside-same, edge_same  another numbering with the same numbers on the page gives the same
 use Rattle.std.specs.Prelude.{◌≡◌, Bool, List, map, ℕ, ◌<◌, T}
 use Rattle.std.proofs.Common.{ap, ◌∙◌}
 use Rattle.lists.specs.Lists.{◌∈◌}

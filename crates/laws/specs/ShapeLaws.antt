@@ -4,9 +4,9 @@
 --   Normal ps js        a shape made normal: shifted from one of its cells
 --   TurnedBy g t u      u is t turned by g and shifted, with a cell at the origin
 --   Canonical ps        ascending, with its least place at the origin: "sorted by (y,x), first at (0,0)"
---   normal-canonical, turned-canonical, canonical-same   shapes that are so; they differ by no shift
+--   normal-canonical, turned-canonical, canonical-same  shapes that are so; they differ by no shift
 --   turned-cells        the cells of a turned shape come from its cells alone
---   turned-normal, turned-compose, turned-keep   turns before and after a shift, two of them, and none
+--   turned-normal, turned-compose, turned-keep  turns before and after a shift, two of them, and none
 use Rattle.std.specs.Prelude.{◌≡◌, refl, ◌⊎◌, List, [], ◌∷◌, map, T, length}
 use Rattle.std.proofs.Common.{sym, ap, ap₂, ◌∙◌, subst, inl, inr, arith}
 use mathlib.Core.List.Memᴰ

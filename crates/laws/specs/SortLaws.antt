@@ -1,14 +1,14 @@
 -- `sort`: its result is sorted, has the same places, and does not depend on the order in which they are given.
 --
 --   Ascending ps        each place stands before all later ones
---   insert-mem, mem-insert, sort-mem, mem-sort   the places of an insert and of a sort
+--   insert-mem, mem-insert, sort-mem, mem-sort  the places of an insert and of a sort
 --   length-sort         how many there are
---   sort-ascends, sort-ascending   a sort ascends, and what ascends is its own sort
+--   sort-ascends, sort-ascending  a sort ascends, and what ascends is its own sort
 --   ascending-distinct  no place stands there twice
---   ascending-count, ascending-same   two such lists with the same places are one
+--   ascending-count, ascending-same  two such lists with the same places are one
 --   sort-map-sort       a sort before a map and a sort changes nothing
---   mem-shift, shift-find, length_shift   the places of a shifted list
---   shift-ascends, sort-shift   what ascends does so when shifted; a shift before or after a sort
+--   mem-shift, shift-find, length_shift  the places of a shifted list
+--   shift-ascends, sort-shift  what ascends does so when shifted; a shift before or after a sort
 use Rattle.std.specs.Prelude.{◌≡◌, refl, ◌⊎◌, Bool, true, false, not, cond, List, [], ◌∷◌, map, suc, ◌≤◌, T, length}
 use Rattle.std.proofs.Common.{sym, ap, ap₂, ◌∙◌, subst, inl, inr, arith, T_not}
 use mathlib.Core.List.Memᴰ

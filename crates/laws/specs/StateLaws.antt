@@ -1,7 +1,7 @@
 -- Tests of states and colours as facts, and the parts of a reason.
 --
 --   contains-l, contains-r, has   what contains a reason contains its parts and its literals
---   open_is, wall-is, open-not-wall   tests of a state
+--   open_is, wall-is, open-not-wall  tests of a state
 --   not-both, not-self, unlike-T  tests of two colours
 --   colour-listed                 both colours are tried
 use Rattle.std.specs.Prelude.{◌≡◌, refl, Bool, true, false, not, List, [], ◌∷◌, ◌++◌, ℕ, T}

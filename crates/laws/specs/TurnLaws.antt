@@ -1,7 +1,7 @@
 -- Laws of turns: what a row does to sums, composing rows is composing what they do, and the rules of the table of eight
 -- rows, each one computed test over the table.
 --
---   same_axis, same_row, same_turn tests for equal rows
+--   same_axis, same_row, same_turn  tests for equal rows
 --   has_turn a ts       the row a is in the table ts
 --   both_axes a b       one of the axes a and b is row, the other column
 --   signed_swap t       t keeps the layer, and keeps or swaps row and column, with any signs

@@ -4,9 +4,9 @@
 --   keep_if test x xs   xs with x before it where the test holds, otherwise xs
 --   filter p xs         the elements that pass the test, in order
 --   any p xs, all p xs  some element passes; every element passes
---   or_else a b          a where it is some, otherwise b
+--   or_else a b         a where it is some, otherwise b
 --   head? xs            the first element, if there is one
---   flat_map f xs        the lists f gives, one after the other
+--   flat_map f xs       the lists f gives, one after the other
 --   first_hit f xs      the first some that f gives
 --   range_from i n      n numbers from i on, in order
 --   range n             0 to n - 1, in order

@@ -3,10 +3,10 @@
 --   Sheet                    a page as written: the size, the rows of digits, the clues, the calls
 --   space, bracket, newline  the bytes of a space, of `)`, of a newline
 --   page_word                the first line, `(page`
---   size_word, row_word, clue_word, decide_word what these lines start with, up to the space
+--   size_word, row_word, clue_word, decide_word  what these lines start with, up to the space
 --   undo_word, check_word    the lines `(undo)` and `(check)`
 --   wall_word, open_word     how the line of a decide ends: `1)` for wall, `0)` for open
---   end_word                  the last line, `)`
+--   end_word                 the last line, `)`
 --   size, row                the parsers of these lines
 --   clue_from p              the clue of a row, a column and a number that were read
 --   clue                     the parser of a clue's line
@@ -22,7 +22,7 @@
 --   same_cell c d            the clues c and d have the same cell
 --   clues_fit h w cs         each clue is on the page of h rows and w columns, and no cell is given twice
 --   whole o                  the page that was read, if nothing stands after it and its clues fit
---   page_of s                 the page that the bytes s spell, if they are well formed
+--   page_of s                the page that the bytes s spell, if they are well formed
 use Rattle.std.specs.Prelude.{Bool, true, not, ◌&&◌, cond, List, [], ◌∷◌, ℕ, length, ltb, leb, eqb}
 use Rattle.std.proofs.Math.Option.{Option, none, some}
 use Rattle.lists.specs.Lists.{any}

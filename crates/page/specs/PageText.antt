@@ -2,7 +2,7 @@
 --
 --   counted n stop      the text of a number and the byte stop
 --   Count n             n is at most 2147483647
---   show_size, show_row, show_clue, show_call the text of a line
+--   show_size, show_row, show_clue, show_call  the text of a line
 --   show_side side      the end of a decide's line, from its side on
 --   ClueFit, CallFit    the numbers of the line are at most 2147483647; a page has no preview
 --   show_sheet p        the text of a page

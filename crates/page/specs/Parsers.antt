@@ -10,7 +10,7 @@
 --   followed r word     r, then the bytes of word
 --   either r q          r, or q where r fails
 --   both r q            r, then q: the pair of their values
---   map_r f r            r, with f of its value
+--   map_r f r           r, with f of its value
 --   and_on o s k        the value read in o before what k reads of the bytes left; no value and the bytes s where
 --                       nothing was read
 --   times n r           r as often as it succeeds, n times at most: the values and the rest

@@ -3,12 +3,12 @@
 --   digit_at s p        the value of the digit at place p
 --   digits_in s a e     the values of the digits from place a up to place e
 --   left_from s r       what is left at the place r
---   got_number, got_digits, got_size, got_row, got_clue, got_call the value that was read, and what is left
---   all_from r s p       what r reads, one value after the other, from place p on
+--   got_number, got_digits, got_size, got_row, got_clue, got_call  the value that was read, and what is left
+--   all_from r s p      what r reads, one value after the other, from place p on
 --   end_from r s p      what is left then
 --   after_read o        what is left after what was read
 --   after_line l s      what is left after a line of the kind l
---   end_of l s p         what is left after the lines of the kind l from place p on
+--   end_of l s p        what is left after the lines of the kind l from place p on
 --   sheet_at s p        the page whose parts stand at the places p
 --   form_of s r         that page, or none
 --   judged_of s r       the number, or that page

@@ -1,6 +1,6 @@
 -- Words as rows of bits.
 --
---   bit_at w x           bit x of the word w; bit 0 is the lowest
+--   bit_at w x          bit x of the word w; bit 0 is the lowest
 --   row_from k x f      the word of the k tests f x, f (x + 1), .., the first in the lowest bit
 use Rattle.std.specs.Prelude.{Bool, ℕ, zero, suc, ◌+◌, ◌*◌, ◌/◌, ◌%◌, ◌^◌, eqb}
 use Rattle.lists.specs.Count.{bit}

@@ -1,7 +1,7 @@
 -- Laying: where a transform is laid, and what that gives.
 --
 --   fits_among t xs     the transform t fits at one of the cells xs
---   block_at t o         the blocker of the placement of t with its origin at cell o, if it has one
+--   block_at t o        the blocker of the placement of t with its origin at cell o, if it has one
 --   blocks_among t xs   the blockers of its placements at the cells xs, in order
 --   fits_beside t gs    it fits at a cell of one of the groups gs
 --   blocks_beside t gs  the blockers of its placements at the cells of these, in order

@@ -5,11 +5,11 @@
 --   origins_in .. gs    the cells of the groups gs, by the list of cells and the places where the groups start
 --   plane_bit p r c     the bit c of row r of the planes
 --   clear_word p y ts v j  the origins v of row y at which the first j connections are clear
---   line_fits p y ts n v   all n are, at one of them
---   mask_fits p m h ts n   so it is in one of the h rows of the mask
+--   line_fits p y ts n v  all n are, at one of them
+--   mask_fits p m h ts n  so it is in one of the h rows of the mask
 --   Sizes h p m         the mask has h rows, and planes and mask their lengths
 --   Span h m top end    the rows of the mask that have an origin lie from top to before end
---   MaskAnswers h p m F     the search over planes and mask answers F of any connections
+--   MaskAnswers h p m F  the search over planes and mask answers F of any connections
 use Rattle.std.specs.Prelude.{◌≡◌, Bool, ◌&&◌, List, ℕ, zero, suc, ◌+◌, ◌*◌, ◌/◌, ◌%◌, ◌^◌, ◌≤◌, ◌<◌, eqb, length, get_or}
 use Rattle.std.specs.Int.Bits.{bit_and}
 use Rattle.lists.specs.Lists.{any, flat_map}

@@ -3,9 +3,9 @@
 --   bare js             a shape with the connections js; a placement looks at nothing else
 --   read_raised y x     the border that a raised doubled place reads
 --   between c s f t b   what the border b between the cells f and t does to a placement, by colours c and states s
---   reading_of Z s o     what a connection that reads o does to a placement
+--   reading_of Z s o    what a connection that reads o does to a placement
 --   is_clear r          it neither ends the placement nor is a wall
---   fits_of Z s t o      the transform t fits with its origin at cell o
+--   fits_of Z s t o     the transform t fits with its origin at cell o
 use Rattle.std.specs.Prelude.{Bool, true, false, cond, List, [], ℕ}
 use Rattle.std.specs.Bool.{beq}
 use Rattle.std.proofs.Math.Option.{Option, some, none}

@@ -1,8 +1,8 @@
 -- Printed answers read back: a parser of answers, and that it reads exactly what is printed.
 --
---   literal, reply_line the parsers of a literal and of a line
---   answers             the parser of the whole output
---   ReplyFit r          the numbers are at most 2147483647, and the call has a line
+--   literal, reply_line  the parsers of a literal and of a line
+--   answers              the parser of the whole output
+--   ReplyFit r           the numbers are at most 2147483647, and the call has a line
 use Rattle.std.specs.Prelude.{◌≡◌, refl, ◌⊎◌, List, [], ◌∷◌, ◌++◌, ℕ, suc, ◌<◌, ◌≤◌, length}
 use Rattle.std.proofs.Common.{sym, ap, inl, inr, ⊎_elim, append_assoc, arith, length-append}
 use Rattle.std.proofs.Math.Option.{none}

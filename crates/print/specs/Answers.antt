@@ -1,13 +1,13 @@
 -- Answers as text, 01's "Page program": what the page program prints.
 --
 --   answers_word        the first line, `(answers`
---   refused_word, pass_word, conflict_word what these lines start with
+--   refused_word, pass_word, conflict_word  what these lines start with
 --   letter side         w for wall, o for open
 --   show_literal l      a space, the border's number and the letter
 --   show_reply r        the line of a call's answer; a call that is done has none
 --   show_answers rs     the whole output: (answers, the lines, )
 --   code_text k         the text of the literal that reason memory holds as the number k
---   text_of l            the bytes of a line
+--   text_of l           the bytes of a line
 use Rattle.std.specs.Prelude.{cond, List, [], ◌∷◌, ◌++◌, ℕ, ◌/◌, ◌%◌, eqb, take}
 use Rattle.rules.specs.declared.Side.{Side}
 use Rattle.rules.specs.declared.Side.TheVariants.{Wall, Open}

@@ -1,11 +1,11 @@
 -- The text of a reason's literals, written chunk by chunk.
 --
 --   codes_from ks a e   the numbers of reason memory from place a up to place e
---   Putting ks a e m after next count   `after` is m with the texts of the literals from a up to next, count bytes
---   Put ks a e m after r                so it is for the chunk r, and some literal is put where there is room
+--   Putting ks a e m after next count  `after` is m with the texts of the literals from a up to next, count bytes
+--   Put ks a e m after r  so it is for the chunk r, and some literal is put where there is room
 --   show-append         the texts of two lists
---   chunk-codes-none, chunk-codes-more   the numbers of no literal, and of one more
---   putting-none, putting-more, putting-stop            no literal, one more, and the end
+--   chunk-codes-none, chunk-codes-more  the numbers of no literal, and of one more
+--   putting-none, putting-more, putting-stop  no literal, one more, and the end
 --   put-none            where no literal is put, the memory is as it was
 use Rattle.std.specs.Prelude.{◌≡◌, refl, List, [], ◌∷◌, ◌++◌, ℕ, suc, ◌+◌, ◌-◌, ◌<◌, ◌≤◌, length, get_or}
 use Rattle.std.proofs.Common.{sym, append_assoc, append-nil, arith}

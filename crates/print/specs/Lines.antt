@@ -1,6 +1,7 @@
 -- Bytes written into memory, lines that grow, and their laws.
 --
---   Written m at ds e r   the memory e is m with the bytes ds from `at` on, up to r, and no other byte changed
+--   Written m at ds e r                        the memory e is m with the bytes ds from `at` on, up to r, and no other
+--                                              byte changed
 --   Longer a ds b                              the line b is the line a with the bytes ds more
 --   start                                      the line of no bytes
 --   LineHolds l ds                             the line l holds the bytes ds and is 0 beyond them
@@ -8,10 +9,10 @@
 --   written-word, written-end                  a text, byte by byte
 --   written-length                             the length stays
 --   written-front, written-rest                the bytes from the start on, and those beyond them
---   holds_as, holds_more, holds_text, holds-short   what a line holds, by parts, and that it has at most 32 bytes
+--   holds_as, holds_more, holds_text, holds-short  what a line holds, by parts, and that it has at most 32 bytes
 --   line-none, line-more, line-written         a line's bytes written: none, one more, all
 --   decimal-last, decimal-long                 a number's last digit
---   tens k, decimal-short, decimal-64, decimal-16   the k-th power of ten, and how many digits a number has
+--   tens k, decimal-short, decimal-64, decimal-16  the k-th power of ten, and how many digits a number has
 --   numbered-text                              a word, a number, a bracket and a newline
 use Rattle.std.specs.Prelude.{◌≡◌, refl, Bool, true, false, List, [], ◌∷◌, ◌++◌, ℕ, zero, suc, ◌+◌, ◌*◌, ◌/◌, ◌%◌, ◌<◌, ◌≤◌, ltb, length, take, drop, set, get_or, replicate}
 use Rattle.std.proofs.Common.{sym, ap, ap₂, ◌∙◌, append_assoc, add-one, arith, ltb-true, ltb-false, length-append, take-suc, take_at, drop_at}

@@ -2,13 +2,13 @@
 --
 --   board_from s          the board that the image s spells; the all-zero board, which is alien, where s has another
 --                         length
---   places_of n l          a list of n places: the list l, cut off or filled up with 0
+--   places_of n l         a list of n places: the list l, cut off or filled up with 0
 --   probe_fits h w room   h and w are a page's, and the memory has 16,384 places
---   kind_of k              the kind of groups with the number k: blocks, units, potential units
+--   kind_of k             the kind of groups with the number k: blocks, units, potential units
 --   kind_groups h w cs bs k  the groups of that kind, for lists of colours and borders
 --   reason_words ..       Inside(G) (open) or Edge(G) (wall) of the group g, each literal once, as literal codes
 --   path_words ..         Path(a, b), each literal once, as literal codes
---   ProbeAnswered h w m ws m' r   where the call fits, the words ws were written into the memory m from its start:
+--   ProbeAnswered h w m ws m' r  where the call fits, the words ws were written into the memory m from its start:
 --                         m' is the memory afterwards, and r their number; otherwise m' is m, and r is 65,535
 use Rattle.std.specs.Prelude.{◌≡◌, Bool, ◌&&◌, cond, List, map, ℕ, eqb, leb, length}
 use Rattle.std.proofs.lemmas.List.Edits.{sets}

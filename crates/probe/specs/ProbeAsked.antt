@@ -4,8 +4,8 @@
 --   asked_in s k        what the board that the image s spells gives, asked for its groups of the kind k; an image of
 --                       another length is alien
 --   part_in s which g   the cells of its group g, as the part of the chosen list
---   AskedTold f m ws m' r    f is the refusal's number, or 0. Where there is a refusal, r is its number; where the
---                            memory m
+--   AskedTold f m ws m' r  f is the refusal's number, or 0. Where there is a refusal, r is its number; where the
+--                          memory m
 --                       has under 16,384 places, r is 65,535; otherwise the words ws were written from the start of m,
 --                       and r is their number. m' is the memory afterwards
 use Rattle.std.specs.Prelude.{◌≡◌, cond, ◌&&◌, List, ℕ, eqb, leb, length}

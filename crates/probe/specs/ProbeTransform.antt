@@ -1,7 +1,7 @@
 -- What the probe of a unit's transforms writes.
 --
 --   counts_of a         an answer as four numbers: the outcome's number, transforms, cells, connections
---   answer_in s u k n    the answer of the board that the image s spells; an image of another length is alien
+--   answer_in s u k n   the answer of the board that the image s spells; an image of another length is alien
 --   memory_in s u k m   the memory afterwards
 use Rattle.std.specs.Prelude.{◌≡◌, cond, List, [], ◌∷◌, ℕ, ℤ, length, set}
 use Rattle.std.proofs.Common.{◌∙◌, ne_eqb}

@@ -2,7 +2,7 @@
 --
 --   Produced b      making a board, a decide and an undo that are done lead to b
 --   Move            a decide with its literal, or an undo
---   move_of b m      what the move m returns on the board b
+--   move_of b m     what the move m returns on the board b
 --   Leads b ms d    the moves ms, one after the other, each of them done, lead from b to d
 --   Reached b       an accepted puzzle, and moves that lead from its fresh board to b
 use Rattle.std.specs.Prelude.{◌≡◌, List, [], ◌∷◌, ℕ, ℤ}

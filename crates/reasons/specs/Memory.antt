@@ -4,15 +4,15 @@
 --
 --   Work                memory of a reason, and the place of the next literal
 --   work_at m i         the memory m, with the next literal at the place i
---   named_in m b         the border b is named in m; it is not where m has no place for that
+--   named_in m b        the border b is named in m; it is not where m has no place for that
 --   naming m b          m with the border b named; m as it is where it has no place for that
---   named_by p l         p with the literal l written and its border named; p as it is where the border is named, or
+--   named_by p l        p with the literal l written and its border named; p as it is where the border is named, or
 --                       where no place for a literal is left
 --   named_all p ls      p with the literals ls, one after another
 --   Spare m at          m has the places for literals, and `at` is one of them, or the first place behind them
 --   Wrote m from ls after next  the literals ls were written into m from the place `from`, as named_all says: `after`
 --                       is the memory afterwards, and `next` the next place
---   WordsWritten m words after r   the words were written into the lent memory m from its start: `after` is the memory
+--   WordsWritten m words after r  the words were written into the lent memory m from its start: `after` is the memory
 --                       afterwards, and r their number
 use Rattle.std.specs.Prelude.{◌≡◌, Bool, cond, not, ◌||◌, List, [], ◌∷◌, ℕ, ◌+◌, ◌≤◌, eqb, leb, length, get_or, set}
 use Rattle.std.proofs.lemmas.List.Edits.{sets}

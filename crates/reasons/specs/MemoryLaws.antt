@@ -1,14 +1,14 @@
 -- Laws of Wrote: nothing written, one literal, one list after another, and loops. From working memory that is 0, a
 -- reason's literals come out each once; memory without places for the borders has them all.
 --
---   named_some, named_none, named-out, naming-out   whether a border is named, as the code asks it; where there is no
+--   named_some, named_none, named-out, naming-out  whether a border is named, as the code asks it; where there is no
 --                       place for that, it is not, and cannot be
 --   length-naming       naming keeps the length
---   spare-zeros, spare-front   working memory that is 0 has room, and so have the first 1,984 places of lent memory
---   naming-none, naming-full, naming-old, naming-new, naming-more   no literal; one for which no place is left; one
+--   spare-zeros, spare-front  working memory that is 0 has room, and so have the first 1,984 places of lent memory
+--   naming-none, naming-full, naming-old, naming-new, naming-more  no literal; one for which no place is left; one
 --                       whose border is named; one whose border is not; two lists, one after another
---   front_length, front_fits   how many literals stand before the next place, and that they fit lent memory
---   turns-none, turns_more, turns-end, write-none, write-more   loops
+--   front_length, front_fits  how many literals stand before the next place, and that they fit lent memory
+--   turns-none, turns_more, turns-end, write-none, write-more  loops
 --   once-handed         where a reason holds on a board, what is handed out of working memory is its literals, each
 --                       once
 --   plain-handed        where it names no border twice, it may be written into the front of lent memory straight away

@@ -8,14 +8,14 @@
 --   state_if test m n     the state m where the test holds, otherwise n
 --   states ls             the borders with exactly the literals ls decided
 --   names ls b            the border b is in the sequence ls
---   with_last ls l         the sequence ls with the literal l put last
+--   with_last ls l        the sequence ls with the literal l put last
 --   without_last ls       ls with the last literal taken off
 --   bare_or ls r          refused with 8 on the empty sequence, otherwise r
 --   looked ls c           the sequence that the call c is answered from, where the book's is ls
 --   then_reply d r        the reply d where it is not done, otherwise r
 --   done_book k c         what the book keeps after the call c, where it is done
 --   after_by r k m        the book m where the reply r is done, otherwise k
---   tally_of u w o         the tally with u borders undecided, w walls and o open
+--   tally_of u w o        the tally with u borders undecided, w walls and o open
 --   same_tally t u        the tallies t and u have the same counts
 --   or_alien test r       refused with 5 where the test holds, otherwise r
 --   lent_after r t u      the record t after the reply r: u where it is done; none where none is lent

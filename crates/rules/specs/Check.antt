@@ -1,53 +1,53 @@
 -- Check: the first hit is the reason.
 --
---   Reason              a list of literals
---   hit_if test r       the reason r where the test holds, otherwise no hit
+--   Reason               a list of literals
+--   hit_if test r        the reason r where the test holds, otherwise no hit
 --   is_some o            o is a number, not none
---   clash k l           k and l are clues that differ
---   block_clue clue xs  the first clue among the cells xs
---   Verdict             pass with a count, or conflict with a reason
---   inside_block B      Inside of block B
---   inside_unit U       Inside of unit U
+--   clash k l            k and l are clues that differ
+--   block_clue clue xs   the first clue among the cells xs
+--   Verdict              pass with a count, or conflict with a reason
+--   inside_block B       Inside of block B
+--   inside_unit U        Inside of unit U
 --   edge_of P            Edge of potential unit P
 --   size_of P            how many cells potential unit P has
---   coloured c xs       the cells of colour c among xs
---   stray_from x y      y has the colour of cell x, but another potential unit
---   cell_hit B ys x     (a) and (b) of step 1 for cell x of block B; ys are the earlier cells of B
---   cell_hits B ys xs   the first such hit at the cells xs of B; ys are the cells before them
---   small_hit B xs c o  the hit of step 1 where the potential unit of o, B's first cell of colour c, is smaller than
---                       B's count of the other colour; xs are the cells of B
---   big_hit B xs n c o  the hit of step 1 where the clue n is above the size of that potential unit
---   clue_hit B xs k     the hits of step 1 for the clue k of block B
---   block_hit_on B xs   step 1 for block B with the cells xs
---   block_hit B         step 1 for block B
---   wall_hit x h        step 2 for cell x and one neighbour
---   wall_hits x         step 2 for cell x
---   touches Q c h       the hop h leads from cell c to an other-coloured cell of potential unit Q, not over a wall
---   adjacent P Q        the potential units P and Q are adjacent
---   mates P             the potential units adjacent to P, by number
---   by_last_wall last   a placement with every connection read: blocked by the last wall, or it fits if there is none
---   judge last os       the placement whose connections still to be read have the borders os; `last` is the last wall
---                       so far
---   laid t o            the placement of the transform t with its origin at cell o
---   is_fit p            the placement p fits
---   blockers p          the blocker of p as a wall literal, if it has one
---   transforms_of U     the listed transforms of unit U; none for a number that no unit has
---   placements U P      the placements of unit U in potential unit P, in order
---   far_walls_at P c    the walls from cell c to other-coloured cells whose potential unit is not adjacent to P
---   far_walls P         those of all cells of P
---   unit_reason U P     the reason of step 3 for unit U in potential unit P
---   unit_hit_in U P     step 3 for unit U in potential unit P
---   unit_hit_on U xs    step 3 for unit U with the cells xs
---   unit_hit U          step 3 for unit U
---   hit Z s             the first hit of the three steps
---   borders_named r     the borders that the literals of r name, in order
---   same_side a b       a and b are one side
---   same_literal l k    l and k are equal literals
---   once r              r with the first of equal literals kept and later ones dropped
---   once_in o           the same of a hit's reason
---   undecided_count Z s the count of undecided borders
---   verdict_of n o      conflict with the reason o; pass with n where o is no hit
---   check Z s           pass with the count of undecided borders, or the reason, each literal once
+--   coloured c xs        the cells of colour c among xs
+--   stray_from x y       y has the colour of cell x, but another potential unit
+--   cell_hit B ys x      (a) and (b) of step 1 for cell x of block B; ys are the earlier cells of B
+--   cell_hits B ys xs    the first such hit at the cells xs of B; ys are the cells before them
+--   small_hit B xs c o   the hit of step 1 where the potential unit of o, B's first cell of colour c, is smaller than
+--                        B's count of the other colour; xs are the cells of B
+--   big_hit B xs n c o   the hit of step 1 where the clue n is above the size of that potential unit
+--   clue_hit B xs k      the hits of step 1 for the clue k of block B
+--   block_hit_on B xs    step 1 for block B with the cells xs
+--   block_hit B          step 1 for block B
+--   wall_hit x h         step 2 for cell x and one neighbour
+--   wall_hits x          step 2 for cell x
+--   touches Q c h        the hop h leads from cell c to an other-coloured cell of potential unit Q, not over a wall
+--   adjacent P Q         the potential units P and Q are adjacent
+--   mates P              the potential units adjacent to P, by number
+--   by_last_wall last    a placement with every connection read: blocked by the last wall, or it fits if there is none
+--   judge last os        the placement whose connections still to be read have the borders os; `last` is the last wall
+--                        so far
+--   laid t o             the placement of the transform t with its origin at cell o
+--   is_fit p             the placement p fits
+--   blockers p           the blocker of p as a wall literal, if it has one
+--   transforms_of U      the listed transforms of unit U; none for a number that no unit has
+--   placements U P       the placements of unit U in potential unit P, in order
+--   far_walls_at P c     the walls from cell c to other-coloured cells whose potential unit is not adjacent to P
+--   far_walls P          those of all cells of P
+--   unit_reason U P      the reason of step 3 for unit U in potential unit P
+--   unit_hit_in U P      step 3 for unit U in potential unit P
+--   unit_hit_on U xs     step 3 for unit U with the cells xs
+--   unit_hit U           step 3 for unit U
+--   hit Z s              the first hit of the three steps
+--   borders_named r      the borders that the literals of r name, in order
+--   same_side a b        a and b are one side
+--   same_literal l k     l and k are equal literals
+--   once r               r with the first of equal literals kept and later ones dropped
+--   once_in o            the same of a hit's reason
+--   undecided_count Z s  the count of undecided borders
+--   verdict_of n o       conflict with the reason o; pass with n where o is no hit
+--   check Z s            pass with the count of undecided borders, or the reason, each literal once
 use Rattle.std.specs.Prelude.{Bool, true, false, not, ◌&&◌, ◌||◌, cond, List, [], ◌∷◌, ◌++◌, map, ℕ, eqb, ltb, length}
 use Rattle.std.specs.Bool.{beq}
 use Rattle.std.proofs.Math.Option.{Option, some, none}

@@ -3,16 +3,16 @@
 --   state_of v           the state that a border place with the number v has
 --   code_of side         the number of a decided border
 --   side_in v            the side that a decided border's place v stands for
---   states_in bs        the borders that an array of such numbers spells
---   colours_in cs       the colours that an array of numbers spells
---   clue_of k           no clue below 0, otherwise the clue k
---   clues_in ks         the clues that an array of signed numbers spells
---   clued_by h w cs k   the puzzle on a flat page with the colours that an array spells, and the clues k
---   puzzle_in h w cs ks the same with the clues that an array spells
---   unclued h w cs      the same without clues
---   side_code side      what a literal's number adds for its side
---   literal_code l      what reason memory holds for the literal l
---   put m from ls       reason memory m with the literals ls written from the place `from`
+--   states_in bs         the borders that an array of such numbers spells
+--   colours_in cs        the colours that an array of numbers spells
+--   clue_of k            no clue below 0, otherwise the clue k
+--   clues_in ks          the clues that an array of signed numbers spells
+--   clued_by h w cs k    the puzzle on a flat page with the colours that an array spells, and the clues k
+--   puzzle_in h w cs ks  the same with the clues that an array spells
+--   unclued h w cs       the same without clues
+--   side_code side       what a literal's number adds for its side
+--   literal_code l       what reason memory holds for the literal l
+--   put m from ls        reason memory m with the literals ls written from the place `from`
 use Rattle.std.specs.Prelude.{Bool, cond, List, map, ℕ, ◌+◌, ◌*◌, eqb, ℤ, pos, negsuc, get_or}
 use Rattle.std.proofs.Math.Option.{Option, some, none}
 use Rattle.std.proofs.lemmas.List.Edits.{sets}

@@ -1,21 +1,21 @@
 -- Board's numbering: the flat page of h rows and w columns.
 --
---   Sized h w           a page's size
---   hop_if test b c     the hop over border b to cell c where the test holds, otherwise none
+--   Sized h w            a page's size
+--   hop_if test b c      the hop over border b to cell c where the test holds, otherwise none
 --   cell_at y x          the number of cell (y,x)
---   right_of y x        the border right of cell (y,x)
---   below_of y x        the border below cell (y,x)
---   border_count        how many borders there are
---   hop_above, hop_below, hop_left, hop_right the neighbour of (y,x) there, if there is one
---   around_at y x       the neighbours of (y,x) above, below, left and right
---   ahead_at y x        its neighbours below and right
---   flat_first b        the cell above or left of border b
---   flat_second b       the cell below or right of border b
---   flat_place c        the place of cell c: its row and column
---   flat_reads_at y x   the border that the doubled place (y,x) reads; none if it is off the page
---   flat_reads_in l y x the same with the layer l and signs; none in another layer or below 0
---   flat_reads p        the border that a doubled place reads; none if it is off the page
---   flat h w            the page
+--   right_of y x         the border right of cell (y,x)
+--   below_of y x         the border below cell (y,x)
+--   border_count         how many borders there are
+--   hop_above, hop_below, hop_left, hop_right  the neighbour of (y,x) there, if there is one
+--   around_at y x        the neighbours of (y,x) above, below, left and right
+--   ahead_at y x         its neighbours below and right
+--   flat_first b         the cell above or left of border b
+--   flat_second b        the cell below or right of border b
+--   flat_place c         the place of cell c: its row and column
+--   flat_reads_at y x    the border that the doubled place (y,x) reads; none if it is off the page
+--   flat_reads_in l y x  the same with the layer l and signs; none in another layer or below 0
+--   flat_reads p         the border that a doubled place reads; none if it is off the page
+--   flat h w             the page
 use Rattle.std.specs.Prelude.{Bool, true, false, ◌&&◌, cond, List, [], ◌∷◌, ◌++◌, map, ℕ, zero, suc, ◌+◌, ◌-◌, ◌*◌, ◌/◌, ◌%◌, ◌≤◌, eqb, ltb, leb, ℤ, pos, negsuc}
 use Rattle.std.proofs.Math.Option.{Option, some, none}
 use Rattle.rules.specs.Page.{Page, Point, Hop}

@@ -1,18 +1,18 @@
 -- Groups: blocks, units and potential units, and their numbers.
 --
---   entry L x             the entry of cell x in the list L
---   rename lo hi l        lo where l is hi, otherwise l
---   merge test a b L      the labels L with the groups a and b made one, known by a if the test holds, else by b
---   merge_if test a b L   where the test holds, these two made one, known by the earlier; otherwise L
---   merge_all G link L bs the same for the two cells of each of the borders bs that pass the test link, in order
---   labels G link         for each cell the first cell of its group, the borders taken in order
---   is_first L x          x is the first cell of its group
---   numbers G link        for each cell the number of its group
---   group_count G link    how many groups there are
---   members G number g    the cells of group g, in row order; none if no group has the number g
---   joins_potential       the borders that join the cells of a potential unit
+--   entry L x              the entry of cell x in the list L
+--   rename lo hi l         lo where l is hi, otherwise l
+--   merge test a b L       the labels L with the groups a and b made one, known by a if the test holds, else by b
+--   merge_if test a b L    where the test holds, these two made one, known by the earlier; otherwise L
+--   merge_all G link L bs  the same for the two cells of each of the borders bs that pass the test link, in order
+--   labels G link          for each cell the first cell of its group, the borders taken in order
+--   is_first L x           x is the first cell of its group
+--   numbers G link         for each cell the number of its group
+--   group_count G link     how many groups there are
+--   members G number g     the cells of group g, in row order; none if no group has the number g
+--   joins_potential        the borders that join the cells of a potential unit
 --   block_of, unit_of, potential_of  the number of a cell's block, unit, potential unit
---   block_count, unit_count, potential_count how many there are
+--   block_count, unit_count, potential_count  how many there are
 use Rattle.std.specs.Prelude.{Bool, true, false, not, ◌&&◌, cond, List, [], ◌∷◌, map, ℕ, eqb, leb, get_or}
 use Rattle.lists.specs.Lists.{filter, range}
 use Rattle.lists.specs.Count.{count_below}

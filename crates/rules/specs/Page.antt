@@ -10,7 +10,7 @@
 --   State          what a border has: undecided, or decided with a side
 --   Has s l        the setting s contains the literal l; l holds on the board with the borders s
 --   Contains s r   every literal of r
---   is_wall, is_open, is_undecided tests of a state
+--   is_wall, is_open, is_undecided  tests of a state
 --   wall_at b, open_at b  the literal of border b with that side
 --
 -- A board's borders and a full setting are one kind of thing, a function from border numbers to states.

@@ -1,17 +1,17 @@
 -- Reasons: Inside, Edge and Path.
 --
---   gather side test hops         the literals of that side of the hops that pass the test
---   inside_at G s number g c      what Inside(G) lists for cell c
---   inside G s number g           Inside(G), G the group with the number g
+--   gather side test hops          the literals of that side of the hops that pass the test
+--   inside_at G s number g c       what Inside(G) lists for cell c
+--   inside G s number g            Inside(G), G the group with the number g
 --   edge_at G colour s number g c  what Edge(P) lists for cell c
---   edge G colour s number g      Edge(P), P the group with the number g
---   Found, Search                 a cell that the search found; what a search has found and has still to look at
---   is_found a f x                x is the start a, or one of the found cells f
---   visit_if test x h t           where the test holds, the search t with the cell that h leads to found from x
---   trace f x                     the literals from cell x back to the start, by the found cells f
---   look G s a x hops t           the search t from a, once cell x has tried the hops
---   hunt G s n a queue f          the cells found once the queue is empty, or n more cells are taken from it
---   path G s a b                  Path(a, b)
+--   edge G colour s number g       Edge(P), P the group with the number g
+--   Found, Search                  a cell that the search found; what a search has found and has still to look at
+--   is_found a f x                 x is the start a, or one of the found cells f
+--   visit_if test x h t            where the test holds, the search t with the cell that h leads to found from x
+--   trace f x                      the literals from cell x back to the start, by the found cells f
+--   look G s a x hops t            the search t from a, once cell x has tried the hops
+--   hunt G s n a queue f           the cells found once the queue is empty, or n more cells are taken from it
+--   path G s a b                   Path(a, b)
 --
 -- `number` gives each cell's group number: that of its block, unit or potential unit.
 use Rattle.std.specs.Prelude.{Bool, true, false, not, ◌&&◌, ◌||◌, cond, List, [], ◌∷◌, ◌++◌, map, ℕ, zero, suc, eqb, ltb}

@@ -2,8 +2,8 @@
 --
 --   Joined G link c x   x is joined to c by hops over borders that pass the test link
 --   one_colour Z b      the two cells of border b have one colour
---   joins_block, joins_unit the borders that join the cells of a block, of a unit
---   SameBlock x y, SameUnit x y   x and y are cells of one block, of one unit
+--   joins_block, joins_unit  the borders that join the cells of a block, of a unit
+--   SameBlock x y, SameUnit x y  x and y are cells of one block, of one unit
 --   UnitHas x n         the unit of x has n cells
 --   Congruent x y       the unit of y is the unit of x turned or reflected, and shifted
 --   Solution Z s        the setting s is a solution of the puzzle Z

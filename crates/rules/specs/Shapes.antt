@@ -1,21 +1,21 @@
 -- Shapes: a group's cells and connections, and the transforms of a shape.
 --
---   lessℤ a b, sameℤ a b  tests of two coordinates: a is below b, a equals b
---   same_point, same_points tests for equal places, for equal lists of places
---   before p q            p stands before q, by layer, row and column
---   insert p ps           p put into the sorted places ps
---   sort ps               the places in order
+--   lessℤ a b, sameℤ a b   tests of two coordinates: a is below b, a equals b
+--   same_point, same_points  tests for equal places, for equal lists of places
+--   before p q             p stands before q, by layer, row and column
+--   insert p ps            p put into the sorted places ps
+--   sort ps                the places in order
 --   shift_by v ps          the places ps, each shifted by v
---   normal ps js          the shape of sorted cells, its first cell shifted to the origin
---   turned g t            the shape t turned by g
+--   normal ps js           the shape of sorted cells, its first cell shifted to the origin
+--   turned g t             the shape t turned by g
 --   same_shape t u         t and u have the same cells
 --   connections_at G number g c  the connections of cell c to cells of group g, below then right
 --   shape_of G number g    the shape of group g
---   with_half t           the shape, and the half turn if different
---   quarters q listed     the quarter q alone where one shape is listed, else q followed by half, then q
---   with_quarter t listed the listed shapes, and these if the quarter turn of t differs
---   with_flip t listed    the listed shapes, and the flips of all of them if the flip of t is not yet listed
---   flat_transforms t     the listed transforms of a shape on a flat page
+--   with_half t            the shape, and the half turn if different
+--   quarters q listed      the quarter q alone where one shape is listed, else q followed by half, then q
+--   with_quarter t listed  the listed shapes, and these if the quarter turn of t differs
+--   with_flip t listed     the listed shapes, and the flips of all of them if the flip of t is not yet listed
+--   flat_transforms t      the listed transforms of a shape on a flat page
 use Rattle.std.specs.Prelude.{Bool, true, false, ◌&&◌, ◌||◌, cond, List, [], ◌∷◌, ◌++◌, map, ℕ, eqb, ltb, ℤ, pos, negsuc}
 use Rattle.lists.specs.Lists.{filter, flat_map, any}
 use Rattle.rules.specs.Page.{Page, Point, ◌⊕◌, opposite, Shape}

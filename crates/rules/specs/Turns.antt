@@ -1,20 +1,20 @@
 -- Turns and reflections as rows of a table: for each new coordinate, which old one it is, and its sign.
 --
---   Axis, Row, Turn         a row of the table: for each new coordinate the old axis and whether its sign changes
---   coordinate a p          the coordinate of the place p along the axis a
---   signed minus k          k with its sign changed if minus
---   read r p                the new coordinate of p that r gives
---   apply t p               the place p turned by the row t
+--   Axis, Row, Turn          a row of the table: for each new coordinate the old axis and whether its sign changes
+--   coordinate a p           the coordinate of the place p along the axis a
+--   signed minus k           k with its sign changed if minus
+--   read r p                 the new coordinate of p that r gives
+--   apply t p                the place p turned by the row t
 --   row_of a t               what the row t has for the new coordinate along the axis a
---   compose_row r t         what r gives of a place that t has turned
---   compose a b             the row that does b, then a
---   plus a, minus a         the old coordinate along a with its sign kept, with its sign changed
---   flat_turn r c           the row that gives the new row by r and the new column by c, and keeps the layer
---   keep                    the row that changes nothing
---   half, quarter, flip     the rows that 01 names
---   half_quarter, flip_half the quarter followed by the half; the half followed by the flip
---   flip_quarter, flip_half_quarter the quarter followed by the flip; the quarter followed by the half, then the flip
---   flat_table              the eight rows of a flat page: signs and swaps of (y,x)
+--   compose_row r t          what r gives of a place that t has turned
+--   compose a b              the row that does b, then a
+--   plus a, minus a          the old coordinate along a with its sign kept, with its sign changed
+--   flat_turn r c            the row that gives the new row by r and the new column by c, and keeps the layer
+--   keep                     the row that changes nothing
+--   half, quarter, flip      the rows that 01 names
+--   half_quarter, flip_half  the quarter followed by the half; the half followed by the flip
+--   flip_quarter, flip_half_quarter  the quarter followed by the flip; the quarter followed by the half, then the flip
+--   flat_table               the eight rows of a flat page: signs and swaps of (y,x)
 use Rattle.std.specs.Prelude.{Bool, true, false, List, [], ◌∷◌, ℤ, neg_ℤ}
 use Rattle.std.specs.Bool.{xor}
 use Rattle.rules.specs.Page.{Point}

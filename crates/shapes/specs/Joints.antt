@@ -3,8 +3,8 @@
 --   joint_if b y x      the doubled place (y,x), if b
 --   JointRoom o k       the outline has a place for connection k
 --   Grown o k js o' r   o' is the outline o with js written after its first k connections: r connections
---   OutlineJoined h w units g o   the outline's connections are those of group g
---   Joining h w number g o₀ o k i   o is the outline o₀ with the k connections of its first i cells
+--   OutlineJoined h w units g o  the outline's connections are those of group g
+--   Joining h w number g o₀ o k i  o is the outline o₀ with the k connections of its first i cells
 --   JointIn o j         the doubled place of connection j is on the largest page, and lies between two cells
 use Rattle.std.specs.Prelude.{◌≡◌, Bool, true, false, List, [], ◌∷◌, ◌++◌, ℕ, ◌+◌, ◌*◌, ◌%◌, ◌<◌, ◌≤◌, length, get_or}
 use Rattle.lists.specs.Lists.{flat_map}

@@ -1,10 +1,10 @@
 -- A place of the code as a place of the definitions, and a row of signs and swaps put to it.
 --
 --   point_at y x, point_of p  the place (y,x) of a flat page
---   Small z, SmallPair p   the number is, both coordinates are, far from where 32 bits end
---   Sign z, BothSigns s   z is 1 or -1; both numbers of s are
+--   Small z, SmallPair p  the number is, both coordinates are, far from where 32 bits end
+--   Sign z, BothSigns s  z is 1 or -1; both numbers of s are
 --   turn_by s y x       (y,x) swapped or not, the new coordinates times the signs of s
---   sign_of b            the sign as the code has it: -1 where it changes, otherwise 1
+--   sign_of b           the sign as the code has it: -1 where it changes, otherwise 1
 --   swaps a             whether a new row that is read from the axis a was a column
 --   signs_of t          a row of the definition's table as the code has it
 use Rattle.std.specs.Prelude.{◌≡◌, ◌⊎◌, Bool, true, false, cond, ◌<◌, ℤ, pos, negsuc, ◌*ℤ◌}

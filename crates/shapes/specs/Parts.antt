@@ -1,7 +1,7 @@
 -- A unit's part of the list of cells, and its places as written to the lent outline.
 --
 --   UnitPart units g w      the part of group g lies in the list of 1,024 cells, and the width is 1 to 32
---   place_of w c             the place of cell c on a page of width w
+--   place_of w c            the place of cell c on a page of width w
 --   OutlinePlaced w L o     the outline's cells are the places of the cells L
 use Rattle.std.specs.Prelude.{◌≡◌, List, map, ℕ, ◌+◌, ◌/◌, ◌%◌, ◌≤◌, ◌<◌, length}
 use Rattle.rules.specs.Page.{Point}

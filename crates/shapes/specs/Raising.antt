@@ -9,7 +9,7 @@
 --   raised_spot t i     the place of the raised connection i
 --   spelled t n         the places of the n connections
 --   lift_of minus base a  the raised coordinate of a, its sign changed if minus, shifted by what base stands for
---   turn_of swap r c     the row of the table: whether the coordinates change places, and the signs of the new ones
+--   turn_of swap r c    the row of the table: whether the coordinates change places, and the signs of the new ones
 --   moved_by g v js     the connections js turned by g and shifted by v
 --   Lifts minus base k  the coordinate k, turned and shifted, stays a byte, raised
 --   Turnable            so do all of a unit's connections

@@ -5,7 +5,7 @@
 --   fixes t r           row r leaves the cells of t as they are
 --   flip_listed t       one of the four reflections leaves t as it is
 --   rotation_rows, rows_by  the listed rows, by which rows leave the shape
---   rows_of t            the listed rows of the shape t
+--   rows_of t           the listed rows of the shape t
 use Rattle.std.specs.Prelude.{Bool, true, false, ◌||◌, cond, List, [], ◌∷◌, ◌++◌, map, ℕ, ◌+◌, get_or}
 use Rattle.rules.specs.Page.{Shape}
 use Rattle.rules.specs.Turns.{Turn, apply, keep, flat_table}

@@ -3,20 +3,20 @@
 --   place_at y x        the place (y,x) of a flat page
 --   spot_at R C i       the place whose row is R's entry i and whose column is C's
 --   spots R C n         the first n of these places
---   cell_spot o i, cell_spots o the place of the outline's cell i, and those of all its cells
---   joint_spot o j, joint_spots o the doubled place of its connection j, and those of all its connections
+--   cell_spot o i, cell_spots o  the place of the outline's cell i, and those of all its cells
+--   joint_spot o j, joint_spots o  the doubled place of its connection j, and those of all its connections
 --   least_image r ps    the first in order of the places ps turned by row r
---   first_of ps          the first of the places ps; the origin if there is none
+--   first_of ps         the first of the places ps; the origin if there is none
 --   onto_shift r ps     the shift that lays the least image on the first of ps
 --   cell_in h w number g y x  (y,x) is a cell of the page, and of group g
---   has_cell_in h w number g l y x the same of signed coordinates, in the layer l
+--   has_cell_in h w number g l y x  the same of signed coordinates, in the layer l
 --   has_cell h w number g p  p is a cell of the page, and of group g
 --   places, joints      a group's places, and its connections, both where they stand on the page
---   within h w number g o r v   the images of the outline's cells by row r, shifted by v, are cells of group g
+--   within h w number g o r v  the images of the outline's cells by row r, shifted by v, are cells of group g
 --   NearSpot p          the place is on the largest page or a turn of it
 --   SpotIn o i          the place of the outline's cell i is on the largest page
 --   Spotted o           the outline has cells, at least one, each on the largest page
---   UnitAt h w units g o   they are the cells of group g of the grouping units
+--   UnitAt h w units g o  they are the cells of group g of the grouping units
 use Rattle.std.specs.Prelude.{Bool, false, ◌&&◌, List, [], ◌∷◌, map, ◌≡◌, ℕ, zero, suc, ◌<◌, ◌≤◌, eqb, ltb, ℤ, pos, negsuc, length, get_or}
 use Rattle.std.specs.Int.Signed.{mag}
 use Rattle.lists.specs.Lists.{flat_map}

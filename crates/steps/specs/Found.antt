@@ -1,11 +1,11 @@
 -- Found: what a check finds, and its memory afterwards.
 --
 --   found_of o          what the code answers for the hit o: how many literals its reason has, each once
---   written_by o m       the memory m with the hit's reason, each literal once, from its start; unchanged where nothing
+--   written_by o m      the memory m with the hit's reason, each literal once, from its start; unchanged where nothing
 --                       was hit
---   blocks_hit, walls_hit, units_hit the first hit of each step
+--   blocks_hit, walls_hit, units_hit  the first hit of each step
 --   early_hit           the first hit of steps 1 and 2
---   Answers o m after r   for the hit o the code answers r, and leaves the memory `after` where it was m
+--   Answers o m after r  for the hit o the code answers r, and leaves the memory `after` where it was m
 --   Room cs bs m        the arrays of colours and borders are whole, and the memory has a place for each border
 use Rattle.std.specs.Prelude.{◌≡◌, List, ℕ, ◌≤◌, length}
 use Rattle.std.proofs.Math.Option.{Option, some, none}

@@ -4,13 +4,13 @@
 --   border_at h w y x   the border there
 --   wall_of h w bs y x  it is a wall, by the borders bs
 --   no_walls            borders of which none is wall
---   Survived p m h ts n rows   rows has the origins of the mask m at which all n connections are clear by p
+--   Survived p m h ts n rows  rows has the origins of the mask m at which all n connections are clear by p
 --   Lain h w rows ts n  at the origins in rows every connection is on the page
---   PlacesDrawn h w places   for each cell 32 times its row, and its column
+--   PlacesDrawn h w places  for each cell 32 times its row, and its column
 --   blocker_of p        the blocker of a placement, if it has one
 --   back_of h w bs .. y x n  the placement with its origin at (y,x), n connections read from the last one on: the first
 --                       wall is the blocker
---   placed_at .. y x     the placement with its origin at (y,x), which cannot lie there unless rows has that origin
+--   placed_at .. y x    the placement with its origin at (y,x), which cannot lie there unless rows has that origin
 --   block_in .. o       the blocker of the placement with its origin at cell o, if it has one
 use Rattle.std.specs.Prelude.{◌≡◌, Bool, true, cond, List, [], ◌∷◌, ℕ, zero, suc, ◌+◌, ◌-◌, ◌*◌, ◌/◌, ◌%◌, ◌≤◌, ◌<◌, eqb, length, get_or, replicate}
 use Rattle.rules.specs.declared.Literal.{Literal}

@@ -2,7 +2,7 @@
 --
 --   Low mates            a list of mates, of which each is below 1024
 --   Mated .. mates       each of them is the number of a group
---   flags_of xs           for each number below 1024 whether it is one of xs: 1 for yes, 0 for no
+--   flags_of xs          for each number below 1024 whether it is one of xs: 1 for yes, 0 for no
 --   edges_in gs          Edge of each of the groups gs, over the arrays
 --   far_in gs xs         the walls from the cells xs to other-coloured cells whose potential unit is not one of gs
 --   walls_in             Edge(P), Edge of each adjacent unit, then the walls to units that are not adjacent

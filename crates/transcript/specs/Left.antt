@@ -1,25 +1,25 @@
 -- What is left to print of a page, at each stage of a run.
 --
---   start_board p       the board of an accepted page
---   board_at p          the board that the code makes of a page
---   calls_text b m cs   the lines of the calls cs from the board b on, with the memory m lent, and the last line
---   first_memory b m cs the memory m after the first of the calls cs on the board b; m where there is none
---   judged_text m v     what is printed after the first line, by the judgement of the page
---   literals_text m a e the literals of the memory m from place a up to place e
+--   start_board p        the board of an accepted page
+--   board_at p           the board that the code makes of a page
+--   calls_text b m cs    the lines of the calls cs from the board b on, with the memory m lent, and the last line
+--   first_memory b m cs  the memory m after the first of the calls cs on the board b; m where there is none
+--   judged_text m v      what is printed after the first line, by the judgement of the page
+--   literals_text m a e  the literals of the memory m from place a up to place e
 --   line_of a            the line of an answer, or its part before the literals
---   stage_of a          what is printed after that
---   first_run           the run of a page of which nothing is printed yet
---   goes_on g           something is left to print
+--   stage_of a           what is printed after that
+--   first_run            the run of a page of which nothing is printed yet
+--   goes_on g            something is left to print
 --   lines_from s b at m  the lines of the calls from a place of the page s on, and the last line
 --   left_at s g b at m   what is left to print of the page s at the stage g
---   left s r m          what is left to print at the run r
---   steps_at s g at     a number that falls with every chunk; 0 where all is printed
---   steps s r           that number at the run r
+--   left s r m           what is left to print at the run r
+--   steps_at s g at      a number that falls with every chunk; 0 where all is printed
+--   steps s r            that number at the run r
 --   memory_at s g b at m  the memory m after the chunk of the stage g
---   memory_next s q n m the memory m after a call of `next` on the run q with a buffer of n bytes
---   Goes s t k o r m out       at the run r the chunk put into the buffer o, which is `out` then, and what is left are
---                              the text t, the bytes beyond the chunk are as they were, and fewer than k steps are left
---   Next s q m o r m' out      what a call of `next` does to the run q, the memory m and the buffer o
+--   memory_next s q n m  the memory m after a call of `next` on the run q with a buffer of n bytes
+--   Goes s t k o r m out  at the run r the chunk put into the buffer o, which is `out` then, and what is left are
+--                         the text t, the bytes beyond the chunk are as they were, and fewer than k steps are left
+--   Next s q m o r m' out  what a call of `next` does to the run q, the memory m and the buffer o
 use Rattle.std.specs.Prelude.{◌≡◌, Bool, true, false, cond, List, [], ◌∷◌, ◌++◌, ℕ, ◌+◌, ◌-◌, ◌*◌, ◌<◌, ◌≤◌, ltb, length, take, drop}
 use Rattle.rules.specs.declared.Call.{Call}
 use Rattle.rules.specs.Check.{pass}

@@ -1,14 +1,14 @@
 -- Laws of what is left to print, one for each return of the code.
 --
 --   put-goes            a line was put
---   literals-more, literals-none   some literals of a reason, or none, are left
---   left-lines-none, left-lines-more         no call is left, or one is read
---   memory-none, memory-more       the memory then
+--   literals-more, literals-none  some literals of a reason, or none, are left
+--   left-lines-none, left-lines-more  no call is left, or one is read
+--   memory-none, memory-more  the memory then
 --   line-left           the line of an answer and what is left after it
 --   turn-less           a call takes a step
---   refused-left, accepted-left    what is left after the first line
---   reason-more, reason-end, turn_end, turn-goes   a chunk of a reason, its end, no call, a call
---   next-goes, next-over           a chunk, and no chunk, at a stage of the run
+--   refused-left, accepted-left  what is left after the first line
+--   reason-more, reason-end, turn_end, turn-goes  a chunk of a reason, its end, no call, a call
+--   next-goes, next-over  a chunk, and no chunk, at a stage of the run
 --   next-short          no chunk, where the buffer is too short
 use Rattle.std.proofs.Math.Path.{◌≡◌, refl, sym, ap}
 use Rattle.std.proofs.Common.{ap₂, ◌∙◌, lt-ltb, le-ltb, length-take, drop-cons, get_or-take}

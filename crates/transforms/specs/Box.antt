@@ -7,7 +7,7 @@
 --   box_size              how many places it has
 --   of_image h w number g r p  p is a cell of the image of group g by row r: the way back leads to a cell of the group
 --   box_cell h w number g r m i  place i of the box, shifted back by m, if it is a cell of the image
---   sweep h w number g r m n   those of the first n places
+--   sweep h w number g r m n  those of the first n places
 --   moved_back r m js     connections turned by row r, and shifted back by twice m
 use Rattle.std.specs.Prelude.{Bool, cond, List, [], ◌∷◌, map, ℕ, negsuc, get_or}
 use Rattle.lists.specs.Lists.{keep_if}

@@ -10,7 +10,7 @@
 --   kth_memory ts k m   the lent memory m after it is written
 --   transform_of b u k n  what asking a board for transform k of unit u returns, where n numbers of memory are lent
 --   memory_after b u k m  the lent memory m afterwards
---   WrotePoints m from ps after next   the places ps were written into m from the number `from`: `after` is the
+--   WrotePoints m from ps after next  the places ps were written into m from the number `from`: `after` is the
 --                       memory afterwards, and `next` the place after the last number
 use Rattle.std.specs.Prelude.{cond, List, [], ◌∷◌, ◌++◌, ℕ, ltb, ℤ, length, get_or}
 use Rattle.std.proofs.lemmas.List.Edits.{sets}

@@ -1,14 +1,14 @@
 -- Breaches: the first wall between two cells of one block, and the reason that goes with it.
 --
---   no_breach              nothing was found
---   or_breach a b          a, or b where a found nothing
---   is_breach x h          the border of the hop h from cell x is wall, and both its cells are in one block
---   hop_breach x h         the breach over the hop h from cell x
---   breach_on x hops       the first breach over some hops from x
---   breach_from f k i      the first breach at the cells from i on, of k
---   first_breach G s block the first breach on the page
---   breach_reason b        step 2's reason
---   breach-hits            step 2's hit is the reason of the first breach
+--   no_breach               nothing was found
+--   or_breach a b           a, or b where a found nothing
+--   is_breach x h           the border of the hop h from cell x is wall, and both its cells are in one block
+--   hop_breach x h          the breach over the hop h from cell x
+--   breach_on x hops        the first breach over some hops from x
+--   breach_from f k i       the first breach at the cells from i on, of k
+--   first_breach G s block  the first breach on the page
+--   breach_reason b         step 2's reason
+--   breach-hits             step 2's hit is the reason of the first breach
 use Rattle.std.specs.Prelude.{◌≡◌, ◌&&◌}
 use Rattle.std.proofs.Math.Path.{refl}
 use Rattle.std.proofs.Common.{sym}
