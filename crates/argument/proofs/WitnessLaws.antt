@@ -1,4 +1,4 @@
--- HEAD
+-- The open border is a solution of the 1×2 page, and the wall is none; the lists of calls answer as the witness says.
 use Rattle.std.specs.Prelude.{◌≡◌, refl, Bool, true, false, [], ◌∷◌, ℕ, zero, suc, ◌<◌, T, eqb}
 use Rattle.std.proofs.Common.{sym, ap, ◌∙◌, subst, arith}
 use mathlib.Core.List.Memᴰ

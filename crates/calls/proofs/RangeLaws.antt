@@ -1,4 +1,7 @@
--- HEAD
+-- The counts that answers can have.
+--
+--   found-range       what Check gives of a board that is not alien is in range
+--   call-range        what a call answers is in range, on every board
 use Rattle.std.specs.Prelude.{◌≡◌, refl, Bool, true, false, cond, List, ℕ, ltb, length}
 use Rattle.std.proofs.Common.{arith}
 use Rattle.rules.specs.declared.Literal.{Literal}

@@ -4,8 +4,6 @@
 --   answer_from v     the answer with the number v
 --   InRange a         the counts that a call can give, and a refusal that is one
 --   check-count       a pass gives the count of undecided borders
---   found-range       what Check gives of a board that is not alien is in range
---   call-range        what a call answers is in range, on every board
 --   answer-from       the answer is read back from its number
 --   number-once       two answers with one number are equal
 --   answer-never-eleven  no answer has the number 11

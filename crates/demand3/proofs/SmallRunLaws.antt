@@ -1,4 +1,7 @@
--- HEAD
+-- 01's small boards answer as they say.
+--
+--   small-clues, asked-lent, run-answers  how that follows from the book
+--   small-runs        all of them
 use Rattle.std.specs.Prelude.{◌≡◌, refl, true, List, [], ◌∷◌, map, ℕ, zero, suc, ℤ, pos, length}
 use Rattle.std.proofs.Common.{ap, ◌∙◌}
 use Rattle.std.specs.Int.Signed.{le_z}

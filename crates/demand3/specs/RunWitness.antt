@@ -1,5 +1,5 @@
 -- A closed witness: lists of calls on one board, a decide and a check or a preview alone, at which full settings stood.
--- One of these is a solution, and passed; the other is none, and is ruled out.
+-- One of these is a solution, and passed; the other is none, and is ruled out: proofs/RunWitnessLaws.
 use Rattle.std.specs.Prelude.{List, [], ◌∷◌, map, ℕ, ℤ, pos, negsuc}
 use Rattle.rules.specs.declared.Side.{Side}
 use Rattle.rules.specs.declared.Side.TheVariants.{Wall, Open}

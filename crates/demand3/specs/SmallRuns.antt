@@ -1,7 +1,6 @@
 -- 01's small boards marked P, through the calls: from making the board on, what each call answers.
 --
 --   RunAnswers h w cs ks calls rs   the calls answer rs on that puzzle's board, each with memory for 1,984 literals
---   small-clues, asked-lent, run-answers  how that follows from the book
 --   Pair ks calls rs                so they do on 1×2 with the colours 01 and the clues ks
 --   Four calls rs                   so they do on 1×4 with the colours 0011, without clues
 --   SmallRuns                       the boards, the page of 01's example, previews, and calls with tally records:

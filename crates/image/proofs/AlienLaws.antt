@@ -1,4 +1,4 @@
--- HEAD
+-- A call leaves an alien image as it is.
 use Rattle.std.specs.Prelude.{◌≡◌, Bool, true, false, cond, List, [], ◌∷◌, length, take, drop}
 use Rattle.std.proofs.Math.Path.{refl, sym}
 use Rattle.std.proofs.Common.{ap, ap₂, ◌∙◌, length-drop, drop_of_length-le, drop-cons, length-take-le}

@@ -1,4 +1,4 @@
--- HEAD
+-- The rules of the table of eight rows, and that the turns of a flat page are the eight signed swaps.
 use Rattle.std.specs.Prelude.{◌≡◌, refl, Bool, true, false, not, map, T}
 use Rattle.std.proofs.Common.{sym, subst, T_not}
 use Rattle.std.proofs.Math.Bool.{xor}

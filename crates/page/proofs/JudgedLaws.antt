@@ -1,4 +1,8 @@
--- HEAD
+-- What is judged of a page.
+--
+--   judgement-number  the numbers with which a page is rejected
+--   sample-accepted, draft-accepted  01's sample page, and a draft with the largest clue
+--   page-puzzle, page-accepts  bytes are accepted as a page exactly where they are well formed and it makes a board
 use Rattle.std.specs.Prelude.{◌≡◌, Bool, true, false, ◌&&◌, cond, length}
 use Rattle.std.proofs.Common.{sym, ap, ◌∙◌}
 use mathlib.Core.List.Memᴰ

@@ -1,4 +1,4 @@
--- 01's sample page, and a draft with the largest clue, judged.
+-- 01's sample page, and a draft with the largest clue; proofs/JudgedLaws has how they are judged.
 use Rattle.std.specs.Prelude.{◌≡◌, refl, List, [], ◌∷◌, ℕ}
 use Rattle.lists.specs.Lists.{or_else, all, any}
 use Rattle.rules.specs.declared.Side.TheVariants.{Wall, Open}

@@ -1,4 +1,4 @@
--- Laws of the judgement, one for each return of the code; and the numbers with which a page is rejected.
+-- Laws of the judgement, one for each return of the code; and the number of a page that is well formed.
 use Rattle.std.specs.Prelude.{◌≡◌, Bool, true, false, ◌&&◌, cond, length}
 use Rattle.std.proofs.Common.{sym, ap, ◌∙◌}
 use mathlib.Core.List.Memᴰ

@@ -3,7 +3,6 @@
 --   Spells s p          the bytes s are the text of the page p, and all that 01 asks of form holds
 --   page-sound, page-complete  `page_of s ≡ some p` exactly where s spells p
 --   PagePuzzle s p      the bytes s are accepted as the page p: what its arrays hold
---   page-puzzle, page-accepts  the bytes s are accepted as p exactly where they are well formed and p makes a board
 use Rattle.std.specs.Prelude.{◌≡◌, refl, Bool, true, false, cond, List, [], ◌∷◌, ℕ, ◌*◌, ◌≤◌, leb, length, take}
 use Rattle.std.proofs.Common.{sym, ap, ◌∙◌, subst, append-nil, arith, le-leb, leb-true}
 use Rattle.std.proofs.Math.Option.{Option, none, some}

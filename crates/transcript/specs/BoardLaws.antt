@@ -27,6 +27,7 @@ use Rattle.page.specs.PuzzleLaws.{colours-low}
 use Rattle.page.specs.Many.{AllFit}
 use Rattle.page.specs.PageText.{ClueFit}
 use Rattle.transcript.specs.Left.{start_board, board_at}
+use Rattle.page.proofs.JudgedLaws as judged
 use Rattle.page.specs.PageTheorem as pages
 
 -- the bounds of a page's clue: it is a number that the grammar reads, "at most 2147483647"
@@ -45,7 +46,7 @@ clued-on (c ∷ cs) y x f = go (eqb y c.y && eqb x c.x) (clued-on cs y x f.1)
 
 module _ (s : List ℕ) (p : Sheet) (e : judgement_of s ≡ accepted p) where
   page : pages.PagePuzzle s p
-  page = pages.page-puzzle s p e
+  page = judged.page-puzzle s p e
 
   pub page-board : board_at p ≡ start_board p
   unfolding board_at start_board page
