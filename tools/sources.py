@@ -1,4 +1,4 @@
-"""Reads the crates' sources for tools/contracts and tools/believed; no command.
+"""Reads the crates' sources for tools/contracts, tools/believed, tools/papers and tools/definitions; no command.
 
 Of code (.rt): the public functions with their contracts, the types, the constants. Of definitions (.antt): each with
 its lines and the names that stand in it. A line belongs to the declaration above it if it is further in or an equation.
@@ -9,7 +9,8 @@ from pathlib import Path
 
 ROOT = Path(__file__).resolve().parent.parent
 HEAD = re.compile(r'^[ \t]*(?:#\[[^\]]*\]\s*)?pub (?:extern "C" )?fn (\w+)', re.M)
-CLAUSE = re.compile(r"(requires|ensures|ghost)(\s+\w+)?$")
+CLAUSE = re.compile(r"(requires\*?|ensures\*?|ghost)(\s+\w+:?)?$")
+LAWS = ("crates/*/specs/*.antt", "crates/*/proofs/*.antt")  # the folders of functions below proofs/ are none of them
 TYPE = re.compile(r"^pub (?:struct|enum) (\w+)[^\n]*\{\n(.*?)^\}", re.M | re.S)
 ALIAS = re.compile(r"^pub type (\w+) = ([^;]*);", re.M)
 CONSTANT = re.compile(r"^[ \t]*(?:pub )?const (\w+)[^;]*;", re.M)
@@ -56,7 +57,7 @@ def functions(text):
 def clauses(head, kind="requires|ensures"):
     """What stands within the brackets of a signature's clauses."""
     found = []
-    for start in re.finditer(rf"\b(?:{kind})(?:\s+\w+)?\s*\{{", head):
+    for start in re.finditer(rf"\b(?:{kind})\*?(?:\s+\w+)?\s*\{{", head):
         depth, end = 1, start.end()
         while depth:
             depth += {"{": 1, "}": -1}.get(head[end], 0)
@@ -66,10 +67,10 @@ def clauses(head, kind="requires|ensures"):
 
 
 def lines_of(text, start, end):
-    """The lines from one place of the text up to another, and the comment lines directly above them."""
+    """The lines from one place of the text up to another, and the attributes and comment lines directly above them."""
     lines, first = text.splitlines(), text[:start].count("\n") + 1
     last = text[: start + len(text[start:end].rstrip())].count("\n") + 1
-    while first > 1 and lines[first - 2].lstrip().startswith("//"):
+    while first > 1 and lines[first - 2].lstrip().startswith(("//", "#[")):
         first -= 1
     return set(range(first, last + 1))
 
@@ -95,7 +96,7 @@ def code_items(file, text):
         item = Item(file, name, "function", lines_of(text, start, start + len(head)), names_in(said))
         item.exported = 'extern "C"' in head
         item.types = code_names(re.split(r"\b(?:requires|ensures)\b", head)[0]) - {"Self"}
-        item.bound = set(re.findall(r"(\w+): ", head)) | bound_in(said) | {"self", "now"}
+        item.bound = set(re.findall(r"(\w+): ", head)) | bound_in(said) | {"self", "result"}
         items.append(item)
     return items
 
@@ -105,7 +106,9 @@ class Code:
 
     def __init__(self, file, text):
         self.file, self.crate, self.items = file, file.split("/")[1], code_items(file, text)
-        self.crates = {name: crate for crate, name in re.findall(r"^use (\w+)::(?:\w+::)*(\w+);", text, re.M)}
+        self.crates = {}
+        for crate, names in re.findall(r"^use (\w+)::([^;]*);", text, re.M):
+            self.crates |= {name: crate for name in re.findall(r"\b\w+\b(?!::)", names)}
         self.uses, self.aliases, self.names = {}, {}, {}
         for module, names in re.findall(r"^ghost use (\S+)\.\{(.*)\};", text, re.M):
             self.uses |= imported(module, names)
@@ -115,7 +118,7 @@ class Code:
 
 
 def names_in(text):
-    """The names in a piece of text; no projections, no numbers."""
+    """The names in a piece of text, with the projections that are tight on them; no other projections, no numbers."""
     words = (word.rstrip(".") for word in re.split(r"[\s(){};,⌜⌝«»]+", text))
     return {word for word in words if word and not word.startswith(".") and not word.isdigit()}
 
@@ -131,8 +134,8 @@ def bound_in(text):
 
 
 def signs(name):
-    """A name, and the signs of an operator: _⊕_ is written ⊕."""
-    return [name, *(sign for sign in name.split("_") if "_" in name and sign)]
+    """A name, and the signs of an operator: ◌⊕◌ is written ⊕."""
+    return [name, *(sign for sign in name.split("◌") if "◌" in name and sign)]
 
 
 def imported(module, names):
@@ -232,7 +235,7 @@ class Spec:
             self.above = set()
 
     def use(self, line):
-        if found := re.fullmatch(r"use (\S+) as (\S+)", line):
+        if found := re.fullmatch(r"use (\S+) as (\S+)", line) or re.fullmatch(r"use ((?:\S+\.)?([^\s.{}]+))", line):
             self.aliases[found[2]] = found[1]
         else:
             self.uses |= imported(*re.fullmatch(r"use (\S+)\.\{(.*)\}", line).groups())

@@ -24,17 +24,14 @@ COMPUTED = [("lists", name) for name in ("Lists", "Count")]
 COMPUTED += [("rules", name) for name in ("Page", "Rules", "Groups", "Reasons", "Turns", "Shapes", "Check", "Flat")]
 COMPUTED += [("rules", "Codes")]
 
-HEAD = """use mathlib.Core.Path.{{_≡_, refl}}
-use mathlib.Core.List.{{List, [], _∷_}}
-use Prim.Native.Nat.{{ℕ}}
-use lib.IntN.{{ℤ, pos, negsuc}}
-use Rattle·rules.specs.Page.{{Puzzle, Point, Shape, wallAt, openAt}}
-use Rattle·rules.specs.Groups.{{unitCount}}
-use Rattle·rules.specs.Check.{{pass, conflict}}
+HEAD = """use Rattle.std.specs.Prelude.{{◌≡◌, refl, List, [], ◌∷◌, ℕ, ℤ, pos, negsuc}}
+use Rattle.rules.specs.Page.{{Puzzle, Point, Shape, wall_at, open_at}}
+use Rattle.rules.specs.Groups.{{unit_count}}
+use Rattle.rules.specs.Check.{{pass, conflict}}
 {uses}
 
 abbrev puzzle : ℕ → ℕ → List ℕ → List ℤ → Puzzle
-puzzle h w cs ks = record {{ page = flat h w; colour = coloursIn cs; clue = cluesIn ks }}
+puzzle h w cs ks = record {{ page = flat h w; colour = colours_in cs; clue = clues_in ks }}
 
 abbrev at : ℤ → ℤ → Point
 at y x = record {{ layer = pos 0; row = y; column = x }}
@@ -113,31 +110,31 @@ def points(values):
 
 
 def literal(code):
-    return f"{'wallAt' if code % 2 else 'openAt'} {code // 2}"
+    return f"{'wall_at' if code % 2 else 'open_at'} {code // 2}"
 
 
 def theorem(i, board, unfolding):
     h, w = board["size"]
     puzzle = f"(puzzle {h} {w} {listed(board['colours'])} {listed(map(integer, board['clues']))})"
-    states = f"(statesIn {listed(board['borders'])})"
+    states = f"(states_in {listed(board['borders'])})"
     if "pass" in board:
         answer = f"pass {board['pass'][0]}"
     else:
         answer = f"conflict {listed(map(literal, board['conflict']))}"
-    facts = [f"(check {puzzle} {states} ≡ {answer})", f"(unitCount {puzzle} {states} ≡ {len(board['units'])})"]
+    facts = [f"(check {puzzle} {states} ≡ {answer})", f"(unit_count {puzzle} {states} ≡ {len(board['units'])})"]
     for unit, part in enumerate(board["units"] + [{"shapes": []}]):
         shapes = listed(f"shape {points(cells)} {points(links)}" for cells, links in part["shapes"])
-        facts.append(f"(transformsOf {puzzle} {states} {unit} ≡ {shapes})")
+        facts.append(f"(transforms_of {puzzle} {states} {unit} ≡ {shapes})")
     proof = ", ".join("refl" for _ in facts)
     return f"\nboard{i} : {' × '.join(facts)}\nunfolding {unfolding}\nboard{i} = ({proof})\n"
 
 
 def write(folder, taken):
     names = computed()
-    uses = "\n".join(f"use Rattle·{c}.specs.{m}.{{{', '.join(part)}}}" for (c, m), part in names.items() if part)
+    uses = "\n".join(f"use Rattle.{c}.specs.{m}.{{{', '.join(part)}}}" for (c, m), part in names.items() if part)
     unfolding = " ".join(name for part in names.values() for name in part)
     for crate in ("lists", "rules"):
-        shutil.copytree(ROOT / "crates" / crate, folder / "crates" / crate)
+        shutil.copytree(ROOT / "crates" / crate, folder / "crates" / crate, ignore=shutil.ignore_patterns("out"))
     (folder / "crates.txt").write_text("lists:\nrules: lists\nsample: rules lists\n", encoding="utf-8")
     specs = folder / "crates/sample/specs"
     specs.mkdir(parents=True)
@@ -163,9 +160,10 @@ def proved(taken, edit=None):
             if text.count(old) != 1:
                 sys.exit(f"{edit}: the old text stands there {text.count(old)} times")
             path.write_text(text.replace(old, fields["new"]), encoding="utf-8")
-        run = subprocess.run(["rt", "check", "sample"], cwd=name, capture_output=True, text=True, check=False)
+        crate = Path(name) / "crates/sample"
+        run = subprocess.run(["rt", "check"], cwd=crate, capture_output=True, text=True, check=False)
     said = run.stdout + run.stderr
-    return run.returncode == 0 and "rt: sample proved" in said, said
+    return run.returncode == 0 and bool(re.search(r"^crate sample: .*\nlogic=proved ", run.stdout, re.M)), said
 
 
 def seen(taken, edit):
