@@ -75,7 +75,8 @@ module _ {h w : ℕ} {us : List ℕ} {g : ℕ} (z : Sized h w) (u : UnitIn h w u
         broad = z.broad;
       }
 
-  pub unit-placed : {o : List ℕ} → OutlinePlaced w (group_cells us g) o → cell_count o ≡ start_in us (g + 1) - start_in us g
+  pub unit-placed : {o : List ℕ} → OutlinePlaced w (group_cells us g) o → cell_count o
+      ≡ start_in us (g + 1) - start_in us g
       → UnitAt h w us g o
   unit-placed {o} p e =
       unit-at h w us g (group_cells us g) o z u.numbers u.group p (omega (arith, u.some, e))

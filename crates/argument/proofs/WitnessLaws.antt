@@ -7,11 +7,13 @@ use Rattle.lists.specs.Lists.{◌∈◌, any}
 use Rattle.rules.specs.declared.Side.{Side}
 use Rattle.rules.specs.declared.Side.TheVariants.{Wall, Open}
 use Rattle.rules.specs.Page.{State, undecided, decided, Point, ◌⊕◌, opposite}
-use Rattle.rules.specs.Rules.{Joined, stay, one_colour, joins_block, joins_unit, SameBlock, SameUnit, UnitHas, Congruent}
+use Rattle.rules.specs.Rules.{Joined, stay, one_colour, joins_block, joins_unit, SameBlock, SameUnit, UnitHas}
+use Rattle.rules.specs.Rules.{Congruent}
 use Rattle.rules.specs.Rules.{Solution, step}
 use Rattle.rules.specs.Turns.{apply, keep}
 use Rattle.rules.specs.Codes.{colours_in, clues_in}
-use Rattle.rules.specs.Flat.{flat, cell_at, right_of, border_count, hop_if, hop_above, hop_below, hop_left, hop_right, around_at}
+use Rattle.rules.specs.Flat.{flat, cell_at, right_of, border_count, hop_if, hop_above, hop_below, hop_left, hop_right}
+use Rattle.rules.specs.Flat.{around_at}
 use Rattle.rules.specs.Flat.{flat_first, flat_second}
 use Rattle.rules.specs.Book.{state_if, states, names, done_book}
 use Rattle.rules.specs.Book.{decide_reply, check_reply, reply_to, after, book_from, replies_from}

@@ -16,13 +16,16 @@ use Rattle.rules.specs.Reasons.{gather, inside_at, inside, edge_at, edge, is_fou
 use Rattle.rules.specs.Turns.{apply}
 use Rattle.rules.specs.Shapes.{same_points, insert, sort, shift_by, normal, turned, connections_at, shape_of, with_half}
 use Rattle.rules.specs.Shapes.{quarters, with_quarter, with_flip, flat_transforms}
-use Rattle.rules.specs.Check.{Verdict, pass, conflict, check, hit_if, block_clue, inside_block, inside_unit, edge_of, size_of}
-use Rattle.rules.specs.Check.{coloured, stray_from, cell_hit, cell_hits, small_hit, big_hit, clue_hit, block_hit_on, block_hit}
+use Rattle.rules.specs.Check.{Verdict, pass, conflict, check, hit_if, block_clue, inside_block, inside_unit, edge_of}
+use Rattle.rules.specs.Check.{size_of}
+use Rattle.rules.specs.Check.{coloured, stray_from, cell_hit, cell_hits, small_hit, big_hit, clue_hit, block_hit_on}
+use Rattle.rules.specs.Check.{block_hit}
 use Rattle.rules.specs.Check.{wall_hit, wall_hits, touches, adjacent, mates, judge, laid, transforms_of, placements}
 use Rattle.rules.specs.Check.{far_walls_at, far_walls, unit_reason, unit_hit_in, unit_hit_on, unit_hit, hit}
 use Rattle.rules.specs.Check.{once, undecided_count}
 use Rattle.rules.specs.Flat.{flat, cell_at, right_of, below_of, border_count, hop_if, hop_above, hop_below, hop_left}
-use Rattle.rules.specs.Flat.{hop_right, around_at, ahead_at, flat_first, flat_second, flat_place, flat_reads_at, flat_reads}
+use Rattle.rules.specs.Flat.{hop_right, around_at, ahead_at, flat_first, flat_second, flat_place, flat_reads_at}
+use Rattle.rules.specs.Flat.{flat_reads}
 
 abbrev pub Says : Puzzle → List ℕ → Verdict → Type 0
 Says Z bs a = check Z (states_in bs) ≡ a
@@ -77,13 +80,19 @@ pub record Boards : Type 0 where
       (2 ∷ 0 ∷ 2 ∷ 0 ∷ []) 4
 
 pub boards : Boards
-unfolding filter any or_else flat_map first_hit count_below ◌⊕◌ opposite states_in colours_in clues_in one_colour joins_block
-    joins_unit labels entry is_first numbers group_count members joins_potential gather inside_at inside edge_at edge is_found
+unfolding filter any or_else flat_map first_hit count_below ◌⊕◌ opposite states_in colours_in clues_in
+    one_colour joins_block
+    joins_unit labels entry is_first numbers group_count members joins_potential gather inside_at inside edge_at
+    edge is_found
     trace look hunt path apply same_points insert sort shift_by normal turned connections_at shape_of with_half quarters
-    with_quarter with_flip flat_transforms check hit_if block_clue inside_block inside_unit edge_of size_of coloured stray_from
-    cell_hit cell_hits small_hit big_hit clue_hit block_hit_on block_hit wall_hit wall_hits touches adjacent mates judge laid
-    transforms_of placements far_walls_at far_walls unit_reason unit_hit_in unit_hit_on unit_hit hit once undecided_count flat
-    cell_at right_of below_of border_count hop_if hop_above hop_below hop_left hop_right around_at ahead_at flat_first flat_second
+    with_quarter with_flip flat_transforms check hit_if block_clue inside_block inside_unit edge_of size_of
+    coloured stray_from
+    cell_hit cell_hits small_hit big_hit clue_hit block_hit_on block_hit wall_hit wall_hits touches adjacent
+    mates judge laid
+    transforms_of placements far_walls_at far_walls unit_reason unit_hit_in unit_hit_on unit_hit hit once
+    undecided_count flat
+    cell_at right_of below_of border_count hop_if hop_above hop_below hop_left hop_right around_at ahead_at
+    flat_first flat_second
     flat_place flat_reads_at flat_reads
 boards =
     record {

@@ -16,7 +16,8 @@ use Rattle.lists.specs.ListLaws.{filter-mem, filter-test, any-mem, first-find}
 use Rattle.lists.specs.Booleans.{T_and, T-dec, beq-eq, eq-beq}
 use Rattle.rules.specs.Page.{Puzzle, State}
 use Rattle.rules.specs.Groups.{potential_of}
-use Rattle.rules.specs.Check.{hit_if, clash, block_clue, inside_block, edge_of, coloured, stray_from, cell_hit, cell_hits}
+use Rattle.rules.specs.Check.{hit_if, clash, block_clue, inside_block, edge_of, coloured, stray_from, cell_hit}
+use Rattle.rules.specs.Check.{cell_hits}
 use Rattle.argument.specs.Hits.{hit-misses, else-none}
 
 module _ (Z : Puzzle) (s : ℕ → State) where

@@ -14,7 +14,8 @@ use Rattle.rules.specs.Page.{Hop, Puzzle, State, is_wall, wall_at}
 use Rattle.rules.specs.Groups.{members, block_count, unit_of, unit_count, potential_of}
 use Rattle.rules.specs.Reasons.{path}
 use Rattle.rules.specs.Check.{Reason, is_some, inside_block, edge_of, coloured, cell_hit, cell_hits, small_hit, big_hit}
-use Rattle.rules.specs.Check.{clue_hit, block_hit_on, block_hit, wall_hit, wall_hits, unit_reason, unit_hit_in, unit_hit_on}
+use Rattle.rules.specs.Check.{clue_hit, block_hit_on, block_hit, wall_hit, wall_hits, unit_reason, unit_hit_in}
+use Rattle.rules.specs.Check.{unit_hit_on}
 use Rattle.rules.specs.Check.{unit_hit, hit}
 use Rattle.argument.specs.Hits.{Each, each_none, each-hit, each_or, each_first}
 

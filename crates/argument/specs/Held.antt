@@ -22,7 +22,8 @@ use Rattle.rules.specs.Page.{Hop, Shape, Puzzle, State, decided, Has, Contains, 
 use Rattle.rules.specs.Rules.{one_colour}
 use Rattle.rules.specs.Groups.{members, block_of, unit_of, potential_of}
 use Rattle.rules.specs.Reasons.{gather, inside_at, inside, edge_at, edge, Found, trace, path}
-use Rattle.rules.specs.Check.{Reason, inside_block, inside_unit, edge_of, judge, laid, blockers, placements, far_walls_at}
+use Rattle.rules.specs.Check.{Reason, inside_block, inside_unit, edge_of, judge, laid, blockers, placements}
+use Rattle.rules.specs.Check.{far_walls_at}
 use Rattle.rules.specs.Check.{far_walls, unit_reason}
 use Rattle.laws.specs.PageLaws.{Bordered}
 use Rattle.laws.specs.StateLaws.{open_is, wall-is}

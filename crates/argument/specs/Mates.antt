@@ -27,12 +27,14 @@ use Rattle.lists.specs.Ranges.{mem-range}
 use Rattle.rules.specs.declared.Side.TheVariants.{Wall}
 use Rattle.rules.specs.declared.Placement.{Placement}
 use Rattle.rules.specs.declared.Placement.TheVariants.{Fits, Blocked, Cannot}
-use Rattle.rules.specs.Page.{Hop, Point, ◌⊕◌, opposite, Shape, Puzzle, State, decided, Contains, is_wall, is_open, wall_at}
+use Rattle.rules.specs.Page.{Hop, Point, ◌⊕◌, opposite, Shape, Puzzle, State, decided, Contains, is_wall, is_open}
+use Rattle.rules.specs.Page.{wall_at}
 use Rattle.rules.specs.Rules.{stay, one_colour, joins_block, joins_unit, SameBlock, SameUnit, Congruent, Solution, step}
 use Rattle.rules.specs.Groups.{joins_potential, unit_of, unit_count, potential_of, potential_count}
 use Rattle.rules.specs.Shapes.{shape_of}
 use Rattle.rules.specs.Check.{Reason, inside_unit, edge_of, touches, adjacent, mates, judge, laid, is_fit, blockers}
-use Rattle.rules.specs.Check.{transforms_of, placements, far_walls_at, far_walls, unit_reason, unit_hit_in, unit_hit_on, unit_hit}
+use Rattle.rules.specs.Check.{transforms_of, placements, far_walls_at, far_walls, unit_reason, unit_hit_in, unit_hit_on}
+use Rattle.rules.specs.Check.{unit_hit}
 use Rattle.laws.specs.PageLaws.{Bordered, OneStep, CellsPlaced, TurnsListed, near-turn, near-right, near-left, near-eq}
 use Rattle.laws.specs.PointLaws.{swap4, lands}
 use Rattle.laws.specs.StateLaws.{contains-l, contains-r, has, open-not-wall, unlike-T}

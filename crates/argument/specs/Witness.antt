@@ -1,6 +1,6 @@
 -- A closed witness: on the 1×2 page with the colours 01 and the clue 1, the open border is a solution and the wall is
--- none, by the rules alone; and lists of calls in which these full settings stood at a check and at a preview. That it is
--- so, proofs/WitnessLaws shows.
+-- none, by the rules alone; and lists of calls in which these full settings stood at a check and at a preview. It is
+-- shown in proofs/WitnessLaws.
 use Rattle.std.specs.Prelude.{◌≡◌, List, [], ◌∷◌, ℕ, ◌<◌, pos, negsuc}
 use Rattle.rules.specs.declared.Literal.{Literal}
 use Rattle.rules.specs.declared.Call.TheVariants.{Decide, Check, Preview}

@@ -28,7 +28,8 @@ module _ {h w : ℕ} (z : Sized h w) (cs : List ℕ) (ks : List ℤ) (bs : List 
   abbrev pub faulty_in : Faulty
   faulty_in = first_faulty (fault_in z cs ks bs) (groups_in Blocks h w cs bs).count
 
-  pub block_at_lem : {blocks : List ℕ} → Filled (groups_in Blocks h w cs bs) blocks → is_faultless faulty_in.fault ≡ false
+  pub block_at_lem : {blocks : List ℕ} → Filled (groups_in Blocks h w cs bs) blocks
+      → is_faultless faulty_in.fault ≡ false
       → GroupAt h w blocks faulty_in.block
   block_at_lem f e =
       group_at z (joins_in Blocks h w cs bs) f faulty_in.block
@@ -63,13 +64,15 @@ module _ {h w : ℕ} (z : Sized h w) (cs : List ℕ) (ks : List ℤ) (bs : List 
   reason-is f = rw (inside_is z cs ks bs f.block, edge-is z cs ks bs)
 
   pub one_hit : is_faultless faulty_in.fault ≡ false
-      → first_hit (block_hit (puzzle_in h w cs ks) (states_in bs)) (range (block_count (puzzle_in h w cs ks) (states_in bs)))
+      → first_hit (block_hit (puzzle_in h w cs ks) (states_in bs))
+      (range (block_count (puzzle_in h w cs ks) (states_in bs)))
       ≡ some (faulty_literals h w cs bs (groups_in Blocks h w cs bs).ids (groups_in Potential h w cs bs).ids faulty_in)
   one_hit e =
       step-one ∙ fault-some (puzzle_in h w cs ks) (states_in bs) faulty_in.block faulty_in.fault e
       ∙ ap some (sym (reason-is faulty_in))
 
   pub one_none : is_faultless faulty_in.fault ≡ true
-      → first_hit (block_hit (puzzle_in h w cs ks) (states_in bs)) (range (block_count (puzzle_in h w cs ks) (states_in bs)))
+      → first_hit (block_hit (puzzle_in h w cs ks) (states_in bs))
+      (range (block_count (puzzle_in h w cs ks) (states_in bs)))
       ≡ none
   one_none e = step-one ∙ faultless-none (puzzle_in h w cs ks) (states_in bs) faulty_in.block faulty_in.fault e

@@ -120,8 +120,10 @@ module _ {h w : ℕ} (z : Sized h w) (cs : List ℕ) (ks : List ℤ) (bs : List 
       ∙ ap (λ (f : ℕ → ℕ). λ (B : ℕ). fault_on (colours_in cs) (clues_in ks) (potential_of Z s) f
       (part_of (groups_in Blocks h w cs bs).cells (groups_in Blocks h w cs bs).offs B))
       (sizes-are Potential)
-      ∙ ap (λ (f : ℕ → List ℕ). λ (B : ℕ). fault_on (colours_in cs) (clues_in ks) (potential_of Z s) (size_of Z s) (f B))
+      ∙ ap (λ (f : ℕ → List ℕ). λ (B : ℕ). fault_on (colours_in cs) (clues_in ks) (potential_of Z s)
+      (size_of Z s) (f B))
       (kind-cells z cs (clues_in ks) bs Blocks)
 
-  pub faulty-is : first_faulty fault_in (groups_in Blocks h w cs bs).count ≡ first_faulty (block_fault Z s) (block_count Z s)
+  pub faulty-is : first_faulty fault_in (groups_in Blocks h w cs bs).count
+      ≡ first_faulty (block_fault Z s) (block_count Z s)
   faulty-is = rw (fault-is, kind-count z cs (clues_in ks) bs Blocks)

@@ -116,17 +116,20 @@ module _ (colour_at : ℕ → Bool) (clue_at : ℕ → Option ℕ) (unit_at : �
       unit (z ∷ zs) = rw (ne_eqb (length (z ∷ zs)) 0 (λ e. let q : length (z ∷ zs) ≡ 0 = e in omega arith))
 
       clued : has_clue (snoc ys x) ≡ (has_clue ys || is_some (clue_at x))
-      clued = any_append (λ y. is_some (clue_at y)) ys (x ∷ []) ∙ ap (λ b. has_clue ys || b) (or-false (is_some (clue_at x)))
+      clued = any_append (λ y. is_some (clue_at y)) ys (x ∷ [])
+          ∙ ap (λ b. has_clue ys || b) (or-false (is_some (clue_at x)))
 
   part-more : (c : Bool) (xs : List ℕ) (x : ℕ) (b : Bool) → beq (colour_at x) c ≡ b
-      → colour_part c (snoc xs x) ≡ cond b (next_part (colour_part c xs) (unit_at x) (is_some (clue_at x))) (colour_part c xs)
+      → colour_part c (snoc xs x)
+      ≡ cond b (next_part (colour_part c xs) (unit_at x) (is_some (clue_at x))) (colour_part c xs)
   unfolding colour_part colour_unit
   part-more c xs x b e =
       ap part_from (coloured-more c xs x ∙ ap (λ (d : Bool). of_colour c xs ++ keep_if d x []) e) ∙ go b
     where
       go : (d : Bool)
           → part_from (of_colour c xs ++ keep_if d x [])
-          ≡ cond d (next_part (part_from (of_colour c xs)) (unit_at x) (is_some (clue_at x))) (part_from (of_colour c xs))
+          ≡ cond d (next_part (part_from (of_colour c xs)) (unit_at x) (is_some (clue_at x)))
+          (part_from (of_colour c xs))
       go true = part-put (of_colour c xs) x
       go false = ap part_from (append-nil (of_colour c xs))
 

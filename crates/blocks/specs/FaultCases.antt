@@ -103,7 +103,8 @@ module _ (q : Bool → ℕ) (n : Option ℕ) (c : Bool) (u : ℕ) (k : Option �
 
 -- where no cell is wrong, the census tells
 module _ (colour_at : ℕ → Bool) (clue_at : ℕ → Option ℕ) (unit_at size_at : ℕ → ℕ) (xs : List ℕ) where
-  pub fault-census : (t : Census) → t ≡ census_of colour_at clue_at unit_at xs → scan_on colour_at clue_at unit_at xs ≡ Clear
+  pub fault-census : (t : Census) → t ≡ census_of colour_at clue_at unit_at xs
+      → scan_on colour_at clue_at unit_at xs ≡ Clear
       → census_fault t (size_at t.zero.unit) (size_at t.one.unit) ≡ fault_on colour_at clue_at unit_at size_at xs
   unfolding fault_on or_fault census_of colour_part
   fault-census t e h = rw (e, h)

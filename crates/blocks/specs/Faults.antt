@@ -26,7 +26,8 @@ use Rattle.std.proofs.Math.Dec.{ltb}
 use Rattle.lists.specs.Lists.{any, first_hit, or_else, head?}
 use Rattle.rules.specs.Page.{Puzzle, State}
 use Rattle.rules.specs.Groups.{members, block_of, potential_of}
-use Rattle.rules.specs.Check.{Reason, hit_if, is_some, clash, block_clue, inside_block, edge_of, size_of, coloured, small_hit}
+use Rattle.rules.specs.Check.{Reason, hit_if, is_some, clash, block_clue, inside_block, edge_of, size_of, coloured}
+use Rattle.rules.specs.Check.{small_hit}
 use Rattle.rules.specs.Check.{big_hit, clue_hit, block_hit_on, block_hit}
 use Rattle.blocks.specs.declared.Clue.{Clue}
 use Rattle.blocks.specs.declared.Clue.TheVariants.{Free, Is}
@@ -130,7 +131,8 @@ module _ (Z : Puzzle) (s : ℕ → State) where
       go (eqb (own xs (Z.colour x)) (potential_of Z s x)) (clash (block_clue Z.clue xs) (Z.clue x))
     where
       go : (b d : Bool)
-          → or_else (hit_if (not b) (inside_block Z s B ++ edge_of Z s (potential_of Z s x))) (hit_if d (inside_block Z s B))
+          → or_else (hit_if (not b) (inside_block Z s B ++ edge_of Z s (potential_of Z s x)))
+          (hit_if d (inside_block Z s B))
           ≡ fault_reason B (cond b (cond d Inside Clear) (InsideEdge (potential_of Z s x)))
       go true true = refl
       go true false = refl

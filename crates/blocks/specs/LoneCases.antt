@@ -39,12 +39,14 @@ module _ (clue_at : ℕ → Option ℕ) (unit_at size_at : ℕ → ℕ) where
   unfolding lone_fault only_fault
   lone-fits x n e h k = rw (e, le-ltb n 1 (omega arith), le-ltb (size_at (unit_at x)) n k)
 
-  pub lone-big : (x n : ℕ) → clue_at x ≡ some n → (n ≡ 0 → ⊥) → size_at (unit_at x) < n → Edge (unit_at x) ≡ lone_fault x
+  pub lone-big : (x n : ℕ) → clue_at x ≡ some n → (n ≡ 0 → ⊥) → size_at (unit_at x) < n → Edge (unit_at x)
+      ≡ lone_fault x
   unfolding lone_fault only_fault
   lone-big x n e h k = rw (e, le-ltb n 1 (omega arith), lt-ltb (size_at (unit_at x)) n k)
 
   pub lone-fault : (colour_at : ℕ → Bool) (x : ℕ) → lone_fault x ≡ fault_on colour_at clue_at unit_at size_at (x ∷ [])
-  unfolding lone_fault only_fault fault_on scan_on census_of colour_part colour_unit of_colour filter has_clue any block_clue
+  unfolding lone_fault only_fault fault_on scan_on census_of colour_part colour_unit of_colour filter has_clue
+      any block_clue
       first_hit
       or_else
       first_fault cell_fault scan_fault census_fault small_fault clue_fault big_fault or_fault

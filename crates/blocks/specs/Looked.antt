@@ -66,7 +66,8 @@ module _ {cs : List ℕ} {ks : List ℤ} {ids cells : List ℕ} {from i : ℕ} {
     unfolding colours_in entry
     owned two few p = owned-more (colours_in cs) (clues_in ks) (entry ids) s.seen.owned c two few _ p
 
-    clashes : clash (option_of k) (clues_in ks c) ≡ clash (option_of k) (option_of (clue_in (clue_of (get_or ks c (pos 0)))))
+    clashes : clash (option_of k) (clues_in ks c)
+        ≡ clash (option_of k) (option_of (clue_in (clue_of (get_or ks c (pos 0)))))
     unfolding clues_in
     clashes = ap (clash (option_of k)) (sym (option-clue (clue_of (get_or ks c (pos 0)))))
 

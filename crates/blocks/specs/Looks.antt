@@ -14,7 +14,8 @@
 --   seen-scan           no cell that was seen has a fault
 --   seen-clear          nothing is wrong with cells that are seen so, where both colours have room
 use Rattle.std.proofs.Math.Path.{◌≡◌, refl, sym, ap}
-use Rattle.std.proofs.Common.{◌∙◌, inl, inr, ⊎_elim, append-nil, append_assoc, length-append, get_or-set_same, get_or-set_other}
+use Rattle.std.proofs.Common.{◌∙◌, inl, inr, ⊎_elim, append-nil, append_assoc, length-append, get_or-set_same}
+use Rattle.std.proofs.Common.{get_or-set_other}
 use Rattle.std.specs.Prelude.{◌⊎◌, Bool, ℕ, ◌+◌, ◌-◌, ◌<◌, ◌≤◌, set}
 use Rattle.std.proofs.Math.Bool.{true, false, beq}
 use mathlib.Core.List.Memᴰ
@@ -201,7 +202,8 @@ module _ (colour_at : ℕ → Bool) (clue_at : ℕ → Option ℕ) (unit_at : �
             let b = beq-eq (colour_at z) c (filter-test (λ y. beq (colour_at y) c) xs m) in
             ap (λ d. get_or own (bit d) 0) (sym b) ∙ o.units z (filter-mem (λ y. beq (colour_at y) c) xs m)
 
-    own-cell : (ys : List ℕ) (x : ℕ) → x ∈ xs → colour_unit colour_at clue_at unit_at (xs ++ ys) (colour_at x) ≡ unit_at x
+    own-cell : (ys : List ℕ) (x : ℕ) → x ∈ xs → colour_unit colour_at clue_at unit_at (xs ++ ys) (colour_at x)
+        ≡ unit_at x
     unfolding of_colour
     own-cell ys x m =
         sym (own_is ys (colour_at x)
@@ -240,7 +242,8 @@ module _ (colour_at : ℕ → Bool) (clue_at : ℕ → Option ℕ) (unit_at : �
         first-append clue_at xs ys ∙ rw f
 
     cell-clear : (ys : List ℕ) (x : ℕ) → x ∈ xs
-        → cell_fault colour_at clue_at unit_at (colour_unit colour_at clue_at unit_at (xs ++ ys)) (block_clue clue_at (xs ++ ys))
+        → cell_fault colour_at clue_at unit_at (colour_unit colour_at clue_at unit_at (xs ++ ys))
+        (block_clue clue_at (xs ++ ys))
         x
         ≡ Clear
     unfolding cell_fault
@@ -314,7 +317,8 @@ module _ (colour_at : ℕ → Bool) (clue_at : ℕ → Option ℕ) (unit_at : �
     zeros-are = omega (arith, both xs, s.count)
 
     pub seen-clear : (size_at : ℕ → ℕ) → ColourRoom (length xs - n) n k (size_at (get_or own 0 0))
-        → ColourRoom n (length xs - n) k (size_at (get_or own 1 0)) → Clear ≡ fault_on colour_at clue_at unit_at size_at xs
+        → ColourRoom n (length xs - n) k (size_at (get_or own 1 0)) → Clear
+        ≡ fault_on colour_at clue_at unit_at size_at xs
     unfolding fault_on or_fault census_of colour_part
     seen-clear size_at r q =
         rw seen-scan

@@ -50,7 +50,8 @@ module _ (Z : Puzzle) (s : ℕ → State) where
   unfoldable pub scan_hit : ℕ → (Bool → ℕ) → Option ℕ → ℕ → Option Reason
   scan_hit B q n x =
       or_else
-      (hit_if (not (eqb (q (Z.colour x)) (potential_of Z s x))) (inside_block Z s B ++ edge_of Z s (potential_of Z s x)))
+      (hit_if (not (eqb (q (Z.colour x)) (potential_of Z s x))) (inside_block Z s B
+      ++ edge_of Z s (potential_of Z s x)))
       (hit_if (clash n (Z.clue x)) (inside_block Z s B))
 
   -- what the cells passed, and those to come, have to do with q and n
@@ -183,7 +184,8 @@ module _ (Z : Puzzle) (s : ℕ → State) where
   scan-none B q n x e = go (eqb (q (Z.colour x)) (potential_of Z s x)) refl (clash n (Z.clue x)) refl e
     where
       go : (b : Bool) → eqb (q (Z.colour x)) (potential_of Z s x) ≡ b → (d : Bool) → clash n (Z.clue x) ≡ d
-          → or_else (hit_if (not b) (inside_block Z s B ++ edge_of Z s (potential_of Z s x))) (hit_if d (inside_block Z s B)) ≡
+          → or_else (hit_if (not b) (inside_block Z s B ++ edge_of Z s (potential_of Z s x)))
+          (hit_if d (inside_block Z s B)) ≡
           none
           → (potential_of Z s x ≡ q (Z.colour x)) × (clash n (Z.clue x) ≡ false)
       go true f false g h = (sym (eqb→eq _ _ (rw f tt)), g)

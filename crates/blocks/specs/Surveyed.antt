@@ -24,7 +24,8 @@ module _ (cs : List ℕ) (ks : List ℤ) (ids cells : List ℕ) (from : ℕ) whe
 
   -- one cell more
   pub surveyed-more : (i c : ℕ) → from ≤ i → i < length cells → c ≡ get_or cells i 0
-      → next_census (surveyed i) (eqb (get_or cs c 0) 1) (get_or ids c 0) (clue_in (clue_of (get_or ks c (pos 0)))) ≡ surveyed
+      → next_census (surveyed i) (eqb (get_or cs c 0) 1) (get_or ids c 0)
+      (clue_in (clue_of (get_or ks c (pos 0)))) ≡ surveyed
       (i + 1)
   unfolding surveyed colours_in clues_in entry
   surveyed-more i c h k e =

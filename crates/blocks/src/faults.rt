@@ -9,7 +9,8 @@ ghost use Rattle.groups.specs.Grouping.{numbers_in, cells_in, starts_in, count_i
 ghost use Rattle.groups.specs.Parts.{part_of};
 ghost use Rattle.blocks.specs.Censuses.{option_of};
 ghost use Rattle.blocks.specs.Arrays.{PartListed, GroupLists, Parted, size_in};
-ghost use Rattle.blocks.specs.Faults.{or_fault, is_faultless, small_fault, big_fault, clue_fault, census_fault, scan_on};
+ghost use Rattle.blocks.specs.Faults.{or_fault, is_faultless, small_fault, big_fault, clue_fault, census_fault};
+ghost use Rattle.blocks.specs.Faults.{scan_on};
 ghost use Rattle.blocks.specs.Faults.{fault_on};
 ghost use Rattle.blocks.specs.Faulty.{first_faulty};
 ghost use Rattle.blocks.specs.LoneCases.{lone_fault};

@@ -28,7 +28,8 @@
 --   board_of h w cs ks bs st n t  the board with these arrays, this count and this tally
 --   board_with b bs st n t   the board b with these borders, this stack, this count and this tally
 --   is_alien b               decides and undos cannot produce b from a fresh board; crate reach has the proof
-use Rattle.std.specs.Prelude.{◌≡◌, Bool, false, not, cond, ◌&&◌, List, ℕ, ◌*◌, ◌<◌, leb, ltb, eqb, ℤ, pos, negsuc, length, get_or}
+use Rattle.std.specs.Prelude.{◌≡◌, Bool, false, not, cond, ◌&&◌, List, ℕ, ◌*◌, ◌<◌, leb, ltb, eqb, ℤ, pos, negsuc}
+use Rattle.std.specs.Prelude.{length, get_or}
 use Rattle.std.specs.Bool.{beq}
 use Rattle.std.specs.Int.Signed.{le_z}
 use Rattle.lists.specs.Tests.{all_below, any_below, all_between}

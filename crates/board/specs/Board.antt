@@ -21,7 +21,8 @@
 --   undo_of b         what an undo returns
 --   SmallClues ks     the clues fit 32 bits
 --   Typed b           what every value of the code's type Board has
-use Rattle.std.specs.Prelude.{◌≡◌, Bool, true, cond, ◌&&◌, List, ℕ, ◌+◌, ◌-◌, ◌*◌, ltb, eqb, ℤ, pos, length, get_or, set, replicate}
+use Rattle.std.specs.Prelude.{◌≡◌, Bool, true, cond, ◌&&◌, List, ℕ, ◌+◌, ◌-◌, ◌*◌, ltb, eqb, ℤ, pos, length, get_or}
+use Rattle.std.specs.Prelude.{set, replicate}
 use Rattle.std.specs.Int.Signed.{le_z}
 use Rattle.lists.specs.Padded.{padded}
 use Rattle.rules.specs.declared.Side.{Side}

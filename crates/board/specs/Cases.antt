@@ -221,7 +221,8 @@ module _ (n : ℕ) (cs : List ℕ) (ks : List ℤ) where
   -- a puzzle that is not refused
   pub puzzle-free : number_of (puzzle_refusal n cs ks) ≡ 0 → PuzzleFit n cs ks
   unfolding puzzle_refusal
-  puzzle-free = go (ℕ_discrete (length cs) n) (ℕ_discrete (length ks) n) (colours_right cs n) (clues_right ks n) refl refl
+  puzzle-free =
+      go (ℕ_discrete (length cs) n) (ℕ_discrete (length ks) n) (colours_right cs n) (clues_right ks n) refl refl
     where
       go : Dec (length cs ≡ n) → Dec (length ks ≡ n) → (c k : Bool) → colours_right cs n ≡ c → clues_right ks n ≡ k
           → number_of (puzzle_refusal n cs ks) ≡ 0 → PuzzleFit n cs ks

@@ -1,6 +1,8 @@
 -- Laws of the conditions: a page's size and its counts, and what a run over the stack finds.
-use Rattle.std.specs.Prelude.{◌≡◌, refl, Bool, true, false, cond, not, ◌&&◌, ◌||◌, List, ℕ, ◌+◌, ◌*◌, ◌<◌, ◌≤◌, leb, ltb, eqb, length, get_or, set}
-use Rattle.std.proofs.Common.{ap, sym, ◌∙◌, arith, leb-true, le-leb, ltb-true, eq-eqb, ne_eqb, get_or-set_same, get_or-set_other}
+use Rattle.std.specs.Prelude.{◌≡◌, refl, Bool, true, false, cond, not, ◌&&◌, ◌||◌, List, ℕ, ◌+◌, ◌*◌, ◌<◌, ◌≤◌, leb}
+use Rattle.std.specs.Prelude.{ltb, eqb, length, get_or, set}
+use Rattle.std.proofs.Common.{ap, sym, ◌∙◌, arith, leb-true, le-leb, ltb-true, eq-eqb, ne_eqb, get_or-set_same}
+use Rattle.std.proofs.Common.{get_or-set_other}
 use Rattle.std.proofs.Math.Bool.{or-true, or-false}
 use Rattle.std.proofs.Math.Decide.{ℕ_discrete}
 use Rattle.std.proofs.lemmas.Bool.{lt-leb}

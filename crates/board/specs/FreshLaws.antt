@@ -34,7 +34,8 @@ pub record Made (h w : ℕ) (cs : List ℕ) (ks : List ℤ) (d : Board) : Type 0
   pub fit : PuzzleFit (h * w) cs ks
   pub is : d ≡ fresh_board h w cs ks
 
-pub made-is : {h w : ℕ} {cs : List ℕ} {ks : List ℤ} {d : Board} → fresh_of h w cs ks ≡ returned Done d → Made h w cs ks d
+pub made-is : {h w : ℕ} {cs : List ℕ} {ks : List ℤ} {d : Board} → fresh_of h w cs ks ≡ returned Done d
+    → Made h w cs ks d
 made-is {h} {w} {cs} {ks} {d} e = go (size_right h w) refl (ℕ_discrete (number_of o) 0)
   where
     o : Outcome

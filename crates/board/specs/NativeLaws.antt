@@ -10,7 +10,8 @@
 --   tally-bare          with an empty stack every border is undecided
 --   free-unstacked, stack-room, free-left  an undecided border is not on the stack, leaves room there, and is counted
 --   free-places         what a decide that is not refused may rely on
-use Rattle.std.specs.Prelude.{◌≡◌, refl, true, false, ◌&&◌, ◌||◌, List, ℕ, zero, suc, ◌-◌, ◌<◌, ◌≤◌, ℤ, pos, negsuc, length, get_or}
+use Rattle.std.specs.Prelude.{◌≡◌, refl, true, false, ◌&&◌, ◌||◌, List, ℕ, zero, suc, ◌-◌, ◌<◌, ◌≤◌, ℤ, pos, negsuc}
+use Rattle.std.specs.Prelude.{length, get_or}
 use Rattle.std.proofs.Common.{ap, sym, ◌∙◌, add-one}
 use Rattle.std.proofs.Math.Bool.{Bool, not}
 use Rattle.std.specs.Bool.{beq}
@@ -79,7 +80,8 @@ unfolding zero_clues_from
 zero-clues-at l from i e h = go (dec_lt i (length l))
   where
     go : Dec (i < length l) → get_or l i (pos 0) ≡ pos 0
-    go (yes k) = clue-zero (get_or l i (pos 0)) (between-at from (length l) (λ j. clue_zero (get_or l j (pos 0))) i e h k)
+    go (yes k) =
+        clue-zero (get_or l i (pos 0)) (between-at from (length l) (λ j. clue_zero (get_or l j (pos 0))) i e h k)
     go (no k) = get_or-eq_default l (pos 0) (omega arith)
 
 pub zero-clues-of : (l : List ℤ) (from : ℕ) → ((i : ℕ) → from ≤ i → get_or l i (pos 0) ≡ pos 0)

@@ -9,7 +9,8 @@
 --   codes-some             a code that a border has is counted
 --   tally-fresh            the tally of borders that are all undecided
 --   tally-none, tally-last  the tally of the empty sequence, and of one with a literal put last
-use Rattle.std.specs.Prelude.{◌≡◌, Bool, true, not, ◌&&◌, List, [], ◌∷◌, ℕ, zero, suc, ◌+◌, ◌-◌, ◌<◌, ◌≤◌, eqb, get_or, set, replicate}
+use Rattle.std.specs.Prelude.{◌≡◌, Bool, true, not, ◌&&◌, List, [], ◌∷◌, ℕ, zero, suc, ◌+◌, ◌-◌, ◌<◌, ◌≤◌, eqb, get_or}
+use Rattle.std.specs.Prelude.{set, replicate}
 use Rattle.std.proofs.Math.Path.{refl, ap}
 use Rattle.std.proofs.Common.{sym, ◌∙◌, eq-eqb, eqb-true, get_or-set_same, get_or-set_other}
 use Rattle.std.proofs.Math.Decide.{ℕ_discrete}
@@ -89,15 +90,19 @@ tally-set bs m n v k h p w z = go (ℕ_discrete v 1)
 
     go : Dec (v ≡ 1) → tally_in (set bs n v) m ≡ tally_more (tally_in bs m) (side_in v)
     go (yes e) =
-        let a : code_count (set bs n v) m 0 ≡ code_count bs m 0 - 1 = let q = rw e at (counts 0) in rw e (omega arith) in
-        let b : code_count (set bs n v) m 1 ≡ code_count bs m 1 + 1 = let q = rw e at (counts 1) in rw e (omega arith) in
+        let a : code_count (set bs n v) m 0 ≡ code_count bs m 0 - 1 = let q =
+        rw e at (counts 0) in rw e (omega arith) in
+        let b : code_count (set bs n v) m 1 ≡ code_count bs m 1 + 1 = let q =
+        rw e at (counts 1) in rw e (omega arith) in
         let c : code_count (set bs n v) m 2 ≡ code_count bs m 2 = let q = rw e at (counts 2) in rw e (omega arith) in
         (λ i. tally_of (a i) (b i) (c i)) ∙ sym (ap (λ x. tally_more (tally_in bs m) (side_in x)) e)
     go (no d) =
         let e : v ≡ 2 = omega arith in
-        let a : code_count (set bs n v) m 0 ≡ code_count bs m 0 - 1 = let q = rw e at (counts 0) in rw e (omega arith) in
+        let a : code_count (set bs n v) m 0 ≡ code_count bs m 0 - 1 = let q =
+        rw e at (counts 0) in rw e (omega arith) in
         let b : code_count (set bs n v) m 1 ≡ code_count bs m 1 = let q = rw e at (counts 1) in rw e (omega arith) in
-        let c : code_count (set bs n v) m 2 ≡ code_count bs m 2 + 1 = let q = rw e at (counts 2) in rw e (omega arith) in
+        let c : code_count (set bs n v) m 2 ≡ code_count bs m 2 + 1 = let q =
+        rw e at (counts 2) in rw e (omega arith) in
         (λ i. tally_of (a i) (b i) (c i)) ∙ sym (ap (λ x. tally_more (tally_in bs m) (side_in x)) e)
 
 pub less-more : (t : Tally) (d : Side) → 0 < t.undecided → tally_less (tally_more t d) d ≡ t
@@ -119,7 +124,8 @@ pub codes-three : (bs : List ℕ) (m : ℕ) → ((x : ℕ) → x < m → get_or 
 unfolding code_count count_below
 codes-three bs zero f = refl
 codes-three bs (suc m) f =
-    let a : code_count bs m 0 + code_count bs m 1 + code_count bs m 2 ≡ m = codes-three bs m (λ x h. f x (omega arith)) in
+    let a : code_count bs m 0 + code_count bs m 1 + code_count bs m 2 ≡ m =
+    codes-three bs m (λ x h. f x (omega arith)) in
     let b = one (get_or bs m 0) (f m (omega arith)) in
     omega arith
   where

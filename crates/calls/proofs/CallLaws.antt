@@ -187,7 +187,8 @@ module _ (b : Board) (t : is_alien b ≡ false) (T : Typed b) where
     unfolding preview_memory reply_to
     preview-written =
         go (is_done (decide_of b l).outcome) refl
-        ∙ ap (λ (r : Reply). memory_as m (then_reply r (check_reply (puzzle_of b) (with_last (literals_of b) l) (length m))))
+        ∙ ap (λ (r : Reply). memory_as m
+        (then_reply r (check_reply (puzzle_of b) (with_last (literals_of b) l) (length m))))
         (decide-reply b t l)
       where
         o : Outcome

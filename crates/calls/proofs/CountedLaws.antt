@@ -16,7 +16,8 @@ use Rattle.board.specs.declared.Board.{Board}
 use Rattle.board.specs.declared.Outcome.{Outcome}
 use Rattle.board.specs.declared.Outcome.TheVariants.{Alien}
 use Rattle.board.specs.Alien.{tally_in, border_count_of, is_alien}
-use Rattle.board.specs.Board.{is_done, returned, ended_by, pushed, popped, decide_refusal, decide_of, undo_refusal, undo_of}
+use Rattle.board.specs.Board.{is_done, returned, ended_by, pushed, popped, decide_refusal, decide_of, undo_refusal}
+use Rattle.board.specs.Board.{undo_of}
 use Rattle.board.specs.Board.{Typed}
 use Rattle.board.specs.TallyLaws.{same-is}
 use Rattle.board.specs.NativeLaws.{native-has}

@@ -17,7 +17,7 @@ use Rattle.board.specs.View.{puzzle_of, states_of}
 use Rattle.calls.specs.declared.Answer.TheVariants.{Refused}
 use Rattle.calls.specs.Answers.{as_answer, check_answer, preview_answer, call_of}
 use Rattle.calls.proofs.CallLaws.{reason-short}
-use Rattle.calls.specs.NumberLaws.{InRange, ended_by, ended-range, pass-range}
+use Rattle.calls.specs.NumberLaws.{InRange, ended_by_lem, ended-range, pass-range}
 
 pub found-range : (b : Board) → is_alien b ≡ false → (f : Found) → check (puzzle_of b) (states_of b) ≡ f
     → InRange (as_answer f)
@@ -37,7 +37,7 @@ check-range b n = go (is_alien b) (ltb n 1984) refl
 preview-range : (b : Board) (l : Literal) (n : ℕ) → InRange (preview_answer b l n)
 unfolding preview_answer
 preview-range b l n =
-    ended_by (decide_of b l).outcome (check_answer (decide_of b l).board n) (check-range (decide_of b l).board n)
+    ended_by_lem (decide_of b l).outcome (check_answer (decide_of b l).board n) (check-range (decide_of b l).board n)
 
 pub call-range : (b : Board) (c : Call) (m : List ℕ) → InRange (call_of b c m).answer
 unfolding call_of

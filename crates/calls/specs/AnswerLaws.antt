@@ -6,7 +6,8 @@
 --   length-written, length-check, length-call  an answered check, a check and a call keep the length of the memory
 --   found-short, found-long  what a check answers of a board that is not alien, and the memory after it, by cases
 --   check-alien, check-known  a check's answer and the memory after it, of an alien board and of another
-use Rattle.std.specs.Prelude.{◌≡◌, refl, Bool, true, false, cond, List, [], ◌∷◌, ◌++◌, map, ℕ, ◌+◌, ◌*◌, ◌/◌, ◌%◌, ◌<◌, ◌≤◌, eqb, ltb, length, drop}
+use Rattle.std.specs.Prelude.{◌≡◌, refl, Bool, true, false, cond, List, [], ◌∷◌, ◌++◌, map, ℕ, ◌+◌, ◌*◌, ◌/◌, ◌%◌, ◌<◌}
+use Rattle.std.specs.Prelude.{◌≤◌, eqb, ltb, length, drop}
 use Rattle.std.proofs.Common.{ap, ◌∙◌, zero-add, arith, lt-ltb, le-ltb, take_at}
 use Rattle.std.proofs.lemmas.List.{length-map}
 use Rattle.std.proofs.lemmas.List.Edits.{sets-eq}

@@ -65,15 +65,15 @@ check-count Z s n e = go (hit Z s) e
     go (some r) f = let z : ◌≡◌ {A = ℕ} 0 1 = cc in absurd (omega arith)
 
 -- the answer a where the outcome is done, otherwise the refusal
-pub ended_by : (o : Outcome) (a : Answer) → InRange a → InRange (cond (is_done o) a (Refused o))
-ended_by o a h = go (is_done o) refl
+pub ended_by_lem : (o : Outcome) (a : Answer) → InRange a → InRange (cond (is_done o) a (Refused o))
+ended_by_lem o a h = go (is_done o) refl
   where
     go : (x : Bool) → is_done o ≡ x → InRange (cond x a (Refused o))
     go true e = h
     go false e = let k = eqb-false (number_of o) 0 e in omega arith
 
 pub ended-range : (o : Outcome) → InRange (ended o)
-ended-range o = ended_by o Done tt
+ended-range o = ended_by_lem o Done tt
 
 pub pass-range : (b : Board) → is_alien b ≡ false → (n : ℕ) → check (puzzle_of b) (states_of b) ≡ pass n → n ≤ 1984
 unfolding puzzle_of undecided_count flat

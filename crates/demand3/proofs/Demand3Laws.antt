@@ -297,7 +297,8 @@ module _ (start : Board) (S : Bare start) (D : (asked : List Asked) → BookDema
             λ more σ q p. none-ruled calls σ ((verdicts (calls ++ more) σ (pass p.0) p.1).0 (p.0, refl)) q;
         same_verdict =
             λ σ f g s t.
-            (D (map asked_by calls)).same_verdict σ f g (stood-book start S calls σ f s) (stood-book start S calls σ g t);
+            (D (map asked_by calls)).same_verdict σ f g (stood-book start S calls σ f s)
+            (stood-book start S calls σ g t);
       }
 
 -- ---- an accepted puzzle

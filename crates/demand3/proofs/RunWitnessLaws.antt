@@ -9,7 +9,8 @@ use Rattle.rules.specs.declared.Call.{Call}
 use Rattle.rules.specs.declared.Call.TheVariants.{Decide, Check, Preview}
 use Rattle.rules.specs.Page.{Puzzle, undecided}
 use Rattle.rules.specs.Flat.{flat, border_count}
-use Rattle.rules.specs.Book.{Asked, ask, answered, states, names, looked, done_book, decide_reply, check_reply, reply_to}
+use Rattle.rules.specs.Book.{Asked, ask, answered, states, names, looked, done_book, decide_reply, check_reply}
+use Rattle.rules.specs.Book.{reply_to}
 use Rattle.rules.specs.Book.{reply, after, book_from, book_after}
 use Rattle.rules.specs.Codes.{puzzle_in}
 use Rattle.argument.specs.Demand.{Full, SameSides, BookStoodAt}
@@ -21,7 +22,8 @@ use Rattle.demand3.specs.Runs.{lend, asked_by}
 use Rattle.demand3.specs.Demand3.{StoodAt}
 use Rattle.demand3.proofs.Demand3Laws.{stood-run, start-bare, start-puzzle, demand3}
 use Rattle.demand3.proofs.SmallRunLaws.{small-clues, asked-lent}
-use Rattle.demand3.specs.RunWitness.{cs, ks, witness_board, first, setting, deciding, previewing, found, BookStood, Witnessed, RunWitness}
+use Rattle.demand3.specs.RunWitness.{cs, ks, witness_board, first, setting, deciding, previewing, found, BookStood}
+use Rattle.demand3.specs.RunWitness.{Witnessed, RunWitness}
 
 accepted : Accepted 1 2 cs ks
 unfolding all fresh_of puzzle_refusal size_right colours_right clues_right all_below

@@ -19,12 +19,14 @@ use Rattle.rules.specs.Turns.{apply}
 use Rattle.rules.specs.Shapes.{same_points, insert, sort, shift_by, normal, turned, connections_at, shape_of, with_half}
 use Rattle.rules.specs.Shapes.{quarters, with_quarter, with_flip, flat_transforms}
 use Rattle.rules.specs.Check.{check, hit_if, block_clue, inside_block, inside_unit, edge_of, size_of}
-use Rattle.rules.specs.Check.{coloured, stray_from, cell_hit, cell_hits, small_hit, big_hit, clue_hit, block_hit_on, block_hit}
+use Rattle.rules.specs.Check.{coloured, stray_from, cell_hit, cell_hits, small_hit, big_hit, clue_hit, block_hit_on}
+use Rattle.rules.specs.Check.{block_hit}
 use Rattle.rules.specs.Check.{wall_hit, wall_hits, touches, adjacent, mates, judge, laid, transforms_of, placements}
 use Rattle.rules.specs.Check.{far_walls_at, far_walls, unit_reason, unit_hit_in, unit_hit_on, unit_hit, hit}
 use Rattle.rules.specs.Check.{once, undecided_count}
 use Rattle.rules.specs.Flat.{flat, cell_at, right_of, below_of, border_count, hop_if, hop_above, hop_below, hop_left}
-use Rattle.rules.specs.Flat.{hop_right, around_at, ahead_at, flat_first, flat_second, flat_place, flat_reads_at, flat_reads}
+use Rattle.rules.specs.Flat.{hop_right, around_at, ahead_at, flat_first, flat_second, flat_place, flat_reads_at}
+use Rattle.rules.specs.Flat.{flat_reads}
 use Rattle.rules.specs.Book.{Asked, ask, Reply, states, names, without_last, done_book}
 use Rattle.rules.specs.Book.{tally_at, decide_reply, check_reply, reply_to, after, replies_from, tallies_from}
 use Rattle.rules.specs.Book.{replies, tallies}
@@ -35,7 +37,7 @@ use Rattle.board.specs.Accepted.{made_board}
 use Rattle.demand3.specs.Runs.{lend, asked_by}
 use Rattle.demand3.specs.Demand3.{Demand3}
 use Rattle.demand3.proofs.Demand3Laws.{demand3}
-use Rattle.demand3.specs.SmallRuns.{RunAnswers, recorded, lent_with, asks_with, pair_clues, pair_puzzle, SmallRuns}
+use Rattle.demand3.specs.SmallRuns.{RunAnswers, recorded, lent_with, asks_with, pair_clues, recorded_puzzle, SmallRuns}
 
 pub asked-lent : (m : List ℕ) (calls : List Call) → map asked_by (map (lend m) calls) ≡ map (ask (length m)) calls
 asked-lent m [] = refl
@@ -61,21 +63,28 @@ run-answers {h} {w} {cs} {ks} {calls} s a e =
     }
 
 recorded-holds : (fresh_of 1 2 (0 ∷ 1 ∷ []) pair_clues).outcome ≡ Done → (m : List ℕ)
-    → Demand3 (made_board 1 2 (0 ∷ 1 ∷ []) pair_clues) pair_puzzle (map (lent_with m) recorded)
+    → Demand3 (made_board 1 2 (0 ∷ 1 ∷ []) pair_clues) recorded_puzzle (map (lent_with m) recorded)
 unfolding all
 recorded-holds a m =
     demand3 1 2 (0 ∷ 1 ∷ []) pair_clues (record { small = small-clues pair_clues refl; made = a })
     (map (lent_with m) recorded)
 
 pub small-runs : SmallRuns
-unfolding filter any all or_else flat_map first_hit count_below ◌⊕◌ opposite states_in colours_in clues_in one_colour joins_block
-    joins_unit labels entry is_first numbers group_count members joins_potential gather inside_at inside edge_at edge is_found
+unfolding filter any all or_else flat_map first_hit count_below ◌⊕◌ opposite states_in colours_in clues_in
+    one_colour joins_block
+    joins_unit labels entry is_first numbers group_count members joins_potential gather inside_at inside edge_at
+    edge is_found
     trace look hunt path apply same_points insert sort shift_by normal turned connections_at shape_of with_half quarters
-    with_quarter with_flip flat_transforms check hit_if block_clue inside_block inside_unit edge_of size_of coloured stray_from
-    cell_hit cell_hits small_hit big_hit clue_hit block_hit_on block_hit wall_hit wall_hits touches adjacent mates judge laid
-    transforms_of placements far_walls_at far_walls unit_reason unit_hit_in unit_hit_on unit_hit hit once undecided_count flat
-    cell_at right_of below_of border_count hop_if hop_above hop_below hop_left hop_right around_at ahead_at flat_first flat_second
-    flat_place flat_reads_at flat_reads states names without_last done_book tally_at decide_reply check_reply reply_to after
+    with_quarter with_flip flat_transforms check hit_if block_clue inside_block inside_unit edge_of size_of
+    coloured stray_from
+    cell_hit cell_hits small_hit big_hit clue_hit block_hit_on block_hit wall_hit wall_hits touches adjacent
+    mates judge laid
+    transforms_of placements far_walls_at far_walls unit_reason unit_hit_in unit_hit_on unit_hit hit once
+    undecided_count flat
+    cell_at right_of below_of border_count hop_if hop_above hop_below hop_left hop_right around_at ahead_at
+    flat_first flat_second
+    flat_place flat_reads_at flat_reads states names without_last done_book tally_at decide_reply check_reply
+    reply_to after
     replies_from tallies_from fresh_of puzzle_refusal size_right colours_right clues_right all_below
 small-runs =
     record {
@@ -94,8 +103,8 @@ small-runs =
       previews = run-answers refl refl refl;
       lent-answers =
           λ m p.
-          (recorded-holds refl m).answers ∙ ap (λ n. replies pair_puzzle (map (asks_with n) recorded)) p ∙ refl;
+          (recorded-holds refl m).answers ∙ ap (λ n. replies recorded_puzzle (map (asks_with n) recorded)) p ∙ refl;
       lent-records =
           λ m p.
-          (recorded-holds refl m).records ∙ ap (λ n. tallies pair_puzzle (map (asks_with n) recorded)) p ∙ refl;
+          (recorded-holds refl m).records ∙ ap (λ n. tallies recorded_puzzle (map (asks_with n) recorded)) p ∙ refl;
     }

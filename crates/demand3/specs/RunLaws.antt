@@ -30,7 +30,8 @@ use Rattle.rules.specs.Flat.{flat}
 use Rattle.rules.specs.Codes.{code_of}
 use Rattle.rules.specs.Check.{Verdict}
 use Rattle.rules.specs.Book.{Asked, ask, Reply, refused, done, answered, Book, names, with_last, without_last, looked}
-use Rattle.rules.specs.Book.{done_book, after_by, tally_of, same_tally, lent_after, tally_at, disagrees, decide_reply, reply_to}
+use Rattle.rules.specs.Book.{done_book, after_by, tally_of, same_tally, lent_after, tally_at, disagrees, decide_reply}
+use Rattle.rules.specs.Book.{reply_to}
 use Rattle.rules.specs.Book.{reply, after, tally_after, book_from, replies_from, tallies_from}
 use Rattle.laws.specs.CodeLaws.{side-in}
 use Rattle.laws.specs.BookLaws.{without-last, alien-after, agreed-after, undo-takes, check-leaves, preview-leaves}

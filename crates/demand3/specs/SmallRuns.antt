@@ -3,6 +3,9 @@
 --   RunAnswers h w cs ks calls rs   the calls answer rs on that puzzle's board, each with memory for 1,984 literals
 --   Pair ks calls rs                so they do on 1×2 with the colours 01 and the clues ks
 --   Four calls rs                   so they do on 1×4 with the colours 0011, without clues
+--   recorded                        calls on 1×2 with the colours 01, each with the tally record that it is lent
+--   lent_with m p, asks_with n p    such a call with the memory m, and with n places, as the book is asked
+--   pair_clues, recorded_puzzle     that board's clues, none, and its puzzle
 --   SmallRuns                       the boards, the page of 01's example, previews, and calls with tally records:
 --                                   right, wrong and stale ones, and none
 use Rattle.std.specs.Prelude.{◌≡◌, List, [], ◌∷◌, map, ℕ, ℤ, pos, negsuc, length}
@@ -58,8 +61,8 @@ pair_clues = no_clue ∷ no_clue ∷ []
 abbrev given_on : List ℕ → List Given
 given_on m = run_from (made_board 1 2 (0 ∷ 1 ∷ []) pair_clues) (map (lent_with m) recorded)
 
-abbrev pub pair_puzzle : Puzzle
-pair_puzzle = puzzle_in 1 2 (0 ∷ 1 ∷ []) pair_clues
+abbrev pub recorded_puzzle : Puzzle
+recorded_puzzle = puzzle_in 1 2 (0 ∷ 1 ∷ []) pair_clues
 
 pub record SmallRuns : Type 0 where
   -- "1×1 without clue: empty reason"
@@ -99,7 +102,8 @@ pub record SmallRuns : Type 0 where
   -- "what decide followed by check would on a copy of the board": the check after a preview is that of the board given,
   -- and the border can be decided still
   pub previews : Pair (no_clue ∷ no_clue ∷ [])
-      (Preview (wall_at 0) ∷ Preview (open_at 0) ∷ Check ∷ Preview (open_at 1) ∷ Decide (open_at 0) ∷ Preview (wall_at 0) ∷
+      (Preview (wall_at 0) ∷ Preview (open_at 0) ∷ Check ∷ Preview (open_at 1) ∷ Decide (open_at 0) ∷ Preview
+      (wall_at 0) ∷
       Check ∷ [])
       (answered (conflict (wall_at 0 ∷ [])) ∷ answered (pass 0) ∷ answered (pass 1) ∷ refused 6 ∷ done ∷ refused 7 ∷
       answered (pass 0) ∷ [])

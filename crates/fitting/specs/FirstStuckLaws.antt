@@ -62,8 +62,10 @@ module _ (Z : Puzzle) (s : ℕ → State) where
       rw (hit-unit i) (go (fits_unit Z s i) (hits-from (suc i) n))
     where
       go : (b : Bool)
-          → first_hit (unit_hit Z s) (range_from (suc i) n) ≡ stuck_hit Z s (suc i + n) (first_from (fits_unit Z s) (suc i) n)
-          → or_else (hit_if (not b) (unit_reason Z s i (potential_in Z s i))) (first_hit (unit_hit Z s) (range_from (suc i) n))
+          → first_hit (unit_hit Z s) (range_from (suc i) n)
+          ≡ stuck_hit Z s (suc i + n) (first_from (fits_unit Z s) (suc i) n)
+          → or_else (hit_if (not b) (unit_reason Z s i (potential_in Z s i)))
+          (first_hit (unit_hit Z s) (range_from (suc i) n))
           ≡ stuck_hit Z s (i + suc n) (cond b (first_from (fits_unit Z s) (suc i) n) i)
       go true e =
           let d : suc i + n ≡ i + suc n = omega arith in

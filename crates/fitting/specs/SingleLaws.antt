@@ -27,7 +27,8 @@ use Rattle.fitting.specs.FitLaws.{turned-own}
 
 -- a neighbour that fails the test is not kept
 module _ (p : Hop → Bool) where
-  hop-none : (b : Bool) (n t : ℕ) → (b ≡ true → p (record { border = n; to = t }) ≡ false) → filter p (hop_if b n t) ≡ []
+  hop-none : (b : Bool) (n t : ℕ) → (b ≡ true → p (record { border = n; to = t }) ≡ false)
+      → filter p (hop_if b n t) ≡ []
   unfolding filter hop_if
   hop-none true n t e = rw (e refl)
   hop-none false n t e = refl

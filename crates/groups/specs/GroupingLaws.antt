@@ -1,6 +1,7 @@
 -- Laws of a grouping: a place of its numbers, an array that may be lent, an array that was filled.
 use Rattle.std.specs.Prelude.{◌≡◌, List, [], ◌∷◌, ◌++◌, ℕ, ◌+◌, ◌<◌, ◌≤◌, length, get_or, drop, set, replicate}
-use Rattle.std.proofs.Common.{sym, ap, ◌∙◌, arith, length-take, length-set, take-append-drop, drop_of_length-le, get_or-take, drop-drop, drop-cons}
+use Rattle.std.proofs.Common.{sym, ap, ◌∙◌, arith, length-take, length-set, take-append-drop, drop_of_length-le}
+use Rattle.std.proofs.Common.{get_or-take, drop-drop, drop-cons}
 use Rattle.std.proofs.Math.Decide.{dec_lt}
 use Rattle.std.proofs.lemmas.List.{length-replicate}
 use Rattle.lists.specs.Sections.{section, Only}

@@ -32,7 +32,8 @@ one-colour-at h w cs b = refl
 
 -- what joins, read over the arrays
 pub joins_at : (k : Kind) (h w : ℕ) (cs bs : List ℕ) (b : ℕ)
-    → joins_in k h w cs bs b ≡ joins_by k (get_or bs b 0) (get_or cs (flat_first h w b) 0) (get_or cs (flat_second h w b) 0)
+    → joins_in k h w cs bs b
+    ≡ joins_by k (get_or bs b 0) (get_or cs (flat_first h w b) 0) (get_or cs (flat_second h w b) 0)
 unfolding joins_in link_of joins_block joins_unit joins_potential states_in joins_by
 joins_at Blocks h w cs bs b = refl
 joins_at Units h w cs bs b = rw (one-colour-at h w cs b)

@@ -147,7 +147,8 @@ module _ (G : Page) (link : ℕ → Bool) (some : 1 ≤ G.cells) (few : G.cells 
       let a = get_or (groups_of G link).offs g 0 in
       let e = get_or (groups_of G link).offs (g + 1) 0 in
       let k : i < e - a = omega (arith, offs-next g h) in
-      sym (get_or-drop a (groups_of G link).cells i 0) ∙ sym (get_or-take (e - a) (drop a (groups_of G link).cells) i 0 k)
+      sym (get_or-drop a (groups_of G link).cells i 0)
+      ∙ sym (get_or-take (e - a) (drop a (groups_of G link).cells) i 0 k)
       ∙ ap (λ (m : List ℕ). get_or m i 0) (part-members g)
 
   -- arrays that hold the groups hold 0 past the page

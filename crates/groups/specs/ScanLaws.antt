@@ -1,5 +1,6 @@
 -- Laws of the pass that gives each cell a parent: one more cell, by what it is joined to.
-use Rattle.std.specs.Prelude.{◌≡◌, refl, Bool, true, false, not, ◌&&◌, cond, List, ℕ, ◌+◌, ◌-◌, ◌<◌, ◌≤◌, eqb, length, get_or, set}
+use Rattle.std.specs.Prelude.{◌≡◌, refl, Bool, true, false, not, ◌&&◌, cond, List, ℕ, ◌+◌, ◌-◌, ◌<◌, ◌≤◌, eqb, length}
+use Rattle.std.specs.Prelude.{get_or, set}
 use Rattle.std.proofs.Common.{sym, ap, ◌∙◌, add-zero, arith, eq-eqb, ne_eqb, get_or-set_same, get_or-set_other}
 use Rattle.std.proofs.Math.Decide.{ℕ_discrete}
 use Rattle.lists.specs.Count.{bit}
@@ -60,7 +61,8 @@ module _ (w : ℕ) (left above : ℕ → Bool) where
         own (yes e) = ap (λ (i : ℕ). get_or (set p c v) i 0) e ∙ same
         own (no e) = other v (omega arith) ∙ root (omega arith)
 
-        twice : (x : ℕ) → x < c + 1 → Dec (x ≡ c) → get_or (set p c v) (get_or (set p c v) x 0) 0 ≡ get_or (set p c v) x 0
+        twice : (x : ℕ) → x < c + 1 → Dec (x ≡ c) → get_or (set p c v) (get_or (set p c v) x 0) 0
+            ≡ get_or (set p c v) x 0
         twice x h (yes e) = rw (e, same) (own (ℕ_discrete v c))
         twice x h (no e) =
             rw (other x (omega arith))
@@ -159,7 +161,8 @@ module _ (w : ℕ) (left above : ℕ → Bool) where
         whole =
             λ L g d.
             s.whole L g
-            (λ i h. ap (λ (j : ℕ). get_or L (j - 1) 0) (sym (past i h)) ∙ d i h ∙ ap (λ (j : ℕ). get_or L j 0) (past i h));
+            (λ i h. ap (λ (j : ℕ). get_or L (j - 1) 0) (sym (past i h)) ∙ d i h
+            ∙ ap (λ (j : ℕ). get_or L j 0) (past i h));
       }
     where
       past : (i : ℕ) → i < k → get_or (set cs k v) i 0 ≡ get_or cs i 0

@@ -1,7 +1,8 @@
 -- Laws of the flags on a flat page: they say which borders join, and the pass over them leads to the labels.
 use Rattle.std.specs.Prelude.{◌≡◌, Bool, false, ◌⊎◌, length, set, take, replicate}
 use Rattle.std.proofs.Math.Path.{sym, ap}
-use Rattle.std.proofs.Common.{◌∙◌, inl, inr, add-zero, add-mul, mul-zero, div-lt_iff_lt-mul, length-set, get_or-set_other, get_or-take, length-take-le}
+use Rattle.std.proofs.Common.{◌∙◌, inl, inr, add-zero, add-mul, mul-zero, div-lt_iff_lt-mul, length-set}
+use Rattle.std.proofs.Common.{get_or-set_other, get_or-take, length-take-le}
 use Rattle.std.proofs.Math.Bool.{true}
 use mathlib.Core.List.{List}
 use Prim.Native.Nat.{ℕ, ◌+◌, ◌-◌, ◌*◌, ◌/◌, ◌%◌, ◌<◌, ◌≤◌}
@@ -160,7 +161,8 @@ module _ (h w : ℕ) (link : ℕ → Bool) (sized : Sized h w) where
   unfolding border_count
   tied = record { beside = λ c l e. beside c l (ℕ_discrete (c % w) 0) e; over = over }
     where
-      beside : (c : ℕ) → c < h * w → Dec (c % w ≡ 0) → tied_left h w link c ≡ true → get_or all (c - 1) 0 ≡ get_or all c 0
+      beside : (c : ℕ) → c < h * w → Dec (c % w ≡ 0) → tied_left h w link c ≡ true → get_or all (c - 1) 0
+          ≡ get_or all c 0
       beside c l (yes z) e = false-true (left-none h w link c z) e
       beside c l (no z) e =
           let s : 0 < w = sized.columns in

@@ -9,7 +9,8 @@
 --                           step by step have the same, and any labels that follow the parents, and do not part the
 --                           first k cells of the list cs from the cells left of them, part no joined cells
 --   joined L cs k           the labels L once the first k cells of cs are joined to the cells left of them
-use Rattle.std.specs.Prelude.{◌≡◌, Bool, true, false, not, ◌&&◌, List, ℕ, zero, suc, ◌+◌, ◌-◌, ◌*◌, ◌/◌, ◌%◌, ◌<◌, ◌≤◌, eqb, ltb, length, get_or}
+use Rattle.std.specs.Prelude.{◌≡◌, Bool, true, false, not, ◌&&◌, List, ℕ, zero, suc, ◌+◌, ◌-◌, ◌*◌, ◌/◌, ◌%◌, ◌<◌, ◌≤◌}
+use Rattle.std.specs.Prelude.{eqb, ltb, length, get_or}
 use Rattle.rules.specs.Groups.{entry, merge_if}
 
 unfoldable pub tied_left : ℕ → ℕ → (ℕ → Bool) → ℕ → Bool

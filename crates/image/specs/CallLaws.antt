@@ -9,7 +9,8 @@ use Rattle.rules.specs.declared.Tally.{Tally}
 use Rattle.board.specs.declared.Outcome.TheVariants.{Done, Alien, Border, Taken, Bare}
 use Rattle.board.specs.declared.Returned.{Returned}
 use Rattle.board.specs.Alien.{border_count_of, is_alien}
-use Rattle.board.specs.Board.{number_of, returned, pushed, popped, decide_refusal, ended_by, decide_of, undo_refusal, undo_of}
+use Rattle.board.specs.Board.{number_of, returned, pushed, popped, decide_refusal, ended_by, decide_of, undo_refusal}
+use Rattle.board.specs.Board.{undo_of}
 use Rattle.board.specs.Board.{side_count, tally_more, tally_less, Typed}
 use Rattle.board.specs.Cases.{decide-ends}
 use Rattle.board.specs.NativeLaws.{native-has, borders-fit, tally-fits, free-places}

@@ -76,7 +76,8 @@ pub series-stop : (s codes : List ℕ) → done_of s codes < length codes
 unfolding image_done done_of
 series-stop s [] l z = omega arith
 series-stop s (c ∷ codes) l z =
-    first-stop s c codes (eqb (image_number s (code_call c)) 0) refl (series-stop (image_after s (code_call c)) codes) l z
+    first-stop s c codes (eqb (image_number s (code_call c)) 0) refl
+    (series-stop (image_after s (code_call c)) codes) l z
 
 -- ---- a list of a host's calls
 run-append : (s : List ℕ) (a b : List Sent) → image_run s (a ++ b) ≡ image_run s a ++ image_run (image_from s a) b

@@ -32,7 +32,8 @@
 --   bytes_by b m        reason memory of bytes after a check of the board b
 --   check_number s m    the number that a check returns on the image s with the bytes m lent
 --   check_bytes s m     the bytes m afterwards
-use Rattle.std.specs.Prelude.{◌≡◌, Bool, true, false, cond, List, [], ◌∷◌, ◌++◌, map, ℕ, ◌+◌, ◌-◌, ◌*◌, ◌/◌, ◌%◌, ◌<◌, eqb, ltb, ℤ, pos, negsuc, length, get_or, set, take}
+use Rattle.std.specs.Prelude.{◌≡◌, Bool, true, false, cond, List, [], ◌∷◌, ◌++◌, map, ℕ, ◌+◌, ◌-◌, ◌*◌, ◌/◌, ◌%◌, ◌<◌}
+use Rattle.std.specs.Prelude.{eqb, ltb, ℤ, pos, negsuc, length, get_or, set, take}
 use Rattle.std.proofs.lemmas.List.Edits.{sets}
 use Rattle.lists.specs.Lists.{flat_map}
 use Rattle.lists.specs.Table.{table}

@@ -18,7 +18,8 @@ use Rattle.board.specs.declared.Board.{Board}
 use Rattle.board.specs.Alien.{cell_count_of, board_of, is_alien}
 use Rattle.board.specs.Board.{Typed}
 use Rattle.board.specs.NativeLaws.{Native, native-has, borders-fit, tally-fits}
-use Rattle.image.specs.Image.{pair, quad, from_bits, spelled_board, two_bytes, four_bytes, bits_of, clue_bytes, image_of}
+use Rattle.image.specs.Image.{pair, quad, from_bits, spelled_board, two_bytes, four_bytes, bits_of, clue_bytes}
+use Rattle.image.specs.Image.{image_of}
 use Rattle.image.specs.Image.{spelled_tally, tally_counts, tally_bytes, right_length, image_alien, Bytes, Proper}
 use Rattle.image.specs.ByteLaws.{pair_of, quad-of, two-of, four-of, quad-small, bits-from, from-small}
 use Rattle.image.specs.ByteLaws.{bits_small, from_bits_lem}

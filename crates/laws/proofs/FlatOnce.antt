@@ -17,7 +17,8 @@ use Rattle.lists.specs.Pairs.{pairwise, distinct-pairwise}
 use Rattle.lists.specs.Booleans.{T-and-l, T-and-r}
 use Rattle.rules.specs.Page.{Point, ◌⊕◌, opposite, Shape}
 use Rattle.rules.specs.Turns.{Turn, apply, compose, keep, half, quarter, half_quarter, flip, flat_table}
-use Rattle.rules.specs.Shapes.{same_points, same_shape, turned, with_half, quarters, with_quarter, with_flip, flat_transforms}
+use Rattle.rules.specs.Shapes.{same_points, same_shape, turned, with_half, quarters, with_quarter, with_flip}
+use Rattle.rules.specs.Shapes.{flat_transforms}
 use Rattle.laws.specs.PointLaws.{add_assoc, add_back}
 use Rattle.laws.specs.SameLaws.{same_points-refl}
 use Rattle.laws.specs.ShapeLaws.{turned_by, Canonical, canonical-same, turned-canonical, turned-cells}

@@ -1,6 +1,7 @@
 -- The shape of a group on a flat page is sorted, so no two of its listed transforms have the same cells; and a shape
 -- has at most eight listed transforms.
-use Rattle.std.specs.Prelude.{◌≡◌, refl, ◌⊎◌, Bool, true, false, not, cond, ℕ, zero, suc, ◌*◌, ◌/◌, ◌%◌, ◌<◌, ◌≤◌, ltb, length}
+use Rattle.std.specs.Prelude.{◌≡◌, refl, ◌⊎◌, Bool, true, false, not, cond, ℕ, zero, suc, ◌*◌, ◌/◌, ◌%◌, ◌<◌, ◌≤◌, ltb}
+use Rattle.std.specs.Prelude.{length}
 use Rattle.std.proofs.Math.Path.{ap}
 use Rattle.std.proofs.Common.{inl, inr, ltb→lt, lt→ltb, length-append}
 use Rattle.std.proofs.Math.Option.{Option}

@@ -8,7 +8,8 @@ use Rattle.lists.specs.Pairs.{pairwise, distinct-pairwise, distinct-map}
 use Rattle.lists.specs.Booleans.{T-and-l, T-and-r}
 use Rattle.rules.specs.Turns.{Axis, layerward, rowward, columnward, Row, Turn, apply}
 use Rattle.rules.specs.Turns.{compose, plus, flat_turn, flat_table}
-use Rattle.laws.specs.TurnLaws.{same_row, same_turn, has_turn, same_row→eq, same_turn-refl, has-turn, apply-inj, both_axes, signed_swap, product, TableRules, undone, undo, composes, composition, Swaps}
+use Rattle.laws.specs.TurnLaws.{same_row, same_turn, has_turn, same_row→eq, same_turn-refl, has-turn, apply-inj}
+use Rattle.laws.specs.TurnLaws.{both_axes, signed_swap, product, TableRules, undone, undo, composes, composition, Swaps}
 use Rattle.std.proofs.Math.Path.{◌≡◌, refl, sym}
 use Rattle.std.proofs.Common.{subst}
 use Rattle.std.specs.Prelude.{not}

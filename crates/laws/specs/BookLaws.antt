@@ -44,7 +44,8 @@ use Rattle.rules.specs.Page.{Puzzle, State, undecided, decided, Has, is_undecide
 use Rattle.rules.specs.Check.{Verdict, borders_named, undecided_count, check}
 use Rattle.rules.specs.Book.{Asked, ask, Reply, refused, done, answered, Book, fresh_book, state_if, states, names}
 use Rattle.rules.specs.Book.{with_last, without_last, bare_or, looked, then_reply, done_book, after_by, decide_reply}
-use Rattle.rules.specs.Book.{check_reply, reply_to, or_alien, disagrees, reply, after, book_from, replies_from, book_after}
+use Rattle.rules.specs.Book.{check_reply, reply_to, or_alien, disagrees, reply, after, book_from, replies_from}
+use Rattle.rules.specs.Book.{book_after}
 use Rattle.rules.specs.Book.{replies}
 
 pub states-none : (ls : List Literal) (x : ℕ) → names ls x ≡ false → states ls x ≡ undecided
@@ -387,7 +388,8 @@ module _ (Z : Puzzle) (ls : List Literal) where
   unfolding reply_to
   preview-decides n l f e = go (decide_reply Z ls l) refl e
     where
-      go : (d : Reply) → decide_reply Z ls l ≡ d → then_reply d (check_reply Z (with_last ls l) n) ≡ answered f → d ≡ done
+      go : (d : Reply) → decide_reply Z ls l ≡ d → then_reply d (check_reply Z (with_last ls l) n) ≡ answered f
+          → d ≡ done
       go (refused m) q r = absurd (not-answered m f r)
       go done q r = refl
       go (answered g) q r = absurd (decide-never l g q)

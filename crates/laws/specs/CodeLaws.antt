@@ -6,7 +6,8 @@
 --   side-in, side-of         a decided border's side is told by its number
 --   bit-same                 two colours' numbers
 --   clue-fits                a clue of 32 bits that is not negative is a number of 64 bits
-use Rattle.std.specs.Prelude.{◌≡◌, refl, Bool, true, false, cond, List, ℕ, zero, suc, ◌<◌, ◌≤◌, eqb, T, length, get_or, ℤ, pos, negsuc, nat_abs}
+use Rattle.std.specs.Prelude.{◌≡◌, refl, Bool, true, false, cond, List, ℕ, zero, suc, ◌<◌, ◌≤◌, eqb, T, length, get_or}
+use Rattle.std.specs.Prelude.{ℤ, pos, negsuc, nat_abs}
 use Rattle.std.proofs.Common.{ap, sym, ◌∙◌, arith, ne_eqb, Fits, SFits}
 use Rattle.std.specs.Bool.{beq}
 use Rattle.std.proofs.Math.Decide.{ℕ_discrete, dec_lt}

@@ -36,7 +36,8 @@ module _ (G : Page) (number : ℕ → ℕ) (k : ℕ) where
         → (c : ℕ) × (h : Hop) × c ∈ members G number k × h ∈ G.ahead c × (number h.to ≡ k) ×
         (d ≡ (g (G.place c) ⊕ opposite (g (G.place from))) ⊕ (g (G.place h.to) ⊕ opposite (g (G.place from))))
     pub is-connection : (c : ℕ) (h : Hop) → c ∈ members G number k → h ∈ G.ahead c → number h.to ≡ k →
-        ((g (G.place c) ⊕ opposite (g (G.place from))) ⊕ (g (G.place h.to) ⊕ opposite (g (G.place from)))) ∈ u.connections
+        ((g (G.place c) ⊕ opposite (g (G.place from))) ⊕ (g (G.place h.to) ⊕ opposite (g (G.place from)))) ∈
+        u.connections
 
   module _ (m : ℕ) (mm : m ∈ members G number k) where
     abbrev places : List Point

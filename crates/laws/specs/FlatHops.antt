@@ -8,7 +8,8 @@ use Rattle.std.proofs.lemmas.List.{map-append}
 use Rattle.lists.specs.Lists.{◌∈◌, Distinct}
 use Rattle.lists.specs.Pairs.{distinct_append}
 use Rattle.rules.specs.Page.{Hop}
-use Rattle.rules.specs.Flat.{hop_if, cell_at, right_of, below_of, hop_above, hop_below, hop_left, hop_right, around_at, ahead_at}
+use Rattle.rules.specs.Flat.{hop_if, cell_at, right_of, below_of, hop_above, hop_below, hop_left, hop_right, around_at}
+use Rattle.rules.specs.Flat.{ahead_at}
 use Rattle.rules.specs.Flat.{flat}
 use Rattle.laws.specs.FlatLaws.{Spot, spot, row_of_lem}
 use Rattle.laws.specs.FlatLinks.{flat-linked}

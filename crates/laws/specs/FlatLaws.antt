@@ -1,7 +1,8 @@
 -- Laws of the flat page: its counts and the numbers at a cell, which are products of variables that `omega` does not
 -- find by itself.
 use Rattle.std.specs.Prelude.{◌≡◌, ℕ, zero, suc, ◌+◌, ◌-◌, ◌*◌, ◌/◌, ◌%◌, ◌<◌, ◌≤◌}
-use Rattle.std.proofs.Common.{sym, ◌∙◌, mul-le-mul_left, mul-le-mul_right, add-mul, le_trans, mul-zero, mod-lt, div-add-mod', div-lt_iff_lt-mul, arith}
+use Rattle.std.proofs.Common.{sym, ◌∙◌, mul-le-mul_left, mul-le-mul_right, add-mul, le_trans, mul-zero, mod-lt}
+use Rattle.std.proofs.Common.{div-add-mod', div-lt_iff_lt-mul, arith}
 use Rattle.std.proofs.Math.Arith.{digits_lt, digits_div, digits_mod}
 use Rattle.rules.specs.Flat.{Sized, border_count}
 

@@ -15,7 +15,8 @@ use Rattle.std.proofs.Math.IntN.{pos, negsuc, -ℤ_one}
 use Rattle.lists.specs.Lists.{◌∈◌}
 use Rattle.lists.specs.Booleans.{T-dec}
 use Rattle.rules.specs.Page.{Hop, ◌⊕◌}
-use Rattle.rules.specs.Flat.{flat, cell_at, right_of, below_of, border_count, hop_if, hop_above, hop_below, hop_left, hop_right}
+use Rattle.rules.specs.Flat.{flat, cell_at, right_of, below_of, border_count, hop_if, hop_above, hop_below, hop_left}
+use Rattle.rules.specs.Flat.{hop_right}
 use Rattle.rules.specs.Flat.{around_at, ahead_at, flat_first, flat_second, flat_place, flat_reads_at, flat_reads}
 use Rattle.laws.specs.FlatLaws.{spot}
 use Rattle.laws.specs.PointLaws.{point-eq}

@@ -17,7 +17,8 @@ use Rattle.lists.specs.Booleans.{T-and-l, T-and-r}
 use Rattle.rules.specs.Page.{Point, ◌⊕◌, opposite, Shape}
 use Rattle.rules.specs.Turns.{Turn, apply, compose, keep, half, quarter, half_quarter, flip, flip_half, flip_quarter}
 use Rattle.rules.specs.Turns.{flip_half_quarter, flat_table}
-use Rattle.rules.specs.Shapes.{same_point, same_shape, turned, with_half, quarters, with_quarter, with_flip, flat_transforms}
+use Rattle.rules.specs.Shapes.{same_point, same_shape, turned, with_half, quarters, with_quarter, with_flip}
+use Rattle.rules.specs.Shapes.{flat_transforms}
 use Rattle.laws.specs.PointLaws.{origin, add_assoc, add-origin, add-opposite, swap4}
 use Rattle.laws.specs.PageLaws.{Moved, Turns, six_steps}
 use Rattle.laws.specs.SameLaws.{same_point→eq, same_points→eq}

@@ -234,7 +234,8 @@ module _ (n : ℕ) (M : List ℕ) (lab : Labelled n M) (u v : ℕ) (hu : u < n) 
       up : (y : ℕ) → y < n → R y (get_or M y 0)
       up y k = turn (get_or M y 0) y (omega (arith, lab.least y k)) (s y k)
 
-      both : (lo hi : ℕ) → ((get_or M u 0 ≡ lo) × (get_or M v 0 ≡ hi)) ⊎ ((get_or M u 0 ≡ hi) × (get_or M v 0 ≡ lo)) → R lo hi
+      both : (lo hi : ℕ)
+          → ((get_or M u 0 ≡ lo) × (get_or M v 0 ≡ hi)) ⊎ ((get_or M u 0 ≡ hi) × (get_or M v 0 ≡ lo)) → R lo hi
       both lo hi (inl q) = rw (← q.0, ← q.1) (join _ u _ (s u hu) (join u v _ e (up v hv)))
       both lo hi (inr q) = rw (← q.0, ← q.1) (join _ v _ (s v hv) (join v u _ (turn u v hu e) (up u hu)))
 
@@ -246,14 +247,16 @@ module _ (n : ℕ) (M : List ℕ) (lab : Labelled n M) (u v : ℕ) (hu : u < n) 
       go lo hi q (no d) = subst (λ (i : ℕ). R i x) (sym (rename-miss lo hi (get_or M x 0) d)) (s x h)
 
   -- labels that are the same for each cell and its label stay so
-  pub merge-sound : (K : List ℕ) → get_or K u 0 ≡ get_or K v 0 → ((x : ℕ) → x < n → get_or K (get_or M x 0) 0 ≡ get_or K x 0)
+  pub merge-sound : (K : List ℕ) → get_or K u 0 ≡ get_or K v 0
+      → ((x : ℕ) → x < n → get_or K (get_or M x 0) 0 ≡ get_or K x 0)
       → (x : ℕ) → x < n → get_or K (get_or (merge_if true (entry M u) (entry M v) M) x 0) 0 ≡ get_or K x 0
   merge-sound K =
       merge-within (λ x y. get_or K x 0 ≡ get_or K y 0) (λ x y h e. sym e) (λ x y z d e. d ∙ e)
 
 -- labels of the same groups are the same labels
 pub labels-one : (n : ℕ) (M L : List ℕ) → Labelled n M → Labelled n L
-    → ((x : ℕ) → x < n → get_or L (get_or M x 0) 0 ≡ get_or L x 0) → ((x : ℕ) → x < n → get_or M (get_or L x 0) 0 ≡ get_or M x 0)
+    → ((x : ℕ) → x < n → get_or L (get_or M x 0) 0 ≡ get_or L x 0)
+    → ((x : ℕ) → x < n → get_or M (get_or L x 0) 0 ≡ get_or M x 0)
     → M ≡ L
 labels-one n M L m l f g =
     ext_get_or 0 M L (m.size ∙ sym l.size)

@@ -11,6 +11,7 @@
 --                       with inverses, and made from the quarter turn and the flip
 --   inverses a b        the rows a and b undo each other
 --   undone ts a         the table ts has a row that undoes a
+--   composes a          the row a has its inverse in the table, and composes with each to a row
 --   Swaps ts            the functions ts are the eight signed swaps, each once
 use Rattle.std.specs.Prelude.{◌≡◌, refl, ◌⊎◌, Bool, true, false, not, ◌&&◌, ◌||◌, List, [], ◌∷◌, map, T, ℤ, pos, ◌+ℤ◌}
 use Rattle.std.proofs.Common.{sym, ap, ◌∙◌, inl, inr}

@@ -1,6 +1,7 @@
 -- Laws of counting: one number further, all or none counted, and that a count grows at each number that passes.
 use Rattle.std.specs.Prelude.{◌≡◌, refl, Bool, true, false, not, ◌||◌, ◌⊎◌, ℕ, zero, suc, ◌+◌, ◌<◌, ◌≤◌, T, eqb, ltb}
-use Rattle.std.proofs.Common.{ap, ap₂, sym, ◌∙◌, inl, inr, ⊎_elim, not-suc-le-zero, eq-or-lt_of_le, le_of_suc-le-suc, arith, eq-eqb, ne_eqb, nltb→le, ltb→lt}
+use Rattle.std.proofs.Common.{ap, ap₂, sym, ◌∙◌, inl, inr, ⊎_elim, not-suc-le-zero, eq-or-lt_of_le, le_of_suc-le-suc}
+use Rattle.std.proofs.Common.{arith, eq-eqb, ne_eqb, nltb→le, ltb→lt}
 use Rattle.std.proofs.Math.Bool.{or-false}
 use Rattle.lists.specs.Count.{bit, count_below}
 use Rattle.lists.specs.Booleans.{T-dec, T_true}

@@ -105,7 +105,8 @@ module _ {A B : Type 0} where
       go (inl n) ih = (x, Memᴰ.head refl, n)
       go (inr n) ih = let r = ih n in (r.0, Memᴰ.tail r.1, r.2)
 
-  pub first-find : (f : A → Option B) (xs : List A) (b : B) → first_hit f xs ≡ some b → (x : A) × x ∈ xs × (f x ≡ some b)
+  pub first-find : (f : A → Option B) (xs : List A) (b : B) → first_hit f xs ≡ some b → (x : A) × x ∈ xs
+      × (f x ≡ some b)
   unfolding first_hit or_else
   first-find f [] b e = absurd (none-some e)
     where

@@ -1,6 +1,8 @@
 -- Laws of lists that are filled up with one value: a loop that fills one, its length, and what stands where in it.
-use Rattle.std.specs.Prelude.{◌≡◌, refl, List, [], ◌∷◌, ◌++◌, ℕ, zero, suc, ◌+◌, ◌-◌, ◌<◌, ◌≤◌, length, get_or, set, take, replicate}
-use Rattle.std.proofs.Common.{ap, sym, ◌∙◌, ⊎_elim, not-suc-le-zero, le_of_suc-le-suc, add-one, arith, length-append, take_all, ext_get_or, length-take-le, get_or-take, get_or-append-add}
+use Rattle.std.specs.Prelude.{◌≡◌, refl, List, [], ◌∷◌, ◌++◌, ℕ, zero, suc, ◌+◌, ◌-◌, ◌<◌, ◌≤◌, length, get_or, set}
+use Rattle.std.specs.Prelude.{take, replicate}
+use Rattle.std.proofs.Common.{ap, sym, ◌∙◌, ⊎_elim, not-suc-le-zero, le_of_suc-le-suc, add-one, arith, length-append}
+use Rattle.std.proofs.Common.{take_all, ext_get_or, length-take-le, get_or-take, get_or-append-add}
 use Rattle.std.proofs.Math.Decide.{dec_lt}
 use Rattle.std.proofs.lemmas.List.{length-replicate}
 use Rattle.std.proofs.Math.ListN.{get_or-append, get_or-eq_default}

@@ -1,7 +1,9 @@
 -- Laws of parts of a list: where one starts, ends and is split, its length, and a loop over one that tests or gathers.
-use Rattle.std.specs.Prelude.{◌≡◌, Bool, true, false, List, [], ◌∷◌, ◌++◌, ℕ, suc, ◌+◌, ◌-◌, ◌≤◌, ◌<◌, length, get_or, set, drop}
+use Rattle.std.specs.Prelude.{◌≡◌, Bool, true, false, List, [], ◌∷◌, ◌++◌, ℕ, suc, ◌+◌, ◌-◌, ◌≤◌, ◌<◌, length, get_or}
+use Rattle.std.specs.Prelude.{set, drop}
 use Rattle.std.proofs.Math.Path.{sym}
-use Rattle.std.proofs.Common.{ap, ◌∙◌, add-one, arith, length-take, length-drop, drop_of_length-le, drop-cons, take-add, drop-drop, take_all, length-take-le, drop-set-lt}
+use Rattle.std.proofs.Common.{ap, ◌∙◌, add-one, arith, length-take, length-drop, drop_of_length-le, drop-cons, take-add}
+use Rattle.std.proofs.Common.{drop-drop, take_all, length-take-le, drop-set-lt}
 use Rattle.std.proofs.Math.Seq.{take-nil}
 use Rattle.lists.specs.Lists.{any, all}
 use Rattle.lists.specs.Parts.{part}

@@ -2,7 +2,9 @@
 -- a flat_map.
 use Rattle.std.specs.Prelude.{◌≡◌, refl, length, get_or, set, take, drop}
 use Rattle.std.proofs.Math.Path.{ap}
-use Rattle.std.proofs.Common.{ap₂, sym, ◌∙◌, not-suc-le-zero, le_of_suc-le-suc, add-one, length-append, take-append-drop, get_or-append-add, take-suc, take-suc-set, drop-drop, drop_at, length-take-le, get_or-set_same, get_or-set_other}
+use Rattle.std.proofs.Common.{ap₂, sym, ◌∙◌, not-suc-le-zero, le_of_suc-le-suc, add-one, length-append}
+use Rattle.std.proofs.Common.{take-append-drop, get_or-append-add, take-suc, take-suc-set, drop-drop, drop_at}
+use Rattle.std.proofs.Common.{length-take-le, get_or-set_same, get_or-set_other}
 use mathlib.Core.List.{List, [], ◌∷◌, ◌++◌, append_assoc}
 use Prim.Native.Nat.{ℕ, zero, suc, ◌+◌, ◌*◌, ◌<◌, ◌≤◌}
 use Rattle.std.proofs.Math.Nat.{mul-zero, mul-suc}
@@ -111,7 +113,8 @@ module _ {A B : Type 0} (f : A → List B) (k : ℕ) (long : (x : A) → length 
 
   -- the lists of the elements before i are stored from a on, and one more
   pub sets-flat-more : (s : List B) (a : ℕ) (xs : List A) (i : ℕ) (d : A) → i < length xs
-      → sets (sets s a (flat_map f (take i xs))) (a + k * i) (f (get_or xs i d)) ≡ sets s a (flat_map f (take (i + 1) xs))
+      → sets (sets s a (flat_map f (take i xs))) (a + k * i) (f (get_or xs i d))
+      ≡ sets s a (flat_map f (take (i + 1) xs))
   sets-flat-more s a xs i d h =
       let t = length-take-le i xs (omega arith) in
       let l = length-flat f k (take i xs) (λ x m. long x) ∙ ap (λ n. k * n) t in

@@ -1,7 +1,9 @@
 -- Laws of tables: a loop that stores their values one by one, and tables in maps, flat_maps and parts of lists.
 use Rattle.std.specs.Prelude.{◌≡◌, ◌⊎◌, length, get_or, set, drop}
 use Rattle.std.proofs.Math.Path.{refl, ap, ap₂, sym}
-use Rattle.std.proofs.Common.{◌∙◌, inl, inr, not-suc-le-zero, eq-or-lt_of_le, le_of_suc-le-suc, length-drop, ext_get_or, get_or-set_same, get_or-set_other, take-add, drop-drop, length-take-le, get_or-take, get_or-drop}
+use Rattle.std.proofs.Common.{◌∙◌, inl, inr, not-suc-le-zero, eq-or-lt_of_le, le_of_suc-le-suc, length-drop, ext_get_or}
+use Rattle.std.proofs.Common.{get_or-set_same, get_or-set_other, take-add, drop-drop, length-take-le, get_or-take}
+use Rattle.std.proofs.Common.{get_or-drop}
 use mathlib.Core.List.Memᴰ
 use mathlib.Core.List.{List, [], ◌∷◌, ◌++◌, map, map-append}
 use Rattle.std.proofs.Math.Logic.{⊎_elim}
@@ -91,7 +93,8 @@ module _ {A B : Type 0} where
   map-table f zero F = refl
   map-table f (suc n) F = map-append f (table n F) (F n ∷ []) ∙ ap (λ l. l ++ (f (F n) ∷ [])) (map-table f n F)
 
-  pub flat-table : (f : A → List B) (n : ℕ) (F : ℕ → A) → flat_map f (table (n + 1) F) ≡ flat_map f (table n F) ++ f (F n)
+  pub flat-table : (f : A → List B) (n : ℕ) (F : ℕ → A) → flat_map f (table (n + 1) F) ≡ flat_map f (table n F)
+      ++ f (F n)
   flat-table f n F = ap (flat_map f) (table_more n F) ∙ flat-last f (table n F) (F n)
 
   -- the lists of a table in a row are a part of s, where each of them is one

@@ -3,7 +3,8 @@
 --   Lays a ds b           what is laid after b stands as if it were laid after ds, after a
 --   Laying a ds out rest  of the digits ds, laid after a, all but those of `rest` are laid in `out`
 --   Stores w c            the bounds of a clue that was read, on a page of w columns, at most 32
-use Rattle.std.specs.Prelude.{◌≡◌, refl, List, [], ◌∷◌, ◌++◌, ℕ, zero, suc, ◌+◌, ◌-◌, ◌*◌, ◌<◌, ◌≤◌, ℤ, pos, length, set, get_or}
+use Rattle.std.specs.Prelude.{◌≡◌, refl, List, [], ◌∷◌, ◌++◌, ℕ, zero, suc, ◌+◌, ◌-◌, ◌*◌, ◌<◌, ◌≤◌, ℤ, pos, length}
+use Rattle.std.specs.Prelude.{set, get_or}
 use Rattle.std.proofs.Common.{sym, ap, ◌∙◌, mul-le-mul_left, add-one, arith}
 use Rattle.std.proofs.Math.Option.{some}
 use Rattle.std.proofs.lemmas.List.Edits.{sets}

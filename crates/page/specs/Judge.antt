@@ -13,7 +13,8 @@
 --   colour_array rows   the colours as an array of 1,024 places, 0 where no digit stands
 --   placed w m cs       the array m with the clues cs stored at their cells' numbers
 --   clue_array w cs     the clues as an array of 1,024 places, −1 where no clue stands; none above 32 columns
-use Rattle.std.specs.Prelude.{Bool, ◌&&◌, cond, List, [], ◌∷◌, ℕ, ◌+◌, ◌*◌, ◌/◌, ◌%◌, leb, eqb, ℤ, pos, negsuc, length, set, replicate}
+use Rattle.std.specs.Prelude.{Bool, ◌&&◌, cond, List, [], ◌∷◌, ℕ, ◌+◌, ◌*◌, ◌/◌, ◌%◌, leb, eqb, ℤ, pos, negsuc, length}
+use Rattle.std.specs.Prelude.{set, replicate}
 use Rattle.std.proofs.Math.Option.{Option, none, some}
 use Rattle.std.proofs.lemmas.List.Edits.{sets}
 use Rattle.lists.specs.Lists.{all, flat_map}

@@ -4,7 +4,8 @@
 --   Makes p             the page p makes a board
 use Rattle.std.specs.Prelude.{◌≡◌, Bool, true, not, ◌&&◌, ◌||◌, ltb, ℤ, negsuc, length, set, take, drop, replicate}
 use Rattle.std.proofs.Math.Path.{refl, ap, ap₂}
-use Rattle.std.proofs.Common.{sym, ◌∙◌, div-add-mod', mul_comm, arith, eqb→eq, length-set, take_at, get_or-take, length-take-le}
+use Rattle.std.proofs.Common.{sym, ◌∙◌, div-add-mod', mul_comm, arith, eqb→eq, length-set, take_at, get_or-take}
+use Rattle.std.proofs.Common.{length-take-le}
 use Rattle.std.proofs.Math.Bool.{false, cond}
 use mathlib.Core.List.{List, [], ◌∷◌, ◌++◌}
 use Prim.Native.Nat.{ℕ, ◌+◌, ◌*◌, ◌/◌, ◌%◌, ◌<◌, ◌≤◌}

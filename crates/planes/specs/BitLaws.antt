@@ -1,7 +1,9 @@
 -- Laws of bits: of 0, of shifted words, of a word and a word, of a word or a word; a word is not 0 exactly if it has a
 -- bit.
-use Rattle.std.specs.Prelude.{◌≡◌, refl, Bool, false, not, ◌&&◌, ◌||◌, ◌⊎◌, ℕ, zero, suc, ◌+◌, ◌*◌, ◌/◌, ◌%◌, ◌^◌, ◌<◌, ◌≤◌, min, max, eqb}
-use Rattle.std.proofs.Common.{ap, ap₂, sym, ◌∙◌, inl, inr, ⊎_elim, not-suc-le-zero, mod-lt, add_comm, lt_of_lt_of_le, zero-lt-suc, div-one, mod-eq_of_lt, add-one, arith, ne_eqb, pow_mono, shr-shr, shr_lt}
+use Rattle.std.specs.Prelude.{◌≡◌, refl, Bool, false, not, ◌&&◌, ◌||◌, ◌⊎◌, ℕ, zero, suc, ◌+◌, ◌*◌, ◌/◌, ◌%◌, ◌^◌, ◌<◌}
+use Rattle.std.specs.Prelude.{◌≤◌, min, max, eqb}
+use Rattle.std.proofs.Common.{ap, ap₂, sym, ◌∙◌, inl, inr, ⊎_elim, not-suc-le-zero, mod-lt, add_comm, lt_of_lt_of_le}
+use Rattle.std.proofs.Common.{zero-lt-suc, div-one, mod-eq_of_lt, add-one, arith, ne_eqb, pow_mono, shr-shr, shr_lt}
 use Rattle.std.proofs.Math.Nat.{div-eq_of_lt, zero-div}
 use Rattle.std.proofs.Math.Dec.{eqb-zero-suc, eqb-suc-zero, eqb-suc-suc}
 use Rattle.std.proofs.Math.Arith.{digits_div, digits_mod, lt-one}

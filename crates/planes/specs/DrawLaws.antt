@@ -2,7 +2,8 @@
 --
 --   Line h w y               the cells and the borders of row y, and those below them, are within their arrays
 --   Drawing h w cs bs n p    the first n doubled rows are drawn in p
-use Rattle.std.specs.Prelude.{◌≡◌, Bool, List, ◌≢◌, ℕ, zero, ◌+◌, ◌-◌, ◌*◌, ◌/◌, ◌%◌, ◌<◌, ◌≤◌, eqb, length, get_or, set, replicate}
+use Rattle.std.specs.Prelude.{◌≡◌, Bool, List, ◌≢◌, ℕ, zero, ◌+◌, ◌-◌, ◌*◌, ◌/◌, ◌%◌, ◌<◌, ◌≤◌, eqb, length, get_or}
+use Rattle.std.specs.Prelude.{set, replicate}
 use Rattle.std.proofs.Common.{ap, sym, ◌∙◌, mod-eq_of_lt, length-set, get_or-set_same, get_or-set_other}
 use Rattle.std.proofs.Math.Bool.{true, false, cond}
 use Rattle.std.proofs.Math.Logic.{⊎_elim}

@@ -1,5 +1,6 @@
 -- The search over the planes answers as the plain one: some origin fits.
-use Rattle.std.specs.Prelude.{◌≡◌, refl, Bool, ◌&&◌, List, [], ◌∷◌, ℕ, suc, ◌+◌, ◌-◌, ◌*◌, ◌/◌, ◌%◌, ◌<◌, ◌≤◌, eqb, length, drop}
+use Rattle.std.specs.Prelude.{◌≡◌, refl, Bool, ◌&&◌, List, [], ◌∷◌, ℕ, suc, ◌+◌, ◌-◌, ◌*◌, ◌/◌, ◌%◌, ◌<◌, ◌≤◌, eqb}
+use Rattle.std.specs.Prelude.{length, drop}
 use Rattle.std.proofs.Math.Path.{ap, ap₂, sym}
 use Rattle.std.proofs.Common.{◌∙◌, div-lt_iff_lt-mul, length-take, get_or-take, get_or-drop}
 use Rattle.std.proofs.Math.Bool.{true}
@@ -74,7 +75,8 @@ module _ {h w : ℕ} {cs : List ℕ} (d : Drawn h w cs) (bs ts : List ℕ) (n : 
   clear y x j = plane_bit p (2 * y + get_or (ys_in ts) j 0) (get_or (xs_in ts) j 0 / 2 + x)
 
   pub spot-clear : (y x j : ℕ) → y < 32 → j < n
-      → clear y x j ≡ is_clear (reading_of Z s (read_raised h w (2 * y + get_or (ys_in ts) j 0) (2 * x + get_or (xs_in ts) j 0)))
+      → clear y x j
+      ≡ is_clear (reading_of Z s (read_raised h w (2 * y + get_or (ys_in ts) j 0) (2 * x + get_or (xs_in ts) j 0)))
   unfolding planes_of
   spot-clear y x j l m =
       let a = r j m in

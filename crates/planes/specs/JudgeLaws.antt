@@ -68,7 +68,8 @@ module _ (h w o y x : ℕ) where
 module _ (h w : ℕ) (cs : List ℕ) (s : ℕ → State) (t : List ℕ) (o : ℕ) where
   unfoldable pub read_at : ℕ → Reading
   read_at i =
-      reading_of (unclued h w cs) s (read_raised h w (2 * (o / w) + get_or (ys_in t) i 0) (2 * (o % w) + get_or (xs_in t) i 0))
+      reading_of (unclued h w cs) s
+      (read_raised h w (2 * (o / w) + get_or (ys_in t) i 0) (2 * (o % w) + get_or (xs_in t) i 0))
 
   -- those of the last m connections, from i on
   unfoldable pub read_from : ℕ → ℕ → List Reading

@@ -10,7 +10,8 @@
 --   Sizes h p m         the mask has h rows, and planes and mask their lengths
 --   Span h m top end    the rows of the mask that have an origin lie from top to before end
 --   MaskAnswers h p m F  the search over planes and mask answers F of any connections
-use Rattle.std.specs.Prelude.{◌≡◌, Bool, ◌&&◌, List, ℕ, zero, suc, ◌+◌, ◌*◌, ◌/◌, ◌%◌, ◌^◌, ◌≤◌, ◌<◌, eqb, length, get_or}
+use Rattle.std.specs.Prelude.{◌≡◌, Bool, ◌&&◌, List, ℕ, zero, suc, ◌+◌, ◌*◌, ◌/◌, ◌%◌, ◌^◌, ◌≤◌, ◌<◌, eqb, length}
+use Rattle.std.specs.Prelude.{get_or}
 use Rattle.std.specs.Int.Bits.{bit_and}
 use Rattle.lists.specs.Lists.{any, flat_map}
 use Rattle.lists.specs.Tests.{all_below, any_below}
@@ -36,7 +37,8 @@ plane_bit p r c = bit_at (get_or p r 0) c
 module _ (p : List ℕ) (y : ℕ) (ts : List ℕ) where
   unfoldable pub clear_word : ℕ → ℕ → ℕ
   clear_word v zero = v
-  clear_word v (suc j) = bit_and (clear_word v j) (get_or p (2 * y + get_or (ys_in ts) j 0) 0 / 2 ^ (get_or (xs_in ts) j 0 / 2))
+  clear_word v (suc j) =
+      bit_and (clear_word v j) (get_or p (2 * y + get_or (ys_in ts) j 0) 0 / 2 ^ (get_or (xs_in ts) j 0 / 2))
 
   unfoldable pub line_fits : ℕ → ℕ → Bool
   line_fits n v =

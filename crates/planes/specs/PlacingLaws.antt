@@ -33,7 +33,12 @@ module _ (cs bs : List ℕ) (from to b : ℕ) (two : (c : ℕ) → get_or cs c 0
       → Clear ≡ between (colours_in cs) (states_in bs) from to b
   unfolding between states_in
   between-clear e v =
-      rw (two-colours, eq-eqb (get_or cs from 0) (get_or cs to 0) e, wall-state (get_or bs b 0), ne_eqb (get_or bs b 0) 1 v)
+      rw (
+        two-colours,
+        eq-eqb (get_or cs from 0) (get_or cs to 0) e,
+        wall-state (get_or bs b 0),
+        ne_eqb (get_or bs b 0) 1 v,
+      )
 
 -- the numbers of two cells side by side, and of one below the other
 pub record Across (h w y x : ℕ) : Type 0 where

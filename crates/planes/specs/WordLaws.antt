@@ -32,7 +32,8 @@ module _ (p : List ℕ) (y : ℕ) (ts : List ℕ) (v : ℕ) where
   clear_none = refl
 
   pub clear-more : (j : ℕ) {acc : ℕ} → acc ≡ clear_word p y ts v j
-      → bit_and acc (get_or p (2 * y + get_or (ys_in ts) j 0) 0 / 2 ^ (get_or (xs_in ts) j 0 / 2)) ≡ clear_word p y ts v (j + 1)
+      → bit_and acc (get_or p (2 * y + get_or (ys_in ts) j 0) 0 / 2 ^ (get_or (xs_in ts) j 0 / 2))
+      ≡ clear_word p y ts v (j + 1)
   unfolding clear_word
   clear-more j e = rw (add-one, e)
 

@@ -33,7 +33,8 @@ pub record Put (ks : List ℕ) (a e : ℕ) (m after : List ℕ) (r : Chunk) : Ty
   -- a buffer of 32 bytes or more takes one literal at least
   pub moves : a < e → a < length ks → 32 ≤ length m → a < r.next
 
-pub show-append : {A : Type 0} (f : A → List ℕ) (xs ys : List A) → show_all f (xs ++ ys) ≡ show_all f xs ++ show_all f ys
+pub show-append : {A : Type 0} (f : A → List ℕ) (xs ys : List A) → show_all f (xs ++ ys) ≡ show_all f xs
+    ++ show_all f ys
 unfolding show_all
 show-append f [] ys = refl
 show-append f (x ∷ xs) ys = rw (show-append f xs ys) (sym (append_assoc (f x) (show_all f xs) (show_all f ys)))
@@ -42,7 +43,8 @@ pub chunk-codes-none : (ks : List ℕ) (a : ℕ) → codes_from ks a a ≡ []
 unfolding codes_from table
 chunk-codes-none ks a = let e : a - a ≡ 0 = omega arith in rw e
 
-pub chunk-codes-more : (ks : List ℕ) (a p : ℕ) → a ≤ p → codes_from ks a (p + 1) ≡ codes_from ks a p ++ (get_or ks p 0 ∷ [])
+pub chunk-codes-more : (ks : List ℕ) (a p : ℕ) → a ≤ p → codes_from ks a (p + 1) ≡ codes_from ks a p
+    ++ (get_or ks p 0 ∷ [])
 unfolding codes_from table
 chunk-codes-more ks a p h =
     let e : p + 1 - a ≡ suc (p - a) = omega arith in

@@ -14,8 +14,10 @@
 --   decimal-last, decimal-long                 a number's last digit
 --   tens k, decimal-short, decimal-64, decimal-16  the k-th power of ten, and how many digits a number has
 --   numbered-text                              a word, a number, a bracket and a newline
-use Rattle.std.specs.Prelude.{◌≡◌, refl, Bool, true, false, List, [], ◌∷◌, ◌++◌, ℕ, zero, suc, ◌+◌, ◌*◌, ◌/◌, ◌%◌, ◌<◌, ◌≤◌, ltb, length, take, drop, set, get_or, replicate}
-use Rattle.std.proofs.Common.{sym, ap, ap₂, ◌∙◌, append_assoc, add-one, arith, ltb-true, ltb-false, length-append, take-suc, take_at, drop_at}
+use Rattle.std.specs.Prelude.{◌≡◌, refl, Bool, true, false, List, [], ◌∷◌, ◌++◌, ℕ, zero, suc, ◌+◌, ◌*◌, ◌/◌, ◌%◌, ◌<◌}
+use Rattle.std.specs.Prelude.{◌≤◌, ltb, length, take, drop, set, get_or, replicate}
+use Rattle.std.proofs.Common.{sym, ap, ap₂, ◌∙◌, append_assoc, add-one, arith, ltb-true, ltb-false, length-append}
+use Rattle.std.proofs.Common.{take-suc, take_at, drop_at}
 use Rattle.std.proofs.lemmas.List.Edits.{sets, sets-eq}
 use Rattle.std.proofs.Math.Seq.{length-sets, take-length}
 use Rattle.lists.specs.Stores.{sets-append}

@@ -1,6 +1,7 @@
 -- Laws of the probes: the two cases of an image's length, the lengths of their arrays, what is handed out, a group, and
 -- the two cases of an answer.
-use Rattle.std.specs.Prelude.{◌≡◌, ◌⊎◌, Bool, true, false, ◌&&◌, cond, List, [], map, ℕ, ◌*◌, ◌<◌, ◌≤◌, leb, length, take, replicate}
+use Rattle.std.specs.Prelude.{◌≡◌, ◌⊎◌, Bool, true, false, ◌&&◌, cond, List, [], map, ℕ, ◌*◌, ◌<◌, ◌≤◌, leb, length}
+use Rattle.std.specs.Prelude.{take, replicate}
 use Rattle.std.proofs.Math.Path.{refl}
 use Rattle.std.proofs.Common.{inl, inr, arith, leb-true, ne_eqb}
 use Rattle.rules.specs.declared.Side.{Side}

@@ -1,5 +1,6 @@
 -- The alien test is exact: a board is not alien exactly if making a board, decides and undos that are done lead to it.
-use Rattle.std.specs.Prelude.{◌≡◌, refl, Bool, false, not, List, [], ◌∷◌, ◌++◌, ◌↔◌, ℕ, zero, suc, ◌+◌, ◌<◌, ◌≤◌, ℤ, pos, length, take}
+use Rattle.std.specs.Prelude.{◌≡◌, refl, Bool, false, not, List, [], ◌∷◌, ◌++◌, ◌↔◌, ℕ, zero, suc, ◌+◌, ◌<◌, ◌≤◌, ℤ}
+use Rattle.std.specs.Prelude.{pos, length, take}
 use Rattle.std.proofs.Math.Path.{ap, sym}
 use Rattle.std.proofs.Common.{◌∙◌, arith, le-leb, eqb-true, get_or-set_same, set-set, get_or-take}
 use Rattle.std.proofs.Math.Bool.{true}
@@ -19,7 +20,8 @@ use Rattle.board.specs.declared.Board.{Board}
 use Rattle.board.specs.declared.Outcome.TheVariants.{Done}
 use Rattle.board.specs.Alien.{colours_right, clue_right, clues_right, stacked, tally_in, cell_count_of, border_count_of}
 use Rattle.board.specs.Alien.{board_of, board_with, is_alien}
-use Rattle.board.specs.Board.{fresh_board, returned, tally_more, tally_less, pushed, fresh_of, decide_of, SmallClues, Typed}
+use Rattle.board.specs.Board.{fresh_board, returned, tally_more, tally_less, pushed, fresh_of, decide_of, SmallClues}
+use Rattle.board.specs.Board.{Typed}
 use Rattle.board.specs.ConditionLaws.{size_is, stacked-none}
 use Rattle.board.specs.Cases.{fresh-done, decide-done}
 use Rattle.board.specs.NativeLaws.{Native, native-has, native-of, cells_fit, borders-fit}

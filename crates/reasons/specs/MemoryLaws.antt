@@ -12,9 +12,11 @@
 --   once-handed         where a reason holds on a board, what is handed out of working memory is its literals, each
 --                       once
 --   plain-handed        where it names no border twice, it may be written into the front of lent memory straight away
-use Rattle.std.specs.Prelude.{◌≡◌, refl, Bool, true, false, ◌||◌, cond, List, [], ◌∷◌, ◌++◌, map, ℕ, suc, ◌+◌, ◌<◌, ◌≤◌, eqb, leb, length, get_or, set, take, drop, replicate}
+use Rattle.std.specs.Prelude.{◌≡◌, refl, Bool, true, false, ◌||◌, cond, List, [], ◌∷◌, ◌++◌, map, ℕ, suc, ◌+◌, ◌<◌, ◌≤◌}
+use Rattle.std.specs.Prelude.{eqb, leb, length, get_or, set, take, drop, replicate}
 use Rattle.std.proofs.Math.Path.{ap}
-use Rattle.std.proofs.Common.{ap₂, sym, ◌∙◌, append_assoc, append-nil, add-one, take-append-drop, get_or-set_same, get_or-set_other, take-suc-set, length-take-le}
+use Rattle.std.proofs.Common.{ap₂, sym, ◌∙◌, append_assoc, append-nil, add-one, take-append-drop, get_or-set_same}
+use Rattle.std.proofs.Common.{get_or-set_other, take-suc-set, length-take-le}
 use Rattle.std.proofs.Math.Bool.{not, or-true, or-false}
 use mathlib.Core.List.Memᴰ
 use native.Mathlib.Omega.{arith}

@@ -232,7 +232,8 @@ module _ (Z : Puzzle) (s : ℕ → State) where
   -- "blockers in order, Inside(U), Edge(P), Edge of each adjacent unit, then" those walls
   unfoldable pub unit_reason : ℕ → ℕ → Reason
   unit_reason U P =
-      flat_map blockers (placements U P) ++ (inside_unit U ++ (edge_of P ++ (flat_map edge_of (mates P) ++ far_walls P)))
+      flat_map blockers (placements U P)
+      ++ (inside_unit U ++ (edge_of P ++ (flat_map edge_of (mates P) ++ far_walls P)))
 
   -- "If none fits"
   unfoldable pub unit_hit_in : ℕ → ℕ → Option Reason

@@ -16,7 +16,8 @@
 --   flat_reads_in l y x  the same with the layer l and signs; none in another layer or below 0
 --   flat_reads p         the border that a doubled place reads; none if it is off the page
 --   flat h w             the page
-use Rattle.std.specs.Prelude.{Bool, true, false, ◌&&◌, cond, List, [], ◌∷◌, ◌++◌, map, ℕ, zero, suc, ◌+◌, ◌-◌, ◌*◌, ◌/◌, ◌%◌, ◌≤◌, eqb, ltb, leb, ℤ, pos, negsuc}
+use Rattle.std.specs.Prelude.{Bool, true, false, ◌&&◌, cond, List, [], ◌∷◌, ◌++◌, map, ℕ, zero, suc, ◌+◌, ◌-◌, ◌*◌, ◌/◌}
+use Rattle.std.specs.Prelude.{◌%◌, ◌≤◌, eqb, ltb, leb, ℤ, pos, negsuc}
 use Rattle.std.proofs.Math.Option.{Option, some, none}
 use Rattle.rules.specs.Page.{Page, Point, Hop}
 use Rattle.rules.specs.Shapes.{flat_transforms}

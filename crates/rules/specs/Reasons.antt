@@ -14,7 +14,8 @@
 --   path G s a b                   Path(a, b)
 --
 -- `number` gives each cell's group number: that of its block, unit or potential unit.
-use Rattle.std.specs.Prelude.{Bool, true, false, not, ◌&&◌, ◌||◌, cond, List, [], ◌∷◌, ◌++◌, map, ℕ, zero, suc, eqb, ltb}
+use Rattle.std.specs.Prelude.{Bool, true, false, not, ◌&&◌, ◌||◌, cond, List, [], ◌∷◌, ◌++◌, map, ℕ, zero, suc, eqb}
+use Rattle.std.specs.Prelude.{ltb}
 use Rattle.std.specs.Bool.{beq}
 use Rattle.lists.specs.Lists.{filter, flat_map, any}
 use Rattle.rules.specs.declared.Side.{Side}

@@ -16,7 +16,8 @@
 --   with_quarter t listed  the listed shapes, and these if the quarter turn of t differs
 --   with_flip t listed     the listed shapes, and the flips of all of them if the flip of t is not yet listed
 --   flat_transforms t      the listed transforms of a shape on a flat page
-use Rattle.std.specs.Prelude.{Bool, true, false, ◌&&◌, ◌||◌, cond, List, [], ◌∷◌, ◌++◌, map, ℕ, eqb, ltb, ℤ, pos, negsuc}
+use Rattle.std.specs.Prelude.{Bool, true, false, ◌&&◌, ◌||◌, cond, List, [], ◌∷◌, ◌++◌, map, ℕ, eqb, ltb, ℤ, pos}
+use Rattle.std.specs.Prelude.{negsuc}
 use Rattle.lists.specs.Lists.{filter, flat_map, any}
 use Rattle.rules.specs.Page.{Page, Point, ◌⊕◌, opposite, Shape}
 use Rattle.rules.specs.Turns.{apply, half, quarter, flip}

@@ -1,6 +1,9 @@
 -- Connections written one after the other.
-use Rattle.std.specs.Prelude.{◌≡◌, refl, Bool, true, false, ◌&&◌, List, [], ◌∷◌, ◌++◌, ◌⊎◌, ℕ, ◌+◌, ◌*◌, ◌<◌, ◌≤◌, ◌/◌, ◌%◌, eqb, ltb, length, get_or, set, nat_abs}
-use Rattle.std.proofs.Common.{sym, ap, ap₂, ◌∙◌, subst, append_assoc, append-nil, inl, inr, arith, mod-lt, div-lt_iff_lt-mul, div-add-mod', length-set, length-append, get_or-set_same, get_or-set_other}
+use Rattle.std.specs.Prelude.{◌≡◌, refl, Bool, true, false, ◌&&◌, List, [], ◌∷◌, ◌++◌, ◌⊎◌, ℕ, ◌+◌, ◌*◌, ◌<◌, ◌≤◌, ◌/◌}
+use Rattle.std.specs.Prelude.{◌%◌, eqb, ltb, length, get_or, set, nat_abs}
+use Rattle.std.proofs.Common.{sym, ap, ap₂, ◌∙◌, subst, append_assoc, append-nil, inl, inr, arith, mod-lt}
+use Rattle.std.proofs.Common.{div-lt_iff_lt-mul, div-add-mod', length-set, length-append, get_or-set_same}
+use Rattle.std.proofs.Common.{get_or-set_other}
 use mathlib.Core.List.Memᴰ
 use borrow.Author.Tests.{eq-eqb, ne_eqb, ltb-true}
 use Rattle.lists.specs.ListLaws.{flat-find, filter-mem}
@@ -162,7 +165,8 @@ module _ {o₀ o : List ℕ} (only : Only 2048 6144 o₀ o) (i : ℕ) (h : i < 1
   row_read = front_at 1024 o i h ∙ ap (λ (l : List ℕ). get_or l i 0) (only-before only 0 1024 (omega arith))
 
   pub column-read : get_or o (1024 + i) 0 ≡ get_or (columns_in o₀) i 0
-  column-read = section-at 1024 1024 o i h ∙ ap (λ (l : List ℕ). get_or l i 0) (only-before only 1024 1024 (omega arith))
+  column-read =
+      section-at 1024 1024 o i h ∙ ap (λ (l : List ℕ). get_or l i 0) (only-before only 1024 1024 (omega arith))
 
 -- the unit's cells stay as they were while its connections are written, and their count
 module _ {h w g : ℕ} {units o₀ o : List ℕ} (u : UnitAt h w units g o₀) (only : Only 2048 6144 o₀ o) (k : ℕ) where

@@ -39,7 +39,8 @@ pub record Joining (h w : ℕ) (number : ℕ → ℕ) (g : ℕ) (o₀ o : List �
   pub only : Only 2048 6144 o₀ o
   pub few : k ≤ 2 * i
   pub here : spots (down_in o) (across_in o) k
-      ≡ flat_map (connections_at (flat h w) number g) (table i (λ j. get_or (rows_in o₀) j 0 * w + get_or (columns_in o₀) j 0))
+      ≡ flat_map (connections_at (flat h w) number g)
+      (table i (λ j. get_or (rows_in o₀) j 0 * w + get_or (columns_in o₀) j 0))
 
 pub record JointIn (o : List ℕ) (j : ℕ) : Type 0 where
   pub inside : j < 2048

@@ -1,6 +1,8 @@
 -- Signs times coordinates: what they are, and that they stay small.
-use Rattle.std.specs.Prelude.{◌≡◌, refl, ◌⊎◌, Bool, true, false, not, cond, ℕ, zero, suc, ◌+◌, ◌*◌, ◌<◌, ◌≤◌, ℤ, pos, negsuc, neg_ℤ, ◌+ℤ◌, ◌-ℤ◌, ◌*ℤ◌, T, ltb}
-use Rattle.std.proofs.Common.{sym, ap, ap₂, ◌∙◌, subst, inl, inr, arith, lt-ltb, le-ltb, ltb→lt, nltb→le, SFits, to_z, of_z, to_z-of_z}
+use Rattle.std.specs.Prelude.{◌≡◌, refl, ◌⊎◌, Bool, true, false, not, cond, ℕ, zero, suc, ◌+◌, ◌*◌, ◌<◌, ◌≤◌, ℤ, pos}
+use Rattle.std.specs.Prelude.{negsuc, neg_ℤ, ◌+ℤ◌, ◌-ℤ◌, ◌*ℤ◌, T, ltb}
+use Rattle.std.proofs.Common.{sym, ap, ap₂, ◌∙◌, subst, inl, inr, arith, lt-ltb, le-ltb, ltb→lt, nltb→le, SFits, to_z}
+use Rattle.std.proofs.Common.{of_z, to_z-of_z}
 use Rattle.std.proofs.Math.IntN.{sub_ℕ, neg_ℤ-+ℤ}
 use Rattle.std.specs.Int.Signed.{mag, lt_z}
 use Rattle.std.specs.Int.{w8, w32}
@@ -212,9 +214,11 @@ twice-fits a b h k =
     (record { sfits = omega (arith, mag_sum a (neg_ℤ (b +ℤ b)), mag-neg (b +ℤ b), sum-small b b k k) })
 
 pub twice-back : (a b : ℤ) → Small a → Small b
-    → to_z w32 (of_z w32 (to_z w32 (of_z w32 a) -ℤ to_z w32 (of_z w32 (to_z w32 (of_z w32 b) +ℤ to_z w32 (of_z w32 b)))))
+    → to_z w32
+    (of_z w32 (to_z w32 (of_z w32 a) -ℤ to_z w32 (of_z w32 (to_z w32 (of_z w32 b) +ℤ to_z w32 (of_z w32 b)))))
     ≡ a +ℤ (neg_ℤ b +ℤ neg_ℤ b)
 twice-back a b h k =
     to_z-of_z {w = w32}
-    {z = to_z w32 (of_z w32 a) -ℤ to_z w32 (of_z w32 (to_z w32 (of_z w32 b) +ℤ to_z w32 (of_z w32 b)))} (twice-fits a b h k)
+    {z = to_z w32 (of_z w32 a) -ℤ to_z w32 (of_z w32 (to_z w32 (of_z w32 b) +ℤ to_z w32 (of_z w32 b)))}
+    (twice-fits a b h k)
     ∙ ap₂ (λ x y. x +ℤ y) (small-back a h) (ap neg_ℤ (sum_back b b k k) ∙ neg_ℤ-+ℤ b b)

@@ -185,7 +185,8 @@ module _ (t : Shape) where
   unfolding flip_listed
   flip-fourth a b c = rw (a, b, c)
 
-  pub rows-symmetric : {q f : Bool} → fixes t 1 ≡ true → q ≡ fixes t 3 → f ≡ flip_listed t → rows_by true q f ≡ rows_of t
+  pub rows-symmetric : {q f : Bool} → fixes t 1 ≡ true → q ≡ fixes t 3 → f ≡ flip_listed t → rows_by true q f
+      ≡ rows_of t
   unfolding rows_of
   rows-symmetric a b c = rw (a, b, c)
 

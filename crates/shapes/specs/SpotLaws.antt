@@ -1,5 +1,6 @@
 -- The places that the code reads: one more of them, the first, their bounds, and the first image in order.
-use Rattle.std.specs.Prelude.{◌≡◌, refl, Bool, true, false, cond, List, [], ◌∷◌, ◌++◌, map, ℕ, zero, suc, ◌+◌, ◌<◌, ◌≤◌, pos, neg_ℤ, ◌+ℤ◌, length, get_or}
+use Rattle.std.specs.Prelude.{◌≡◌, refl, Bool, true, false, cond, List, [], ◌∷◌, ◌++◌, map, ℕ, zero, suc, ◌+◌, ◌<◌, ◌≤◌}
+use Rattle.std.specs.Prelude.{pos, neg_ℤ, ◌+ℤ◌, length, get_or}
 use Rattle.std.proofs.Common.{sym, ap, ap₂, ◌∙◌, subst, add-one, arith}
 use mathlib.Core.List.Memᴰ
 use Rattle.std.proofs.lemmas.List.{map-append}
@@ -143,7 +144,8 @@ near-small p e n =
     let k = subst NearSpot (sym e) n in
     record { down = omega (arith, k.row); across = omega (arith, k.column) }
 
-pub shift_small : (v m : Pair) {q : Point} (y x : ℕ) → point_of v ≡ opposite (point_of m) ⊕ place_at y x → point_of m ≡ q
+pub shift_small : (v m : Pair) {q : Point} (y x : ℕ) → point_of v ≡ opposite (point_of m) ⊕ place_at y x
+    → point_of m ≡ q
     → NearSpot q → y < 32 → x < 32 → SmallPair v
 unfolding ◌⊕◌ opposite
 shift_small v m y x e d n a b =

@@ -17,7 +17,8 @@
 --   SpotIn o i          the place of the outline's cell i is on the largest page
 --   Spotted o           the outline has cells, at least one, each on the largest page
 --   UnitAt h w units g o  they are the cells of group g of the grouping units
-use Rattle.std.specs.Prelude.{Bool, false, ◌&&◌, List, [], ◌∷◌, map, ◌≡◌, ℕ, zero, suc, ◌<◌, ◌≤◌, eqb, ltb, ℤ, pos, negsuc, length, get_or}
+use Rattle.std.specs.Prelude.{Bool, false, ◌&&◌, List, [], ◌∷◌, map, ◌≡◌, ℕ, zero, suc, ◌<◌, ◌≤◌, eqb, ltb, ℤ, pos}
+use Rattle.std.specs.Prelude.{negsuc, length, get_or}
 use Rattle.std.specs.Int.Signed.{mag}
 use Rattle.lists.specs.Lists.{flat_map}
 use Rattle.lists.specs.Table.{table}

@@ -40,7 +40,8 @@ pub compose-rows : (a b : ℕ) → a < 8 → b < 8 → compose (turn_at a) (turn
 compose-rows a b h k =
     same_turn→eq (compose (turn_at a) (turn_at b)) (turn_at (product_row a b))
     (all-mem (λ b. same_turn (compose (turn_at a) (turn_at b)) (turn_at (product_row a b))) (range 8)
-    (all-mem (λ a. all (λ b. same_turn (compose (turn_at a) (turn_at b)) (turn_at (product_row a b))) (range 8)) (range 8)
+    (all-mem (λ a. all (λ b. same_turn (compose (turn_at a) (turn_at b)) (turn_at (product_row a b))) (range 8))
+    (range 8)
     tested
     (mem-range 8 h)) (mem-range 8 k))
 

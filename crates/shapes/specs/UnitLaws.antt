@@ -1,7 +1,8 @@
 -- The shape of a group on a flat page: its places are sorted, and a test of the page tells what is a cell of it.
 use Rattle.std.proofs.Math.Path.{◌≡◌, refl, sym, subst}
 use Rattle.std.proofs.Common.{ap, ◌∙◌, true≢false, div-add-mod', mod-lt, div-lt_iff_lt-mul, arith, lt→ltb}
-use Rattle.std.specs.Prelude.{Bool, ◌&&◌, ℕ, zero, suc, ◌+◌, ◌*◌, ◌/◌, ◌%◌, ◌<◌, ◌≤◌, eqb, ℤ, pos, negsuc, nat_abs, length}
+use Rattle.std.specs.Prelude.{Bool, ◌&&◌, ℕ, zero, suc, ◌+◌, ◌*◌, ◌/◌, ◌%◌, ◌<◌, ◌≤◌, eqb, ℤ, pos, negsuc, nat_abs}
+use Rattle.std.specs.Prelude.{length}
 use Rattle.std.proofs.Math.Bool.{true, false}
 use mathlib.Core.List.{List, [], ◌∷◌, map}
 use borrow.Author.Tests.{lt-ltb, le-ltb, ltb-true}
@@ -131,7 +132,8 @@ module _ (h w : ℕ) (number : ℕ → ℕ) (g : ℕ) (index : 1 ≤ w) where
 
   module _ (P : List Point) (here : P ≡ places h w number g) (full : 1 ≤ length P) where
     -- a row leaves the shape exactly if every image, laid on the first cell, is a cell of the group
-    pub fixes-cells : (r : ℕ) → fixes shape r ≡ all (λ q. has_cell h w number g (apply (turn_at r) q ⊕ onto_shift r P)) P
+    pub fixes-cells : (r : ℕ) → fixes shape r
+        ≡ all (λ q. has_cell h w number g (apply (turn_at r) q ⊕ onto_shift r P)) P
     fixes-cells r =
         ap (λ t. fixes t r) (shape_is ∙ ap (λ l. normal l (joints h w number g)) (sym here))
         ∙ go P here full
@@ -209,12 +211,14 @@ non-neg (negsuc y) e = absurd (true≢false e)
 
 -- the loop that tests every image
 module _ (h w : ℕ) (ids : List ℕ) (g : ℕ) (o : List ℕ) (r : ℕ) (v : Point) where
-  pub within-fails : (i : ℕ) → i < cell_count o → has_cell h w (entry ids) g (apply (turn_at r) (cell_spot o i) ⊕ v) ≡ false
+  pub within-fails : (i : ℕ) → i < cell_count o
+      → has_cell h w (entry ids) g (apply (turn_at r) (cell_spot o i) ⊕ v) ≡ false
       → within h w (entry ids) g o r v ≡ false
   unfolding within
   within-fails i l e = all-fails (cell_count o) _ i l e
 
-  pub within_all : all_below (cell_count o) (λ i. has_cell h w (entry ids) g (apply (turn_at r) (cell_spot o i) ⊕ v)) ≡ true
+  pub within_all : all_below (cell_count o)
+      (λ i. has_cell h w (entry ids) g (apply (turn_at r) (cell_spot o i) ⊕ v)) ≡ true
       → within h w (entry ids) g o r v ≡ true
   unfolding within
   within_all e = e

@@ -19,14 +19,16 @@ use Rattle.steps.specs.Found.{blocks_hit, walls_hit, early_hit, units_hit, Answe
 
 -- u is what the search found
 module _ {h w : ℕ} (z : Sized h w) (cs : List ℕ) (bs : List ℕ) (u : ℕ)
-    (is : u ≡ first_fail (fits_unit (unclued h w cs) (states_in bs)) (groups_in Units h w cs bs).count) (ks : List ℤ) where
+    (is : u ≡ first_fail (fits_unit (unclued h w cs) (states_in bs)) (groups_in Units h w cs bs).count)
+    (ks : List ℤ) where
   units-are : units_hit (puzzle_in h w cs ks) (states_in bs)
       ≡ stuck_hit (puzzle_in h w cs ks) (states_in bs) (unit_count (puzzle_in h w cs ks) (states_in bs)) u
   unfolding units_hit
   units-are =
       stuck-clue h w cs (clues_in ks) (states_in bs) (unit_count (puzzle_in h w cs ks) (states_in bs))
       ∙ ap (stuck_hit (puzzle_in h w cs ks) (states_in bs) (unit_count (puzzle_in h w cs ks) (states_in bs)))
-      (ap (first_fail (fits_unit (unclued h w cs) (states_in bs))) (sym (kind-count z cs (clues_in ks) bs Units)) ∙ sym is)
+      (ap (first_fail (fits_unit (unclued h w cs) (states_in bs)))
+      (sym (kind-count z cs (clues_in ks) bs Units)) ∙ sym is)
 
   pub units-clear : (groups_in Units h w cs bs).count ≤ u → units_hit (puzzle_in h w cs ks) (states_in bs) ≡ none
   unfolding stuck_hit

@@ -29,5 +29,6 @@ module _ {h w : ℕ} {cs : List ℕ} (d : Drawn h w cs) (bs ts : List ℕ) (n : 
       → {js : List Point} → spelled ts n ≡ js
       → flat_map (λ Q. flat_map (block_in h w bs rows ts n) (part_of (cells_in potential) (starts_in potential) Q))
       (mates_in mates)
-      ≡ blocks_beside (unclued h w cs) (states_in bs) (bare js) (cells_in potential) (starts_in potential) (mates_in mates)
+      ≡ blocks_beside (unclued h w cs) (states_in bs) (bare js) (cells_in potential) (starts_in potential)
+      (mates_in mates)
   blocks-row b k g = rw (← g) (blocks-same d bs ts n r b k survived)

@@ -73,7 +73,8 @@ module _ (h w : ℕ) (bs ts : List ℕ) (y x : ℕ) where
   back_none e = rw e
 
   pub back-next : (z : ℕ) → 0 < z
-      → (get_or bs (border_at h w (2 * y + get_or (ys_in ts) (z - 1) 0) (2 * x + get_or (xs_in ts) (z - 1) 0)) 0 ≡ 1 → ⊥)
+      → (get_or bs (border_at h w (2 * y + get_or (ys_in ts) (z - 1) 0) (2 * x + get_or (xs_in ts) (z - 1) 0)) 0
+      ≡ 1 → ⊥)
       → back_of h w bs ts y x z ≡ back_of h w bs ts y x (z - 1)
   unfolding back_of wall_of
   back-next zero l e = absurd (omega arith)

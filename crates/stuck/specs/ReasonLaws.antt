@@ -14,7 +14,8 @@ use Rattle.rules.specs.Page.{Puzzle, Point, Shape, State}
 use Rattle.rules.specs.Flat.{flat}
 use Rattle.rules.specs.Shapes.{shape_of}
 use Rattle.rules.specs.Groups.{entry, members, unit_of, potential_of, potential_count}
-use Rattle.rules.specs.Check.{laid, blockers, placements, transforms_of, inside_unit, edge_of, mates, far_walls, unit_reason}
+use Rattle.rules.specs.Check.{laid, blockers, placements, transforms_of, inside_unit, edge_of, mates, far_walls}
+use Rattle.rules.specs.Check.{unit_reason}
 use Rattle.rules.specs.Check.{adjacent as is_adjacent}
 use Rattle.laws.specs.FlatReasons.{flat-edge-same, flat-inside-same, flat-members-same}
 use Rattle.groups.specs.Grouping.{numbers_in, cells_in, starts_in, group_cells}

@@ -63,7 +63,8 @@ module _ (Z : Puzzle) (s : ℕ → State) where
   ends-both none e = refl
   ends-both (some b) e = go (one_colour Z b) (rw (no-wall b) at e)
     where
-      go : (t : Bool) → is_clear (cond t Clear Ends) ≡ false → cond t (cond (is_wall (s b)) (Walled b) Clear) Ends ≡ Ends
+      go : (t : Bool) → is_clear (cond t Clear Ends) ≡ false
+          → cond t (cond (is_wall (s b)) (Walled b) Clear) Ends ≡ Ends
       go true e = let z : ◌≡◌ {A = ℕ} 0 1 = cc in absurd (omega arith)
       go false e = refl
 

@@ -20,7 +20,8 @@
 --   Goes s t k o r m out  at the run r the chunk put into the buffer o, which is `out` then, and what is left are
 --                         the text t, the bytes beyond the chunk are as they were, and fewer than k steps are left
 --   Next s q m o r m' out  what a call of `next` does to the run q, the memory m and the buffer o
-use Rattle.std.specs.Prelude.{◌≡◌, Bool, true, false, cond, List, [], ◌∷◌, ◌++◌, ℕ, ◌+◌, ◌-◌, ◌*◌, ◌<◌, ◌≤◌, ltb, length, take, drop}
+use Rattle.std.specs.Prelude.{◌≡◌, Bool, true, false, cond, List, [], ◌∷◌, ◌++◌, ℕ, ◌+◌, ◌-◌, ◌*◌, ◌<◌, ◌≤◌, ltb}
+use Rattle.std.specs.Prelude.{length, take, drop}
 use Rattle.rules.specs.declared.Call.{Call}
 use Rattle.rules.specs.Check.{pass}
 use Rattle.rules.specs.Book.{refused, answered}
@@ -31,7 +32,8 @@ use Rattle.board.specs.Accepted.{made_board}
 use Rattle.calls.specs.declared.Answer.{Answer}
 use Rattle.calls.specs.Answers.{told, call_of, call_memory}
 use Rattle.page.specs.Grammar.{Sheet, end_word, call}
-use Rattle.page.specs.Judge.{Judgement, rejected, accepted, judgement_of, colours_of, clues_of, colour_array, clue_array}
+use Rattle.page.specs.Judge.{Judgement, rejected, accepted, judgement_of, colours_of, clues_of, colour_array}
+use Rattle.page.specs.Judge.{clue_array}
 use Rattle.page.specs.Many.{show_all}
 use Rattle.page.specs.Places.{all_from}
 use Rattle.print.specs.Answers.{answers_word, conflict_word, show_reply, code_text}

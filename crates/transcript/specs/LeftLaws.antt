@@ -12,7 +12,8 @@
 --   next-short          no chunk, where the buffer is too short
 use Rattle.std.proofs.Math.Path.{◌≡◌, refl, sym, ap}
 use Rattle.std.proofs.Common.{ap₂, ◌∙◌, lt-ltb, le-ltb, length-take, drop-cons, get_or-take}
-use Rattle.std.specs.Prelude.{Bool, true, cond, ℕ, zero, suc, ◌+◌, ◌-◌, ◌*◌, ◌/◌, ◌%◌, ◌<◌, ◌≤◌, eqb, length, take, drop, get_or}
+use Rattle.std.specs.Prelude.{Bool, true, cond, ℕ, zero, suc, ◌+◌, ◌-◌, ◌*◌, ◌/◌, ◌%◌, ◌<◌, ◌≤◌, eqb, length, take}
+use Rattle.std.specs.Prelude.{drop, get_or}
 use Rattle.std.proofs.Math.Bool.{false}
 use mathlib.Core.List.{List, [], ◌∷◌, ◌++◌, map, append_assoc}
 use Rattle.std.proofs.Math.Option.{none, some}
@@ -176,7 +177,8 @@ module _ (s m : List ℕ) where
 module _ (s : List ℕ) (b : Board) (at : ℕ) (m : List ℕ) (from to : ℕ) where
   module _ (p : Chunk) (before out : List ℕ) (P : Put m from to before out p) where
     pub reason-more : from < p.next
-        → Goes s (literals_text m from to ++ (end_word ++ lines_from s b at m)) ((length s - at) * 2000 + 3 + (to - from))
+        → Goes s (literals_text m from to ++ (end_word ++ lines_from s b at m))
+        ((length s - at) * 2000 + 3 + (to - from))
         before (record { board = b; at = at; stage = Reason p.next to; count = p.count }) m out
     unfolding left_at steps_at
     reason-more h =
@@ -196,7 +198,8 @@ module _ (s : List ℕ) (b : Board) (at : ℕ) (m : List ℕ) (from to : ℕ) wh
 
     pub reason-end : {line : Line} {after : List ℕ} {n : ℕ} → p.next ≤ from → LineHolds line end_word
         → Written out 0 (text_of line) after n → 32 ≤ length before
-        → Goes s (literals_text m from to ++ (end_word ++ lines_from s b at m)) ((length s - at) * 2000 + 3 + (to - from))
+        → Goes s (literals_text m from to ++ (end_word ++ lines_from s b at m))
+        ((length s - at) * 2000 + 3 + (to - from))
         before (record { board = b; at = at; stage = Calls; count = n }) m after
     unfolding left_at steps_at
     reason-end {n = n} h k w l =

@@ -65,7 +65,8 @@ module _ (s m : List ℕ) (l : length m ≡ 1984) where
       (lent_from (start_board p) m p.calls)).answers
       ∙ ap (replies (puzzle_on p)) (asked-from (start_board p) m p.calls l))
 
-  judged-book : (v : Judgement) → judgement_of s ≡ v → judged_text m v ≡ show_all show_reply (page_replies v) ++ end_word
+  judged-book : (v : Judgement) → judgement_of s ≡ v → judged_text m v ≡ show_all show_reply (page_replies v)
+      ++ end_word
   unfolding judged_text page_replies show_all
   judged-book (rejected n) e = rw (append-nil (show_reply (refused n)))
   judged-book (accepted p) e = calls-book p e

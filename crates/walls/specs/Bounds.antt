@@ -35,7 +35,8 @@ hop-small s block c r p = go r.some refl
 
     go : (v : Bool) → r.some ≡ v → (breach_on s block c (hop_if v r.border r.to)).border < 1984
     go true e =
-        or-small (hop_breach s block c (hop_of r)) no_breach (at (is_breach s block c (hop_of r)) (p.near e).fits.border)
+        or-small (hop_breach s block c (hop_of r)) no_breach
+        (at (is_breach s block c (hop_of r)) (p.near e).fits.border)
         (omega arith)
     go false e = omega arith
 

@@ -35,7 +35,8 @@ module _ (s : ℕ → State) (block : ℕ → ℕ) where
         at = spot h w y x hy hx
 
         below : ltb (y + 1) h ≡ true
-            → is_breach s block (y * w + x) (record { border = h * (w - 1) + (y * w + x); to = (y + 1) * w + x }) ≡ false
+            → is_breach s block (y * w + x)
+            (record { border = h * (w - 1) + (y * w + x); to = (y + 1) * w + x }) ≡ false
         below e =
             let a : 0 + (y * w + x) ≡ y * w + x = omega arith in
             let b : w + (y * w + x) ≡ (y + 1) * w + x = omega (arith, at.next) in

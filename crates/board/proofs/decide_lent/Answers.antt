@@ -26,12 +26,15 @@ known c = sym c.is_alien.ensures ∙ c.if-is_alien.false
 
 -- how the tests end
 ends : (c : After-decide_refusal-outcome)
-    → c.decide_refusal-outcome.result ≡ decide_refusal (border_count_of (lent (goal.at.After-decide_refusal-outcome c).Start)) c.args.borders.now c.args.l.border
+    → c.decide_refusal-outcome.result
+    ≡ decide_refusal (border_count_of (lent (goal.at.After-decide_refusal-outcome c).Start)) c.args.borders.now
+    c.args.l.border
 ends c =
     let a = c.args in
     c.decide_refusal-outcome.ensures
     ∙ ap (λ m. decide_refusal m a.borders.now a.l.border)
-    (c.border_count.ensures ∙ borders-of (native-has _ (known (goal.at.After-decide_refusal-outcome c).Else-is_alien)).size)
+    (c.border_count.ensures
+    ∙ borders-of (native-has _ (known (goal.at.After-decide_refusal-outcome c).Else-is_alien)).size)
 
 zero : (c : Else-number-ne0) → number_of c.decide_refusal-outcome.result ≡ 0
 zero c = sym c.number.ensures ∙ c.if-number-ne0.false
@@ -58,7 +61,8 @@ pub returns-then-number-ne0 : goal.returns-then-number-ne0
 returns-then-number-ne0 c =
     let f : number_of c.decide_refusal-outcome.result ≡ 0 → ⊥ = λ z. c.if-number-ne0.true (c.number.ensures ∙ z) in
     rw (ne_eqb (number_of c.decide_refusal-outcome.result) 0 f)
-    (decide-refused _ _ (known (goal.at.returns-then-number-ne0 c).Else-is_alien) _ (ends (goal.at.returns-then-number-ne0 c).After-decide_refusal-outcome) f)
+    (decide-refused _ _ (known (goal.at.returns-then-number-ne0 c).Else-is_alien) _
+    (ends (goal.at.returns-then-number-ne0 c).After-decide_refusal-outcome) f)
 
 pub bounds-borders-n : goal.bounds-borders-n
 bounds-borders-n c = (free (goal.at.bounds-borders-n c).Else-number-ne0).0
@@ -75,4 +79,5 @@ bounds-stack-count c = (free (goal.at.bounds-stack-count c).Else-number-ne0).1
 pub returns : goal.returns
 returns c =
     rw (eq-eqb (number_of c.decide_refusal-outcome.result) 0 (zero (goal.at.returns c).Else-number-ne0), c.code.ensures)
-    (decide-free _ _ (known (goal.at.returns c).Else-is_alien) _ (ends (goal.at.returns c).After-decide_refusal-outcome) (zero (goal.at.returns c).Else-number-ne0))
+    (decide-free _ _ (known (goal.at.returns c).Else-is_alien) _
+    (ends (goal.at.returns c).After-decide_refusal-outcome) (zero (goal.at.returns c).Else-number-ne0))

@@ -49,7 +49,9 @@ returns-then-borders_right c =
     (c.tally_right.ensures ∙ ap (same_tally _) (sym (walls-tell _ _ _ _ D)))
 
 pub returns-else-borders_right : goal.returns-else-borders_right
-returns-else-borders_right c = decisions-wrong _ _ _ _ _ (sym (judged (goal.at.returns-else-borders_right c).After-borders_right) ∙ c.if-borders_right.false)
+returns-else-borders_right c =
+    decisions-wrong _ _ _ _ _ (sym (judged (goal.at.returns-else-borders_right c).After-borders_right)
+    ∙ c.if-borders_right.false)
 
 pub returns-else-flag_stack : goal.returns-else-flag_stack
 returns-else-flag_stack c =
@@ -58,4 +60,5 @@ returns-else-flag_stack c =
     (sym c.flag_stack.ensures.tells ∙ c.if-flag_stack.false)
 
 pub returns-else-entries_right : goal.returns-else-entries_right
-returns-else-entries_right c = decisions-entries _ _ _ _ _ c.if-total-count.false (sym c.entries_right.ensures ∙ c.if-entries_right.false)
+returns-else-entries_right c =
+    decisions-entries _ _ _ _ _ c.if-total-count.false (sym c.entries_right.ensures ∙ c.if-entries_right.false)

@@ -34,18 +34,24 @@ decisions_right-requires c =
 
 pub returns-then-decisions_right : goal.returns-then-decisions_right
 returns-then-decisions_right c =
-    alien-unused _ (size (goal.at.returns-then-decisions_right c).Then-size_right) _ _ (cells (goal.at.returns-then-decisions_right c).After-cell_count-cells) (total (goal.at.returns-then-decisions_right c).After-border_count-total)
+    alien-unused _ (size (goal.at.returns-then-decisions_right c).Then-size_right) _ _
+    (cells (goal.at.returns-then-decisions_right c).After-cell_count-cells)
+    (total (goal.at.returns-then-decisions_right c).After-border_count-total)
     (sym c.cells_right.ensures ∙ c.if-cells_right.true) _
     (sym c.decisions_right.ensures ∙ c.if-decisions_right.true) c.unused_zero.ensures
 
 pub returns-else-decisions_right : goal.returns-else-decisions_right
 returns-else-decisions_right c =
-    alien-decisions _ (size (goal.at.returns-else-decisions_right c).Then-size_right) _ _ (cells (goal.at.returns-else-decisions_right c).After-cell_count-cells) (total (goal.at.returns-else-decisions_right c).After-border_count-total)
+    alien-decisions _ (size (goal.at.returns-else-decisions_right c).Then-size_right) _ _
+    (cells (goal.at.returns-else-decisions_right c).After-cell_count-cells)
+    (total (goal.at.returns-else-decisions_right c).After-border_count-total)
     (sym c.cells_right.ensures ∙ c.if-cells_right.true) (sym c.decisions_right.ensures ∙ c.if-decisions_right.false)
 
 pub returns-else-cells_right : goal.returns-else-cells_right
 returns-else-cells_right c =
-    alien-cells _ (size (goal.at.returns-else-cells_right c).Then-size_right) _ _ (cells (goal.at.returns-else-cells_right c).After-cell_count-cells) (total (goal.at.returns-else-cells_right c).After-border_count-total)
+    alien-cells _ (size (goal.at.returns-else-cells_right c).Then-size_right) _ _
+    (cells (goal.at.returns-else-cells_right c).After-cell_count-cells)
+    (total (goal.at.returns-else-cells_right c).After-border_count-total)
     (sym c.cells_right.ensures ∙ c.if-cells_right.false)
 
 pub returns-else-size_right : goal.returns-else-size_right

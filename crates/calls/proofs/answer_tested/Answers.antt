@@ -13,7 +13,8 @@ found s =
     found_in a.h a.w a.colours.now a.clues.now a.borders.now
 
 pub returns-then-memory-lt1984 : goal.returns-then-memory-lt1984
-returns-then-memory-lt1984 c = found-short (found (goal.at.returns-then-memory-lt1984 c).Start) c.args.memory.now c.if-memory-lt1984.true
+returns-then-memory-lt1984 c =
+    found-short (found (goal.at.returns-then-memory-lt1984 c).Start) c.args.memory.now c.if-memory-lt1984.true
 
 pub answer_known-requires : goal.answer_known-requires
 answer_known-requires c = (c.requires, c.if-memory-lt1984.false)

@@ -35,7 +35,9 @@ copy c =
 zero : (c : Else-number-ne0) → number_of c.decide_lent-outcome.result ≡ 0
 zero c = sym c.number.ensures ∙ c.if-number-ne0.false
 
-decided : (c : Else-number-ne0) → returned c.decide_lent-outcome.result (copy (goal.at.Else-number-ne0 c).After-decide_lent-outcome) ≡ decide_of (lent (goal.at.Else-number-ne0 c).Start) c.args.l
+decided : (c : Else-number-ne0)
+    → returned c.decide_lent-outcome.result (copy (goal.at.Else-number-ne0 c).After-decide_lent-outcome)
+    ≡ decide_of (lent (goal.at.Else-number-ne0 c).Start) c.args.l
 unfolding copy
 decided c =
     let d = c.decide_lent-outcome in
@@ -51,7 +53,9 @@ returns-then-number-ne0 c =
     (λ z. c.if-number-ne0.true (c.number.ensures ∙ z))
 
 pub overflow_sub-tally : goal.overflow_sub-tally
-overflow_sub-tally c = preview-left _ _ (decided (goal.at.overflow_sub-tally c).Else-number-ne0) (zero (goal.at.overflow_sub-tally c).Else-number-ne0)
+overflow_sub-tally c =
+    preview-left _ _ (decided (goal.at.overflow_sub-tally c).Else-number-ne0)
+    (zero (goal.at.overflow_sub-tally c).Else-number-ne0)
 
 pub answer_tested-requires : goal.answer_tested-requires
 unfolding copy
@@ -68,7 +72,8 @@ pub returns : goal.returns
 unfolding copy
 returns c =
     let m = c.args.memory.now in
-    let g = preview-goes _ _ (decided (goal.at.returns c).Else-number-ne0) m (zero (goal.at.returns c).Else-number-ne0) in
+    let g = preview-goes _ _ (decided (goal.at.returns c).Else-number-ne0) m
+    (zero (goal.at.returns c).Else-number-ne0) in
     let h = check-known _ m (known (goal.at.returns c).Else-number-ne0) in
     let r = c.answer_tested.ensures in (
       r.0 ∙ ap (λ (f : Verdict). found_answer f (length m)) (same-found _) ∙ h.0 ∙ g.0,

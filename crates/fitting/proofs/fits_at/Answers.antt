@@ -33,7 +33,8 @@ cell_at-requires c =
     omega (arith, u.some, u.end, c.start_of-first.ensures)
 
 -- the unit's first cell, its potential unit, and a potential unit adjacent to that
-cell-is : (c : After-cell_at) → c.cell_at.result ≡ get_or (cells_in c.args.units.now) (get_or (starts_in c.args.units.now) c.args.u 0) 0
+cell-is : (c : After-cell_at) → c.cell_at.result
+    ≡ get_or (cells_in c.args.units.now) (get_or (starts_in c.args.units.now) c.args.u 0) 0
 cell-is c =
     c.cell_at.ensures ∙ ap (λ i. get_or (cells_in c.args.units.now) i 0) c.start_of-first.ensures
 
@@ -41,7 +42,8 @@ home-is : (c : After-group_of-p) → c.group_of-p.result
     ≡ get_or (numbers_in c.args.potential.now)
     (get_or (cells_in c.args.units.now) (get_or (starts_in c.args.units.now) c.args.u 0) 0) 0
 home-is c =
-    c.group_of-p.ensures ∙ ap (λ i. get_or (numbers_in c.args.potential.now) i 0) (cell-is (goal.at.After-group_of-p c).After-cell_at)
+    c.group_of-p.ensures
+    ∙ ap (λ i. get_or (numbers_in c.args.potential.now) i 0) (cell-is (goal.at.After-group_of-p c).After-cell_at)
 
 one : (c : After-near_mate-q) → OneOf
     (mates (unclued c.args.h c.args.w c.args.colours.now) (states_in c.args.borders.now)
@@ -60,11 +62,16 @@ group_of-p-requires c =
     )
 
 pub near_mate-q-requires : goal.near_mate-q-requires
-near_mate-q-requires c = (rw (home-is (goal.at.near_mate-q-requires c).After-group_of-p) (home_of c.requires.0 c.args.u c.requires.1), c.requires.2)
+near_mate-q-requires c = (
+  rw (home-is (goal.at.near_mate-q-requires c).After-group_of-p)
+      (home_of c.requires.0 c.args.u c.requires.1),
+  c.requires.2,
+)
 
 pub returns-then-q-ge1024 : goal.returns-then-q-ge1024
 returns-then-q-ge1024 c = (
-  sym (fits-nowhere c.requires.0 c.args.u c.requires.1 ((one (goal.at.returns-then-q-ge1024 c).After-near_mate-q).none c.if-q-ge1024.true)),
+  sym (fits-nowhere c.requires.0 c.args.u c.requires.1
+      ((one (goal.at.returns-then-q-ge1024 c).After-near_mate-q).none c.if-q-ge1024.true)),
   c.near_mate-q.ensures.1,
   c.requires.3,
   c.requires.4,
@@ -125,7 +132,8 @@ returns c =
           ∙ (ap (λ q. fits_turned (unclued c.args.h c.args.w c.args.colours.now)
           (states_in c.args.borders.now) (cells_in c.args.potential.now) (starts_in c.args.potential.now)
           (mates (unclued c.args.h c.args.w c.args.colours.now) (states_in c.args.borders.now) q)
-          (shape_of (flat c.args.h c.args.w) (entry (numbers_in c.args.units.now)) c.args.u)) (home-is (goal.at.returns c).After-group_of-p)
+          (shape_of (flat c.args.h c.args.w) (entry (numbers_in c.args.units.now)) c.args.u))
+          (home-is (goal.at.returns c).After-group_of-p)
           ∙ fits_home c.requires.0 c.args.u c.requires.1),
       c.near_mate-q.ensures.1,
       e.1,

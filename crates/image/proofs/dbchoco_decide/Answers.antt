@@ -30,7 +30,11 @@ returns-then-alien c =
     }
 
 pub decided-requires : goal.decided-requires
-decided-requires c = (long (image (goal.at.decided-requires c).After-alien) (bytes (goal.at.decided-requires c).After-alien) (known (goal.at.decided-requires c).Else-alien), known (goal.at.decided-requires c).Else-alien)
+decided-requires c = (
+  long (image (goal.at.decided-requires c).After-alien) (bytes (goal.at.decided-requires c).After-alien)
+      (known (goal.at.decided-requires c).Else-alien),
+  known (goal.at.decided-requires c).Else-alien,
+)
 
 pub returns : goal.returns
 returns c =

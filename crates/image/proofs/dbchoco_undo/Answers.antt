@@ -30,7 +30,11 @@ returns-then-alien c =
     }
 
 pub undone-requires : goal.undone-requires
-undone-requires c = (long (image (goal.at.undone-requires c).After-alien) (bytes (goal.at.undone-requires c).After-alien) (known (goal.at.undone-requires c).Else-alien), known (goal.at.undone-requires c).Else-alien)
+undone-requires c = (
+  long (image (goal.at.undone-requires c).After-alien) (bytes (goal.at.undone-requires c).After-alien)
+      (known (goal.at.undone-requires c).Else-alien),
+  known (goal.at.undone-requires c).Else-alien,
+)
 
 pub returns : goal.returns
 returns c =

@@ -23,7 +23,13 @@ pub clear-requires : goal.clear-requires
 clear-requires c = (omega arith, omega arith, omega arith)
 
 pub overflow_add-acc : goal.overflow_add-acc
-overflow_add-acc c = omega (arith, c.loop-x.invariant.2, c.clear.ensures, bit-under (test (goal.at.overflow_add-acc c).Start (c.loop-x.x - 1)))
+overflow_add-acc c =
+    omega (
+      arith,
+      c.loop-x.invariant.2,
+      c.clear.ensures,
+      bit-under (test (goal.at.overflow_add-acc c).Start (c.loop-x.x - 1)),
+    )
 
 pub loop-x-preserved : goal.loop-x-preserved
 loop-x-preserved c =

@@ -7,7 +7,9 @@ use Rattle.planes.proofs.clear_row.Given as goal
 
 abbrev pub invariant-loop-x : goal.invariant-loop-x
 invariant-loop-x l =
-    (l.x ≤ l.n) × (l.acc ≡ row_from (l.n - l.x) l.x (λ i. clear_at l.colours l.borders (l.cell + i) (l.cell + i + l.ahead) (l.border + i)))
+    (l.x ≤ l.n)
+    × (l.acc ≡ row_from (l.n - l.x) l.x
+    (λ i. clear_at l.colours l.borders (l.cell + i) (l.cell + i + l.ahead) (l.border + i)))
     × (l.acc < 4294967296)
 
 abbrev pub decreases-loop-x : goal.decreases-loop-x

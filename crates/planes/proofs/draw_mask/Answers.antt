@@ -72,7 +72,8 @@ unfolding part_of
 loop-i-preserved c = (
   omega (arith, next (goal.at.loop-i-preserved c).In-loop-i),
   mates-more c.args.w (cells_in c.args.potential.now) (starts_in c.args.potential.now)
-      c.args.mates.now 0 c.loop-i.i (omega arith) (omega (arith, next (goal.at.loop-i-preserved c).In-loop-i, mates-reach c.requires.1))
+      c.args.mates.now 0 c.loop-i.i (omega arith)
+      (omega (arith, next (goal.at.loop-i-preserved c).In-loop-i, mates-reach c.requires.1))
       ((rw (c.start_of-in-loop-i.ensures, c.start_of.ensures) at
       c.flag_group.ensures.1) _ c.loop-i.invariant.1),
 )

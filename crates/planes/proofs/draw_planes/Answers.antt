@@ -43,7 +43,8 @@ pub loop-r-preserved : goal.loop-r-preserved
 loop-r-preserved c = (
   omega (arith, c.loop-r-test.true),
   draw-more c.args.h c.args.w c.args.colours.now c.args.borders.now c.loop-r.r
-      c.line.result (tall (goal.at.loop-r-preserved c).After-line) c.requires.0.broad c.line.ensures c.loop-r.invariant.1,
+      c.line.result (tall (goal.at.loop-r-preserved c).After-line) c.requires.0.broad c.line.ensures
+      c.loop-r.invariant.1,
 )
 
 pub returns : goal.returns

@@ -29,5 +29,6 @@ bounds-mask-y-2 c = omega (arith, (low (goal.at.bounds-mask-y-2 c).Start).0)
 pub returns : goal.returns
 returns c = (
   length-set c.args.mask.now (c.args.c / c.args.w) _ ∙ c.requires.2,
-  λ xs m. masked-more c.args.w c.args.c (low (goal.at.returns c).Start).0 (omega (arith, (low (goal.at.returns c).Start).1)) m,
+  λ xs m. masked-more c.args.w c.args.c (low (goal.at.returns c).Start).0
+      (omega (arith, (low (goal.at.returns c).Start).1)) m,
 )

@@ -26,8 +26,11 @@ overflow_add-h c = omega (arith, (lies (goal.at.overflow_add-h c).Start).right, 
 
 pub clear_row-requires : goal.clear_row-requires
 clear_row-requires c =
-    let below : c.args.r / 2 + 1 < c.args.h = omega (arith, c.if-r-eq1.true, c.requires.1) in
-    (c.requires.0.broad, (lies (goal.at.clear_row-requires c).Start).below below, (lies (goal.at.clear_row-requires c).Start).down below)
+    let below : c.args.r / 2 + 1 < c.args.h = omega (arith, c.if-r-eq1.true, c.requires.1) in (
+      c.requires.0.broad,
+      (lies (goal.at.clear_row-requires c).Start).below below,
+      (lies (goal.at.clear_row-requires c).Start).down below,
+    )
 
 pub returns-then-r-eq1 : goal.returns-then-r-eq1
 returns-then-r-eq1 c =
@@ -42,7 +45,11 @@ pub overflow_mul-y-3 : goal.overflow_mul-y-3
 overflow_mul-y-3 c = omega (arith, (lies (goal.at.overflow_mul-y-3 c).Start).across)
 
 pub clear_row-requires-2 : goal.clear_row-requires-2
-clear_row-requires-2 c = (omega (arith, c.requires.0.broad), omega (arith, (lies (goal.at.clear_row-requires-2 c).Start).right, c.requires.0.columns), (lies (goal.at.clear_row-requires-2 c).Start).across)
+clear_row-requires-2 c = (
+  omega (arith, c.requires.0.broad),
+  omega (arith, (lies (goal.at.clear_row-requires-2 c).Start).right, c.requires.0.columns),
+  (lies (goal.at.clear_row-requires-2 c).Start).across,
+)
 
 pub returns : goal.returns
 returns c =

@@ -44,7 +44,12 @@ pub bounds-turned-j-in-loop-j : goal.bounds-turned-j-in-loop-j
 bounds-turned-j-in-loop-j c = omega (arith, (small (goal.at.bounds-turned-j-in-loop-j c).Else-acc-eq0).place)
 
 pub step-acc-requires : goal.step-acc-requires
-step-acc-requires c = (c.requires.0, c.requires.1, rw (down-at (goal.at.step-acc-requires c).Else-acc-eq0) (small (goal.at.step-acc-requires c).Else-acc-eq0).row, rw (across-at (goal.at.step-acc-requires c).Else-acc-eq0) (small (goal.at.step-acc-requires c).Else-acc-eq0).column)
+step-acc-requires c = (
+  c.requires.0,
+  c.requires.1,
+  rw (down-at (goal.at.step-acc-requires c).Else-acc-eq0) (small (goal.at.step-acc-requires c).Else-acc-eq0).row,
+  rw (across-at (goal.at.step-acc-requires c).Else-acc-eq0) (small (goal.at.step-acc-requires c).Else-acc-eq0).column,
+)
 
 pub overflow_add-j-in-loop-j : goal.overflow_add-j-in-loop-j
 overflow_add-j-in-loop-j c = omega (arith, (small (goal.at.overflow_add-j-in-loop-j c).Else-acc-eq0).place)
@@ -55,7 +60,10 @@ loop-j-smaller c = omega (arith, c.loop-j-test.true)
 pub loop-j-preserved : goal.loop-j-preserved
 loop-j-preserved c = (
   omega (arith, c.loop-j-test.true),
-  rw (← down-at (goal.at.loop-j-preserved c).Else-acc-eq0, ← across-at (goal.at.loop-j-preserved c).Else-acc-eq0) c.step-acc.ensures
+  rw (
+    ← down-at (goal.at.loop-j-preserved c).Else-acc-eq0,
+    ← across-at (goal.at.loop-j-preserved c).Else-acc-eq0,
+  ) c.step-acc.ensures
       ∙ clear-more c.args.planes.now c.args.y c.args.turned.now c.args.word c.loop-j.j
       c.loop-j.invariant.1,
 )

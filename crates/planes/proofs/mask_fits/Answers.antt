@@ -31,12 +31,14 @@ pub bounds-mask-y : goal.bounds-mask-y
 bounds-mask-y c = omega (arith, c.requires.0.tall, c.requires.1.low.1)
 
 pub line_fits-requires : goal.line_fits-requires
-line_fits-requires c = (c.requires.0.planes, omega (arith, c.requires.0.tall, c.requires.1.low.1, c.loop-y-test.true), c.requires.2)
+line_fits-requires c =
+    (c.requires.0.planes, omega (arith, c.requires.0.tall, c.requires.1.low.1, c.loop-y-test.true), c.requires.2)
 
 pub returns-then-line_fits : goal.returns-then-line_fits
 unfolding mask_fits
 returns-then-line_fits c =
-    sym (any_some c.args.h (test (goal.at.returns-then-line_fits c).Start) c.loop-y.y (omega (arith, c.loop-y-test.true, c.requires.1.low.1))
+    sym (any_some c.args.h (test (goal.at.returns-then-line_fits c).Start) c.loop-y.y
+    (omega (arith, c.loop-y-test.true, c.requires.1.low.1))
     (sym c.line_fits.ensures ∙ c.if-line_fits.true))
 
 pub overflow_add-y : goal.overflow_add-y

@@ -6,7 +6,8 @@ use Rattle.print.specs.Lines.{Written}
 use Rattle.print.proofs.put_line.Given as goal
 
 abbrev pub invariant-loop-i : goal.invariant-loop-i
-invariant-loop-i l = (l.i ≤ l.n) × ((length l.line.bytes ≡ 32) × Written l.initial.out l.at (take l.i l.line.bytes) l.out (l.at + l.i))
+invariant-loop-i l =
+    (l.i ≤ l.n) × ((length l.line.bytes ≡ 32) × Written l.initial.out l.at (take l.i l.line.bytes) l.out (l.at + l.i))
 
 abbrev pub decreases-loop-i : goal.decreases-loop-i
 decreases-loop-i l = l.n - l.i

@@ -6,7 +6,9 @@ use Rattle.rules.specs.Groups.{entry}
 use Rattle.probe.proofs.copy.Given as goal
 
 abbrev pub invariant-loop-i : goal.invariant-loop-i
-invariant-loop-i l = (l.i ≤ length l.initial.out) × (length l.out ≡ length l.initial.out) × ((j : ℕ) → j < l.i → get_or l.out j 0 ≡ entry l.s j)
+invariant-loop-i l =
+    (l.i ≤ length l.initial.out) × (length l.out ≡ length l.initial.out)
+    × ((j : ℕ) → j < l.i → get_or l.out j 0 ≡ entry l.s j)
 
 abbrev pub decreases-loop-i : goal.decreases-loop-i
 decreases-loop-i l = length l.initial.out - l.i

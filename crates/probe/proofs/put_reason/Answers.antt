@@ -37,7 +37,12 @@ returns-then-count_of-group c =
     (record { memory = refl; count = refl })
 
 pub inside-n-requires : goal.inside-n-requires
-inside-n-requires c = (c.requires.0, rw c.borders_in-b.ensures (places-length 1984 _), group (goal.at.inside-n-requires c).After-borders_in-b, spare-zeros)
+inside-n-requires c = (
+  c.requires.0,
+  rw c.borders_in-b.ensures (places-length 1984 _),
+  group (goal.at.inside-n-requires c).After-borders_in-b,
+  spare-zeros,
+)
 
 pub slice_bounds-hand_out-end : goal.slice_bounds-hand_out-end
 slice_bounds-hand_out-end c = front_length c.inside-n.ensures

@@ -10,7 +10,8 @@ use Rattle.reasons.specs.MemoryLaws.{naming-full, naming-old, naming-new, length
 use Rattle.reasons.proofs.append.Goals.{After-name}
 use Rattle.reasons.proofs.append.Goals as goal
 
-noted : (c : After-name) {r : Bool} → c.name.result ≡ r → c.name.new.memory ≡ cond r (naming c.args.memory.now c.args.literal.border) c.args.memory.now
+noted : (c : After-name) {r : Bool} → c.name.result ≡ r → c.name.new.memory
+    ≡ cond r (naming c.args.memory.now c.args.literal.border) c.args.memory.now
 noted c e = rw (← e) c.name.ensures.1
 
 pub returns-then-at-ge1984 : goal.returns-then-at-ge1984

@@ -26,7 +26,8 @@ overflow_add-under c = omega (arith, few c, at c)
 
 pub returns-then-y-eq0 : goal.returns-then-y-eq0
 returns-then-y-eq0 c =
-    rw c.new.ensures (above-none (few (goal.at.returns-then-y-eq0 c).Start) (at (goal.at.returns-then-y-eq0 c).Start) c.if-d-eq0.true
+    rw c.new.ensures
+    (above-none (few (goal.at.returns-then-y-eq0 c).Start) (at (goal.at.returns-then-y-eq0 c).Start) c.if-d-eq0.true
     (omega (arith, c.if-y-eq0.true)))
 
 pub overflow_sub-under-then-d-eq0 : goal.overflow_sub-under-then-d-eq0
@@ -43,24 +44,29 @@ overflow_sub-c c =
 
 pub returns-then-d-eq0 : goal.returns-then-d-eq0
 returns-then-d-eq0 c =
-    rw (c.new-then-d-eq0.ensures, c.requires.3) (above-some (few (goal.at.returns-then-d-eq0 c).Start) (at (goal.at.returns-then-d-eq0 c).Start) c.if-d-eq0.true
+    rw (c.new-then-d-eq0.ensures, c.requires.3)
+    (above-some (few (goal.at.returns-then-d-eq0 c).Start) (at (goal.at.returns-then-d-eq0 c).Start) c.if-d-eq0.true
     (omega (arith, c.if-y-eq0.false)))
 
 pub overflow_add-c : goal.overflow_add-c
 overflow_add-c c = omega (arith, few (goal.at.overflow_add-c c).Start, at (goal.at.overflow_add-c c).Start)
 
 pub returns-then-d-eq1 : goal.returns-then-d-eq1
-returns-then-d-eq1 c = rw (c.new-then-d-eq1.ensures, c.requires.3) (below-hop (few (goal.at.returns-then-d-eq1 c).Start) (at (goal.at.returns-then-d-eq1 c).Start) c.if-d-eq1.true)
+returns-then-d-eq1 c =
+    rw (c.new-then-d-eq1.ensures, c.requires.3)
+    (below-hop (few (goal.at.returns-then-d-eq1 c).Start) (at (goal.at.returns-then-d-eq1 c).Start) c.if-d-eq1.true)
 
 pub returns-then-x-eq0 : goal.returns-then-x-eq0
 returns-then-x-eq0 c =
-    rw c.new-then-x-eq0.ensures (left-none (few (goal.at.returns-then-x-eq0 c).Start) (at (goal.at.returns-then-x-eq0 c).Start) c.if-d-eq2.true
+    rw c.new-then-x-eq0.ensures
+    (left-none (few (goal.at.returns-then-x-eq0 c).Start) (at (goal.at.returns-then-x-eq0 c).Start) c.if-d-eq2.true
     (omega (arith, c.if-x-eq0.true)))
 
 pub returns-then-d-eq2 : goal.returns-then-d-eq2
 returns-then-d-eq2 c =
     rw (c.new-then-d-eq2.ensures, c.requires.3)
-    (left-some (few (goal.at.returns-then-d-eq2 c).Start) (at (goal.at.returns-then-d-eq2 c).Start) c.if-d-eq2.true (omega (arith, c.if-x-eq0.false)) c.requires.2)
+    (left-some (few (goal.at.returns-then-d-eq2 c).Start) (at (goal.at.returns-then-d-eq2 c).Start)
+    c.if-d-eq2.true (omega (arith, c.if-x-eq0.false)) c.requires.2)
 
 pub overflow_add-c-2 : goal.overflow_add-c-2
 overflow_add-c-2 c = omega (arith, few (goal.at.overflow_add-c-2 c).Start, at (goal.at.overflow_add-c-2 c).Start)

@@ -43,16 +43,19 @@ pub start_of-requires : goal.start_of-requires
 start_of-requires c = omega (arith, c.requires.2.few)
 
 pub overflow_sub-count : goal.overflow_sub-count
-overflow_sub-count c = omega (arith, listed (goal.at.overflow_sub-count c).Start, c.start_of-from.ensures, c.start_of.ensures)
+overflow_sub-count c =
+    omega (arith, listed (goal.at.overflow_sub-count c).Start, c.start_of-from.ensures, c.start_of.ensures)
 
 pub loop-i-init : goal.loop-i-init
 loop-i-init c = (omega arith, turns-none _ c.requires.3)
 
 pub overflow_add-from : goal.overflow_add-from
-overflow_add-from c = omega (arith, listed (goal.at.overflow_add-from c).Start, c.start_of-from.ensures, c.start_of.ensures)
+overflow_add-from c =
+    omega (arith, listed (goal.at.overflow_add-from c).Start, c.start_of-from.ensures, c.start_of.ensures)
 
 pub cell_at-c-requires : goal.cell_at-c-requires
-cell_at-c-requires c = omega (arith, listed (goal.at.cell_at-c-requires c).Start, c.start_of-from.ensures, c.start_of.ensures)
+cell_at-c-requires c =
+    omega (arith, listed (goal.at.cell_at-c-requires c).Start, c.start_of-from.ensures, c.start_of.ensures)
 
 pub open_cell-at-requires : goal.open_cell-at-requires
 open_cell-at-requires c =
@@ -60,7 +63,8 @@ open_cell-at-requires c =
       c.requires.0,
       record { borders = c.requires.1; numbers = c.requires.2.numbers },
       rw (c.cell_at-c.ensures, f)
-          ((listed (goal.at.open_cell-at-requires c).Start).each c.loop-i.i (omega (arith, f, c.start_of.ensures, c.loop-i-test.true))),
+          ((listed (goal.at.open_cell-at-requires c).Start).each c.loop-i.i
+          (omega (arith, f, c.start_of.ensures, c.loop-i-test.true))),
       c.loop-i.invariant.1.spare,
     )
 
@@ -80,5 +84,6 @@ returns c =
     let f = c.start_of-from.ensures in
     let t = c.start_of.ensures in
     rw (whole (goal.at.returns c).Start)
-    (turns-end (at (goal.at.returns c).Start) c.loop-i.i c.loop-i.invariant.1 _ (omega (arith, f, t, c.loop-i.invariant.0))
+    (turns-end (at (goal.at.returns c).Start) c.loop-i.i c.loop-i.invariant.1 _
+    (omega (arith, f, t, c.loop-i.invariant.0))
     (omega (arith, f, t, c.loop-i-test.false)))

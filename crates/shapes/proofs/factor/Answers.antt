@@ -7,7 +7,8 @@ use mir.Facts.{to_z-of_z}
 use Rattle.shapes.proofs.factor.Goals as goal
 
 pub overflow_cast-result : goal.overflow_cast-result
-overflow_cast-result c = rw (to_z-of_z {w = w8} {z = c.args.sign} c.ranges.sign) (record { sfits = omega (arith, c.ranges.sign.sfits) })
+overflow_cast-result c =
+    rw (to_z-of_z {w = w8} {z = c.args.sign} c.ranges.sign) (record { sfits = omega (arith, c.ranges.sign.sfits) })
 
 pub returns : goal.returns
 returns c =

@@ -30,7 +30,8 @@ overflow_cast-y c =
     )
 
 pub overflow_cast-x : goal.overflow_cast-x
-overflow_cast-x c = simp (to_z-of_z c.ranges.x) (non-neg c.args.x (below c.ranges.x c.if-x-lt0.false), Fits-nat_abs tt c.ranges.x)
+overflow_cast-x c =
+    simp (to_z-of_z c.ranges.x) (non-neg c.args.x (below c.ranges.x c.if-x-lt0.false), Fits-nat_abs tt c.ranges.x)
 
 pub returns : goal.returns
 returns c =

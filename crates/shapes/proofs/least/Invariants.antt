@@ -7,7 +7,9 @@ use Rattle.shapes.specs.Spots.{spots, least_image}
 use Rattle.shapes.proofs.least.Given as goal
 
 abbrev pub invariant-loop-i : goal.invariant-loop-i
-invariant-loop-i l = (1 ≤ l.i) × (l.i ≤ cell_count l.outline) × (point_of l.best ≡ least_image l.row (spots (rows_in l.outline) (columns_in l.outline) l.i))
+invariant-loop-i l =
+    (1 ≤ l.i) × (l.i ≤ cell_count l.outline)
+    × (point_of l.best ≡ least_image l.row (spots (rows_in l.outline) (columns_in l.outline) l.i))
 
 abbrev pub decreases-loop-i : goal.decreases-loop-i
 decreases-loop-i l = l.n - l.i

@@ -35,4 +35,5 @@ returns c =
     ∙ ap₂ (turn_by c.args.s)
     (read_back _ c.signed.ensures (omega (arith, row_at (goal.at.returns c).Start, c.requires.1.down))
     ∙ ap pos (row_at (goal.at.returns c).Start))
-    (read_back _ c.signed-2.ensures (omega (arith, column-at (goal.at.returns c).Start, c.requires.1.across)) ∙ ap pos (column-at (goal.at.returns c).Start))
+    (read_back _ c.signed-2.ensures (omega (arith, column-at (goal.at.returns c).Start, c.requires.1.across))
+    ∙ ap pos (column-at (goal.at.returns c).Start))

@@ -13,16 +13,24 @@ across-is : (c : After-factor-across) → c.factor-across.result ≡ c.args.s.ac
 across-is c = sign-back c.requires.0.across c.factor-across.ensures
 
 pub overflow_mul-result : goal.overflow_mul-result
-overflow_mul-result c = rw (down_is (goal.at.overflow_mul-result c).After-factor-across) (times-fits c.args.s.down c.args.x c.requires.0.down c.requires.2)
+overflow_mul-result c =
+    rw (down_is (goal.at.overflow_mul-result c).After-factor-across)
+    (times-fits c.args.s.down c.args.x c.requires.0.down c.requires.2)
 
 pub overflow_mul-result-then-s : goal.overflow_mul-result-then-s
-overflow_mul-result-then-s c = rw (across-is (goal.at.overflow_mul-result-then-s c).After-factor-across) (times-fits c.args.s.across c.args.y c.requires.0.across c.requires.1)
+overflow_mul-result-then-s c =
+    rw (across-is (goal.at.overflow_mul-result-then-s c).After-factor-across)
+    (times-fits c.args.s.across c.args.y c.requires.0.across c.requires.1)
 
 pub overflow_mul-result-else-s : goal.overflow_mul-result-else-s
-overflow_mul-result-else-s c = rw (down_is (goal.at.overflow_mul-result-else-s c).After-factor-across) (times-fits c.args.s.down c.args.y c.requires.0.down c.requires.1)
+overflow_mul-result-else-s c =
+    rw (down_is (goal.at.overflow_mul-result-else-s c).After-factor-across)
+    (times-fits c.args.s.down c.args.y c.requires.0.down c.requires.1)
 
 pub overflow_mul-result-else-s-2 : goal.overflow_mul-result-else-s-2
-overflow_mul-result-else-s-2 c = rw (across-is (goal.at.overflow_mul-result-else-s-2 c).After-factor-across) (times-fits c.args.s.across c.args.x c.requires.0.across c.requires.2)
+overflow_mul-result-else-s-2 c =
+    rw (across-is (goal.at.overflow_mul-result-else-s-2 c).After-factor-across)
+    (times-fits c.args.s.across c.args.x c.requires.0.across c.requires.2)
 
 pub returns-then-s : goal.returns-then-s
 unfolding turn_by

@@ -16,7 +16,9 @@ use Rattle.shapes.proofs.within.Given as goal
 abbrev pub invariant-loop-i : goal.invariant-loop-i
 invariant-loop-i l =
     (l.i ≤ cell_count l.outline)
-    × (all_below l.i (λ j. has_cell l.h l.w (entry (numbers_in l.units)) l.g (apply (turn_at l.row) (cell_spot l.outline j) ⊕ point_of l.v))
+    × (all_below l.i
+    (λ j. has_cell l.h l.w (entry (numbers_in l.units)) l.g
+    (apply (turn_at l.row) (cell_spot l.outline j) ⊕ point_of l.v))
     ≡ true)
 
 abbrev pub decreases-loop-i : goal.decreases-loop-i

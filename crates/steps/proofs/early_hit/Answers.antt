@@ -49,19 +49,28 @@ unfolding early_hit
 returns-then-not-breach c =
     let p = c.requires in
     answers_next _ _ (nothing (goal.at.returns-then-not-breach c).In-Nothing)
-    (answers-none _ (walls-clear p.0 _ _ _ _ (found (goal.at.returns-then-not-breach c).After-first_breach-breach) (not-true _ c.if-not-breach.true)))
+    (answers-none _
+    (walls-clear p.0 _ _ _ _ (found (goal.at.returns-then-not-breach c).After-first_breach-breach)
+    (not-true _ c.if-not-breach.true)))
 
 pub slice_bounds-write_breach-end : goal.slice_bounds-write_breach-end
 slice_bounds-write_breach-end c = room (goal.at.slice_bounds-write_breach-end c).In-Nothing
 
 pub slice_bounds-write_breach-end-2 : goal.slice_bounds-write_breach-end-2
-slice_bounds-write_breach-end-2 c = sym (length-take-le 1984 (left (goal.at.slice_bounds-write_breach-end-2 c).In-Nothing) (room (goal.at.slice_bounds-write_breach-end-2 c).In-Nothing))
+slice_bounds-write_breach-end-2 c =
+    sym (length-take-le 1984 (left (goal.at.slice_bounds-write_breach-end-2 c).In-Nothing)
+    (room (goal.at.slice_bounds-write_breach-end-2 c).In-Nothing))
 
 pub write_breach-requires : goal.write_breach-requires
 write_breach-requires c =
     let p = c.requires in
-    let small = breach-small p.0 c.args.borders.now (numbers_in c.args.blocks.now) in
-    (p.0, p.1.borders, rw c.first_breach-breach.ensures small, spare-front (left (goal.at.write_breach-requires c).In-Nothing) (room (goal.at.write_breach-requires c).In-Nothing))
+    let small = breach-small p.0 c.args.borders.now (numbers_in c.args.blocks.now) in (
+      p.0,
+      p.1.borders,
+      rw c.first_breach-breach.ensures small,
+      spare-front (left (goal.at.write_breach-requires c).In-Nothing)
+          (room (goal.at.write_breach-requires c).In-Nothing),
+    )
 
 pub returns : goal.returns
 unfolding early_hit
@@ -69,4 +78,5 @@ returns c =
     let p = c.requires in
     answers_next _ _ (nothing (goal.at.returns c).In-Nothing)
     (answers-plain _ p.1.borders (room (goal.at.returns c).In-Nothing) (walls-held p.0 _ _ _) (walls-plain p.0 _ _ _)
-    (walls-breach p.0 _ _ _ _ (found (goal.at.returns c).After-first_breach-breach) (not-false _ c.if-not-breach.false)) c.write_breach.ensures)
+    (walls-breach p.0 _ _ _ _ (found (goal.at.returns c).After-first_breach-breach)
+    (not-false _ c.if-not-breach.false)) c.write_breach.ensures)

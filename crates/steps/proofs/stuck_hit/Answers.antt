@@ -59,5 +59,6 @@ returns c =
     let z = p.0.drawn.sized in
     λ ks.
     answers-some _ p.1.borders (units-held z _ ks _)
-    (units-stuck z _ _ _ (found (goal.at.returns c).After-first_stuck-u) ks (rw (c.count_of.ensures, p.0.units.count) at c.if-count_of-u.false))
+    (units-stuck z _ _ _ (found (goal.at.returns c).After-first_stuck-u) ks
+    (rw (c.count_of.ensures, p.0.units.count) at c.if-count_of-u.false))
     (c.write_stuck-n.ensures (clues_in ks)) c.hand_out.ensures

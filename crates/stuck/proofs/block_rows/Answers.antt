@@ -40,7 +40,12 @@ draw_places-requires c = (
 )
 
 pub loop-j-init : goal.loop-j-init
-loop-j-init c = (omega arith, length-replicate 4096 zero, length-replicate 32 zero, turns-none (each (goal.at.loop-j-init c).Start) c.requires.5)
+loop-j-init c = (
+  omega arith,
+  length-replicate 4096 zero,
+  length-replicate 32 zero,
+  turns-none (each (goal.at.loop-j-init c).Start) c.requires.5,
+)
 
 pub bounds-listed-j : goal.bounds-listed-j
 bounds-listed-j c = omega (arith, c.requires.0.few, c.loop-j-test.true)
@@ -81,7 +86,8 @@ block_mates-at-requires c =
     let e = c.draw_colours.ensures in (
       c.requires.1.sized,
       image-raised (goal.at.block_mates-at-requires c).After-turn_row,
-      lain-rows c.requires.1 bs _ _ (image-raised (goal.at.block_mates-at-requires c).After-turn_row) e c.survivors.ensures,
+      lain-rows c.requires.1 bs _ _ (image-raised (goal.at.block_mates-at-requires c).After-turn_row) e
+          c.survivors.ensures,
       c.draw_places.ensures,
       c.requires.4,
       c.loop-j.invariant.3.spare,
@@ -102,7 +108,8 @@ loop-j-preserved c =
       c.turn_row.ensures.2,
       c.survivors.ensures.size,
       turns_more (each (goal.at.loop-j-preserved c).Start) c.loop-j.j c.loop-j.invariant.3
-          (rw (blocks-row c.requires.1 bs _ _ (image-raised (goal.at.loop-j-preserved c).After-turn_row) e c.survivors.ensures c.requires.4
+          (rw (blocks-row c.requires.1 bs _ _ (image-raised (goal.at.loop-j-preserved c).After-turn_row) e
+          c.survivors.ensures c.requires.4
           c.draw_mask.ensures.0 (image-spelled (goal.at.loop-j-preserved c).After-turn_row))
           at c.block_mates-at.ensures),
     )
@@ -113,5 +120,6 @@ shape_of-memory c = c.loop-j.invariant.3.long
 pub returns : goal.returns
 unfolding blocks_listed
 returns c =
-    turns-end (each (goal.at.returns c).Start) c.loop-j.j c.loop-j.invariant.3 c.args.listed.count (omega (arith, c.loop-j.invariant.0))
+    turns-end (each (goal.at.returns c).Start) c.loop-j.j c.loop-j.invariant.3 c.args.listed.count
+    (omega (arith, c.loop-j.invariant.0))
     c.loop-j-test.false

@@ -14,7 +14,8 @@ use Rattle.stuck.proofs.block_rows.Given as goal
 abbrev pub invariant-loop-j : goal.invariant-loop-j
 invariant-loop-j l =
     (l.j ≤ l.listed.count) × (length l.turned ≡ 4096) × (length l.left ≡ 32) × Wrote l.initial.memory 0
-    (up_to (λ i. blocks_by (unclued l.h l.w l.colours) (states_in l.borders) (cells_in l.potential) (starts_in l.potential)
+    (up_to (λ i. blocks_by (unclued l.h l.w l.colours) (states_in l.borders) (cells_in l.potential)
+    (starts_in l.potential)
     (mates_in l.mates)
     (cell_spots l.outline) (joint_spots l.outline) (get_or l.listed.rows i 0)) l.j) l.memory l.at
 

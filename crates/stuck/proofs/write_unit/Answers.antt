@@ -38,4 +38,6 @@ walls_of-requires c =
     )
 
 pub returns : goal.returns
-returns c = λ k. reason-written c.requires.0 c.requires.1 k c.block_rows-blocked.ensures c.inside-inner.ensures c.walls_of.ensures
+returns c =
+    λ k. reason-written c.requires.0 c.requires.1 k c.block_rows-blocked.ensures c.inside-inner.ensures
+    c.walls_of.ensures

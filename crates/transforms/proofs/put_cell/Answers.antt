@@ -14,7 +14,8 @@ use Rattle.transforms.specs.ImageLaws.{cell-yes, cell-no}
 use Rattle.transforms.proofs.put_cell.Goals.{After-of_image}
 use Rattle.transforms.proofs.put_cell.Goals as goal
 
-tested : (c : After-of_image) → c.of_image.result ≡ of_image c.args.h c.args.w (entry (numbers_in c.args.units.now)) c.args.g
+tested : (c : After-of_image) → c.of_image.result
+    ≡ of_image c.args.h c.args.w (entry (numbers_in c.args.units.now)) c.args.g
     c.args.row (box_at c.args.i)
 tested c =
     c.of_image.ensures
@@ -41,4 +42,5 @@ pub returns : goal.returns
 returns c =
     wrote-same
     (sym (cell-no c.args.h c.args.w (entry (numbers_in c.args.units.now)) c.args.g c.args.row
-    (point_of c.args.m) c.args.i (sym (tested (goal.at.returns c).After-of_image) ∙ c.if-of_image.false))) (wrote_none _ _)
+    (point_of c.args.m) c.args.i (sym (tested (goal.at.returns c).After-of_image) ∙ c.if-of_image.false)))
+    (wrote_none _ _)

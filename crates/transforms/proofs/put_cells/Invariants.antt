@@ -8,7 +8,10 @@ use Rattle.transforms.specs.Box.{sweep}
 use Rattle.transforms.proofs.put_cells.Given as goal
 
 abbrev pub invariant-loop-i : goal.invariant-loop-i
-invariant-loop-i l = (l.i ≤ 4356) × WrotePoints l.initial.memory 0 (sweep l.h l.w (entry (numbers_in l.units)) l.g l.row (point_of l.m) l.i) l.memory l.at
+invariant-loop-i l =
+    (l.i ≤ 4356)
+    × WrotePoints l.initial.memory 0 (sweep l.h l.w (entry (numbers_in l.units)) l.g l.row (point_of l.m) l.i)
+    l.memory l.at
 
 abbrev pub decreases-loop-i : goal.decreases-loop-i
 decreases-loop-i l = 4356 - l.i

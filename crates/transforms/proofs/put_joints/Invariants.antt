@@ -10,7 +10,8 @@ use Rattle.transforms.proofs.put_joints.Given as goal
 abbrev pub invariant-loop-j : goal.invariant-loop-j
 invariant-loop-j l =
     (l.j ≤ l.k)
-    × WrotePoints l.initial.memory l.start (moved_back l.row (point_of l.m) (spots (down_in l.outline) (across_in l.outline) l.j)) l.memory l.at
+    × WrotePoints l.initial.memory l.start
+    (moved_back l.row (point_of l.m) (spots (down_in l.outline) (across_in l.outline) l.j)) l.memory l.at
 
 abbrev pub decreases-loop-j : goal.decreases-loop-j
 decreases-loop-j l = l.k - l.j

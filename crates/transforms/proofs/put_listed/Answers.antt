@@ -33,7 +33,8 @@ pub bounds-listed-k : goal.bounds-listed-k
 bounds-listed-k c = omega (arith, (rows (goal.at.bounds-listed-k c).Start).few)
 
 pub put_image-requires : goal.put_image-requires
-put_image-requires c = ((rows (goal.at.put_image-requires c).Start).low c.args.k (search rules), c.requires.0, c.requires.1, c.requires.3)
+put_image-requires c =
+    ((rows (goal.at.put_image-requires c).Start).low c.args.k (search rules), c.requires.0, c.requires.1, c.requires.3)
 
 pub returns : goal.returns
 returns c =

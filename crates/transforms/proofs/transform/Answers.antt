@@ -28,7 +28,8 @@ returns-then-memory-lt-ROOM c =
     )
 
 pub put_transform-requires : goal.put_transform-requires
-put_transform-requires c = let k = known (goal.at.put_transform-requires c).Else-alien in ((native-has _ k).size, search rules)
+put_transform-requires c = let k =
+    known (goal.at.put_transform-requires c).Else-alien in ((native-has _ k).size, search rules)
 
 pub returns : goal.returns
 returns c =

@@ -20,7 +20,11 @@ pub overflow_add-c : goal.overflow_add-c
 overflow_add-c c = omega (arith, at c, all c)
 
 pub hop_breach-below-requires : goal.hop_breach-below-requires
-hop_breach-below-requires c = (c.requires.1, omega (arith, at (goal.at.hop_breach-below-requires c).Start, all (goal.at.hop_breach-below-requires c).Start), λ t. (c.step.ensures.near t).fits)
+hop_breach-below-requires c = (
+  c.requires.1,
+  omega (arith, at (goal.at.hop_breach-below-requires c).Start, all (goal.at.hop_breach-below-requires c).Start),
+  λ t. (c.step.ensures.near t).fits,
+)
 
 pub returns-then-below : goal.returns-then-below
 returns-then-below c =
@@ -29,7 +33,11 @@ returns-then-below c =
     ∙ cell-split _ _ _ _ c.requires.2 c.requires.3 _ _ _ _ c.step.ensures right.1
 
 pub hop_breach-requires : goal.hop_breach-requires
-hop_breach-requires c = (c.requires.1, omega (arith, at (goal.at.hop_breach-requires c).Start, all (goal.at.hop_breach-requires c).Start), λ t. (c.step-2.ensures.near t).fits)
+hop_breach-requires c = (
+  c.requires.1,
+  omega (arith, at (goal.at.hop_breach-requires c).Start, all (goal.at.hop_breach-requires c).Start),
+  λ t. (c.step-2.ensures.near t).fits,
+)
 
 pub returns : goal.returns
 returns c =

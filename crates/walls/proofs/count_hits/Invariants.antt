@@ -8,7 +8,9 @@ use Rattle.walls.specs.Clean.{Apart}
 use Rattle.walls.proofs.count_hits.Given as goal
 
 abbrev pub invariant-loop-i : goal.invariant-loop-i
-invariant-loop-i l = (l.i ≤ l.n) × (l.hits ≤ l.i) × (l.hits ≡ 0 → Apart (states_in l.borders) (entry (numbers_in l.blocks)) l.at l.c l.d l.i)
+invariant-loop-i l =
+    (l.i ≤ l.n) × (l.hits ≤ l.i)
+    × (l.hits ≡ 0 → Apart (states_in l.borders) (entry (numbers_in l.blocks)) l.at l.c l.d l.i)
 
 abbrev pub decreases-loop-i : goal.decreases-loop-i
 decreases-loop-i l = l.n - l.i

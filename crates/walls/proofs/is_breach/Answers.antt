@@ -24,7 +24,12 @@ bounds-borders-border c = omega (arith, near (goal.at.bounds-borders-border c).E
 
 pub returns-then-borders-border-ne1 : goal.returns-then-borders-border-ne1
 unfolding is_breach
-returns-then-borders-border-ne1 c = rw (there (goal.at.returns-then-borders-border-ne1 c).Else-not-n, state-wall, ne_eqb _ _ c.if-borders-border-ne1.true)
+returns-then-borders-border-ne1 c =
+    rw (
+      there (goal.at.returns-then-borders-border-ne1 c).Else-not-n,
+      state-wall,
+      ne_eqb _ _ c.if-borders-border-ne1.true,
+    )
 
 pub group_of-requires : goal.group_of-requires
 group_of-requires c = c.requires.1

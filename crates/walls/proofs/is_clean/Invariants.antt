@@ -9,7 +9,8 @@ use Rattle.walls.proofs.is_clean.Given as goal
 abbrev pub invariant-loop-y : goal.invariant-loop-y
 invariant-loop-y l =
     (l.y ≤ l.h)
-    × ((v : ℕ) → v < l.y → Apart (states_in l.borders) (entry (numbers_in l.blocks)) (v * (l.w - 1)) (v * l.w) (v * l.w + 1) (l.w - 1))
+    × ((v : ℕ) → v < l.y
+    → Apart (states_in l.borders) (entry (numbers_in l.blocks)) (v * (l.w - 1)) (v * l.w) (v * l.w + 1) (l.w - 1))
 
 abbrev pub decreases-loop-y : goal.decreases-loop-y
 decreases-loop-y l = l.h - l.y

@@ -55,11 +55,13 @@ parted c =
 
 pub size_of-requires : goal.size_of-requires
 unfolding census_of colour_part
-size_of-requires c = rw (ap (λ t. t.zero.unit) c.census-t.ensures) (parted (goal.at.size_of-requires c).After-census-t false)
+size_of-requires c =
+    rw (ap (λ t. t.zero.unit) c.census-t.ensures) (parted (goal.at.size_of-requires c).After-census-t false)
 
 pub size_of-requires-2 : goal.size_of-requires-2
 unfolding census_of colour_part
-size_of-requires-2 c = rw (ap (λ t. t.one.unit) c.census-t.ensures) (parted (goal.at.size_of-requires-2 c).After-census-t true)
+size_of-requires-2 c =
+    rw (ap (λ t. t.one.unit) c.census-t.ensures) (parted (goal.at.size_of-requires-2 c).After-census-t true)
 
 pub returns : goal.returns
 returns c =

@@ -56,7 +56,8 @@ loop-b-preserved c =
       omega arith,
       l.invariant.1
           ∙ faulty-next _ _ l.b c.loop-b-test.true
-          (ap is_faultless (sym (fault (goal.at.loop-b-preserved c).After-block_fault-fault)) ∙ (sym c.is_clear.ensures ∙ c.if-is_clear.true)),
+          (ap is_faultless (sym (fault (goal.at.loop-b-preserved c).After-block_fault-fault))
+          ∙ (sym c.is_clear.ensures ∙ c.if-is_clear.true)),
     )
 
 pub returns-else-is_clear : goal.returns-else-is_clear
@@ -64,7 +65,8 @@ returns-else-is_clear c =
     let l = c.loop-b in
     ap (at l.b) (fault (goal.at.returns-else-is_clear c).After-block_fault-fault)
     ∙ (faulty-found _ _ l.b c.loop-b-test.true
-    (ap is_faultless (sym (fault (goal.at.returns-else-is_clear c).After-block_fault-fault)) ∙ (sym c.is_clear.ensures ∙ c.if-is_clear.false))
+    (ap is_faultless (sym (fault (goal.at.returns-else-is_clear c).After-block_fault-fault))
+    ∙ (sym c.is_clear.ensures ∙ c.if-is_clear.false))
     ∙ sym l.invariant.1)
 
 pub returns : goal.returns

@@ -22,7 +22,9 @@ invariant-loop-b l =
     (l.b ≤ l.count)
     × (first_faulty (faults_of l.colours l.clues (numbers_in l.potential) (starts_in l.potential) (cells_in l.blocks)
     (starts_in l.blocks)) (count_in l.blocks)
-    ≡ faulty_from (faults_of l.colours l.clues (numbers_in l.potential) (starts_in l.potential) (cells_in l.blocks) (starts_in l.blocks))
+    ≡ faulty_from
+    (faults_of l.colours l.clues (numbers_in l.potential) (starts_in l.potential) (cells_in l.blocks)
+    (starts_in l.blocks))
     (l.count - l.b) l.b)
 
 abbrev pub decreases-loop-b : goal.decreases-loop-b

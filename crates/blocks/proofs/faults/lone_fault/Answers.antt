@@ -30,7 +30,8 @@ is : (c : In-Is)
 is c = clue (goal.at.In-Is c).After-clue_at-clue ∙ ap option_of c.in-Is.is
 
 pub returns-in_default : goal.returns-in_default
-returns-in_default c = lone-free _ _ _ _ (clue (goal.at.returns-in_default c).After-clue_at-clue ∙ ap option_of c.in_default.is)
+returns-in_default c =
+    lone-free _ _ _ _ (clue (goal.at.returns-in_default c).After-clue_at-clue ∙ ap option_of c.in_default.is)
 
 pub returns-then-n-eq0 : goal.returns-then-n-eq0
 returns-then-n-eq0 c = lone-none _ _ _ _ _ (is (goal.at.returns-then-n-eq0 c).In-Is) c.if-n-eq0.true

@@ -18,7 +18,8 @@ use Rattle.blocks.specs.Censuses.{clue_in}
 use Rattle.blocks.specs.Looks.{OwnPut, ClueKept}
 use Rattle.blocks.specs.Looked.{look_none, look-more, looked-few, zero-parted, one-parted, kept-none}
 use Rattle.blocks.specs.Looked.{settles, looked-stray, looked-clash, looked-scan, looked-clear}
-use Rattle.blocks.proofs.faults.look.Goals.{After-bit-one, After-cell_at-c, After-loop-i, After-t34-1, Joined-clues-c-ge0, Joined-own-one}
+use Rattle.blocks.proofs.faults.look.Goals.{After-bit-one, After-cell_at-c, After-loop-i, After-t34-1}
+use Rattle.blocks.proofs.faults.look.Goals.{Joined-clues-c-ge0, Joined-own-one}
 use Rattle.blocks.proofs.faults.look.Goals.{then-own-one+else-own-one-ne1024, else-own-one}
 use Rattle.blocks.proofs.faults.look.Goals.{then-clues-c-ge0+else-clash, else-clues-c-ge0}
 use Rattle.blocks.proofs.faults.look.Goals as goal
@@ -71,7 +72,8 @@ returns-then-own-one-ne1024 c =
     (rw (c.bit-one.ensures, c.group_of-unit.ensures) at c.if-own-one.true))
 
 pub offset_bounds-own-one-then-own-one-2 : goal.offset_bounds-own-one-then-own-one-2
-offset_bounds-own-one-then-own-one-2 c = omega (arith, two (goal.at.offset_bounds-own-one-then-own-one-2 c).After-bit-one)
+offset_bounds-own-one-then-own-one-2 c =
+    omega (arith, two (goal.at.offset_bounds-own-one-then-own-one-2 c).After-bit-one)
 
 pub bounds-own-one-then-own-one-2 : goal.bounds-own-one-then-own-one-2
 bounds-own-one-then-own-one-2 c = two (goal.at.bounds-own-one-then-own-one-2 c).After-bit-one
@@ -83,7 +85,8 @@ pub bounds-clues-c : goal.bounds-clues-c
 bounds-clues-c c = small (goal.at.bounds-clues-c c).After-cell_at-c
 
 pub offset_bounds-clues-c-then-clues-c-ge0 : goal.offset_bounds-clues-c-then-clues-c-ge0
-offset_bounds-clues-c-then-clues-c-ge0 c = omega (arith, small (goal.at.offset_bounds-clues-c-then-clues-c-ge0 c).After-cell_at-c)
+offset_bounds-clues-c-then-clues-c-ge0 c =
+    omega (arith, small (goal.at.offset_bounds-clues-c-then-clues-c-ge0 c).After-cell_at-c)
 
 pub bounds-clues-c-then-clues-c-ge0 : goal.bounds-clues-c-then-clues-c-ge0
 bounds-clues-c-then-clues-c-ge0 c = small (goal.at.bounds-clues-c-then-clues-c-ge0 c).After-cell_at-c
@@ -114,7 +117,14 @@ returns-then-clash c =
     (sym c.clash.ensures ∙ c.if-clash.true)))
 
 pub overflow_add-ones : goal.overflow_add-ones
-overflow_add-ones c = omega (arith, two (goal.at.overflow_add-ones c).After-bit-one, looked-few c.loop-i.invariant.3, c.loop-i.invariant, c.requires.0)
+overflow_add-ones c =
+    omega (
+      arith,
+      two (goal.at.overflow_add-ones c).After-bit-one,
+      looked-few c.loop-i.invariant.3,
+      c.loop-i.invariant,
+      c.requires.0,
+    )
 
 pub overflow_add-i : goal.overflow_add-i
 overflow_add-i c = omega (arith, c.requires.0)
@@ -152,7 +162,8 @@ loop-i-preserved c =
       rw c.bit-one.ensures
           (look-more c.loop-i.invariant.3 c.cell_at-c.result c.loop-i.invariant.0 c.cell_at-c.ensures
           (omega (arith, p.0.long, p.0.within)) c.loop-i.invariant.2 p.1.few _
-          (rw (c.bit-one.ensures, c.group_of-unit.ensures) at (put (goal.at.loop-i-preserved c).Joined-own-one)) _ (kept c)),
+          (rw (c.bit-one.ensures, c.group_of-unit.ensures) at (put (goal.at.loop-i-preserved c).Joined-own-one))
+          _ (kept c)),
     )
 
 pub overflow_sub-zeros : goal.overflow_sub-zeros
@@ -173,15 +184,19 @@ has_room-requires c h =
     (rw (all c) at h)
 
 pub has_room-requires-then-has_room : goal.has_room-requires-then-has_room
-has_room-requires-then-has_room c h = one-parted c.loop-i.invariant.3 c.loop-i.invariant.0 (omega (arith, c.requires.0, all (goal.at.has_room-requires-then-has_room c).After-loop-i)) _ c.requires.1 h
+has_room-requires-then-has_room c h =
+    one-parted c.loop-i.invariant.3 c.loop-i.invariant.0
+    (omega (arith, c.requires.0, all (goal.at.has_room-requires-then-has_room c).After-loop-i)) _ c.requires.1 h
 
 pub returns-then-has_room-2 : goal.returns-then-has_room-2
 returns-then-has_room-2 c =
     settles c.settled-then-has_room-2.result c.settled-then-has_room-2.ensures
     (rw (all (goal.at.returns-then-has_room-2 c).After-loop-i)
-    (looked-clear c.loop-i.invariant.3 c.loop-i.invariant.0 (omega (arith, c.requires.0, all (goal.at.returns-then-has_room-2 c).After-loop-i)) _
+    (looked-clear c.loop-i.invariant.3 c.loop-i.invariant.0
+    (omega (arith, c.requires.0, all (goal.at.returns-then-has_room-2 c).After-loop-i)) _
     (rw (all (goal.at.returns-then-has_room-2 c).After-loop-i) at (c.has_room.ensures c.if-has_room.true))
-    (rw (all (goal.at.returns-then-has_room-2 c).After-loop-i) at (c.has_room-then-has_room.ensures c.if-has_room-2.true))))
+    (rw (all (goal.at.returns-then-has_room-2 c).After-loop-i) at
+    (c.has_room-then-has_room.ensures c.if-has_room-2.true))))
 
 pub returns-else-has_room-2 : goal.returns-else-has_room-2
 returns-else-has_room-2 c = (

@@ -22,7 +22,8 @@ ends c =
     let a = c.args in
     c.decide_refusal-outcome.ensures
     ∙ ap (λ m. decide_refusal m a.self.borders a.l.border)
-    (c.border_count-total.ensures ∙ borders-of (native-has _ (known (goal.at.After-decide_refusal-outcome c).Else-alien)).size)
+    (c.border_count-total.ensures
+    ∙ borders-of (native-has _ (known (goal.at.After-decide_refusal-outcome c).Else-alien)).size)
 
 zero : (c : Else-number-ne0) → number_of c.decide_refusal-outcome.result ≡ 0
 zero c = sym c.number.ensures ∙ c.if-number-ne0.false
@@ -38,17 +39,20 @@ decide_refusal-outcome-requires c =
 
 pub returns-then-number-ne0 : goal.returns-then-number-ne0
 returns-then-number-ne0 c =
-    decide-refused _ _ (known (goal.at.returns-then-number-ne0 c).Else-alien) _ (ends (goal.at.returns-then-number-ne0 c).After-decide_refusal-outcome)
+    decide-refused _ _ (known (goal.at.returns-then-number-ne0 c).Else-alien) _
+    (ends (goal.at.returns-then-number-ne0 c).After-decide_refusal-outcome)
     (λ z. c.if-number-ne0.true (c.number.ensures ∙ z))
 
 pub push-requires : goal.push-requires
 push-requires c =
     free-places _ (native-has _ (known (goal.at.push-requires c).Else-alien)) _
-    (ap number_of (sym (ends (goal.at.push-requires c).After-decide_refusal-outcome)) ∙ zero (goal.at.push-requires c).Else-number-ne0)
+    (ap number_of (sym (ends (goal.at.push-requires c).After-decide_refusal-outcome))
+    ∙ zero (goal.at.push-requires c).Else-number-ne0)
 
 pub returns : goal.returns
 returns c =
     let a = c.args in
     ap (returned c.decide_refusal-outcome.result)
     (c.push.ensures ∙ ap (λ v. pushed a.self a.l.border v) c.code.ensures)
-    ∙ decide-free _ _ (known (goal.at.returns c).Else-alien) _ (ends (goal.at.returns c).After-decide_refusal-outcome) (zero (goal.at.returns c).Else-number-ne0)
+    ∙ decide-free _ _ (known (goal.at.returns c).Else-alien) _
+    (ends (goal.at.returns c).After-decide_refusal-outcome) (zero (goal.at.returns c).Else-number-ne0)

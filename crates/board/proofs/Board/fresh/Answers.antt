@@ -40,7 +40,8 @@ fit c = (
 pub returns-then-number-ne0 : goal.returns-then-number-ne0
 returns-then-number-ne0 c =
     c.refused.ensures
-    ∙ fresh-refused _ _ _ _ (size (goal.at.returns-then-number-ne0 c).Then-size_right) _ (ends (goal.at.returns-then-number-ne0 c).After-puzzle_refusal-outcome)
+    ∙ fresh-refused _ _ _ _ (size (goal.at.returns-then-number-ne0 c).Then-size_right) _
+    (ends (goal.at.returns-then-number-ne0 c).After-puzzle_refusal-outcome)
     (λ z. c.if-number-ne0.true (c.number.ensures ∙ z))
 
 pub padded_colours-requires : goal.padded_colours-requires
@@ -56,7 +57,9 @@ returns-else-number-ne0 c =
       c.padded_clues.ensures,
       c.border_count.ensures ∙ borders-of (sized (size (goal.at.returns-else-number-ne0 c).Then-size_right)),
     )
-    (fresh-free _ _ _ _ (size (goal.at.returns-else-number-ne0 c).Then-size_right) _ (ends (goal.at.returns-else-number-ne0 c).After-puzzle_refusal-outcome) (zero (goal.at.returns-else-number-ne0 c).Else-number-ne0))
+    (fresh-free _ _ _ _ (size (goal.at.returns-else-number-ne0 c).Then-size_right) _
+    (ends (goal.at.returns-else-number-ne0 c).After-puzzle_refusal-outcome)
+    (zero (goal.at.returns-else-number-ne0 c).Else-number-ne0))
 
 pub returns-else-size_right : goal.returns-else-size_right
 returns-else-size_right c =

@@ -45,4 +45,5 @@ pop-requires c =
 pub returns : goal.returns
 returns c =
     ap (returned c.undo_refusal-outcome.result) c.pop.ensures
-    ∙ undo-free _ (known (goal.at.returns c).Else-alien) _ c.undo_refusal-outcome.ensures (zero (goal.at.returns c).Else-number-ne0)
+    ∙ undo-free _ (known (goal.at.returns c).Else-alien) _ c.undo_refusal-outcome.ensures
+    (zero (goal.at.returns c).Else-number-ne0)

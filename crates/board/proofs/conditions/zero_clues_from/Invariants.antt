@@ -8,7 +8,9 @@ use Rattle.board.specs.Alien.{clue_zero}
 use Rattle.board.proofs.conditions.zero_clues_from.Given as goal
 
 abbrev pub invariant-loop-i : goal.invariant-loop-i
-invariant-loop-i l = (l.from ≤ l.i) × (l.i - l.from ≤ length l.places - l.from) × (l.zero ≡ all_between l.from l.i (λ x. clue_zero (get_or l.places x (pos 0))))
+invariant-loop-i l =
+    (l.from ≤ l.i) × (l.i - l.from ≤ length l.places - l.from)
+    × (l.zero ≡ all_between l.from l.i (λ x. clue_zero (get_or l.places x (pos 0))))
 
 abbrev pub decreases-loop-i : goal.decreases-loop-i
 decreases-loop-i l = length l.places - l.i

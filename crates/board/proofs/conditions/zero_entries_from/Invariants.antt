@@ -7,7 +7,9 @@ use Rattle.lists.specs.Tests.{all_between}
 use Rattle.board.proofs.conditions.zero_entries_from.Given as goal
 
 abbrev pub invariant-loop-i : goal.invariant-loop-i
-invariant-loop-i l = (l.from ≤ l.i) × (l.i - l.from ≤ length l.places - l.from) × (eqb l.any 0 ≡ all_between l.from l.i (λ x. eqb (get_or l.places x 0) 0))
+invariant-loop-i l =
+    (l.from ≤ l.i) × (l.i - l.from ≤ length l.places - l.from)
+    × (eqb l.any 0 ≡ all_between l.from l.i (λ x. eqb (get_or l.places x 0) 0))
 
 abbrev pub decreases-loop-i : goal.decreases-loop-i
 decreases-loop-i l = length l.places - l.i

@@ -22,4 +22,6 @@ returns-else-clues_right c =
     (sym c.clues_right.ensures ∙ c.if-clues_right.false)
 
 pub returns-else-colours_right : goal.returns-else-colours_right
-returns-else-colours_right c = puzzle-colour _ _ _ c.if-colours-cells.false c.if-clues-cells.false (sym c.colours_right.ensures ∙ c.if-colours_right.false)
+returns-else-colours_right c =
+    puzzle-colour _ _ _ c.if-colours-cells.false c.if-clues-cells.false (sym c.colours_right.ensures
+    ∙ c.if-colours_right.false)

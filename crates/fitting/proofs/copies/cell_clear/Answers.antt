@@ -69,7 +69,8 @@ pub overflow_add-c-then-joint_clear : goal.overflow_add-c-then-joint_clear
 overflow_add-c-then-joint_clear c = omega (arith, c.requires.1, (counts c.requires.0.sized).cells)
 
 pub overflow_add-across-then-joint_clear : goal.overflow_add-across-then-joint_clear
-overflow_add-across-then-joint_clear c = omega (arith, column-low (goal.at.overflow_add-across-then-joint_clear c).Start, c.requires.2.across)
+overflow_add-across-then-joint_clear c =
+    omega (arith, column-low (goal.at.overflow_add-across-then-joint_clear c).Start, c.requires.2.across)
 
 pub joint_clear-requires-then-joint_clear : goal.joint_clear-requires-then-joint_clear
 joint_clear-requires-then-joint_clear c =

@@ -118,7 +118,8 @@ pub returns-else-cell_clear : goal.returns-else-cell_clear
 returns-else-cell_clear c =
     let t = c.loop-i-test.true in
     all-ends _ (cells_in c.args.units.now) c.loop-i.i c.start_of-last.result c.loop-i.invariant.2 t
-    (omega (arith, c.requires.1.end, c.requires.1.long, c.start_of-last.ensures)) (sym (cell-is (goal.at.returns-else-cell_clear c).After-cell_clear) ∙ c.if-cell_clear.false)
+    (omega (arith, c.requires.1.end, c.requires.1.long, c.start_of-last.ensures))
+    (sym (cell-is (goal.at.returns-else-cell_clear c).After-cell_clear) ∙ c.if-cell_clear.false)
 
 pub returns : goal.returns
 returns c =

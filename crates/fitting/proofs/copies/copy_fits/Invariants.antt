@@ -15,7 +15,8 @@ use Rattle.fitting.proofs.copies.copy_fits.Given as goal
 abbrev pub invariant-loop-i : goal.invariant-loop-i
 invariant-loop-i l =
     let number : ℕ → ℕ = entry (numbers_in l.units) in
-    (l.first ≤ l.i) × (l.i ≤ l.last) × (fits_of (unclued l.h l.w l.colours) (states_in l.borders) (shape_of (flat l.h l.w) number l.g) l.o
+    (l.first ≤ l.i) × (l.i ≤ l.last)
+    × (fits_of (unclued l.h l.w l.colours) (states_in l.borders) (shape_of (flat l.h l.w) number l.g) l.o
     ≡ all (cell_clear l.h l.w l.colours (states_in l.borders) number l.g l.y l.x) (part (cells_in l.units) l.i l.last))
 
 abbrev pub decreases-loop-i : goal.decreases-loop-i

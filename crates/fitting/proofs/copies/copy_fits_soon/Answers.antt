@@ -25,7 +25,8 @@ end_is c =
     c.soon_end-to.ensures ∙ ap₂ soon_end c.start_of-from.ensures c.start_of.ensures
 
 -- they are cells of the page
-soon : (c : After-soon_end-to) → Cells c.args.h c.args.w (cells_in c.args.potential.now) c.start_of-from.result c.soon_end-to.result
+soon : (c : After-soon_end-to)
+    → Cells c.args.h c.args.w (cells_in c.args.potential.now) c.start_of-from.result c.soon_end-to.result
 soon c =
     rw (c.start_of-from.ensures, end_is c) (soon-cells c.requires.3)
 
@@ -49,7 +50,9 @@ pub copy_fits-requires : goal.copy_fits-requires
 copy_fits-requires c = (
   c.requires.0,
   c.requires.1,
-  rw c.cell_at-o.ensures (cells_at (soon (goal.at.copy_fits-requires c).After-soon_end-to) c.loop-i.i c.loop-i.invariant.0 c.loop-i-test.true),
+  rw c.cell_at-o.ensures
+      (cells_at (soon (goal.at.copy_fits-requires c).After-soon_end-to) c.loop-i.i c.loop-i.invariant.0
+      c.loop-i-test.true),
 )
 
 -- the answer at the cell at i
@@ -64,7 +67,8 @@ returns-then-copy_fits c =
     let a = c.args in
     any_found (fit a.h a.w a.colours.now a.borders.now a.units.now a.g)
     (cells_in a.potential.now) c.loop-i.i
-    c.soon_end-to.result c.loop-i.invariant.2 c.loop-i-test.true (cells-reach (soon (goal.at.returns-then-copy_fits c).After-soon_end-to))
+    c.soon_end-to.result c.loop-i.invariant.2 c.loop-i-test.true
+    (cells-reach (soon (goal.at.returns-then-copy_fits c).After-soon_end-to))
     (sym (cell-is (goal.at.returns-then-copy_fits c).After-copy_fits) ∙ c.if-copy_fits.true)
 
 pub overflow_add-i : goal.overflow_add-i
@@ -78,7 +82,8 @@ loop-i-preserved c =
       any_next (fit a.h a.w a.colours.now a.borders.now a.units.now a.g)
           (cells_in a.potential.now)
           c.loop-i.i c.soon_end-to.result c.loop-i.invariant.2 c.loop-i-test.true
-          (cells-reach (soon (goal.at.loop-i-preserved c).After-soon_end-to)) (sym (cell-is (goal.at.loop-i-preserved c).After-copy_fits) ∙ c.if-copy_fits.false),
+          (cells-reach (soon (goal.at.loop-i-preserved c).After-soon_end-to))
+          (sym (cell-is (goal.at.loop-i-preserved c).After-copy_fits) ∙ c.if-copy_fits.false),
     )
 
 pub returns : goal.returns

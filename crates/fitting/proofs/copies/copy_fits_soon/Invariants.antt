@@ -23,7 +23,8 @@ fit h w colours borders units g =
 abbrev pub invariant-loop-i : goal.invariant-loop-i
 invariant-loop-i l =
     (l.from ≤ l.i) × (l.i ≤ l.to)
-    × (fits_among (unclued l.h l.w l.colours) (states_in l.borders) (shape_of (flat l.h l.w) (entry (numbers_in l.units)) l.g)
+    × (fits_among (unclued l.h l.w l.colours) (states_in l.borders)
+    (shape_of (flat l.h l.w) (entry (numbers_in l.units)) l.g)
     (soon_in (cells_in l.potential) (starts_in l.potential) l.q)
     ≡ any (fit l.h l.w l.colours l.borders l.units l.g) (part (cells_in l.potential) l.i l.to))
 

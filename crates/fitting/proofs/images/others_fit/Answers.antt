@@ -20,13 +20,15 @@ pub loop-row-init : goal.loop-row-init
 loop-row-init c = (omega arith, c.requires.4, λ F a e. none_more 0 (test c F) (any_none (test c F)) e)
 
 pub row_fits-requires : goal.row_fits-requires
-row_fits-requires c = (c.loop-row-test.true, c.requires.0, c.requires.1, c.requires.2, c.requires.3, c.loop-row.invariant.1)
+row_fits-requires c =
+    (c.loop-row-test.true, c.requires.0, c.requires.1, c.requires.2, c.requires.3, c.loop-row.invariant.1)
 
 pub returns-then-row_fits : goal.returns-then-row_fits
 returns-then-row_fits c =
     let e = c.row_fits.ensures in (
       λ F a z.
-          sym (any_some 8 (test (goal.at.returns-then-row_fits c).Start F) c.loop-row.row c.loop-row-test.true (sym (e.0 F a) ∙ c.if-row_fits.true)),
+          sym (any_some 8 (test (goal.at.returns-then-row_fits c).Start F) c.loop-row.row c.loop-row-test.true
+          (sym (e.0 F a) ∙ c.if-row_fits.true)),
       e.1,
     )
 
@@ -35,7 +37,8 @@ loop-row-preserved c =
     let e = c.row_fits.ensures in (
       omega (arith, c.loop-row-test.true),
       e.1,
-      λ F a z. none_more c.loop-row.row (test (goal.at.loop-row-preserved c).Start F) (c.loop-row.invariant.2 F a z) (sym (e.0 F a) ∙ c.if-row_fits.false),
+      λ F a z. none_more c.loop-row.row (test (goal.at.loop-row-preserved c).Start F)
+          (c.loop-row.invariant.2 F a z) (sym (e.0 F a) ∙ c.if-row_fits.false),
     )
 
 pub returns : goal.returns

@@ -28,7 +28,9 @@ mask_fits-requires c = (c.requires.0, search rules, rw c.joint_count.ensures c.r
 
 pub returns-then-mask_fits : goal.returns-then-mask_fits
 returns-then-mask_fits c = (
-  λ F a. sym (any_some 8 (test (goal.at.returns-then-mask_fits c).Start F) 0 (omega arith) (sym (first (goal.at.returns-then-mask_fits c).After-mask_fits F a) ∙ c.if-mask_fits.true)),
+  λ F a. sym
+      (any_some 8 (test (goal.at.returns-then-mask_fits c).Start F) 0 (omega arith)
+      (sym (first (goal.at.returns-then-mask_fits c).After-mask_fits F a) ∙ c.if-mask_fits.true)),
   c.requires.5,
 )
 

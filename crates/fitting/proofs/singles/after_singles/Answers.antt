@@ -18,7 +18,8 @@ pub all_near-sure-requires : goal.all_near-sure-requires
 all_near-sure-requires c = (λ p l. home_at c.requires.0 p l, c.requires.1)
 
 pub loop-u-init : goal.loop-u-init
-loop-u-init c = (passed_start (test (goal.at.loop-u-init c).Start) (count_in c.args.units.now), c.all_near-sure.ensures.1)
+loop-u-init c =
+    (passed_start (test (goal.at.loop-u-init c).Start) (count_in c.args.units.now), c.all_near-sure.ensures.1)
 
 pub single_fits-requires : goal.single_fits-requires
 single_fits-requires c = (

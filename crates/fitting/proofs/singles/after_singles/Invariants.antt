@@ -7,7 +7,9 @@ use Rattle.fitting.specs.FirstStuck.{Passed, fits_unit}
 use Rattle.fitting.proofs.singles.after_singles.Given as goal
 
 abbrev pub invariant-loop-u : goal.invariant-loop-u
-invariant-loop-u l = Passed (fits_unit (unclued l.h l.w l.colours) (states_in l.borders)) (count_in l.units) l.u × Nearby l.h l.w l.colours l.borders l.near
+invariant-loop-u l =
+    Passed (fits_unit (unclued l.h l.w l.colours) (states_in l.borders)) (count_in l.units) l.u
+    × Nearby l.h l.w l.colours l.borders l.near
 
 abbrev pub decreases-loop-u : goal.decreases-loop-u
 decreases-loop-u l = l.count - l.u

@@ -29,12 +29,14 @@ pub returns-then-last-first : goal.returns-then-last-first
 returns-then-last-first c = (λ e. let z : ◌≡◌ {A = ℕ} 0 1 = cc in absurd (omega arith), c.requires.3)
 
 -- the unit has one cell
-one-is : (c : Else-last-first) → get_or (starts_in c.args.units.now) (c.args.u + 1) 0 ≡ get_or (starts_in c.args.units.now) c.args.u 0 + 1
+one-is : (c : Else-last-first) → get_or (starts_in c.args.units.now) (c.args.u + 1) 0
+    ≡ get_or (starts_in c.args.units.now) c.args.u 0 + 1
 one-is c = rw (c.start_of-first.ensures, c.start_of-last.ensures) at c.if-last-first.false
 
 pub returns-then-sure : goal.returns-then-sure
 returns-then-sure c = (
-  λ e. sure-unit c.requires.0 c.args.u c.requires.1 (one-is (goal.at.returns-then-sure c).Else-last-first) (c.requires.2 c.if-sure.true),
+  λ e. sure-unit c.requires.0 c.args.u c.requires.1 (one-is (goal.at.returns-then-sure c).Else-last-first)
+      (c.requires.2 c.if-sure.true),
   c.requires.3,
 )
 
@@ -44,7 +46,8 @@ cell_at-c-requires c =
     omega (arith, u.some, u.end, c.start_of-first.ensures)
 
 -- the unit's first cell, and its potential unit
-cell-is : (c : After-cell_at-c) → c.cell_at-c.result ≡ get_or (cells_in c.args.units.now) (get_or (starts_in c.args.units.now) c.args.u 0) 0
+cell-is : (c : After-cell_at-c) → c.cell_at-c.result
+    ≡ get_or (cells_in c.args.units.now) (get_or (starts_in c.args.units.now) c.args.u 0) 0
 cell-is c =
     c.cell_at-c.ensures ∙ ap (λ i. get_or (cells_in c.args.units.now) i 0) c.start_of-first.ensures
 
@@ -52,7 +55,8 @@ home-is : (c : After-group_of-p) → c.group_of-p.result
     ≡ get_or (numbers_in c.args.potential.now)
     (get_or (cells_in c.args.units.now) (get_or (starts_in c.args.units.now) c.args.u 0) 0) 0
 home-is c =
-    c.group_of-p.ensures ∙ ap (λ i. get_or (numbers_in c.args.potential.now) i 0) (cell-is (goal.at.After-group_of-p c).After-cell_at-c)
+    c.group_of-p.ensures
+    ∙ ap (λ i. get_or (numbers_in c.args.potential.now) i 0) (cell-is (goal.at.After-group_of-p c).After-cell_at-c)
 
 pub group_of-p-requires : goal.group_of-p-requires
 group_of-p-requires c =
@@ -64,7 +68,10 @@ group_of-p-requires c =
     )
 
 pub near_mate-requires : goal.near_mate-requires
-near_mate-requires c = (rw (home-is (goal.at.near_mate-requires c).After-group_of-p) (home_of c.requires.0 c.args.u c.requires.1), c.requires.3)
+near_mate-requires c = (
+  rw (home-is (goal.at.near_mate-requires c).After-group_of-p) (home_of c.requires.0 c.args.u c.requires.1),
+  c.requires.3,
+)
 
 pub returns : goal.returns
 returns c = (

@@ -10,7 +10,8 @@ pub loop-p-init : goal.loop-p-init
 loop-p-init c = (omega arith, adjoined-none c.args.h c.args.w c.args.colours.now c.args.borders.now, c.requires.1)
 
 pub near_mate-q-requires : goal.near_mate-q-requires
-near_mate-q-requires c = (c.requires.0 c.loop-p.p (rw c.count_of-total.ensures at c.loop-p-test.true), c.loop-p.invariant.2)
+near_mate-q-requires c =
+    (c.requires.0 c.loop-p.p (rw c.count_of-total.ensures at c.loop-p-test.true), c.loop-p.invariant.2)
 
 pub returns-then-q-ge1024 : goal.returns-then-q-ge1024
 returns-then-q-ge1024 c = (λ e. let z : ◌≡◌ {A = ℕ} 0 1 = cc in absurd (omega arith), c.near_mate-q.ensures.1)

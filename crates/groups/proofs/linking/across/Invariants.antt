@@ -5,7 +5,8 @@ use Rattle.groups.specs.Ties.{tied_left, TieFlags}
 use Rattle.groups.proofs.linking.across.Given as goal
 
 abbrev pub invariant-loop-y : goal.invariant-loop-y
-invariant-loop-y l = (l.y + 1 ≤ l.h) × TieFlags (l.y * l.w) (tied_left l.h l.w (joins_in l.kind l.h l.w l.colours l.borders)) l.lefts
+invariant-loop-y l =
+    (l.y + 1 ≤ l.h) × TieFlags (l.y * l.w) (tied_left l.h l.w (joins_in l.kind l.h l.w l.colours l.borders)) l.lefts
 
 abbrev pub decreases-loop-y : goal.decreases-loop-y
 decreases-loop-y l = l.h - l.y

@@ -10,7 +10,9 @@ use Rattle.groups.proofs.linking.settle.Given as goal
 
 abbrev pub invariant-loop-i : goal.invariant-loop-i
 invariant-loop-i l =
-    (l.i ≤ l.k) × Forest l.p × ((n : ℕ) (L : List ℕ) → n ≤ 1024 → ((j : ℕ) → j < l.k → get_or (cells_in l.grouping) j 0 < n) → Rep n l.initial.p L
+    (l.i ≤ l.k) × Forest l.p
+    × ((n : ℕ) (L : List ℕ) → n ≤ 1024 → ((j : ℕ) → j < l.k → get_or (cells_in l.grouping) j 0 < n)
+    → Rep n l.initial.p L
     → Rep n l.p (joined L (entry (cells_in l.grouping)) l.i))
 
 abbrev pub decreases-loop-i : goal.decreases-loop-i

@@ -5,7 +5,8 @@ use lib.ListN.{length, get_or}
 use Rattle.image.proofs.making.clear.Given as goal
 
 abbrev pub invariant-loop-i : goal.invariant-loop-i
-invariant-loop-i l = (l.i ≤ length l.initial.s) × (length l.s ≡ length l.initial.s) × ((j : ℕ) → j < l.i → get_or l.s j 0 ≡ 0)
+invariant-loop-i l =
+    (l.i ≤ length l.initial.s) × (length l.s ≡ length l.initial.s) × ((j : ℕ) → j < l.i → get_or l.s j 0 ≡ 0)
 
 abbrev pub decreases-loop-i : goal.decreases-loop-i
 decreases-loop-i l = length l.initial.s - l.i

@@ -47,10 +47,16 @@ returns-then-image-ne-LENGTH c =
     }
 
 pub overflow_cast-height-2 : goal.overflow_cast-height-2
-overflow_cast-height-2 c = let m = (puzzle (goal.at.overflow_cast-height-2 c).After-number-number c.if-number-ne0.false).size in record { fits = omega arith }
+overflow_cast-height-2 c = let m =
+    (puzzle (goal.at.overflow_cast-height-2 c).After-number-number c.if-number-ne0.false).size in record
+    { fits = omega arith }
 
 pub overflow_cast-width-2 : goal.overflow_cast-width-2
-overflow_cast-width-2 c = let m = (puzzle (goal.at.overflow_cast-width-2 c).After-number-number c.if-number-ne0.false).size in record { fits = omega arith }
+overflow_cast-width-2 c = let m =
+    (puzzle (goal.at.overflow_cast-width-2 c).After-number-number c.if-number-ne0.false).size in record {
+      fits =
+          omega arith;
+    }
 
 pub put_fresh-requires : goal.put_fresh-requires
 put_fresh-requires c =

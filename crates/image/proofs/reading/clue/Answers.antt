@@ -22,7 +22,8 @@ fits : (n : ℕ) → 2147483648 ≤ n → SFits w32 (negsuc (4294967295 - n))
 fits n h = record { sfits = omega arith }
 
 pub overflow_sub-result-else-n-lt2147483648 : goal.overflow_sub-result-else-n-lt2147483648
-overflow_sub-result-else-n-lt2147483648 c = rw (back c.args.n c.if-n-lt2147483648.false) (fits c.args.n c.if-n-lt2147483648.false)
+overflow_sub-result-else-n-lt2147483648 c =
+    rw (back c.args.n c.if-n-lt2147483648.false) (fits c.args.n c.if-n-lt2147483648.false)
 
 pub returns-then-n-lt2147483648 : goal.returns-then-n-lt2147483648
 returns-then-n-lt2147483648 c =

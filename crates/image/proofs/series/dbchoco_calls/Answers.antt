@@ -41,7 +41,10 @@ loop-i-preserved c =
     (rw c.if-step-eq0.true at c.step.ensures)
 
 pub shape_of-image-else-step-eq0 : goal.shape_of-image-else-step-eq0
-shape_of-image-else-step-eq0 c = c.step.auto.image ∙ running-long (bytes (goal.at.shape_of-image-else-step-eq0 c).Else-alien) (known (goal.at.shape_of-image-else-step-eq0 c).Else-alien) c.loop-i.invariant
+shape_of-image-else-step-eq0 c =
+    c.step.auto.image
+    ∙ running-long (bytes (goal.at.shape_of-image-else-step-eq0 c).Else-alien)
+    (known (goal.at.shape_of-image-else-step-eq0 c).Else-alien) c.loop-i.invariant
 
 pub returns-else-step-eq0 : goal.returns-else-step-eq0
 returns-else-step-eq0 c =
@@ -51,7 +54,9 @@ returns-else-step-eq0 c =
     record { number = told.0; bytes = told.1 }
 
 pub shape_of-image : goal.shape_of-image
-shape_of-image c = running-long (bytes (goal.at.shape_of-image c).Else-alien) (known (goal.at.shape_of-image c).Else-alien) c.loop-i.invariant
+shape_of-image c =
+    running-long (bytes (goal.at.shape_of-image c).Else-alien) (known (goal.at.shape_of-image c).Else-alien)
+    c.loop-i.invariant
 
 pub returns : goal.returns
 returns c =

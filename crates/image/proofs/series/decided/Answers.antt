@@ -38,8 +38,14 @@ decide_refusal-outcome-requires c =
     let l = c.literal-l in
     omega (
       arith,
-      series-part-length (image (goal.at.decide_refusal-outcome-requires c).After-border_count) (bytes (goal.at.decide_refusal-outcome-requires c).After-border_count) (known (goal.at.decide_refusal-outcome-requires c).After-border_count),
-      few (image (goal.at.decide_refusal-outcome-requires c).After-border_count) (bytes (goal.at.decide_refusal-outcome-requires c).After-border_count) (known (goal.at.decide_refusal-outcome-requires c).After-border_count) (border (goal.at.decide_refusal-outcome-requires c).After-border_count) (side (goal.at.decide_refusal-outcome-requires c).After-border_count) l.result l.ensures c.border_count.result
+      series-part-length (image (goal.at.decide_refusal-outcome-requires c).After-border_count)
+          (bytes (goal.at.decide_refusal-outcome-requires c).After-border_count)
+          (known (goal.at.decide_refusal-outcome-requires c).After-border_count),
+      few (image (goal.at.decide_refusal-outcome-requires c).After-border_count)
+          (bytes (goal.at.decide_refusal-outcome-requires c).After-border_count)
+          (known (goal.at.decide_refusal-outcome-requires c).After-border_count)
+          (border (goal.at.decide_refusal-outcome-requires c).After-border_count)
+          (side (goal.at.decide_refusal-outcome-requires c).After-border_count) l.result l.ensures c.border_count.result
           c.border_count.ensures,
     )
 
@@ -47,7 +53,11 @@ pub returns-then-number-ne0 : goal.returns-then-number-ne0
 returns-then-number-ne0 c =
     let l = c.literal-l in
     rw c.number-number.ensures
-    (decide-not (image (goal.at.returns-then-number-ne0 c).After-border_count) (bytes (goal.at.returns-then-number-ne0 c).After-border_count) (known (goal.at.returns-then-number-ne0 c).After-border_count) (border (goal.at.returns-then-number-ne0 c).After-border_count) (side (goal.at.returns-then-number-ne0 c).After-border_count) l.result l.ensures
+    (decide-not (image (goal.at.returns-then-number-ne0 c).After-border_count)
+    (bytes (goal.at.returns-then-number-ne0 c).After-border_count)
+    (known (goal.at.returns-then-number-ne0 c).After-border_count)
+    (border (goal.at.returns-then-number-ne0 c).After-border_count)
+    (side (goal.at.returns-then-number-ne0 c).After-border_count) l.result l.ensures
     c.border_count.result c.border_count.ensures _ c.decide_refusal-outcome.ensures
     (λ z. c.if-number-ne0.true (c.number-number.ensures ∙ z)))
 
@@ -58,8 +68,12 @@ room : (c : After-tally-t)
     × (0 < t.undecided) × (t.walls ≤ 1984) × (t.opens ≤ 1984)
 room c =
     let l = c.literal-l in
-    decide-room (image (goal.at.After-tally-t c).After-border_count) (bytes (goal.at.After-tally-t c).After-border_count) (known (goal.at.After-tally-t c).After-border_count) (border (goal.at.After-tally-t c).After-border_count) (side (goal.at.After-tally-t c).After-border_count) l.result l.ensures
-    c.border_count.result c.border_count.ensures _ c.decide_refusal-outcome.ensures (zero (goal.at.After-tally-t c).Else-number-ne0) _
+    decide-room (image (goal.at.After-tally-t c).After-border_count)
+    (bytes (goal.at.After-tally-t c).After-border_count) (known (goal.at.After-tally-t c).After-border_count)
+    (border (goal.at.After-tally-t c).After-border_count) (side (goal.at.After-tally-t c).After-border_count)
+    l.result l.ensures
+    c.border_count.result c.border_count.ensures _ c.decide_refusal-outcome.ensures
+    (zero (goal.at.After-tally-t c).Else-number-ne0) _
     (c.index-at.ensures ∙ c.two.ensures) _ c.tally-t.ensures
 
 pub more-requires : goal.more-requires
@@ -73,7 +87,10 @@ rewrite-requires c =
 pub returns : goal.returns
 returns c =
     let l = c.literal-l in
-    decide-step (image (goal.at.returns c).After-border_count) (bytes (goal.at.returns c).After-border_count) (known (goal.at.returns c).After-border_count) (border (goal.at.returns c).After-border_count) (side (goal.at.returns c).After-border_count) l.result l.ensures
-    c.border_count.result c.border_count.ensures _ c.decide_refusal-outcome.ensures (zero (goal.at.returns c).Else-number-ne0) _
+    decide-step (image (goal.at.returns c).After-border_count) (bytes (goal.at.returns c).After-border_count)
+    (known (goal.at.returns c).After-border_count) (border (goal.at.returns c).After-border_count)
+    (side (goal.at.returns c).After-border_count) l.result l.ensures
+    c.border_count.result c.border_count.ensures _ c.decide_refusal-outcome.ensures
+    (zero (goal.at.returns c).Else-number-ne0) _
     (c.index-at.ensures ∙ c.two.ensures) _ c.tally-t.ensures c.code-v.ensures
     c.more.ensures c.rewrite.ensures

@@ -32,26 +32,38 @@ zero c = sym c.number-number.ensures ∙ c.if-number-ne0.false
 
 -- the entry before it
 entry : (c : After-index-n)
-    → c.index-n.result ≡ pair (image (goal.at.After-index-n c).After-index-count) (7108 + 2 * (c.index-count.result - 1))
+    → c.index-n.result
+    ≡ pair (image (goal.at.After-index-n c).After-index-count) (7108 + 2 * (c.index-count.result - 1))
 entry c = c.index-n.ensures ∙ c.two-2.ensures
 
 low : (c : After-index-n) → c.index-n.result < 1984
 low c =
-    undo-room (image (goal.at.After-index-n c).After-index-count) (bytes (goal.at.After-index-n c).After-index-count) (known (goal.at.After-index-n c).After-index-count) c.index-count.result (count (goal.at.After-index-n c).After-index-count) _ c.undo_refusal-outcome.ensures (zero (goal.at.After-index-n c).Else-number-ne0) _
+    undo-room (image (goal.at.After-index-n c).After-index-count)
+    (bytes (goal.at.After-index-n c).After-index-count) (known (goal.at.After-index-n c).After-index-count)
+    c.index-count.result (count (goal.at.After-index-n c).After-index-count) _ c.undo_refusal-outcome.ensures
+    (zero (goal.at.After-index-n c).Else-number-ne0) _
     (entry c)
 
 pub returns-then-number-ne0 : goal.returns-then-number-ne0
 returns-then-number-ne0 c =
     rw c.number-number.ensures
-    (undo-not (image (goal.at.returns-then-number-ne0 c).After-index-count) (bytes (goal.at.returns-then-number-ne0 c).After-index-count) (known (goal.at.returns-then-number-ne0 c).After-index-count) c.index-count.result (count (goal.at.returns-then-number-ne0 c).After-index-count) _ c.undo_refusal-outcome.ensures
+    (undo-not (image (goal.at.returns-then-number-ne0 c).After-index-count)
+    (bytes (goal.at.returns-then-number-ne0 c).After-index-count)
+    (known (goal.at.returns-then-number-ne0 c).After-index-count) c.index-count.result
+    (count (goal.at.returns-then-number-ne0 c).After-index-count) _ c.undo_refusal-outcome.ensures
     (λ z. c.if-number-ne0.true (c.number-number.ensures ∙ z)))
 
 pub overflow_sub-at : goal.overflow_sub-at
-overflow_sub-at c = undo-some (image (goal.at.overflow_sub-at c).After-index-count) (bytes (goal.at.overflow_sub-at c).After-index-count) (known (goal.at.overflow_sub-at c).After-index-count) c.index-count.result (count (goal.at.overflow_sub-at c).After-index-count) _ c.undo_refusal-outcome.ensures (zero c)
+overflow_sub-at c =
+    undo-some (image (goal.at.overflow_sub-at c).After-index-count)
+    (bytes (goal.at.overflow_sub-at c).After-index-count) (known (goal.at.overflow_sub-at c).After-index-count)
+    c.index-count.result (count (goal.at.overflow_sub-at c).After-index-count) _ c.undo_refusal-outcome.ensures (zero c)
 
 pub two-requires-2 : goal.two-requires-2
 two-requires-2 c =
-    let l = undo-low (image (goal.at.two-requires-2 c).After-index-count) (bytes (goal.at.two-requires-2 c).After-index-count) (known (goal.at.two-requires-2 c).After-index-count) c.index-count.result (count (goal.at.two-requires-2 c).After-index-count) _ c.undo_refusal-outcome.ensures
+    let l = undo-low (image (goal.at.two-requires-2 c).After-index-count)
+    (bytes (goal.at.two-requires-2 c).After-index-count) (known (goal.at.two-requires-2 c).After-index-count)
+    c.index-count.result (count (goal.at.two-requires-2 c).After-index-count) _ c.undo_refusal-outcome.ensures
     (zero c) in
     omega (arith, long (goal.at.two-requires-2 c).After-index-count, overflow_sub-at c)
 
@@ -61,17 +73,27 @@ bounds-image-n c =
 
 pub less-counted-requires : goal.less-counted-requires
 less-counted-requires c =
-    undo-tally (image (goal.at.less-counted-requires c).After-index-count) (bytes (goal.at.less-counted-requires c).After-index-count) (known (goal.at.less-counted-requires c).After-index-count) c.index-count.result (count (goal.at.less-counted-requires c).After-index-count) _ c.undo_refusal-outcome.ensures (zero (goal.at.less-counted-requires c).Else-number-ne0) _
+    undo-tally (image (goal.at.less-counted-requires c).After-index-count)
+    (bytes (goal.at.less-counted-requires c).After-index-count)
+    (known (goal.at.less-counted-requires c).After-index-count) c.index-count.result
+    (count (goal.at.less-counted-requires c).After-index-count) _ c.undo_refusal-outcome.ensures
+    (zero (goal.at.less-counted-requires c).Else-number-ne0) _
     (entry (goal.at.less-counted-requires c).After-index-n) _ c.tally-t.ensures
 
 pub rewrite-requires : goal.rewrite-requires
 rewrite-requires c =
     let i = overflow_sub-at (goal.at.rewrite-requires c).Else-number-ne0 in
-    let l = undo-low (image (goal.at.rewrite-requires c).After-index-count) (bytes (goal.at.rewrite-requires c).After-index-count) (known (goal.at.rewrite-requires c).After-index-count) c.index-count.result (count (goal.at.rewrite-requires c).After-index-count) _ c.undo_refusal-outcome.ensures
+    let l = undo-low (image (goal.at.rewrite-requires c).After-index-count)
+    (bytes (goal.at.rewrite-requires c).After-index-count)
+    (known (goal.at.rewrite-requires c).After-index-count) c.index-count.result
+    (count (goal.at.rewrite-requires c).After-index-count) _ c.undo_refusal-outcome.ensures
     (zero (goal.at.rewrite-requires c).Else-number-ne0) in
     (long (goal.at.rewrite-requires c).After-index-count, low (goal.at.rewrite-requires c).After-index-n, omega arith)
 
 pub returns : goal.returns
 returns c =
-    undo-step (image (goal.at.returns c).After-index-count) (bytes (goal.at.returns c).After-index-count) (known (goal.at.returns c).After-index-count) c.index-count.result (count (goal.at.returns c).After-index-count) _ c.undo_refusal-outcome.ensures (zero (goal.at.returns c).Else-number-ne0) _
+    undo-step (image (goal.at.returns c).After-index-count) (bytes (goal.at.returns c).After-index-count)
+    (known (goal.at.returns c).After-index-count) c.index-count.result
+    (count (goal.at.returns c).After-index-count) _ c.undo_refusal-outcome.ensures
+    (zero (goal.at.returns c).Else-number-ne0) _
     (entry (goal.at.returns c).After-index-n) _ c.tally-t.ensures c.less-counted.ensures c.rewrite.ensures

@@ -7,7 +7,8 @@ use mathlib.Core.Path.{◌≡◌}
 use Rattle.page.proofs.filling.with_digits.Given as goal
 
 abbrev pub invariant-loop-p : goal.invariant-loop-p
-invariant-loop-p l = (length l.out.cells ≡ 1024) × Laying l.initial.out (digits_in l.s l.from l.to) l.out (digits_in l.s l.p l.to)
+invariant-loop-p l =
+    (length l.out.cells ≡ 1024) × Laying l.initial.out (digits_in l.s l.from l.to) l.out (digits_in l.s l.p l.to)
 
 abbrev pub decreases-loop-p : goal.decreases-loop-p
 decreases-loop-p l = l.to - l.p

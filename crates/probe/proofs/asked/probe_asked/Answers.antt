@@ -19,13 +19,18 @@ answer c =
 
 refusal : (c : After-number-refusal) → let a = c.args in
     c.number-refusal.result ≡ number_of (asked_in a.s.now (kind_of a.kind)).outcome
-refusal c = c.number-refusal.ensures ∙ ap (λ (a : BoardGroups). number_of a.outcome) (answer (goal.at.After-number-refusal c).After-asked_in-a)
+refusal c =
+    c.number-refusal.ensures
+    ∙ ap (λ (a : BoardGroups). number_of a.outcome) (answer (goal.at.After-number-refusal c).After-asked_in-a)
 
 pub returns-then-refusal-ne0 : goal.returns-then-refusal-ne0
-returns-then-refusal-ne0 c = told-refusal (refusal (goal.at.returns-then-refusal-ne0 c).After-number-refusal) c.if-refusal-ne0.true
+returns-then-refusal-ne0 c =
+    told-refusal (refusal (goal.at.returns-then-refusal-ne0 c).After-number-refusal) c.if-refusal-ne0.true
 
 pub returns-then-memory-lt-ROOM : goal.returns-then-memory-lt-ROOM
-returns-then-memory-lt-ROOM c = told-short (refusal (goal.at.returns-then-memory-lt-ROOM c).After-number-refusal) c.if-refusal-ne0.false c.if-memory-lt-ROOM.true
+returns-then-memory-lt-ROOM c =
+    told-short (refusal (goal.at.returns-then-memory-lt-ROOM c).After-number-refusal) c.if-refusal-ne0.false
+    c.if-memory-lt-ROOM.true
 
 pub slice_bounds-hand_out-end : goal.slice_bounds-hand_out-end
 slice_bounds-hand_out-end c = search rules

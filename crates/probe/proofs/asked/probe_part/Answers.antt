@@ -20,7 +20,14 @@ returns-then-memory-lt-ROOM c = told-short refl refl c.if-memory-lt-ROOM.true
 pub hand_out-requires : goal.hand_out-requires
 hand_out-requires c =
     let a = c.args in
-    omega (arith, ap length (cells (goal.at.hand_out-requires c).After-part_in-cells), part-few a.s.now (which_of a.which) a.g, c.if-memory-lt-ROOM.false)
+    omega (
+      arith,
+      ap length (cells (goal.at.hand_out-requires c).After-part_in-cells),
+      part-few a.s.now (which_of a.which) a.g,
+      c.if-memory-lt-ROOM.false,
+    )
 
 pub returns : goal.returns
-returns c = told-words refl refl c.if-memory-lt-ROOM.false (rw (cells (goal.at.returns c).After-part_in-cells) at c.hand_out.ensures)
+returns c =
+    told-words refl refl c.if-memory-lt-ROOM.false
+    (rw (cells (goal.at.returns c).After-part_in-cells) at c.hand_out.ensures)

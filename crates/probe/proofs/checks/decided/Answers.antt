@@ -43,7 +43,8 @@ loop-i-preserved c =
       ap (decides_memory a.each _ left) e
           ∙ ap (λ (b : Board). decides_memory a.each b left (checks_memory b a.each c.loop-i.memory))
           c.decide_next-now.ensures
-          ∙ sym (checked-more a.each (passed (goal.at.loop-i-preserved c).At-loop-i) codes c.loop-i.memory i (omega arith))
+          ∙ sym (checked-more a.each (passed (goal.at.loop-i-preserved c).At-loop-i) codes c.loop-i.memory i
+          (omega arith))
           ∙ c.loop-i.invariant.2,
       ap length e ∙ checks-length _ a.each c.loop-i.memory ∙ c.loop-i.invariant.3,
     )
@@ -56,5 +57,6 @@ returns c =
     let a = c.args in
     let codes = a.codes.now in (
       sym (decides-none (passed (goal.at.returns c).At-loop-i) codes c.loop-i.i (omega arith)) ∙ c.loop-i.invariant.1,
-      sym (checked-none a.each (passed (goal.at.returns c).At-loop-i) codes c.loop-i.memory c.loop-i.i (omega arith)) ∙ c.loop-i.invariant.2,
+      sym (checked-none a.each (passed (goal.at.returns c).At-loop-i) codes c.loop-i.memory c.loop-i.i
+          (omega arith)) ∙ c.loop-i.invariant.2,
     )

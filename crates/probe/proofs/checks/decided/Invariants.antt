@@ -12,11 +12,16 @@ use Rattle.probe.proofs.checks.decided.Given as goal
 abbrev pub invariant-loop-i : goal.invariant-loop-i
 invariant-loop-i l =
     (l.i ≤ length l.codes)
-    × (decides_of (board_of l.h l.w l.colours l.clues l.borders l.stack l.now.count l.now.tally) (map literal_of (drop l.i l.codes))
-    ≡ decides_of (board_of l.h l.w l.colours l.clues l.initial.borders l.initial.stack l.initial.now.count l.initial.now.tally) (map literal_of l.codes))
+    × (decides_of (board_of l.h l.w l.colours l.clues l.borders l.stack l.now.count l.now.tally)
+    (map literal_of (drop l.i l.codes))
+    ≡ decides_of
+    (board_of l.h l.w l.colours l.clues l.initial.borders l.initial.stack l.initial.now.count
+    l.initial.now.tally) (map literal_of l.codes))
     × (decides_memory l.each (board_of l.h l.w l.colours l.clues l.borders l.stack l.now.count l.now.tally)
     (map literal_of (drop l.i l.codes)) l.memory
-    ≡ decides_memory l.each (board_of l.h l.w l.colours l.clues l.initial.borders l.initial.stack l.initial.now.count l.initial.now.tally) (map literal_of l.codes)
+    ≡ decides_memory l.each
+    (board_of l.h l.w l.colours l.clues l.initial.borders l.initial.stack l.initial.now.count
+    l.initial.now.tally) (map literal_of l.codes)
     l.initial.memory)
     × (length l.memory ≡ length l.initial.memory)
 

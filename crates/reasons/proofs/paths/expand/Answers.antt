@@ -20,13 +20,16 @@ pub visit-above-requires : goal.visit-above-requires
 visit-above-requires c = (c.requires.0, c.requires.1, c.requires.2, c.requires.3, c.requires.4, refl, refl)
 
 pub visit-below-requires : goal.visit-below-requires
-visit-below-requires c = (c.requires.0, c.requires.1, c.requires.2, c.visit-above.ensures.old, c.visit-above.ensures.lined, refl, refl)
+visit-below-requires c =
+    (c.requires.0, c.requires.1, c.requires.2, c.visit-above.ensures.old, c.visit-above.ensures.lined, refl, refl)
 
 pub visit-left-requires : goal.visit-left-requires
-visit-left-requires c = (c.requires.0, c.requires.1, c.requires.2, c.visit-below.ensures.old, c.visit-below.ensures.lined, refl, refl)
+visit-left-requires c =
+    (c.requires.0, c.requires.1, c.requires.2, c.visit-below.ensures.old, c.visit-below.ensures.lined, refl, refl)
 
 pub visit-requires : goal.visit-requires
-visit-requires c = (c.requires.0, c.requires.1, c.requires.2, c.visit-left.ensures.old, c.visit-left.ensures.lined, refl, refl)
+visit-requires c =
+    (c.requires.0, c.requires.1, c.requires.2, c.visit-left.ensures.old, c.visit-left.ensures.lined, refl, refl)
 
 pub returns : goal.returns
 returns c =

@@ -31,7 +31,12 @@ pub returns-then-found-b-eq1 : goal.returns-then-found-b-eq1
 returns-then-found-b-eq1 c = end-early c.loop-head.invariant _ c.requires.3 c.if-found-b-eq1.true
 
 pub offset_bounds-queue-head : goal.offset_bounds-queue-head
-offset_bounds-queue-head c = omega (arith, few (goal.at.offset_bounds-queue-head c).Start, left (goal.at.offset_bounds-queue-head c).In-loop-head)
+offset_bounds-queue-head c =
+    omega (
+      arith,
+      few (goal.at.offset_bounds-queue-head c).Start,
+      left (goal.at.offset_bounds-queue-head c).In-loop-head,
+    )
 
 pub bounds-queue-head : goal.bounds-queue-head
 bounds-queue-head c =

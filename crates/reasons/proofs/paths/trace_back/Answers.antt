@@ -22,7 +22,8 @@ pub offset_bounds-over-c : goal.offset_bounds-over-c
 offset_bounds-over-c c = omega (arith, few (goal.at.offset_bounds-over-c c).Start, c.loop-c.invariant.inside)
 
 pub bounds-over-c : goal.bounds-over-c
-bounds-over-c c = omega (arith, few (goal.at.bounds-over-c c).Start, c.loop-c.invariant.inside, c.requires.2.lined.overs)
+bounds-over-c c =
+    omega (arith, few (goal.at.bounds-over-c c).Start, c.loop-c.invariant.inside, c.requires.2.lined.overs)
 
 pub append-at-requires : goal.append-at-requires
 append-at-requires c =

@@ -32,7 +32,8 @@ room : (c : Else-found-to-eq1) →
     let s = c.args in s.tail < s.h * s.w
 room c =
     let n = c.beside-n.result in
-    push-room c.requires.4 c.args.c n.to n.border (near (goal.at.Else-found-to-eq1 c).Else-not-n).to c.if-found-to-eq1.false
+    push-room c.requires.4 c.args.c n.to n.border (near (goal.at.Else-found-to-eq1 c).Else-not-n).to
+    c.if-found-to-eq1.false
 
 pub beside-n-requires : goal.beside-n-requires
 beside-n-requires c =
@@ -40,13 +41,17 @@ beside-n-requires c =
     (c.requires.0, rw c.requires.5 r.row, rw c.requires.6 r.column, rw (c.requires.5, c.requires.6) r.same)
 
 pub returns-then-not-n : goal.returns-then-not-n
-returns-then-not-n c = looked-off (stepped (goal.at.returns-then-not-n c).After-beside-n) c.requires.4 c.requires.3 (not-true _ c.if-not-n.true)
+returns-then-not-n c =
+    looked-off (stepped (goal.at.returns-then-not-n c).After-beside-n) c.requires.4 c.requires.3
+    (not-true _ c.if-not-n.true)
 
 pub bounds-borders-border : goal.bounds-borders-border
 bounds-borders-border c = omega (arith, near (goal.at.bounds-borders-border c).Else-not-n)
 
 pub returns-then-borders-border-ne2 : goal.returns-then-borders-border-ne2
-returns-then-borders-border-ne2 c = looked-shut (stepped (goal.at.returns-then-borders-border-ne2 c).After-beside-n) c.requires.4 c.requires.3 c.if-borders-border-ne2.true
+returns-then-borders-border-ne2 c =
+    looked-shut (stepped (goal.at.returns-then-borders-border-ne2 c).After-beside-n) c.requires.4 c.requires.3
+    c.if-borders-border-ne2.true
 
 pub bounds-found-to : goal.bounds-found-to
 bounds-found-to c = omega (arith, near (goal.at.bounds-found-to c).Else-not-n)
@@ -64,7 +69,8 @@ pub offset_bounds-queue-tail : goal.offset_bounds-queue-tail
 offset_bounds-queue-tail c = omega (arith, room c, few (goal.at.offset_bounds-queue-tail c).Start)
 
 pub bounds-queue-tail : goal.bounds-queue-tail
-bounds-queue-tail c = omega (arith, room (goal.at.bounds-queue-tail c).Else-found-to-eq1, few (goal.at.bounds-queue-tail c).Start)
+bounds-queue-tail c =
+    omega (arith, room (goal.at.bounds-queue-tail c).Else-found-to-eq1, few (goal.at.bounds-queue-tail c).Start)
 
 pub overflow_cast-parent : goal.overflow_cast-parent
 overflow_cast-parent c = omega (arith, few (goal.at.overflow_cast-parent c).Start, c.requires.2)
@@ -88,7 +94,8 @@ pub bounds-found-to-2 : goal.bounds-found-to-2
 bounds-found-to-2 c = omega (arith, near (goal.at.bounds-found-to-2 c).Else-not-n)
 
 pub overflow_add-result : goal.overflow_add-result
-overflow_add-result c = omega (arith, room (goal.at.overflow_add-result c).Else-found-to-eq1, few (goal.at.overflow_add-result c).Start)
+overflow_add-result c =
+    omega (arith, room (goal.at.overflow_add-result c).Else-found-to-eq1, few (goal.at.overflow_add-result c).Start)
 
 pub returns : goal.returns
 returns c =

@@ -39,10 +39,20 @@ start : (s : Start) → let a = s.args in Wrote a.memory.now a.from (up_to (at s
 start s = turns-none (at s) s.requires.3
 
 pub beside-below-requires : goal.beside-below-requires
-beside-below-requires c = (c.requires.0, (row (goal.at.beside-below-requires c).Start).row, (row (goal.at.beside-below-requires c).Start).column, (row (goal.at.beside-below-requires c).Start).same)
+beside-below-requires c = (
+  c.requires.0,
+  (row (goal.at.beside-below-requires c).Start).row,
+  (row (goal.at.beside-below-requires c).Start).column,
+  (row (goal.at.beside-below-requires c).Start).same,
+)
 
 pub beside-right-requires : goal.beside-right-requires
-beside-right-requires c = (c.requires.0, (row (goal.at.beside-right-requires c).Start).row, (row (goal.at.beside-right-requires c).Start).column, (row (goal.at.beside-right-requires c).Start).same)
+beside-right-requires c = (
+  c.requires.0,
+  (row (goal.at.beside-right-requires c).Start).row,
+  (row (goal.at.beside-right-requires c).Start).column,
+  (row (goal.at.beside-right-requires c).Start).same,
+)
 
 pub open_hop-at-requires : goal.open_hop-at-requires
 open_hop-at-requires c = (c.requires.1, λ t. (c.beside-below.ensures.near t).fits, c.requires.3)
@@ -52,5 +62,8 @@ open_hop-requires c = (c.requires.1, λ t. (c.beside-right.ensures.near t).fits,
 
 pub returns : goal.returns
 returns c =
-    let one = turns_more (at (goal.at.returns c).Start) 0 (start (goal.at.returns c).Start) (rw c.beside-below.ensures.is at c.open_hop-at.ensures) in
-    rw (whole (goal.at.returns c).Start) (turns_more (at (goal.at.returns c).Start) 1 one (rw c.beside-right.ensures.is at c.open_hop.ensures))
+    let one =
+    turns_more (at (goal.at.returns c).Start) 0 (start (goal.at.returns c).Start)
+    (rw c.beside-below.ensures.is at c.open_hop-at.ensures) in
+    rw (whole (goal.at.returns c).Start)
+    (turns_more (at (goal.at.returns c).Start) 1 one (rw c.beside-right.ensures.is at c.open_hop.ensures))

@@ -27,7 +27,8 @@ kept c = gather-hops Open (test (goal.at.After-open_kept-kept c).Start) c.args.n
 pub append_if-requires : goal.append_if-requires
 append_if-requires c = (
   c.requires.2,
-  λ t. (c.requires.1 (kept-some Open (test (goal.at.append_if-requires c).Start) c.args.n c.open_kept-kept.ensures t)).border,
+  λ t. (c.requires.1
+      (kept-some Open (test (goal.at.append_if-requires c).Start) c.args.n c.open_kept-kept.ensures t)).border,
 )
 
 pub returns : goal.returns

@@ -23,7 +23,13 @@ pub bounds-borders-border : goal.bounds-borders-border
 bounds-borders-border c = omega (arith, near (goal.at.bounds-borders-border c).Else-not-n)
 
 pub returns-then-borders-border-ne2 : goal.returns-then-borders-border-ne2
-returns-then-borders-border-ne2 c = rw (there (goal.at.returns-then-borders-border-ne2 c).Else-not-n, state-open, ne_eqb _ _ c.if-borders-border-ne2.true, and-false (eqb _ _))
+returns-then-borders-border-ne2 c =
+    rw (
+      there (goal.at.returns-then-borders-border-ne2 c).Else-not-n,
+      state-open,
+      ne_eqb _ _ c.if-borders-border-ne2.true,
+      and-false (eqb _ _),
+    )
 
 pub group_of-requires : goal.group_of-requires
 group_of-requires c = (near (goal.at.group_of-requires c).Else-not-n).to

@@ -36,7 +36,12 @@ pub loop-d-init : goal.loop-d-init
 loop-d-init c = (omega arith, turns-none _ c.requires.5)
 
 pub beside-n-requires : goal.beside-n-requires
-beside-n-requires c = (c.requires.0, (row (goal.at.beside-n-requires c).Start).row, (row (goal.at.beside-n-requires c).Start).column, (row (goal.at.beside-n-requires c).Start).same)
+beside-n-requires c = (
+  c.requires.0,
+  (row (goal.at.beside-n-requires c).Start).row,
+  (row (goal.at.beside-n-requires c).Start).column,
+  (row (goal.at.beside-n-requires c).Start).same,
+)
 
 pub wall_hop-at-requires : goal.wall_hop-at-requires
 wall_hop-at-requires c =
@@ -48,8 +53,10 @@ wall_hop-at-requires c =
 pub loop-d-preserved : goal.loop-d-preserved
 loop-d-preserved c =
     let l = c.loop-d in
-    let n = c.beside-n.ensures in
-    (omega arith, turns_more (at (goal.at.loop-d-preserved c).Start) l.d l.invariant.1 (rw n.is at c.wall_hop-at.ensures))
+    let n = c.beside-n.ensures in (
+      omega arith,
+      turns_more (at (goal.at.loop-d-preserved c).Start) l.d l.invariant.1 (rw n.is at c.wall_hop-at.ensures),
+    )
 
 pub shape_of-memory : goal.shape_of-memory
 shape_of-memory c = c.loop-d.invariant.1.long
@@ -57,4 +64,5 @@ shape_of-memory c = c.loop-d.invariant.1.long
 pub returns : goal.returns
 returns c =
     let l = c.loop-d in
-    rw (whole (goal.at.returns c).Start) (turns-end (at (goal.at.returns c).Start) l.d l.invariant.1 4 (omega arith) (omega arith))
+    rw (whole (goal.at.returns c).Start)
+    (turns-end (at (goal.at.returns c).Start) l.d l.invariant.1 4 (omega arith) (omega arith))

@@ -9,7 +9,8 @@ use Rattle.reasons.proofs.scans.wall_cell.Given as goal
 abbrev pub invariant-loop-d : goal.invariant-loop-d
 invariant-loop-d l =
     (l.d ≤ 4)
-    × Wrote l.initial.memory l.from (up_to (scan_to l.h l.w l.colours l.borders (numbers_in l.grouping) l.same l.flagged l.c) l.d) l.memory l.at
+    × Wrote l.initial.memory l.from
+    (up_to (scan_to l.h l.w l.colours l.borders (numbers_in l.grouping) l.same l.flagged l.c) l.d) l.memory l.at
 
 abbrev pub decreases-loop-d : goal.decreases-loop-d
 decreases-loop-d l = 4 - l.d

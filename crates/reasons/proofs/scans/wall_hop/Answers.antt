@@ -28,7 +28,8 @@ kept c = gather-hops Wall (test (goal.at.After-wall_kept-kept c).Start) c.args.n
 pub append_if-requires : goal.append_if-requires
 append_if-requires c = (
   c.requires.5,
-  λ t. (c.requires.4 (kept-some Wall (test (goal.at.append_if-requires c).Start) c.args.n c.wall_kept-kept.ensures t)).border,
+  λ t. (c.requires.4
+      (kept-some Wall (test (goal.at.append_if-requires c).Start) c.args.n c.wall_kept-kept.ensures t)).border,
 )
 
 pub returns : goal.returns

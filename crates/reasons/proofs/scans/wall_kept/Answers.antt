@@ -23,7 +23,12 @@ bounds-borders-border c = omega (arith, near (goal.at.bounds-borders-border c).E
 
 pub returns-then-borders-border-ne1 : goal.returns-then-borders-border-ne1
 unfolding wall_kept
-returns-then-borders-border-ne1 c = rw (there (goal.at.returns-then-borders-border-ne1 c).Else-not-n, state-wall, ne_eqb _ _ c.if-borders-border-ne1.true)
+returns-then-borders-border-ne1 c =
+    rw (
+      there (goal.at.returns-then-borders-border-ne1 c).Else-not-n,
+      state-wall,
+      ne_eqb _ _ c.if-borders-border-ne1.true,
+    )
 
 pub one_colour-requires : goal.one_colour-requires
 one_colour-requires c =

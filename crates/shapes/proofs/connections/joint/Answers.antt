@@ -35,7 +35,9 @@ turned c =
     ∙ ap₂ (λ y x. apply (turn_at c.args.row) (point_at y x))
     (read_back _ c.signed.ensures (omega (arith, down-at (goal.at.After-apply c).Start, c.requires.1.down))
     ∙ ap pos (down-at (goal.at.After-apply c).Start))
-    (read_back _ c.signed-2.ensures (omega (arith, across-at (goal.at.After-apply c).Start, c.requires.1.across)) ∙ ap pos (across-at (goal.at.After-apply c).Start))
+    (read_back _ c.signed-2.ensures
+    (omega (arith, across-at (goal.at.After-apply c).Start, c.requires.1.across))
+    ∙ ap pos (across-at (goal.at.After-apply c).Start))
 
 pub apply-requires : goal.apply-requires
 apply-requires c =

@@ -38,7 +38,8 @@ bounds-outline-i-in-loop-i c = omega (arith, small (goal.at.bounds-outline-i-in-
 pub joints_at-k-requires : goal.joints_at-k-requires
 joints_at-k-requires c =
     let l = c.loop-i in
-    let low : l.i < cell_count c.args.outline.now = omega (arith, count (goal.at.joints_at-k-requires c).After-index-n) in
+    let low : l.i < cell_count c.args.outline.now =
+    omega (arith, count (goal.at.joints_at-k-requires c).After-index-n) in
     let p = unit-bounds l.i c.requires low in
     let few : l.i < 1024 = omega (arith, c.requires.spotted.most) in
     let y = c.index.ensures ∙ row_read l.invariant.1.only l.i few in

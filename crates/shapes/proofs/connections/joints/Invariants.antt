@@ -7,7 +7,9 @@ use Rattle.shapes.specs.Outlines.{cell_count}
 use Rattle.shapes.proofs.connections.joints.Given as goal
 
 abbrev pub invariant-loop-i : goal.invariant-loop-i
-invariant-loop-i l = (l.i ≤ cell_count l.initial.outline) × Joining l.h l.w (entry (numbers_in l.units)) l.g l.initial.outline l.outline l.k l.i
+invariant-loop-i l =
+    (l.i ≤ cell_count l.initial.outline)
+    × Joining l.h l.w (entry (numbers_in l.units)) l.g l.initial.outline l.outline l.k l.i
 
 abbrev pub decreases-loop-i : goal.decreases-loop-i
 decreases-loop-i l = l.n - l.i

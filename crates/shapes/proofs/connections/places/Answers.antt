@@ -59,7 +59,8 @@ pub overflow_add-outline : goal.overflow_add-outline
 overflow_add-outline c = omega (arith, (reach (goal.at.overflow_add-outline c).After-start_of).1)
 
 pub offset_bounds-outline-i-in-loop-i : goal.offset_bounds-outline-i-in-loop-i
-offset_bounds-outline-i-in-loop-i c = omega (arith, (reach (goal.at.offset_bounds-outline-i-in-loop-i c).After-start_of).1)
+offset_bounds-outline-i-in-loop-i c =
+    omega (arith, (reach (goal.at.offset_bounds-outline-i-in-loop-i c).After-start_of).1)
 
 pub bounds-outline-i-in-loop-i : goal.bounds-outline-i-in-loop-i
 bounds-outline-i-in-loop-i c = omega (arith, (reach (goal.at.bounds-outline-i-in-loop-i c).After-start_of).1)
@@ -76,7 +77,8 @@ loop-i-preserved c =
     let i = c.loop-i.i in
     let o = c.loop-i.outline in
     let low : i < 1024 = omega (arith, (reach (goal.at.loop-i-preserved c).After-start_of).1) in
-    let e = section-at 1024 1024 units (from + i) (omega (arith, (reach (goal.at.loop-i-preserved c).After-start_of).1)) in
+    let e = section-at 1024 1024 units (from + i)
+    (omega (arith, (reach (goal.at.loop-i-preserved c).After-start_of).1)) in
     let y = get_or units (1024 + (from + i)) 0 / w in
     let x = get_or units (1024 + (from + i)) 0 % w in (
       omega arith,

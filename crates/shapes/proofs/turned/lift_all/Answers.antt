@@ -21,7 +21,8 @@ pub overflow_add-from : goal.overflow_add-from
 overflow_add-from c = omega (arith, few (goal.at.overflow_add-from c).After-joint_count-n, c.requires.0)
 
 pub offset_bounds-outline-from : goal.offset_bounds-outline-from
-offset_bounds-outline-from c = omega (arith, few (goal.at.offset_bounds-outline-from c).After-joint_count-n, c.requires.0)
+offset_bounds-outline-from c =
+    omega (arith, few (goal.at.offset_bounds-outline-from c).After-joint_count-n, c.requires.0)
 
 pub bounds-outline-from : goal.bounds-outline-from
 bounds-outline-from c = omega (arith, few (goal.at.bounds-outline-from c).After-joint_count-n, c.requires.0)
@@ -35,7 +36,8 @@ read_is l i h = section-at l.args.from 2048 l.args.outline.now i (omega (arith, 
 pub lift-requires : goal.lift-requires
 lift-requires c =
     let i = c.loop-i.i in (
-      rw (read_is (goal.at.lift-requires c).After-joint_count-n i c.loop-i-test.true) (c.requires.4 i (omega (arith, c.joint_count-n.ensures))),
+      rw (read_is (goal.at.lift-requires c).After-joint_count-n i c.loop-i-test.true)
+          (c.requires.4 i (omega (arith, c.joint_count-n.ensures))),
       c.requires.3,
     )
 
@@ -62,7 +64,8 @@ loop-i-preserved c =
           (stored_more (λ j. lift_of c.args.minus c.args.base
           (get_or (section c.args.from 2048 c.args.outline.now) j 0)) 0 v (section to 2048 t) i
           (omega (arith, section-length to 2048 t (omega (arith, l.invariant.1.long, c.requires.5, c.requires.1))))
-          (rw (← read_is (goal.at.loop-i-preserved c).After-joint_count-n i c.loop-i-test.true) c.lift.ensures) l.invariant.2),
+          (rw (← read_is (goal.at.loop-i-preserved c).After-joint_count-n i c.loop-i-test.true) c.lift.ensures)
+          l.invariant.2),
     )
 
 pub returns : goal.returns

@@ -10,7 +10,8 @@ use Rattle.shapes.proofs.turned.lift_all.Given as goal
 abbrev pub invariant-loop-i : goal.invariant-loop-i
 invariant-loop-i l =
     (l.i ≤ joint_count l.outline) × Only l.to (l.to + 2048) l.initial.turned l.turned
-    × ((j : ℕ) → j < l.i → get_or (section l.to 2048 l.turned) j 0 ≡ lift_of l.minus l.base (get_or (section l.from 2048 l.outline) j 0))
+    × ((j : ℕ) → j < l.i → get_or (section l.to 2048 l.turned) j 0
+    ≡ lift_of l.minus l.base (get_or (section l.from 2048 l.outline) j 0))
 
 abbrev pub decreases-loop-i : goal.decreases-loop-i
 decreases-loop-i l = l.n - l.i

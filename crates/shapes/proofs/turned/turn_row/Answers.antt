@@ -49,7 +49,10 @@ across-raised c =
 
 pub turn_joints-requires : goal.turn_joints-requires
 turn_joints-requires c = (
-  rw (down-raised (goal.at.turn_joints-requires c).After-raise-x, across-raised (goal.at.turn_joints-requires c).After-raise-x)
+  rw (
+    down-raised (goal.at.turn_joints-requires c).After-raise-x,
+    across-raised (goal.at.turn_joints-requires c).After-raise-x,
+  )
       (turnable c.args.row c.args.outline.now c.requires.1 c.requires.2 c.least-m.result
       c.least-m.ensures c.signs_at-s.result c.signs_at-s.ensures),
   c.requires.3,
@@ -62,7 +65,8 @@ returns c =
       t.0,
       t.1
           ∙ (ap₂ (λ y x. moved_by (apply (turn_of q.swap (below q.down) (below q.across))) (raised y x)
-          (joint_spots c.args.outline.now)) (down-raised (goal.at.returns c).After-raise-x) (across-raised (goal.at.returns c).After-raise-x)
+          (joint_spots c.args.outline.now)) (down-raised (goal.at.returns c).After-raise-x)
+          (across-raised (goal.at.returns c).After-raise-x)
           ∙ moved-image c.args.row c.args.outline.now c.requires.1 c.requires.2 c.least-m.result
           c.least-m.ensures q c.signs_at-s.ensures),
       t.2,

@@ -51,7 +51,16 @@ pub bounds-places-o : goal.bounds-places-o
 bounds-places-o c = omega (arith, c.requires.4, (counts c.requires.0).cells)
 
 pub overflow_cast-place : goal.overflow_cast-place
-overflow_cast-place c = omega (arith, row (goal.at.overflow_cast-place c).Start, column (goal.at.overflow_cast-place c).Start, low (goal.at.overflow_cast-place c).Start, slim (goal.at.overflow_cast-place c).Start, c.requires.0.tall, c.requires.0.broad)
+overflow_cast-place c =
+    omega (
+      arith,
+      row (goal.at.overflow_cast-place c).Start,
+      column (goal.at.overflow_cast-place c).Start,
+      low (goal.at.overflow_cast-place c).Start,
+      slim (goal.at.overflow_cast-place c).Start,
+      c.requires.0.tall,
+      c.requires.0.broad,
+    )
 
 pub placed-requires : goal.placed-requires
 placed-requires c = (
@@ -79,7 +88,8 @@ returns-in_default c =
 pub append-requires : goal.append-requires
 append-requires c =
     let w = placed-within c.args.h c.args.w c.args.borders.now c.args.rows.now c.args.turned.now
-    c.args.n c.requires.0 c.requires.2 _ _ (low (goal.at.append-requires c).Start) (slim (goal.at.append-requires c).Start) in (
+    c.args.n c.requires.0 c.requires.2 _ _ (low (goal.at.append-requires c).Start)
+    (slim (goal.at.append-requires c).Start) in (
       c.requires.5,
       rw (← is (goal.at.append-requires c).After-placed, c.in-Blocked.is) at w,
     )

@@ -12,7 +12,9 @@ use Rattle.stuck.proofs.survivors.block_mates.Given as goal
 abbrev pub invariant-loop-i : goal.invariant-loop-i
 invariant-loop-i l =
     (l.i ≤ mate_count l.mates) × Wrote l.initial.memory l.start
-    (flat_map (λ q. flat_map (block_in l.h l.w l.borders l.rows l.turned l.n) (part_of (cells_in l.potential) (starts_in l.potential) q))
+    (flat_map
+    (λ q. flat_map (block_in l.h l.w l.borders l.rows l.turned l.n)
+    (part_of (cells_in l.potential) (starts_in l.potential) q))
     (part l.mates 0 l.i)) l.memory l.at
 
 abbrev pub decreases-loop-i : goal.decreases-loop-i

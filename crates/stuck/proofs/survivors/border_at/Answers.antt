@@ -20,10 +20,18 @@ pub overflow_mul-result-then-y-eq1 : goal.overflow_mul-result-then-y-eq1
 overflow_mul-result-then-y-eq1 c = omega (arith, (line (goal.at.overflow_mul-result-then-y-eq1 c).Start).right)
 
 pub overflow_add-result : goal.overflow_add-result
-overflow_add-result c = omega (arith, (line (goal.at.overflow_add-result c).Start).right, c.requires.1.right, c.requires.0.broad)
+overflow_add-result c =
+    omega (arith, (line (goal.at.overflow_add-result c).Start).right, c.requires.1.right, c.requires.0.broad)
 
 pub overflow_add-result-then-y-eq1 : goal.overflow_add-result-then-y-eq1
-overflow_add-result-then-y-eq1 c = omega (arith, (line (goal.at.overflow_add-result-then-y-eq1 c).Start).right, c.requires.1.right, c.requires.0.broad, (counts c.requires.0).across)
+overflow_add-result-then-y-eq1 c =
+    omega (
+      arith,
+      (line (goal.at.overflow_add-result-then-y-eq1 c).Start).right,
+      c.requires.1.right,
+      c.requires.0.broad,
+      (counts c.requires.0).across,
+    )
 
 pub returns-then-y-eq1 : goal.returns-then-y-eq1
 unfolding below_of
@@ -33,7 +41,8 @@ pub overflow_mul-result-2 : goal.overflow_mul-result-2
 overflow_mul-result-2 c = omega (arith, (line (goal.at.overflow_mul-result-2 c).Start).across)
 
 pub overflow_add-result-2 : goal.overflow_add-result-2
-overflow_add-result-2 c = omega (arith, (line (goal.at.overflow_add-result-2 c).Start).across, c.requires.1.right, c.requires.0.broad)
+overflow_add-result-2 c =
+    omega (arith, (line (goal.at.overflow_add-result-2 c).Start).across, c.requires.1.right, c.requires.0.broad)
 
 pub returns : goal.returns
 unfolding right_of

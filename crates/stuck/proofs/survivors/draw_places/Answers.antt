@@ -16,7 +16,8 @@ pub overflow_mul-count : goal.overflow_mul-count
 overflow_mul-count c = omega (arith, (counts c.requires.0).cells)
 
 pub loop-c-init : goal.loop-c-init
-loop-c-init c = (omega arith, c.requires.1, omega arith, omega (arith, c.requires.0.columns), λ i h. absurd (omega arith))
+loop-c-init c =
+    (omega arith, c.requires.1, omega arith, omega (arith, c.requires.0.columns), λ i h. absurd (omega arith))
 
 -- the cell's row and column
 row : (c : In-loop-c) → c.loop-c.c / c.args.w ≡ c.loop-c.y
@@ -84,8 +85,13 @@ loop-c-preserved c =
       length-set l.places l.c _ ∙ l.invariant.1,
       n.0,
       n.1,
-      stored_more (λ j. j / w * 32 + j % w) 0 _ l.places l.c (omega (arith, few (goal.at.loop-c-preserved c).In-loop-c, l.invariant.1))
-          (omega (arith, row (goal.at.loop-c-preserved c).In-loop-c, column (goal.at.loop-c-preserved c).In-loop-c)) l.invariant.4,
+      stored_more (λ j. j / w * 32 + j % w) 0 _ l.places l.c
+          (omega (arith, few (goal.at.loop-c-preserved c).In-loop-c, l.invariant.1))
+          (omega (
+            arith,
+            row (goal.at.loop-c-preserved c).In-loop-c,
+            column (goal.at.loop-c-preserved c).In-loop-c,
+          )) l.invariant.4,
     )
 
 pub returns : goal.returns

@@ -44,10 +44,21 @@ pub bounds-turned-j : goal.bounds-turned-j
 bounds-turned-j c = omega (arith, (small (goal.at.bounds-turned-j c).In-loop-j).place)
 
 pub overflow_cast-turned : goal.overflow_cast-turned
-overflow_cast-turned c = omega (arith, down-at (goal.at.overflow_cast-turned c).In-loop-j, (small (goal.at.overflow_cast-turned c).In-loop-j).row)
+overflow_cast-turned c =
+    omega (
+      arith,
+      down-at (goal.at.overflow_cast-turned c).In-loop-j,
+      (small (goal.at.overflow_cast-turned c).In-loop-j).row,
+    )
 
 pub overflow_add-y : goal.overflow_add-y
-overflow_add-y c = omega (arith, down-at (goal.at.overflow_add-y c).In-loop-j, (small (goal.at.overflow_add-y c).In-loop-j).row, c.requires.2)
+overflow_add-y c =
+    omega (
+      arith,
+      down-at (goal.at.overflow_add-y c).In-loop-j,
+      (small (goal.at.overflow_add-y c).In-loop-j).row,
+      c.requires.2,
+    )
 
 pub overflow_mul-x : goal.overflow_mul-x
 overflow_mul-x c = omega (arith, c.requires.3)
@@ -59,25 +70,48 @@ pub bounds-turned-j-in-loop-j : goal.bounds-turned-j-in-loop-j
 bounds-turned-j-in-loop-j c = omega (arith, (small (goal.at.bounds-turned-j-in-loop-j c).In-loop-j).place)
 
 pub overflow_cast-turned-in-loop-j : goal.overflow_cast-turned-in-loop-j
-overflow_cast-turned-in-loop-j c = omega (arith, across-at (goal.at.overflow_cast-turned-in-loop-j c).In-loop-j, (small (goal.at.overflow_cast-turned-in-loop-j c).In-loop-j).column)
+overflow_cast-turned-in-loop-j c =
+    omega (
+      arith,
+      across-at (goal.at.overflow_cast-turned-in-loop-j c).In-loop-j,
+      (small (goal.at.overflow_cast-turned-in-loop-j c).In-loop-j).column,
+    )
 
 pub overflow_add-x : goal.overflow_add-x
 overflow_add-x c =
-    omega
-    (arith, across-at (goal.at.overflow_add-x c).In-loop-j, (small (goal.at.overflow_add-x c).In-loop-j).column, c.requires.3)
+    omega (
+      arith,
+      across-at (goal.at.overflow_add-x c).In-loop-j,
+      (small (goal.at.overflow_add-x c).In-loop-j).column,
+      c.requires.3,
+    )
 
 pub border_at-border-requires : goal.border_at-border-requires
-border_at-border-requires c = (c.requires.0, rw (down-at (goal.at.border_at-border-requires c).In-loop-j, across-at (goal.at.border_at-border-requires c).In-loop-j) (on (goal.at.border_at-border-requires c).In-loop-j))
+border_at-border-requires c = (
+  c.requires.0,
+  rw (
+    down-at (goal.at.border_at-border-requires c).In-loop-j,
+    across-at (goal.at.border_at-border-requires c).In-loop-j,
+  ) (on (goal.at.border_at-border-requires c).In-loop-j),
+)
 
 -- the border of the connection
 border-is : (c : After-border_at-border) → let j = c.loop-j.j - 1 in
     c.border_at-border.result ≡ border_at c.args.h c.args.w (2 * c.args.y + get_or (ys_in c.args.turned.now) j 0)
     (2 * c.args.x + get_or (xs_in c.args.turned.now) j 0)
 border-is c =
-    rw (← down-at (goal.at.After-border_at-border c).In-loop-j, ← across-at (goal.at.After-border_at-border c).In-loop-j) c.border_at-border.ensures
+    rw (
+      ← down-at (goal.at.After-border_at-border c).In-loop-j,
+      ← across-at (goal.at.After-border_at-border c).In-loop-j,
+    ) c.border_at-border.ensures
 
 pub bounds-borders-border : goal.bounds-borders-border
-bounds-borders-border c = omega (arith, border-is (goal.at.bounds-borders-border c).After-border_at-border, border-low (on (goal.at.bounds-borders-border c).In-loop-j) c.requires.0)
+bounds-borders-border c =
+    omega (
+      arith,
+      border-is (goal.at.bounds-borders-border c).After-border_at-border,
+      border-low (on (goal.at.bounds-borders-border c).In-loop-j) c.requires.0,
+    )
 
 pub returns-then-borders-border-eq1 : goal.returns-then-borders-border-eq1
 returns-then-borders-border-eq1 c =

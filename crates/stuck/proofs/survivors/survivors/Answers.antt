@@ -42,7 +42,8 @@ loop-y-preserved c =
       omega (arith, c.loop-y-test.true),
       length-set l.rows l.y _ ∙ l.invariant.1,
       stored_more (λ y. clear_word c.args.planes.now y c.args.turned.now
-          (get_or c.args.mask.now y 0) c.args.n) 0 _ l.rows l.y (omega (arith, low (goal.at.loop-y-preserved c).In-loop-y, l.invariant.1))
+          (get_or c.args.mask.now y 0) c.args.n) 0 _ l.rows l.y
+          (omega (arith, low (goal.at.loop-y-preserved c).In-loop-y, l.invariant.1))
           c.line_left.ensures l.invariant.2,
     )
 

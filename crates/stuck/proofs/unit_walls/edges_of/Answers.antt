@@ -19,7 +19,8 @@ each s q =
     (numbers_in s.args.potential.now) q
 
 pub loop-i-init : goal.loop-i-init
-loop-i-init c = (omega arith, write-none (each (goal.at.loop-i-init c).Start) c.args.mates.now 0 c.requires.4, c.requires.5)
+loop-i-init c =
+    (omega arith, write-none (each (goal.at.loop-i-init c).Start) c.args.mates.now 0 c.requires.4, c.requires.5)
 
 next : (t : In-loop-i) → t.loop-i.i < mate_count t.args.mates.now
 next t = omega (arith, t.loop-i-test.true, t.index-count.ensures)

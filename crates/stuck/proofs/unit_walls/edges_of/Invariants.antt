@@ -12,7 +12,8 @@ use Rattle.stuck.proofs.unit_walls.edges_of.Given as goal
 abbrev pub invariant-loop-i : goal.invariant-loop-i
 invariant-loop-i l =
     (l.i ≤ mate_count l.mates)
-    × Wrote l.initial.memory l.start (flat_map (edge_in l.h l.w l.colours l.borders (numbers_in l.potential)) (part l.mates 0 l.i)) l.memory l.at
+    × Wrote l.initial.memory l.start
+    (flat_map (edge_in l.h l.w l.colours l.borders (numbers_in l.potential)) (part l.mates 0 l.i)) l.memory l.at
     × (l.flagged ≡ no_flags)
 
 abbrev pub decreases-loop-i : goal.decreases-loop-i

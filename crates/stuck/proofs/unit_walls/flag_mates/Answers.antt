@@ -34,7 +34,8 @@ pub loop-i-preserved : goal.loop-i-preserved
 loop-i-preserved c = (
   omega (arith, next (goal.at.loop-i-preserved c).In-loop-i),
   rw c.index-q.ensures
-      (flagged-more c.args.mates.now 0 _ (omega arith) (omega (arith, next (goal.at.loop-i-preserved c).In-loop-i, c.requires.0.end, c.requires.0.long))
+      (flagged-more c.args.mates.now 0 _ (omega arith)
+      (omega (arith, next (goal.at.loop-i-preserved c).In-loop-i, c.requires.0.end, c.requires.0.long))
       (c.requires.0.each _ (next (goal.at.loop-i-preserved c).In-loop-i)) c.loop-i.invariant.1),
 )
 
