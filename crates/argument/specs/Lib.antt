@@ -1,5 +1,5 @@
 -- The argument behind demand 3. To read first: PageLaws of crate laws (what is asked of a page), Demand (what is
--- claimed), Checks (what check answers) and DemandLaws (the claim holds).
+-- claimed), Checks (what check answers) and, in proofs/, DemandLaws (the claim holds).
 
 -- what is claimed
 pub mod Demand

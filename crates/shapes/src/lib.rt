@@ -44,7 +44,7 @@ pub struct Signs {
 // "Every transform is read from eight rows of signs and swaps": the one table, each row with what it makes of (y,x).
 // `signs_at` alone reads it, and its contract says that the rows are those of the definition's `flat_table`. So the
 // composition rules, which are tested over that table, are rules of this one: `compose-rows` (specs/TableLaws.antt) and
-// `table-rules` (laws/specs/TurnLaws.antt).
+// `table-rules` (laws/proofs/TableRules.antt).
 const TABLE: [Signs; 8] = [
     Signs {
         swap: false,
