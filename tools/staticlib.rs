@@ -29,13 +29,27 @@ fn build(root: &Path, names: &[&str]) {
     }
 }
 
+/// The files and folders that the crates are made of. What rt keeps in out/ changes with each of its runs.
+fn sources(root: &Path) -> Vec<PathBuf> {
+    let entries = |folder: PathBuf| {
+        let read = folder.read_dir().expect("a folder that can be read");
+        read.map(|entry| entry.expect("an entry").path())
+    };
+    let crates = entries(root.join("crates")).filter(|path| path.is_dir());
+    let parts = crates.flat_map(entries);
+    parts.filter(|path| !path.ends_with("out")).collect()
+}
+
 /// Finds or makes the static libraries of crates, tells cargo to link them, and gives the folder that has them.
 pub fn link(names: &[&str]) -> PathBuf {
     let root = repository();
     let folder = root.join("target/staticlib");
     println!("cargo::rerun-if-changed=build.rs");
-    for path in ["tools/staticlib.rs", "tools/build", "crates.txt", "crates"] {
+    for path in ["tools/staticlib.rs", "tools/build", "crates.txt"] {
         println!("cargo::rerun-if-changed={}", root.join(path).display());
+    }
+    for path in sources(&root) {
+        println!("cargo::rerun-if-changed={}", path.display());
     }
     build(&root, names);
     println!("cargo::rustc-link-search=native={}", folder.display());
