@@ -1,5 +1,5 @@
-// A board image made, read, tested and rewritten: `dbchoco_fresh`, `dbchoco_decide`, `dbchoco_undo`, `dbchoco_check` and
-// `dbchoco_calls`, which crate image_c exports.
+// A board image made, read, tested and rewritten: `dbchoco_fresh`, `dbchoco_decide`, `dbchoco_undo`, `dbchoco_check`
+// and `dbchoco_calls`, which crate image_c exports.
 #![tactic(auto)]
 
 ghost use Rattle.std.specs.Prelude.{◌≡◌, false, ◌≤◌, length};
