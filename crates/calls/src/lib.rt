@@ -104,7 +104,8 @@ fn answer_tested<'a>(
         × (memory.new ≡ found_memory (found_in h w colours.now clues.now
         borders.now) memory.old) }
 {
-    if memory.len() < 1984 {
+    let short = memory.len() < 1984;
+    if short {
         return Answer::Refused(Outcome::Short);
     }
     answer_known(h, w, colours, clues, borders, undecided, memory)

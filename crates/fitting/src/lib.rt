@@ -53,7 +53,8 @@ fn fits_at<'a>(
     let last = start_of(units, u + 1);
     let p = group_of(potential, cell_at(units, first));
     let q = near_mate(h, w, colours, borders, potential, p, near);
-    if 1024 <= q {
+    let alone = 1024 <= q;
+    if alone {
         return false;
     }
     if last == first + 1 {

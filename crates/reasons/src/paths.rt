@@ -41,7 +41,8 @@ fn visit(
     if borders[border] != 2 {
         return tail;
     }
-    if found[to] == 1 {
+    let seen = found[to] == 1;
+    if seen {
         return tail;
     }
     queue[tail] = to as u16;

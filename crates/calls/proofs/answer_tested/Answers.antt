@@ -12,15 +12,15 @@ found s =
     let a = s.args in
     found_in a.h a.w a.colours.now a.clues.now a.borders.now
 
-pub returns-then-memory-lt1984 : goal.returns-then-memory-lt1984
-returns-then-memory-lt1984 c =
-    found-short (found (goal.at.returns-then-memory-lt1984 c).Start) c.args.memory.now c.if-memory-lt1984.true
+pub returns-then-short : goal.returns-then-short
+returns-then-short c =
+    found-short (found (goal.at.returns-then-short c).Start) c.args.memory.now c.if-short.true
 
 pub answer_known-requires : goal.answer_known-requires
-answer_known-requires c = (c.requires, c.if-memory-lt1984.false)
+answer_known-requires c = (c.requires, c.if-short.false)
 
 pub returns : goal.returns
 returns c =
     let r = c.answer_known.ensures in
-    let g = found-long (found (goal.at.returns c).Start) c.args.memory.now c.if-memory-lt1984.false in
+    let g = found-long (found (goal.at.returns c).Start) c.args.memory.now c.if-short.false in
     (r.0 ∙ g.0, r.1 ∙ g.1)

@@ -68,10 +68,10 @@ near_mate-q-requires c = (
   c.requires.2,
 )
 
-pub returns-then-q-ge1024 : goal.returns-then-q-ge1024
-returns-then-q-ge1024 c = (
+pub returns-then-alone : goal.returns-then-alone
+returns-then-alone c = (
   sym (fits-nowhere c.requires.0 c.args.u c.requires.1
-      ((one (goal.at.returns-then-q-ge1024 c).After-near_mate-q).none c.if-q-ge1024.true)),
+      ((one (goal.at.returns-then-alone c).After-near_mate-q).none c.if-alone.true)),
   c.near_mate-q.ensures.1,
   c.requires.3,
   c.requires.4,
@@ -86,7 +86,7 @@ pub returns-then-last-first : goal.returns-then-last-first
 returns-then-last-first c = (
   sym (single-unit c.requires.0 c.args.u c.requires.1
       (rw (c.start_of-first.ensures, c.start_of-last.ensures) at c.if-last-first.true)
-      ((one (goal.at.returns-then-last-first c).After-near_mate-q).some c.if-q-ge1024.false)),
+      ((one (goal.at.returns-then-last-first c).After-near_mate-q).some c.if-alone.false)),
   c.near_mate-q.ensures.1,
   c.requires.3,
   c.requires.4,
@@ -95,7 +95,7 @@ returns-then-last-first c = (
 pub copy_fits_soon-requires : goal.copy_fits_soon-requires
 copy_fits_soon-requires c =
     let k = home_of c.requires.0 c.args.u c.requires.1 in
-    let q = (one (goal.at.copy_fits_soon-requires c).After-near_mate-q).some c.if-q-ge1024.false in (
+    let q = (one (goal.at.copy_fits_soon-requires c).After-near_mate-q).some c.if-alone.false in (
       c.requires.0.drawn,
       unit-in c.requires.0 c.args.u c.requires.1,
       mate-few k q,
@@ -105,7 +105,7 @@ copy_fits_soon-requires c =
 -- the unit itself is the first of its transforms
 pub returns-then-copy_fits_soon : goal.returns-then-copy_fits_soon
 returns-then-copy_fits_soon c =
-    let q = (one (goal.at.returns-then-copy_fits_soon c).After-near_mate-q).some c.if-q-ge1024.false in (
+    let q = (one (goal.at.returns-then-copy_fits_soon c).After-near_mate-q).some c.if-alone.false in (
       sym (sym (fits_home c.requires.0 c.args.u c.requires.1)
           ∙ soon-turned (unclued c.args.h c.args.w c.args.colours.now) (states_in c.args.borders.now)
           (cells_in c.args.potential.now) (starts_in c.args.potential.now)

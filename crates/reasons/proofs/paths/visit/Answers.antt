@@ -7,7 +7,7 @@ use borrow.Author.Tests.{not-true, not-false}
 use Rattle.laws.specs.FlatLaws.{Counts, counts, OnPage, row_of_lem}
 use Rattle.reasons.specs.Arrays.{NeighbourOn, Stepped}
 use Rattle.reasons.specs.SearchLaws.{looked-off, looked-shut, looked-old, looked-new, push-room}
-use Rattle.reasons.proofs.paths.visit.Goals.{After-beside-n, Else-found-to-eq1, Else-not-n, Start}
+use Rattle.reasons.proofs.paths.visit.Goals.{After-beside-n, Else-seen, Else-not-n, Start}
 use Rattle.reasons.proofs.paths.visit.Goals as goal
 
 row : (s : Start) → OnPage s.args.h s.args.w s.args.c
@@ -28,12 +28,12 @@ near : (c : Else-not-n) →
     c.beside-n.result
 near c = c.beside-n.ensures.near (there c)
 
-room : (c : Else-found-to-eq1) →
+room : (c : Else-seen) →
     let s = c.args in s.tail < s.h * s.w
 room c =
     let n = c.beside-n.result in
-    push-room c.requires.4 c.args.c n.to n.border (near (goal.at.Else-found-to-eq1 c).Else-not-n).to
-    c.if-found-to-eq1.false
+    push-room c.requires.4 c.args.c n.to n.border (near (goal.at.Else-seen c).Else-not-n).to
+    c.if-seen.false
 
 pub beside-n-requires : goal.beside-n-requires
 beside-n-requires c =
@@ -56,11 +56,11 @@ returns-then-borders-border-ne2 c =
 pub bounds-found-to : goal.bounds-found-to
 bounds-found-to c = omega (arith, near (goal.at.bounds-found-to c).Else-not-n)
 
-pub returns-then-found-to-eq1 : goal.returns-then-found-to-eq1
-returns-then-found-to-eq1 c =
-    let t = there (goal.at.returns-then-found-to-eq1 c).Else-not-n in
-    looked-old (stepped (goal.at.returns-then-found-to-eq1 c).After-beside-n) c.requires.4 c.requires.3 t
-    c.if-found-to-eq1.true
+pub returns-then-seen : goal.returns-then-seen
+returns-then-seen c =
+    let t = there (goal.at.returns-then-seen c).Else-not-n in
+    looked-old (stepped (goal.at.returns-then-seen c).After-beside-n) c.requires.4 c.requires.3 t
+    c.if-seen.true
 
 pub overflow_cast-queue : goal.overflow_cast-queue
 overflow_cast-queue c = omega (arith, near (goal.at.overflow_cast-queue c).Else-not-n)
@@ -70,7 +70,7 @@ offset_bounds-queue-tail c = omega (arith, room c, few (goal.at.offset_bounds-qu
 
 pub bounds-queue-tail : goal.bounds-queue-tail
 bounds-queue-tail c =
-    omega (arith, room (goal.at.bounds-queue-tail c).Else-found-to-eq1, few (goal.at.bounds-queue-tail c).Start)
+    omega (arith, room (goal.at.bounds-queue-tail c).Else-seen, few (goal.at.bounds-queue-tail c).Start)
 
 pub overflow_cast-parent : goal.overflow_cast-parent
 overflow_cast-parent c = omega (arith, few (goal.at.overflow_cast-parent c).Start, c.requires.2)
@@ -95,10 +95,10 @@ bounds-found-to-2 c = omega (arith, near (goal.at.bounds-found-to-2 c).Else-not-
 
 pub overflow_add-result : goal.overflow_add-result
 overflow_add-result c =
-    omega (arith, room (goal.at.overflow_add-result c).Else-found-to-eq1, few (goal.at.overflow_add-result c).Start)
+    omega (arith, room (goal.at.overflow_add-result c).Else-seen, few (goal.at.overflow_add-result c).Start)
 
 pub returns : goal.returns
 returns c =
     let t = there (goal.at.returns c).Else-not-n in
     looked-new (stepped (goal.at.returns c).After-beside-n) c.requires.4 c.requires.3 t c.requires.2
-    c.if-borders-border-ne2.false c.if-found-to-eq1.false
+    c.if-borders-border-ne2.false c.if-seen.false
