@@ -6,8 +6,3 @@ pub mod ConditionLaws
 pub mod TallyLaws
 pub mod Cases
 pub mod NativeLaws
-pub mod DecideLaws
-pub mod ViewLaws
-pub mod LiteralLaws
-pub mod FreshLaws
-pub mod StepLaws

@@ -31,10 +31,10 @@ use Rattle.board.specs.Alien.{is_alien}
 use Rattle.board.specs.Board.{number_of, is_done, decide_of, undo_of, Typed}
 use Rattle.board.specs.View.{puzzle_of, states_of, literals_of, reply_of}
 use Rattle.board.specs.NativeLaws.{native-has}
-use Rattle.board.specs.DecideLaws.{done-returned, decide-keeps}
-use Rattle.board.specs.ViewLaws.{states-literals, literals-length, decided-puzzle}
-use Rattle.board.specs.LiteralLaws.{literals-decided}
-use Rattle.board.specs.StepLaws.{decide-reply, undo-reply}
+use Rattle.board.proofs.DecideLaws.{done-returned, decide-keeps}
+use Rattle.board.proofs.ViewLaws.{states-literals, literals-length, decided-puzzle}
+use Rattle.board.proofs.LiteralLaws.{literals-decided}
+use Rattle.board.proofs.StepLaws.{decide-reply, undo-reply}
 use Rattle.calls.specs.declared.Answer.TheVariants.{Done, Refused}
 use Rattle.calls.specs.Answers.{reason_in, told, memory_as, as_answer, written, check_answer, check_memory, ended}
 use Rattle.calls.specs.Answers.{preview_answer, preview_memory, call_of, call_memory}

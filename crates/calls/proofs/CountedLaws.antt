@@ -21,7 +21,7 @@ use Rattle.board.specs.Board.{undo_of}
 use Rattle.board.specs.Board.{Typed}
 use Rattle.board.specs.TallyLaws.{same-is}
 use Rattle.board.specs.NativeLaws.{native-has}
-use Rattle.board.specs.StepLaws.{decide-kept, undo-kept}
+use Rattle.board.proofs.StepLaws.{decide-kept, undo-kept}
 use Rattle.calls.specs.declared.Answer.TheVariants.{Done, Refused}
 use Rattle.calls.specs.declared.Counted.{Counted}
 use Rattle.calls.specs.Answers.{ended, stepped, call_of, call_memory}

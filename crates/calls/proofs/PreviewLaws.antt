@@ -25,8 +25,8 @@ use Rattle.board.specs.Board.{number_of, is_done, returned, ended_by, pushed, de
 use Rattle.board.specs.View.{puzzle_of, states_of}
 use Rattle.board.specs.Cases.{decide-done}
 use Rattle.board.specs.NativeLaws.{native-has, free-left}
-use Rattle.board.specs.DecideLaws.{done-returned, decided-is, decide-keeps}
-use Rattle.board.specs.ViewLaws.{pass-stored}
+use Rattle.board.proofs.DecideLaws.{done-returned, decided-is, decide-keeps}
+use Rattle.board.proofs.ViewLaws.{pass-stored}
 use Rattle.calls.specs.declared.Answer.TheVariants.{Done, Pass, Refused}
 use Rattle.calls.specs.Answers.{as_answer, found_answer, check_answer, check_memory, preview_answer}
 use Rattle.calls.specs.Answers.{preview_memory, ended, call_of, call_memory}

@@ -15,7 +15,7 @@ use Rattle.board.specs.declared.Board.{Board}
 use Rattle.board.specs.Alien.{is_alien}
 use Rattle.board.specs.View.{puzzle_of, states_of}
 use Rattle.board.specs.NativeLaws.{native-has}
-use Rattle.board.specs.ViewLaws.{pass-stored}
+use Rattle.board.proofs.ViewLaws.{pass-stored}
 use Rattle.groups.specs.Pages.{Drawn}
 use Rattle.steps.specs.declared.Found.TheVariants.{Nothing, Reason as Given}
 use Rattle.steps.specs.Found.{found_of, written_by, Answers}

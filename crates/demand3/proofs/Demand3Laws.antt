@@ -26,12 +26,12 @@ use Rattle.board.specs.Board.{returned, decide_of}
 use Rattle.board.specs.Accepted.{Accepted, made_board}
 use Rattle.board.specs.View.{puzzle_of, states_of, literals_of}
 use Rattle.board.specs.NativeLaws.{native-has}
-use Rattle.board.specs.FreshLaws.{Made, made-is, made-keeps, made-typed}
-use Rattle.board.specs.ViewLaws.{fresh-puzzle, literals-fresh, literals-length, states-literals}
+use Rattle.board.proofs.FreshLaws.{Made, made-is, made-keeps, made-typed}
+use Rattle.board.proofs.ViewLaws.{fresh-puzzle, literals-fresh, literals-length, states-literals}
 use Rattle.demand3.specs.Runs.{Lent, lend, asked_by, given_by, told_by, looked_on, board_after}
 use Rattle.demand3.specs.Demand3.{Standing, Answered, HandedOut, RuledOut, StoodAt, Demand3}
-use Rattle.demand3.specs.RunLaws.{Built, none, Facts, Bare, built-facts, built-looked, built-after, step-told}
-use Rattle.demand3.specs.RunLaws.{run-told, run-written, run-tallies}
+use Rattle.demand3.proofs.RunLaws.{Built, none, Facts, Bare, built-facts, built-looked, built-after, step-told}
+use Rattle.demand3.proofs.RunLaws.{run-told, run-written, run-tallies}
 
 -- a list of calls, split where the book's list is
 record Split (calls : List Lent) (earlier : List Asked) (a : Asked) : Type 0 where

@@ -1,3 +1,4 @@
 pub mod Demand3Laws
+pub mod RunLaws
 pub mod RunWitnessLaws
 pub mod SmallRunLaws

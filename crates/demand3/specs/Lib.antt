@@ -1,5 +1,4 @@
 pub mod Runs
 pub mod Demand3
-pub mod RunLaws
 pub mod SmallRuns
 pub mod RunWitness

@@ -1,1 +1,3 @@
 pub mod AlienLaws
+pub mod HostLaws
+pub mod MakingLaws

@@ -14,7 +14,7 @@ use Rattle.board.specs.Board.{undo_of}
 use Rattle.board.specs.Board.{side_count, tally_more, tally_less, Typed}
 use Rattle.board.specs.Cases.{decide-ends}
 use Rattle.board.specs.NativeLaws.{native-has, borders-fit, tally-fits, free-places}
-use Rattle.board.specs.DecideLaws.{Decided, decided-is, done-returned, Undone, undone-is, side-counted}
+use Rattle.board.proofs.DecideLaws.{Decided, decided-is, done-returned, Undone, undone-is, side-counted}
 use Rattle.image.specs.Image.{spelled_board, image_of, right_length, Bytes, side_of, decide_literal, ImageCall, decide}
 use Rattle.image.specs.Image.{undo, image_alien, number_by, board_by, image_number, image_after, image_written}
 use Rattle.image.specs.LayoutLaws.{written-image}

@@ -11,9 +11,7 @@ pub mod RunLaws
 pub mod Series
 pub mod SeriesLaws
 pub mod Hosts
-pub mod HostLaws
 pub mod Producing
 pub mod ProducingLaws
 pub mod Making
-pub mod MakingLaws
 pub mod RetiredLaws

@@ -19,7 +19,7 @@ use Rattle.board.specs.declared.Outcome.TheVariants.{Alien, Border, Taken, Bare,
 use Rattle.board.specs.Board.{number_of, decide_of, undo_of}
 use Rattle.board.specs.Accepted.{Accepted, made_board}
 use Rattle.board.specs.View.{puzzle_of, states_of}
-use Rattle.board.specs.StepLaws.{BoardKept, decide-kept, undo-kept}
+use Rattle.board.proofs.StepLaws.{BoardKept, decide-kept, undo-kept}
 use Rattle.calls.specs.Answers.{answer_number, written, check_answer, check_memory, ended, call_of, call_memory}
 use Rattle.calls.proofs.CallLaws.{reason-short}
 use Rattle.demand3.specs.Runs.{Given, given_by, next_board, board_after, run_from}

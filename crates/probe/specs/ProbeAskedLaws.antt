@@ -6,7 +6,7 @@ use Rattle.std.proofs.Math.Nat.{min-le_right}
 use Rattle.std.proofs.lemmas.Bool.{lt-leb}
 use Rattle.lists.specs.Sections.{section}
 use Rattle.board.specs.Board.{zero_board}
-use Rattle.board.specs.FreshLaws.{zero-alien}
+use Rattle.board.proofs.FreshLaws.{zero-alien}
 use Rattle.groups.specs.declared.Kind.{Kind}
 use Rattle.groups.specs.declared.Kind.TheVariants as kind
 use Rattle.groups.specs.declared.Which.{Which}

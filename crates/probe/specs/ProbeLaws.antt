@@ -30,8 +30,8 @@ use Rattle.groups.specs.PartLaws.{ids-entry}
 use Rattle.reasons.specs.GroupReasons.{group_at}
 use Rattle.reasons.specs.Arrays.{GroupAt, group_reason, inside_in, edge_in}
 use Rattle.reasons.specs.Memory.{Wrote, WordsWritten}
-use Rattle.reasons.specs.MemoryLaws.{once-handed}
-use Rattle.reasons.specs.PathLaws.{path-off-a, path-off-b}
+use Rattle.reasons.proofs.MemoryLaws.{once-handed}
+use Rattle.reasons.proofs.PathLaws.{path-off-a, path-off-b}
 use Rattle.reasons.specs.Search.{path_in}
 use Rattle.image.specs.Image.{right_length, spelled_board}
 use Rattle.image.specs.RoundLaws.{long-is}

@@ -26,10 +26,10 @@ use Rattle.board.specs.ConditionLaws.{size_is, stacked-none}
 use Rattle.board.specs.Cases.{fresh-done, decide-done}
 use Rattle.board.specs.NativeLaws.{Native, native-has, native-of, cells_fit, borders-fit}
 use Rattle.board.specs.TallyLaws.{tally-fresh}
-use Rattle.board.specs.DecideLaws.{popped_at, tally-again, popped-native, popped-typed, decide-keeps, undo-keeps}
-use Rattle.board.specs.DecideLaws.{decided-typed, undone-typed}
-use Rattle.board.specs.FreshLaws.{made-is, made-keeps, made-typed}
-use Rattle.board.specs.ViewLaws.{entry-held, code-small}
+use Rattle.board.proofs.DecideLaws.{popped_at, tally-again, popped-native, popped-typed, decide-keeps, undo-keeps}
+use Rattle.board.proofs.DecideLaws.{decided-typed, undone-typed}
+use Rattle.board.proofs.FreshLaws.{made-is, made-keeps, made-typed}
+use Rattle.board.proofs.ViewLaws.{entry-held, code-small}
 use Rattle.reach.specs.Produced.{Produced, made, after_decide, after_undo, Move, decide, undo, move_of, Leads, stop}
 use Rattle.reach.specs.Produced.{next, Reached}
 

@@ -1,11 +1,9 @@
 pub mod Arrays
 pub mod Memory
-pub mod MemoryLaws
 pub mod StepLaws
 pub mod CellLaws
 pub mod ScanLaws
 pub mod Search
 pub mod SearchLaws
-pub mod PathLaws
 pub mod FarLaws
 pub mod GroupReasons

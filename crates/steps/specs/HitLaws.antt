@@ -23,7 +23,7 @@ use Rattle.groups.specs.PartLaws.{ids-length, filled-ids, filled-cells, filled-o
 use Rattle.groups.specs.Pages.{groups_in}
 use Rattle.reasons.specs.Arrays.{Arrays, GroupAt}
 use Rattle.reasons.specs.Memory.{Wrote, WordsWritten}
-use Rattle.reasons.specs.MemoryLaws.{once-handed, plain-handed}
+use Rattle.reasons.proofs.MemoryLaws.{once-handed, plain-handed}
 use Rattle.blocks.specs.declared.Faulty.{Faulty}
 use Rattle.blocks.specs.Faults.{is_faultless}
 use Rattle.blocks.specs.Written.{fault_unit, faulty_literals}

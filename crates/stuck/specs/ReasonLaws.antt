@@ -22,7 +22,7 @@ use Rattle.groups.specs.Grouping.{numbers_in, cells_in, starts_in, group_cells}
 use Rattle.reasons.specs.Arrays.{GroupAt, inside_in, edge_in, is_flagged}
 use Rattle.reasons.specs.FarLaws.{far-walls}
 use Rattle.reasons.specs.Memory.{Wrote}
-use Rattle.reasons.specs.MemoryLaws.{naming-more}
+use Rattle.reasons.proofs.MemoryLaws.{naming-more}
 use Rattle.shapes.specs.declared.Listed.{Listed as RowList}
 use Rattle.shapes.specs.Listing.{listing}
 use Rattle.shapes.specs.Rows.{image, rows_of}

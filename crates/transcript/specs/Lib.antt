@@ -1,5 +1,4 @@
 pub mod Left
-pub mod LeftLaws
 pub mod Transcript
 pub mod BoardLaws
 pub mod PageTheorem

@@ -1,6 +1,6 @@
 -- The path is written and handed out.
 use native.Mathlib.Omega.{arith}
-use Rattle.reasons.specs.MemoryLaws.{spare-zeros, front_length, front_fits}
+use Rattle.reasons.proofs.MemoryLaws.{spare-zeros, front_length, front_fits}
 use Rattle.probe.specs.Probe.{path_words}
 use Rattle.probe.specs.ProbeLaws.{places-length, path-held, literals}
 use Rattle.probe.proofs.put_path.Goals as goal

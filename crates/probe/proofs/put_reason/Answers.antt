@@ -8,7 +8,7 @@ use Rattle.rules.specs.declared.Side.TheVariants.{Wall, Open}
 use Rattle.rules.specs.Page.{Contains}
 use Rattle.rules.specs.Codes.{states_in}
 use Rattle.reasons.specs.Arrays.{GroupAt, group_reason}
-use Rattle.reasons.specs.MemoryLaws.{spare-zeros, front_length, front_fits}
+use Rattle.reasons.proofs.MemoryLaws.{spare-zeros, front_length, front_fits}
 use Rattle.probe.specs.Probe.{places_of, kind_groups, reason_words}
 use Rattle.image.specs.Image.{side_of}
 use Rattle.probe.specs.ProbeLaws.{places-length, group-is, no-reason, reason-held, literals}

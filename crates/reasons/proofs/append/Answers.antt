@@ -6,7 +6,7 @@ use native.Mathlib.Omega.{arith}
 use borrow.Author.Tests.{not-true, not-false}
 use lib.ListN.{length}
 use Rattle.reasons.specs.Memory.{naming}
-use Rattle.reasons.specs.MemoryLaws.{naming-full, naming-old, naming-new, length-naming}
+use Rattle.reasons.proofs.MemoryLaws.{naming-full, naming-old, naming-new, length-naming}
 use Rattle.reasons.proofs.append.Goals.{After-name}
 use Rattle.reasons.proofs.append.Goals as goal
 

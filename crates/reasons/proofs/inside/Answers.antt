@@ -12,7 +12,7 @@ use Rattle.rules.specs.Groups.{entry}
 use Rattle.rules.specs.Reasons.{inside_at}
 use Rattle.groups.specs.Grouping.{numbers_in, cells_in, start_in}
 use Rattle.reasons.specs.Arrays.{Cells, inside_in}
-use Rattle.reasons.specs.MemoryLaws.{turns-none, turns_more, turns-end}
+use Rattle.reasons.proofs.MemoryLaws.{turns-none, turns_more, turns-end}
 use Rattle.reasons.specs.ScanLaws.{part-cells, inside-part}
 use Rattle.reasons.proofs.inside.Goals.{Start}
 use Rattle.reasons.proofs.inside.Goals as goal

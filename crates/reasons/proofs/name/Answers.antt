@@ -1,7 +1,7 @@
 -- Without a place for names no border is named; with one, its place says whether it is.
 use mathlib.Core.Path.{refl, sym}
 use Rattle.reasons.specs.Memory.{naming}
-use Rattle.reasons.specs.MemoryLaws.{named_some, named_none, named-out, naming-out}
+use Rattle.reasons.proofs.MemoryLaws.{named_some, named_none, named-out, naming-out}
 use Rattle.reasons.proofs.name.Goals as goal
 
 pub returns-then-memory-place : goal.returns-then-memory-place

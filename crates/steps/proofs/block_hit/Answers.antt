@@ -3,7 +3,7 @@ use mathlib.Core.Path.{◌≡◌, sym, ◌∙◌}
 use Rattle.groups.specs.declared.Kind.TheVariants.{Blocks, Potential}
 use Rattle.groups.specs.Kinds.{joins_in}
 use lib.Seq.{length-take-le}
-use Rattle.reasons.specs.MemoryLaws.{spare-front}
+use Rattle.reasons.proofs.MemoryLaws.{spare-front}
 use Rattle.blocks.specs.Bridges.{lists_of, parted-of}
 use Rattle.blocks.specs.BlockHits.{faulty_in}
 use Rattle.steps.specs.HitLaws.{answers-none, answers-plain, blocks-held, blocks-plain}

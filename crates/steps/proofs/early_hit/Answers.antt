@@ -7,7 +7,7 @@ use lib.ListN.{length}
 use lib.Seq.{length-take-le}
 use Rattle.rules.specs.Codes.{states_in, puzzle_in}
 use Rattle.groups.specs.Grouping.{numbers_in}
-use Rattle.reasons.specs.MemoryLaws.{spare-front}
+use Rattle.reasons.proofs.MemoryLaws.{spare-front}
 use Rattle.walls.specs.WallHits.{breach_in}
 use Rattle.walls.specs.Bounds.{breach-small}
 use Rattle.steps.specs.declared.Found.TheVariants.{Nothing}

@@ -6,7 +6,7 @@ use native.Mathlib.Omega.{arith}
 use Rattle.rules.specs.Codes.{states_in, clues_in, unclued}
 use Rattle.groups.specs.declared.Kind.TheVariants.{Units}
 use Rattle.groups.specs.Pages.{groups_in}
-use Rattle.reasons.specs.MemoryLaws.{spare-zeros, front_length, front_fits}
+use Rattle.reasons.proofs.MemoryLaws.{spare-zeros, front_length, front_fits}
 use Rattle.fitting.specs.FirstStuck.{fits_unit, first_fail}
 use Rattle.steps.specs.HitLaws.{answers-none, answers-some, units-held}
 use Rattle.steps.specs.LateLaws.{units-clear, units-stuck}

@@ -7,7 +7,7 @@ use lib.ListN.{get_or, length-replicate}
 use Rattle.rules.specs.Codes.{states_in, unclued}
 use Rattle.rules.specs.declared.Literal.{Literal}
 use Rattle.groups.specs.Grouping.{cells_in, starts_in}
-use Rattle.reasons.specs.MemoryLaws.{turns-none, turns_more, turns-end}
+use Rattle.reasons.proofs.MemoryLaws.{turns-none, turns_more, turns-end}
 use Rattle.shapes.specs.Raising.{Raised, spelled}
 use Rattle.shapes.specs.Images.{image_joints}
 use Rattle.shapes.specs.Spots.{cell_spots, joint_spots}

@@ -8,7 +8,7 @@ use Rattle.page.specs.Places.{judged_of}
 use Rattle.page.specs.ParserLaws.{told_same}
 use Rattle.print.specs.Answers.{answers_word}
 use Rattle.transcript.specs.Left.{left_at, steps_at}
-use Rattle.transcript.specs.LeftLaws.{put-goes, refused-left, accepted-left}
+use Rattle.transcript.proofs.LeftLaws.{put-goes, refused-left, accepted-left}
 use Rattle.transcript.proofs.begin.Goals as goal
 
 pub put_line-count-requires : goal.put_line-count-requires

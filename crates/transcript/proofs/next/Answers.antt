@@ -3,7 +3,7 @@ use mathlib.Core.Path.{refl}
 use borrow.Author.Rules.{rules}
 use Rattle.transcript.specs.Left.{left_at, steps_at, memory_at}
 use Rattle.transcript.specs.declared.Stage.TheVariants.{Begin, Refused, Calls, Reason, Last}
-use Rattle.transcript.specs.LeftLaws.{next-goes, next-short, next-over}
+use Rattle.transcript.proofs.LeftLaws.{next-goes, next-short, next-over}
 use Rattle.transcript.proofs.next.Goals as goal
 
 pub returns-then-out-lt32 : goal.returns-then-out-lt32

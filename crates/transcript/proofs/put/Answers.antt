@@ -2,7 +2,7 @@
 use mathlib.Core.Path.{refl}
 use native.Mathlib.Omega.{arith}
 use borrow.Author.Rules.{rules}
-use Rattle.transcript.specs.LeftLaws.{put-goes}
+use Rattle.transcript.proofs.LeftLaws.{put-goes}
 use Rattle.transcript.proofs.put.Goals as goal
 
 pub returns : goal.returns

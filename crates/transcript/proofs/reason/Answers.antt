@@ -1,6 +1,6 @@
 -- `reason` meets its contract: some literals more, or the end of the line.
 use borrow.Author.Rules.{rules}
-use Rattle.transcript.specs.LeftLaws.{reason-more, reason-end}
+use Rattle.transcript.proofs.LeftLaws.{reason-more, reason-end}
 use Rattle.transcript.proofs.reason.Goals as goal
 
 pub returns-then-from-next : goal.returns-then-from-next

@@ -2,7 +2,7 @@
 use borrow.Author.Rules.{rules}
 use Rattle.page.specs.Places.{got_call}
 use Rattle.page.specs.ParserLaws.{told_same}
-use Rattle.transcript.specs.LeftLaws.{turn_end, turn-goes}
+use Rattle.transcript.proofs.LeftLaws.{turn_end, turn-goes}
 use Rattle.transcript.proofs.turn.Goals as goal
 
 pub returns-in_default : goal.returns-in_default

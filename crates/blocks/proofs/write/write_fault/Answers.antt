@@ -5,7 +5,7 @@ use Prim.Native.Nat.{ℕ}
 use Rattle.rules.specs.declared.Literal.{Literal}
 use Rattle.groups.specs.Grouping.{numbers_in}
 use Rattle.reasons.specs.Arrays.{inside_in, edge_in}
-use Rattle.reasons.specs.MemoryLaws.{naming-none, naming-more}
+use Rattle.reasons.proofs.MemoryLaws.{naming-none, naming-more}
 use Rattle.blocks.specs.declared.Fault.TheVariants.{Clear, InsideEdge, Inside, Edge, EdgeInside}
 use Rattle.blocks.specs.Written.{fault_literals, faulty_literals}
 use Rattle.blocks.proofs.write.write_fault.Goals.{Start}

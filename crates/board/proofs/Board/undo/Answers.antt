@@ -8,7 +8,7 @@ use Rattle.board.specs.Alien.{is_alien}
 use Rattle.board.specs.Board.{number_of, returned}
 use Rattle.board.specs.Cases.{refusal-some, undo-alien, undo-free, undo-refused}
 use Rattle.board.specs.NativeLaws.{borders-fit, native-has, tally-fits}
-use Rattle.board.specs.DecideLaws.{side-counted}
+use Rattle.board.proofs.DecideLaws.{side-counted}
 use Rattle.board.proofs.Board.undo.Goals.{Else-alien, Else-number-ne0}
 use Rattle.board.proofs.Board.undo.Goals as goal
 

@@ -4,11 +4,11 @@ use mathlib.Core.Path.{◌≡◌, ap, sym, ◌∙◌}
 use native.Mathlib.Omega.{arith}
 use Rattle.laws.specs.FlatLaws.{counts}
 use Rattle.board.specs.Board.{fresh_of, number_of}
-use Rattle.board.specs.FreshLaws.{Made}
+use Rattle.board.proofs.FreshLaws.{Made}
 use Rattle.board.specs.declared.Returned.{Returned}
 use Rattle.board.specs.Accepted.{made_board}
 use Rattle.image.specs.Image.{image_of}
-use Rattle.image.specs.MakingLaws.{number-refused, making-other, number-done, made_of, bytes-refused, bytes-done}
+use Rattle.image.proofs.MakingLaws.{number-refused, making-other, number-done, made_of, bytes-refused, bytes-done}
 use Rattle.image.proofs.making.dbchoco_fresh.Goals.{After-number-number}
 use Rattle.image.proofs.making.dbchoco_fresh.Goals as goal
 

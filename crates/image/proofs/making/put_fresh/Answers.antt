@@ -5,7 +5,7 @@ use borrow.Author.Rules.{rules}
 use lib.ListN.{length, set, length-set}
 use Rattle.board.specs.Alien.{borders_of}
 use Rattle.board.specs.ConditionLaws.{borders-of}
-use Rattle.image.specs.MakingLaws.{fresh-bytes}
+use Rattle.image.proofs.MakingLaws.{fresh-bytes}
 use Rattle.image.proofs.making.put_fresh.Goals.{After-put_colours-arg-1, After-put_two}
 use Rattle.image.proofs.making.put_fresh.Goals as goal
 

@@ -5,7 +5,7 @@ use borrow.Author.Tests.{eq-eqb, ne_eqb}
 use Rattle.board.specs.declared.Returned.{Returned}
 use Rattle.board.specs.Board.{number_of, decide_of}
 use Rattle.board.specs.Alien.{board_of}
-use Rattle.board.specs.DecideLaws.{Decided, decided-is, done-returned}
+use Rattle.board.proofs.DecideLaws.{Decided, decided-is, done-returned}
 use Rattle.board.specs.NativeLaws.{borders-fit, native-has, stack-room, free-left, tally-fits}
 use Rattle.probe.proofs.checks.decide_next.Goals.{Else-refusal-ne0}
 use Rattle.probe.proofs.checks.decide_next.Goals as goal

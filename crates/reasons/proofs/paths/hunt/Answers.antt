@@ -2,7 +2,7 @@
 use Prim.Native.Nat.{◌*◌, ◌<◌}
 use native.Mathlib.Omega.{arith}
 use Rattle.laws.specs.FlatLaws.{Counts, counts}
-use Rattle.reasons.specs.PathLaws.{blank, going_start, going_more, going-left, end-early, end-late}
+use Rattle.reasons.proofs.PathLaws.{blank, going_start, going_more, going-left, end-early, end-late}
 use Rattle.reasons.proofs.paths.hunt.Goals.{In-loop-head, Start}
 use Rattle.reasons.proofs.paths.hunt.Goals as goal
 

@@ -1,6 +1,6 @@
 -- What is left of the definition's run is the whole run; it ends with b found, or with an empty queue.
 use Prim.Native.Nat.{◌-◌, ◌*◌}
-use Rattle.reasons.specs.PathLaws.{Going}
+use Rattle.reasons.proofs.PathLaws.{Going}
 use Rattle.reasons.proofs.paths.hunt.Given as goal
 
 abbrev pub invariant-loop-head : goal.invariant-loop-head

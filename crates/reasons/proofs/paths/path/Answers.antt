@@ -2,8 +2,8 @@
 use mathlib.Core.Path.{refl}
 use native.Mathlib.Omega.{arith}
 use Rattle.laws.specs.FlatLaws.{Counts, counts}
-use Rattle.reasons.specs.MemoryLaws.{naming-none}
-use Rattle.reasons.specs.PathLaws.{path-off-a, path-off-b}
+use Rattle.reasons.proofs.MemoryLaws.{naming-none}
+use Rattle.reasons.proofs.PathLaws.{path-off-a, path-off-b}
 use Rattle.reasons.proofs.paths.path.Goals.{Start}
 use Rattle.reasons.proofs.paths.path.Goals as goal
 

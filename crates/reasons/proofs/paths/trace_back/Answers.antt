@@ -1,8 +1,8 @@
 -- The way back: what is written, and the way from `c`, is the whole path.
 use native.Mathlib.Omega.{arith}
 use Rattle.laws.specs.FlatLaws.{Counts, counts}
-use Rattle.reasons.specs.PathLaws.{tracing-start, tracing-none, tracing-end, tracing-narrow}
-use Rattle.reasons.specs.PathLaws.{tracing-less, tracing-more}
+use Rattle.reasons.proofs.PathLaws.{tracing-start, tracing-none, tracing-end, tracing-narrow}
+use Rattle.reasons.proofs.PathLaws.{tracing-less, tracing-more}
 use Rattle.reasons.proofs.paths.trace_back.Goals.{Start}
 use Rattle.reasons.proofs.paths.trace_back.Goals as goal
 

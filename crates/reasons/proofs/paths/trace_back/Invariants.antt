@@ -1,7 +1,7 @@
 -- The way back: what is written, and the way from `c`, is the whole path.
 use lib.ListN.{length}
 use Rattle.reasons.specs.Search.{path_in}
-use Rattle.reasons.specs.PathLaws.{Tracing}
+use Rattle.reasons.proofs.PathLaws.{Tracing}
 use Rattle.reasons.proofs.paths.trace_back.Given as goal
 
 abbrev pub invariant-loop-c : goal.invariant-loop-c

@@ -1,6 +1,6 @@
 -- The path, and one literal more.
 use borrow.Author.Rules.{rules}
-use Rattle.reasons.specs.MemoryLaws.{naming-more}
+use Rattle.reasons.proofs.MemoryLaws.{naming-more}
 use Rattle.reasons.proofs.paths.wall_reason.Goals as goal
 
 pub append-requires : goal.append-requires

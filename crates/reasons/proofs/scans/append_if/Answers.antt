@@ -1,5 +1,5 @@
 -- By cases on `kept`: one literal, or none.
-use Rattle.reasons.specs.MemoryLaws.{naming-none}
+use Rattle.reasons.proofs.MemoryLaws.{naming-none}
 use Rattle.reasons.proofs.scans.append_if.Goals as goal
 
 pub append-requires : goal.append-requires

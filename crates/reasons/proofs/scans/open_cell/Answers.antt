@@ -13,7 +13,7 @@ use Rattle.laws.specs.FlatLaws.{OnPage, row_of_lem}
 use Rattle.groups.specs.Grouping.{numbers_in}
 use Rattle.reasons.specs.Memory.{Wrote}
 use Rattle.reasons.specs.Arrays.{hop_at, open_kept}
-use Rattle.reasons.specs.MemoryLaws.{turns-none, turns_more}
+use Rattle.reasons.proofs.MemoryLaws.{turns-none, turns_more}
 use Rattle.reasons.specs.ScanLaws.{inside-hops}
 use Rattle.reasons.proofs.scans.open_cell.Goals.{Start}
 use Rattle.reasons.proofs.scans.open_cell.Goals as goal

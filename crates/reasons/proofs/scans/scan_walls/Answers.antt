@@ -8,7 +8,7 @@ use Rattle.lists.specs.UpTo.{up_to}
 use Rattle.rules.specs.declared.Literal.{Literal}
 use Rattle.groups.specs.Grouping.{numbers_in, cells_in, start_in, group_cells}
 use Rattle.reasons.specs.Arrays.{Cells, scan_at, scan_of}
-use Rattle.reasons.specs.MemoryLaws.{turns-none, turns_more, turns-end}
+use Rattle.reasons.proofs.MemoryLaws.{turns-none, turns_more, turns-end}
 use Rattle.reasons.specs.ScanLaws.{part-cells, scan-part}
 use Rattle.reasons.proofs.scans.scan_walls.Goals.{Start}
 use Rattle.reasons.proofs.scans.scan_walls.Goals as goal

@@ -8,7 +8,7 @@ use Rattle.rules.specs.declared.Literal.{Literal}
 use Rattle.laws.specs.FlatLaws.{counts, OnPage, row_of_lem}
 use Rattle.groups.specs.Grouping.{numbers_in}
 use Rattle.reasons.specs.Arrays.{scan_to, scan_at}
-use Rattle.reasons.specs.MemoryLaws.{turns-none, turns_more, turns-end}
+use Rattle.reasons.proofs.MemoryLaws.{turns-none, turns_more, turns-end}
 use Rattle.reasons.specs.ScanLaws.{scan-hops}
 use Rattle.reasons.proofs.scans.wall_cell.Goals.{Start}
 use Rattle.reasons.proofs.scans.wall_cell.Goals as goal

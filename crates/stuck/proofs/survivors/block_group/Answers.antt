@@ -5,7 +5,7 @@ use Prim.Native.Nat.{ℕ}
 use native.Mathlib.Omega.{arith}
 use Rattle.rules.specs.declared.Literal.{Literal}
 use Rattle.groups.specs.Grouping.{cells_in}
-use Rattle.reasons.specs.MemoryLaws.{write-none, write-more}
+use Rattle.reasons.proofs.MemoryLaws.{write-none, write-more}
 use Rattle.reasons.specs.CellLaws.{cells-reach, cells_at}
 use Rattle.stuck.specs.Survivors.{block_in}
 use Rattle.stuck.proofs.survivors.block_group.Goals.{Start}

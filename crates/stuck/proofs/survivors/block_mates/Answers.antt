@@ -8,7 +8,7 @@ use Rattle.lists.specs.Lists.{flat_map}
 use Rattle.rules.specs.declared.Literal.{Literal}
 use Rattle.groups.specs.Grouping.{cells_in, starts_in}
 use Rattle.groups.specs.Parts.{part_of}
-use Rattle.reasons.specs.MemoryLaws.{write-none, write-more}
+use Rattle.reasons.proofs.MemoryLaws.{write-none, write-more}
 use Rattle.adjacent.specs.Mates.{mate_count}
 use Rattle.adjacent.specs.BesideLaws.{mates-reach}
 use Rattle.stuck.specs.Survivors.{block_in}

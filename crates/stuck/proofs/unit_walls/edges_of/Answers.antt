@@ -6,7 +6,7 @@ use native.Mathlib.Omega.{arith}
 use Rattle.rules.specs.declared.Literal.{Literal}
 use Rattle.groups.specs.Grouping.{numbers_in}
 use Rattle.reasons.specs.Arrays.{edge_in}
-use Rattle.reasons.specs.MemoryLaws.{write-none, write-more}
+use Rattle.reasons.proofs.MemoryLaws.{write-none, write-more}
 use Rattle.adjacent.specs.Mates.{mate_count}
 use Rattle.stuck.specs.Writing.{edges_in}
 use Rattle.stuck.proofs.unit_walls.edges_of.Goals.{In-loop-i, Start}

@@ -27,14 +27,14 @@ use Rattle.rules.specs.Book.{tally_of}
 use Rattle.board.specs.declared.Returned.{Returned}
 use Rattle.board.specs.Board.{number_of, fresh_board, fresh_of, SmallClues}
 use Rattle.board.specs.Accepted.{Accepted, made_board}
-use Rattle.board.specs.DecideLaws.{done-returned}
-use Rattle.board.specs.FreshLaws.{Made, made-is}
+use Rattle.board.proofs.DecideLaws.{done-returned}
+use Rattle.board.proofs.FreshLaws.{Made, made-is}
 use Rattle.demand3.proofs.Demand3Laws.{start-bare}
 use Rattle.image.specs.Image.{two_bytes, four_bytes, bits_of, clue_bytes, tally_bytes, image_of, right_length}
 use Rattle.image.specs.Image.{image_alien}
 use Rattle.image.specs.Making.{fresh_number, fresh_image}
 use Rattle.image.specs.Hosts.{HostCall, HostDemand}
-use Rattle.image.specs.HostLaws.{host-demand}
+use Rattle.image.proofs.HostLaws.{host-demand}
 use Rattle.image.specs.RoundLaws.{long-is, image-known}
 use Rattle.image.specs.ByteLaws.{four-long}
 

@@ -21,7 +21,7 @@ use Rattle.board.specs.ConditionLaws.{sized, stacked-none}
 use Rattle.board.specs.Cases.{PuzzleFit, puzzle-free, fresh-size, fresh-refused, fresh-free, alien-size}
 use Rattle.board.specs.TallyLaws.{tally-fresh}
 use Rattle.board.specs.NativeLaws.{Native, native-of}
-use Rattle.board.specs.DecideLaws.{one_number}
+use Rattle.board.proofs.DecideLaws.{one_number}
 
 -- "the all-zero board, itself alien"
 pub zero-alien : is_alien zero_board ≡ true

@@ -21,8 +21,8 @@ use Rattle.board.specs.Board.{number_of, pushed, decide_refusal, ended_by, decid
 use Rattle.board.specs.View.{puzzle_of, literal_in, literals_of, reply_of}
 use Rattle.board.specs.Cases.{undo-bare, undo-done, decide-done}
 use Rattle.board.specs.NativeLaws.{native-has}
-use Rattle.board.specs.DecideLaws.{decide-keeps, decided-typed, undo-keeps, undone-typed}
-use Rattle.board.specs.ViewLaws.{names-decided, decided-puzzle, undone-puzzle}
+use Rattle.board.proofs.DecideLaws.{decide-keeps, decided-typed, undo-keeps, undone-typed}
+use Rattle.board.proofs.ViewLaws.{names-decided, decided-puzzle, undone-puzzle}
 
 -- a reply that is done comes of an outcome that is
 pub reply-done : (o : Outcome) → reply_of o ≡ done → number_of o ≡ 0

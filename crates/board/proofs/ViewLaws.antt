@@ -28,7 +28,7 @@ use Rattle.board.specs.Alien.{stacked, code_count, border_count_of}
 use Rattle.board.specs.Board.{fresh_board, returned, decide_of, undo_of}
 use Rattle.board.specs.View.{puzzle_of, states_of, literal_in, literals_of}
 use Rattle.board.specs.NativeLaws.{Native}
-use Rattle.board.specs.DecideLaws.{decided-is, undone-is}
+use Rattle.board.proofs.DecideLaws.{decided-is, undone-is}
 
 -- ---- codes
 state-side : (v : ℕ) → v ≤ 2 → (v ≡ 0 → ⊥) → state_of v ≡ decided (side_in v)

@@ -46,10 +46,10 @@ use Rattle.board.specs.View.{puzzle_of, literals_of, reply_of}
 use Rattle.board.specs.Cases.{decide-done, undo-bare}
 use Rattle.board.specs.TallyLaws.{same-is, tally-none, tally-last}
 use Rattle.board.specs.NativeLaws.{native-has, tally-bare}
-use Rattle.board.specs.DecideLaws.{done-returned, decided-is, decide-keeps, decided-typed, undo-decide}
-use Rattle.board.specs.ViewLaws.{decided-puzzle, literals-length, names-decided}
-use Rattle.board.specs.LiteralLaws.{literals-decided}
-use Rattle.board.specs.StepLaws.{decide-reply, reply-done}
+use Rattle.board.proofs.DecideLaws.{done-returned, decided-is, decide-keeps, decided-typed, undo-decide}
+use Rattle.board.proofs.ViewLaws.{decided-puzzle, literals-length, names-decided}
+use Rattle.board.proofs.LiteralLaws.{literals-decided}
+use Rattle.board.proofs.StepLaws.{decide-reply, reply-done}
 use Rattle.calls.specs.Answers.{told, memory_as, call_of, call_memory}
 use Rattle.calls.specs.Counted.{counted_of, counted_memory}
 use Rattle.calls.proofs.CallLaws.{call-told, call-written}

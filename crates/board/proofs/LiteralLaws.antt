@@ -16,8 +16,8 @@ use Rattle.board.specs.Alien.{stacked, border_count_of}
 use Rattle.board.specs.Board.{returned, pushed, decide_of, Typed}
 use Rattle.board.specs.View.{literal_in, literals_of}
 use Rattle.board.specs.NativeLaws.{Native, native-has, borders-fit, free-unstacked}
-use Rattle.board.specs.DecideLaws.{decided-is, new-entry, old-entry}
-use Rattle.board.specs.ViewLaws.{stacked-at}
+use Rattle.board.proofs.DecideLaws.{decided-is, new-entry, old-entry}
+use Rattle.board.proofs.ViewLaws.{stacked-at}
 
 -- a literal is the same where its border and its code are
 literal-same : (bs cs : List ℕ) (m n : ℕ) → m ≡ n → get_or bs n 0 ≡ get_or cs n 0 → literal_in bs m ≡ literal_in cs n

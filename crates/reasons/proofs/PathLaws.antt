@@ -20,7 +20,7 @@ use Rattle.rules.specs.Flat.{flat}
 use Rattle.rules.specs.Codes.{states_in}
 use Rattle.rules.specs.Reasons.{Found, Search, is_found, visit_if, look, hunt, trace, path}
 use Rattle.reasons.specs.Memory.{Spare, Wrote}
-use Rattle.reasons.specs.MemoryLaws.{naming-none, naming-more}
+use Rattle.reasons.proofs.MemoryLaws.{naming-none, naming-more}
 use Rattle.reasons.specs.Arrays.{is_flagged}
 use Rattle.reasons.specs.Search.{path_in, Lined, Holds, Looked, Ended}
 use Rattle.reasons.specs.SearchLaws.{trace-other, found-other, count_set, unflagged}
