@@ -1,6 +1,6 @@
 -- Decide and undo that are done: what they say of the board, that they keep a board from being alien, and that an undo
 -- after a decide gives the board back.
-use Rattle.std.specs.Prelude.{◌≡◌, refl, Bool, true, false, ◌||◌, List, eqb, length, get_or, set}
+use Rattle.std.specs.Prelude.{◌≡◌, refl, Bool, true, false, ◌||◌, List, eqb, length, get_or, set, Ok, Err}
 use Rattle.std.proofs.Math.Path.{ap, sym}
 use Rattle.std.proofs.Common.{ap₂, ◌∙◌, length-set, get_or-set_same, set-set}
 use Rattle.std.proofs.Math.Bool.{not, or-true, or-false, false≢true}
@@ -17,15 +17,12 @@ use Rattle.rules.specs.declared.Literal.{Literal}
 use Rattle.rules.specs.declared.Tally.{Tally}
 use Rattle.rules.specs.Codes.{code_of, side_in}
 use Rattle.board.specs.declared.Board.{Board}
-use Rattle.board.specs.declared.Outcome.{Outcome}
-use Rattle.board.specs.declared.Outcome.TheVariants.{Done, Size, Ragged, Colour, Clue}
-use Rattle.board.specs.declared.Outcome.TheVariants.{Alien, Border, Taken, Bare, Short}
 use Rattle.board.specs.declared.Returned.{Returned}
 use Rattle.board.specs.Alien.{stacked, tally_in, border_count_of, board_with, is_alien}
-use Rattle.board.specs.Board.{number_of, returned, side_count, tally_more, tally_less, pushed, popped, decide_refusal}
+use Rattle.board.specs.Board.{Outcome, number_of, returned, side_count, tally_more, tally_less, pushed, popped, decide_refusal}
 use Rattle.board.specs.Board.{decide_of, undo_of, Typed}
 use Rattle.board.specs.ConditionLaws.{stacked-more}
-use Rattle.board.specs.Cases.{refusal-free, decide-alien, decide-refused, decide-done}
+use Rattle.board.specs.Cases.{refused-number, done-is, refusal-free, decide-alien, decide-refused, decide-done}
 use Rattle.board.specs.Cases.{undo-alien, undo-bare, undo-done}
 use Rattle.board.specs.TallyLaws.{tally-set, less-more, codes-some}
 use Rattle.board.specs.NativeLaws.{Native, native-has, native-of, borders-fit, free-unstacked, stack-room}
@@ -49,37 +46,22 @@ pub record Undone (b d : Board) : Type 0 where
   pub some : 0 < b.count
   pub is : d ≡ popped b
 
--- a call whose number is 0 is done
-done-is : (o : Outcome) → number_of o ≡ 0 → o ≡ Done
-done-is Done e = refl
-done-is Size e = absurd (let z : 1 ≡ 0 = e in omega arith)
-done-is Ragged e = absurd (let z : 2 ≡ 0 = e in omega arith)
-done-is Colour e = absurd (let z : 3 ≡ 0 = e in omega arith)
-done-is Clue e = absurd (let z : 4 ≡ 0 = e in omega arith)
-done-is Alien e = absurd (let z : 5 ≡ 0 = e in omega arith)
-done-is Border e = absurd (let z : 6 ≡ 0 = e in omega arith)
-done-is Taken e = absurd (let z : 7 ≡ 0 = e in omega arith)
-done-is Bare e = absurd (let z : 8 ≡ 0 = e in omega arith)
-done-is Short e = absurd (let z : 9 ≡ 0 = e in omega arith)
-
-pub done-returned : (r : Returned) → number_of r.outcome ≡ 0 → r ≡ returned Done r.board
+pub done-returned : (r : Returned) → number_of r.outcome ≡ 0 → r ≡ returned (Ok tt) r.board
 done-returned r e = let p = done-is r.outcome e in λ i. record { outcome = p i; board = r.board }
 
 -- two returns that are equal have one number
 pub one_number : {o p : Outcome} {b d : Board} → returned o b ≡ returned p d → number_of o ≡ number_of p
 one_number e = ap (λ (r : Returned). number_of r.outcome) e
 
-pub decided-is : {b : Board} {l : Literal} {d : Board} → decide_of b l ≡ returned Done d → Decided b l d
-decided-is {b} {l} {d} e = go (is_alien b) refl (ℕ_discrete (number_of o) 0)
+pub decided-is : {b : Board} {l : Literal} {d : Board} → decide_of b l ≡ returned (Ok tt) d → Decided b l d
+decided-is {b} {l} {d} e = go (is_alien b) refl (decide_refusal (border_count_of b) b.borders l.border) refl
   where
-    o : Outcome
-    o = decide_refusal (border_count_of b) b.borders l.border
-
-    go : (x : Bool) → is_alien b ≡ x → Dec (number_of o ≡ 0) → Decided b l d
-    go true p y = absurd (let h : 5 ≡ 0 = one_number (decide-alien b l p ∙ e) in omega arith)
-    go false p (no y) = absurd (y (one_number (decide-refused b l p o refl y ∙ e)))
-    go false p (yes y) =
-        let f = refusal-free (border_count_of b) b.borders l.border y in
+    go : (x : Bool) → is_alien b ≡ x → (o : Outcome) → decide_refusal (border_count_of b) b.borders l.border ≡ o
+        → Decided b l d
+    go true p o q = absurd (let h : 5 ≡ 0 = one_number (decide-alien b l p ∙ e) in omega arith)
+    go false p (Err r) q = absurd (refused-number r (one_number (decide-refused b l p r (sym q) ∙ e)))
+    go false p (Ok u) q =
+        let f = refusal-free (border_count_of b) b.borders l.border q in
         record {
           known = p;
           below = f.0;
@@ -87,7 +69,7 @@ decided-is {b} {l} {d} e = go (is_alien b) refl (ℕ_discrete (number_of o) 0)
           is = ap (λ (r : Returned). r.board) (sym e ∙ sym (decide-done b l p f.0 f.1));
         }
 
-pub undone-is : {b d : Board} → undo_of b ≡ returned Done d → Undone b d
+pub undone-is : {b d : Board} → undo_of b ≡ returned (Ok tt) d → Undone b d
 undone-is {b} {d} e = go (is_alien b) (ℕ_discrete b.count 0) refl
   where
     go : (x : Bool) → Dec (b.count ≡ 0) → is_alien b ≡ x → Undone b d
@@ -377,25 +359,25 @@ module _ (b : Board) (N : Native b) (B : length b.borders ≡ 1984) (S : length 
 
 -- ---- the calls
 pub decide-keeps : (b : Board) (l : Literal) {d : Board} → length b.borders ≡ 1984 → length b.stack ≡ 1984
-    → decide_of b l ≡ returned Done d → is_alien d ≡ false
+    → decide_of b l ≡ returned (Ok tt) d → is_alien d ≡ false
 decide-keeps b l B S e =
     let f = decided-is e in
     let c = side-code l.side in
     ap is_alien f.is
     ∙ native-of _ (pushed-native b (native-has b f.known) B S _ _ f.below f.free c.0 c.1)
 
-pub decided-typed : (b : Board) (l : Literal) {d : Board} → Typed b → decide_of b l ≡ returned Done d → Typed d
+pub decided-typed : (b : Board) (l : Literal) {d : Board} → Typed b → decide_of b l ≡ returned (Ok tt) d → Typed d
 decided-typed b l T e =
     let f = decided-is e in
     rw f.is (pushed-typed b (native-has b f.known) T.borders T.stack _ _ f.below f.free T)
 
-pub undone-typed : (b : Board) {d : Board} → Typed b → undo_of b ≡ returned Done d → Typed d
+pub undone-typed : (b : Board) {d : Board} → Typed b → undo_of b ≡ returned (Ok tt) d → Typed d
 undone-typed b T e =
     let f = undone-is e in
     let c : b.count ≡ b.count - 1 + 1 = omega arith in
     rw f.is (popped-typed b (native-has b f.known) T.borders T.stack (b.count - 1) c T)
 
-pub undo-keeps : (b : Board) {d : Board} → Typed b → undo_of b ≡ returned Done d → is_alien d ≡ false
+pub undo-keeps : (b : Board) {d : Board} → Typed b → undo_of b ≡ returned (Ok tt) d → is_alien d ≡ false
 undo-keeps b T e =
     let f = undone-is e in
     let N = native-has b f.known in
@@ -403,14 +385,14 @@ undo-keeps b T e =
     ap is_alien f.is ∙ native-of _ (popped-native b N T.borders T.stack (b.count - 1) c)
 
 -- after a decide that was done, an undo is done and gives back the board that the decide was given
-pub undo-decide : (b : Board) (l : Literal) {d : Board} → Typed b → decide_of b l ≡ returned Done d
-    → undo_of d ≡ returned Done b
+pub undo-decide : (b : Board) (l : Literal) {d : Board} → Typed b → decide_of b l ≡ returned (Ok tt) d
+    → undo_of d ≡ returned (Ok tt) b
 undo-decide b l {d} T e =
     let f = decided-is e in
     let N = native-has b f.known in
     sym
     (undo-done d (decide-keeps b l T.borders T.stack e)
     (λ q. let z : b.count + 1 ≡ 0 = sym (ap (λ (y : Board). y.count) f.is) ∙ q in omega arith))
-    ∙ ap (returned Done)
+    ∙ ap (returned (Ok tt))
     (ap popped f.is
     ∙ popped-pushed b N T.borders T.stack l.border (code_of l.side) f.below f.free)

@@ -1,5 +1,5 @@
 -- Making a board that is done: what it says of the puzzle, and that its board is not alien; the zeros board is.
-use Rattle.std.specs.Prelude.{◌≡◌, refl, Bool, true, false, List, ℕ, ◌*◌, ℤ, pos, get_or, replicate}
+use Rattle.std.specs.Prelude.{◌≡◌, refl, Bool, true, false, List, ℕ, ◌*◌, ℤ, pos, get_or, replicate, Ok, Err}
 use Rattle.std.proofs.Common.{ap, ◌∙◌, arith, leb-true}
 use Rattle.std.proofs.Math.Path.{sym}
 use Rattle.std.proofs.Math.Decide.{ℕ_discrete}
@@ -11,14 +11,12 @@ use Rattle.lists.specs.TestLaws.{all-at}
 use Rattle.rules.specs.Flat.{Sized, border_count}
 use Rattle.laws.specs.FlatLaws.{counts}
 use Rattle.board.specs.declared.Board.{Board}
-use Rattle.board.specs.declared.Outcome.{Outcome}
-use Rattle.board.specs.declared.Outcome.TheVariants.{Done}
 use Rattle.board.specs.declared.Returned.{Returned}
 use Rattle.board.specs.Alien.{size_right, colours_right, clue_right, clues_right, is_alien}
-use Rattle.board.specs.Board.{number_of, zero_board, fresh_board, returned, puzzle_refusal, fresh_of, SmallClues}
+use Rattle.board.specs.Board.{Outcome, zero_board, fresh_board, returned, puzzle_refusal, fresh_of, SmallClues}
 use Rattle.board.specs.Board.{Typed}
 use Rattle.board.specs.ConditionLaws.{sized, stacked-none}
-use Rattle.board.specs.Cases.{PuzzleFit, puzzle-free, fresh-size, fresh-refused, fresh-free, alien-size}
+use Rattle.board.specs.Cases.{refused-number, PuzzleFit, puzzle-free, fresh-size, fresh-refused, fresh-free, alien-size}
 use Rattle.board.specs.TallyLaws.{tally-fresh}
 use Rattle.board.specs.NativeLaws.{Native, native-of}
 use Rattle.board.proofs.DecideLaws.{one_number}
@@ -34,21 +32,18 @@ pub record Made (h w : ℕ) (cs : List ℕ) (ks : List ℤ) (d : Board) : Type 0
   pub fit : PuzzleFit (h * w) cs ks
   pub is : d ≡ fresh_board h w cs ks
 
-pub made-is : {h w : ℕ} {cs : List ℕ} {ks : List ℤ} {d : Board} → fresh_of h w cs ks ≡ returned Done d
+pub made-is : {h w : ℕ} {cs : List ℕ} {ks : List ℤ} {d : Board} → fresh_of h w cs ks ≡ returned (Ok tt) d
     → Made h w cs ks d
-made-is {h} {w} {cs} {ks} {d} e = go (size_right h w) refl (ℕ_discrete (number_of o) 0)
+made-is {h} {w} {cs} {ks} {d} e = go (size_right h w) refl (puzzle_refusal (h * w) cs ks) refl
   where
-    o : Outcome
-    o = puzzle_refusal (h * w) cs ks
-
-    go : (s : Bool) → size_right h w ≡ s → Dec (number_of o ≡ 0) → Made h w cs ks d
-    go false p y = absurd (let n : 1 ≡ 0 = one_number (fresh-size h w cs ks p ∙ e) in omega arith)
-    go true p (no y) = absurd (y (one_number (fresh-refused h w cs ks p o refl y ∙ e)))
-    go true p (yes y) =
+    go : (s : Bool) → size_right h w ≡ s → (o : Outcome) → puzzle_refusal (h * w) cs ks ≡ o → Made h w cs ks d
+    go false p o q = absurd (let n : 1 ≡ 0 = one_number (fresh-size h w cs ks p ∙ e) in omega arith)
+    go true p (Err r) q = absurd (refused-number r (one_number (fresh-refused h w cs ks p r (sym q) ∙ e)))
+    go true p (Ok u) q =
         record {
           size = sized p;
-          fit = puzzle-free (h * w) cs ks y;
-          is = ap (λ (t : Returned). t.board) (sym e ∙ sym (fresh-free h w cs ks p o refl y));
+          fit = puzzle-free (h * w) cs ks q;
+          is = ap (λ (t : Returned). t.board) (sym e ∙ sym (fresh-free h w cs ks p (sym q)));
         }
 
 module _ {h w : ℕ} {cs : List ℕ} {ks : List ℤ} {d : Board} (M : Made h w cs ks d) where

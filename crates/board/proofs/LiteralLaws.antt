@@ -1,5 +1,5 @@
 -- A board's sequence of literals: a decide puts its literal last.
-use Rattle.std.specs.Prelude.{◌≡◌, ℕ, ◌<◌, get_or, set}
+use Rattle.std.specs.Prelude.{◌≡◌, ℕ, ◌<◌, get_or, set, Ok}
 use Rattle.std.proofs.Common.{ap, sym, ◌∙◌, arith, get_or-set_same, get_or-set_other}
 use Rattle.std.proofs.Math.Path.{ap₂}
 use Rattle.std.proofs.lemmas.Bool.{false≢true}
@@ -11,7 +11,6 @@ use Rattle.rules.specs.Codes.{code_of, side_in}
 use Rattle.rules.specs.Book.{with_last}
 use Rattle.laws.specs.CodeLaws.{side-in}
 use Rattle.board.specs.declared.Board.{Board}
-use Rattle.board.specs.declared.Outcome.TheVariants.{Done}
 use Rattle.board.specs.Alien.{stacked, border_count_of}
 use Rattle.board.specs.Board.{returned, pushed, decide_of, Typed}
 use Rattle.board.specs.View.{literal_in, literals_of}
@@ -61,7 +60,7 @@ module _ (b : Board) (N : Native b) (T : Typed b) (l : Literal) (k : l.border < 
             side = (ap side_in (get_or-set_same b.borders l.border v 0 index) ∙ side-in l.side) i;
           })
 
-pub literals-decided : (b : Board) (l : Literal) {d : Board} → Typed b → decide_of b l ≡ returned Done d
+pub literals-decided : (b : Board) (l : Literal) {d : Board} → Typed b → decide_of b l ≡ returned (Ok tt) d
     → literals_of d ≡ with_last (literals_of b) l
 literals-decided b l T e =
     let f = decided-is e in

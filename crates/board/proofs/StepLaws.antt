@@ -1,6 +1,6 @@
 -- One decide or undo on a board that is not alien, done or refused: its reply is the book's, the board stays one that
 -- is not alien, and the puzzle stays.
-use Rattle.std.specs.Prelude.{◌≡◌, Bool, not, List, [], ◌∷◌, ltb, eqb, get_or}
+use Rattle.std.specs.Prelude.{◌≡◌, Bool, not, List, [], ◌∷◌, ltb, eqb, get_or, Ok, Err}
 use Rattle.std.proofs.Math.Path.{refl, ap}
 use Rattle.std.proofs.Common.{sym, ◌∙◌, ltb-true, eqb-true}
 use Rattle.std.proofs.Math.Bool.{true, false, cond}
@@ -14,10 +14,9 @@ use Rattle.rules.specs.Flat.{flat}
 use Rattle.rules.specs.Codes.{code_of}
 use Rattle.rules.specs.Book.{Reply, refused, done, bare_or, with_last, decide_reply}
 use Rattle.board.specs.declared.Board.{Board}
-use Rattle.board.specs.declared.Outcome.{Outcome}
-use Rattle.board.specs.declared.Outcome.TheVariants.{Done, Border, Taken}
+use Rattle.board.specs.declared.Refusal.TheVariants.{Border, Taken}
 use Rattle.board.specs.Alien.{border_count_of, is_alien}
-use Rattle.board.specs.Board.{number_of, pushed, decide_refusal, ended_by, decide_of, undo_of, Typed}
+use Rattle.board.specs.Board.{Outcome, number_of, pushed, decide_refusal, ended_by, decide_of, undo_of, Typed}
 use Rattle.board.specs.View.{puzzle_of, literal_in, literals_of, reply_of}
 use Rattle.board.specs.Cases.{undo-bare, undo-done, decide-done}
 use Rattle.board.specs.NativeLaws.{native-has}
@@ -26,11 +25,8 @@ use Rattle.board.proofs.ViewLaws.{names-decided, decided-puzzle, undone-puzzle}
 
 -- a reply that is done comes of an outcome that is
 pub reply-done : (o : Outcome) → reply_of o ≡ done → number_of o ≡ 0
-reply-done o e = go (eqb (number_of o) 0) refl e
-  where
-    go : (x : Bool) → eqb (number_of o) 0 ≡ x → cond x done (refused (number_of o)) ≡ done → number_of o ≡ 0
-    go true p q = eqb-true (number_of o) 0 p
-    go false p q = let z : ◌≡◌ {A = ℕ} 0 1 = cc in absurd (omega arith)
+reply-done (Ok u) e = refl
+reply-done (Err r) e = absurd (cc)
 
 -- the board d keeps what the next call needs
 pub record BoardKept (b d : Board) : Type 0 where
@@ -48,7 +44,7 @@ module _ (b : Board) (t : is_alien b ≡ false) where
         (go (ltb l.border (border_count_of b)) (eqb (get_or b.borders l.border 0) 0))
       where
         go : (x y : Bool)
-            → reply_of (cond x (cond y Done Taken) Border)
+            → reply_of (cond x (cond y (Ok tt) (Err Taken)) (Err Border))
             ≡ cond x (cond (not y) (refused 7) done) (refused 6)
         go true true = refl
         go true false = refl
@@ -68,8 +64,8 @@ module _ (b : Board) (t : is_alien b ≡ false) where
           same = record { known = t; typed = T; puzzle = refl }
 
           go : (x y : Bool) → ltb l.border m ≡ x → eqb (get_or b.borders l.border 0) 0 ≡ y
-              → BoardKept b (ended_by b (pushed b l.border (code_of l.side)) (cond x (cond y Done Taken) Border)
-              ).board
+              → BoardKept b (ended_by b (pushed b l.border (code_of l.side))
+              (cond x (cond y (Ok tt) (Err Taken)) (Err Border))).board
           go true true p q =
               let e =
               sym (decide-done b l t (ltb-true l.border m p) (eqb-true (get_or b.borders l.border 0) 0 q)) in

@@ -1,5 +1,5 @@
 -- A board as the rules see it: its puzzle, its borders and its sequence of literals, of boards that are not alien.
-use Rattle.std.specs.Prelude.{◌≡◌, refl, Bool, not, List, [], ℤ, pos, length}
+use Rattle.std.specs.Prelude.{◌≡◌, refl, Bool, not, List, [], ℤ, pos, length, Ok}
 use Rattle.std.proofs.Math.Path.{ap, sym}
 use Rattle.std.proofs.Common.{◌∙◌, arith}
 use Rattle.std.proofs.Math.Bool.{true, false, not-not}
@@ -23,7 +23,6 @@ use Rattle.rules.specs.Check.{undecided_count}
 use Rattle.rules.specs.Book.{states, names}
 use Rattle.laws.specs.BookLaws.{states-none, names_table, states-all}
 use Rattle.board.specs.declared.Board.{Board}
-use Rattle.board.specs.declared.Outcome.TheVariants.{Done}
 use Rattle.board.specs.Alien.{stacked, code_count, border_count_of}
 use Rattle.board.specs.Board.{fresh_board, returned, decide_of, undo_of}
 use Rattle.board.specs.View.{puzzle_of, states_of, literal_in, literals_of}
@@ -56,11 +55,11 @@ fresh-puzzle h w cs ks =
     }
 
 -- decide and undo keep it
-pub decided-puzzle : (b : Board) (l : Literal) {d : Board} → decide_of b l ≡ returned Done d → puzzle_of d ≡ puzzle_of b
+pub decided-puzzle : (b : Board) (l : Literal) {d : Board} → decide_of b l ≡ returned (Ok tt) d → puzzle_of d ≡ puzzle_of b
 unfolding puzzle_of
 decided-puzzle b l e = ap puzzle_of (decided-is e).is
 
-pub undone-puzzle : (b : Board) {d : Board} → undo_of b ≡ returned Done d → puzzle_of d ≡ puzzle_of b
+pub undone-puzzle : (b : Board) {d : Board} → undo_of b ≡ returned (Ok tt) d → puzzle_of d ≡ puzzle_of b
 unfolding puzzle_of
 undone-puzzle b e = ap puzzle_of (undone-is e).is
 

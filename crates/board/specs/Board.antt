@@ -1,5 +1,7 @@
 -- Board: what making a board, a decide and an undo return, refused ones too.
 --
+--   Outcome           how a call ended: done, or refused with one of 01's words
+--   refusal_number e  the number of the refusal e
 --   number_of o       the number of a refusal; 0 where the call is done
 --   is_done o         the outcome o is no refusal
 --   zero_board        the all-zero board
@@ -22,7 +24,7 @@
 --   SmallClues ks     the clues fit 32 bits
 --   Typed b           what every value of the code's type Board has
 use Rattle.std.specs.Prelude.{◌≡◌, Bool, true, cond, ◌&&◌, List, ℕ, ◌+◌, ◌-◌, ◌*◌, ltb, eqb, ℤ, pos, length, get_or}
-use Rattle.std.specs.Prelude.{set, replicate}
+use Rattle.std.specs.Prelude.{set, replicate, is_ok, Result, Ok, Err}
 use Rattle.std.specs.Int.Signed.{le_z}
 use Rattle.lists.specs.Padded.{padded}
 use Rattle.rules.specs.declared.Side.{Side}
@@ -33,27 +35,33 @@ use Rattle.rules.specs.Flat.{border_count}
 use Rattle.rules.specs.Codes.{code_of, side_in}
 use Rattle.rules.specs.Book.{tally_of}
 use Rattle.board.specs.declared.Board.{Board}
-use Rattle.board.specs.declared.Outcome.{Outcome}
-use Rattle.board.specs.declared.Outcome.TheVariants.{Done, Size, Ragged, Colour, Clue}
-use Rattle.board.specs.declared.Outcome.TheVariants.{Alien, Border, Taken, Bare, Short}
+use Rattle.board.specs.declared.Refusal.{Refusal}
+use Rattle.board.specs.declared.Refusal.TheVariants.{Size, Ragged, Colour, Clue}
+use Rattle.board.specs.declared.Refusal.TheVariants.{Alien, Border, Taken, Bare, Short}
 use Rattle.board.specs.declared.Returned.{Returned}
 use Rattle.board.specs.Alien.{size_right, colours_right, clues_right, border_count_of, board_of, board_with, is_alien}
 
+abbrev pub Outcome : Type 0
+Outcome = Result (Unit {0}) Refusal
+
 -- "Numbers and words for unfit calls"
+abbrev pub refusal_number : Refusal → ℕ
+refusal_number Size = 1
+refusal_number Ragged = 2
+refusal_number Colour = 3
+refusal_number Clue = 4
+refusal_number Alien = 5
+refusal_number Border = 6
+refusal_number Taken = 7
+refusal_number Bare = 8
+refusal_number Short = 9
+
 abbrev pub number_of : Outcome → ℕ
-number_of Done = 0
-number_of Size = 1
-number_of Ragged = 2
-number_of Colour = 3
-number_of Clue = 4
-number_of Alien = 5
-number_of Border = 6
-number_of Taken = 7
-number_of Bare = 8
-number_of Short = 9
+number_of (Ok u) = 0
+number_of (Err e) = refusal_number e
 
 abbrev pub is_done : Outcome → Bool
-is_done o = eqb (number_of o) 0
+is_done o = is_ok o
 
 abbrev pub zero_board : Board
 zero_board =
@@ -72,8 +80,8 @@ returned o b = record { outcome = o; board = b }
 unfoldable pub puzzle_refusal : ℕ → List ℕ → List ℤ → Outcome
 puzzle_refusal n cs ks =
     cond (eqb (length cs) n && eqb (length ks) n)
-    (cond (colours_right cs n) (cond (clues_right ks n) Done Clue) Colour)
-    Ragged
+    (cond (colours_right cs n) (cond (clues_right ks n) (Ok tt) (Err Clue)) (Err Colour))
+    (Err Ragged)
 
 -- a call that is done gives the board d, a refused one b
 abbrev pub ended_by : Board → Board → Outcome → Returned
@@ -84,7 +92,7 @@ unfoldable pub fresh_of : ℕ → ℕ → List ℕ → List ℤ → Returned
 fresh_of h w cs ks =
     cond (size_right h w)
     (ended_by zero_board (fresh_board h w cs ks) (puzzle_refusal (h * w) cs ks))
-    (returned Size zero_board)
+    (returned (Err Size) zero_board)
 
 abbrev pub side_count : Tally → Side → ℕ
 side_count t Wall = t.walls
@@ -113,13 +121,13 @@ popped b =
 
 -- 6: "number not below the border count"; 7: "border already decided"; on a board that is not alien
 unfoldable pub decide_refusal : ℕ → List ℕ → ℕ → Outcome
-decide_refusal m bs n = cond (ltb n m) (cond (eqb (get_or bs n 0) 0) Done Taken) Border
+decide_refusal m bs n = cond (ltb n m) (cond (eqb (get_or bs n 0) 0) (Ok tt) (Err Taken)) (Err Border)
 
 -- "Other refusals return the board given"
 unfoldable pub decide_of : Board → Literal → Returned
 decide_of b l =
     cond (is_alien b)
-    (returned Alien b)
+    (returned (Err Alien) b)
     (ended_by b (pushed b l.border (code_of l.side))
     (decide_refusal (border_count_of b) b.borders l.border))
 
@@ -132,10 +140,10 @@ tallied_by o t v = cond (is_done o) (tally_more t (side_in v)) t
 
 -- 8: "undo with an empty stack"; on a board that is not alien
 unfoldable pub undo_refusal : ℕ → Outcome
-undo_refusal n = cond (eqb n 0) Bare Done
+undo_refusal n = cond (eqb n 0) (Err Bare) (Ok tt)
 
 unfoldable pub undo_of : Board → Returned
-undo_of b = cond (is_alien b) (returned Alien b) (ended_by b (popped b) (undo_refusal b.count))
+undo_of b = cond (is_alien b) (returned (Err Alien) b) (ended_by b (popped b) (undo_refusal b.count))
 
 abbrev pub SmallClues : List ℤ → Type 0
 SmallClues ks = (i : ℕ) → le_z (get_or ks i (pos 0)) (pos 2147483647) ≡ true

@@ -1,6 +1,6 @@
 -- The definitions by cases: what `is_alien`, `fresh_of`, `decide_of` and `undo_of` give where their tests are known.
 -- And the number that no outcome has.
-use Rattle.std.specs.Prelude.{◌≡◌, Bool, not, cond, List, ℕ, ◌*◌, ◌<◌, ◌≤◌, ℤ, length, get_or}
+use Rattle.std.specs.Prelude.{◌≡◌, Bool, not, cond, ◌&&◌, List, ℕ, ◌*◌, ◌<◌, ◌≤◌, ℤ, length, get_or, Ok, Err}
 use Rattle.std.proofs.Math.Path.{refl, ap}
 use Rattle.std.proofs.Common.{◌∙◌, arith}
 use Rattle.std.proofs.Math.Bool.{true, false}
@@ -13,13 +13,14 @@ use Rattle.rules.specs.declared.Tally.{Tally}
 use Rattle.rules.specs.Codes.{code_of}
 use Rattle.rules.specs.Book.{same_tally}
 use Rattle.board.specs.declared.Board.{Board}
-use Rattle.board.specs.declared.Outcome.{Outcome}
-use Rattle.board.specs.declared.Outcome.TheVariants.{Done, Size, Ragged, Colour, Clue}
-use Rattle.board.specs.declared.Outcome.TheVariants.{Alien, Border, Taken, Bare, Short}
+use Rattle.board.specs.declared.Refusal.{Refusal}
+use Rattle.board.specs.declared.Refusal.TheVariants.{Size, Ragged, Colour, Clue}
+use Rattle.board.specs.declared.Refusal.TheVariants.{Alien, Border, Taken, Bare, Short}
 use Rattle.board.specs.Alien.{size_right, colours_right, clues_right, entries_right, once_each, border_right}
 use Rattle.board.specs.Alien.{borders_right, borders_by, Flags, zeros_from, zero_clues_from, puzzle_right}
 use Rattle.board.specs.Alien.{decisions_in, tally_in, decided_in, unused_in, cell_count_of, border_count_of, is_alien}
-use Rattle.board.specs.Board.{number_of, zero_board, fresh_board, returned, puzzle_refusal, fresh_of, pushed, popped}
+use Rattle.board.specs.Board.{Outcome, refusal_number, number_of, zero_board, fresh_board, returned}
+use Rattle.board.specs.Board.{puzzle_refusal, fresh_of, pushed, popped}
 use Rattle.board.specs.Board.{decide_refusal, decide_of, undo_refusal, undo_of}
 
 -- a puzzle whose board can be made, where the page has n cells
@@ -96,49 +97,59 @@ module _ (b : Board) where
   alien-size p = rw p
 
   -- where its page has n cells and m borders
-  module _ (p : size_right b.height b.width ≡ true) (n m : ℕ) (q : n ≡ cell_count_of b)
-      (r : m ≡ border_count_of b) where
-    pub alien-cells : puzzle_right n b.colours b.clues ≡ false → true ≡ is_alien b
-    unfolding is_alien
-    alien-cells s = rw (p, ← q, s)
+  pub alien-tests : (n m : ℕ) (a : Bool) → size_right b.height b.width ≡ true → n ≡ cell_count_of b
+      → m ≡ border_count_of b
+      → a ≡ puzzle_right n b.colours b.clues && decided_in m b.borders b.stack b.count b.tally
+      && unused_in n m b.colours b.clues b.borders b.stack b.count
+      → not a ≡ is_alien b
+  unfolding is_alien
+  alien-tests n m a p q r e = rw (p, ← q, ← r, e)
 
-    module _ (s : puzzle_right n b.colours b.clues ≡ true) where
-      pub alien-decisions : decided_in m b.borders b.stack b.count b.tally ≡ false → true ≡ is_alien b
-      unfolding is_alien
-      alien-decisions t = rw (p, ← q, s, ← r, t)
+-- ---- how a call ended
+pub refused-number : (e : Refusal) → refusal_number e ≡ 0 → ⊥
+refused-number Size e = omega arith
+refused-number Ragged e = omega arith
+refused-number Colour e = omega arith
+refused-number Clue e = omega arith
+refused-number Alien e = omega arith
+refused-number Border e = omega arith
+refused-number Taken e = omega arith
+refused-number Bare e = omega arith
+refused-number Short e = omega arith
 
-      pub alien-unused : (a : Bool) → decided_in m b.borders b.stack b.count b.tally ≡ true
-          → a ≡ unused_in n m b.colours b.clues b.borders b.stack b.count → not a ≡ is_alien b
-      unfolding is_alien
-      alien-unused a t u = rw (p, ← q, s, ← r, t, u)
+-- a call whose number is 0 is done
+pub done-is : (o : Outcome) → number_of o ≡ 0 → o ≡ Ok tt
+done-is (Ok u) z = refl
+done-is (Err e) z = absurd (refused-number e z)
 
 -- ---- decide
 module _ (m : ℕ) (bs : List ℕ) (n : ℕ) where
-  pub refusal-border : m ≤ n → Border ≡ decide_refusal m bs n
+  pub refusal-border : m ≤ n → Err Border ≡ decide_refusal m bs n
   unfolding decide_refusal
   refusal-border h = rw (le-ltb n m h)
 
-  pub refusal-taken : n < m → (get_or bs n 0 ≡ 0 → ⊥) → Taken ≡ decide_refusal m bs n
+  pub refusal-taken : n < m → (get_or bs n 0 ≡ 0 → ⊥) → Err Taken ≡ decide_refusal m bs n
   unfolding decide_refusal
   refusal-taken h f = rw (lt-ltb n m h, ne_eqb (get_or bs n 0) 0 f)
 
-  pub refusal-none : n < m → get_or bs n 0 ≡ 0 → Done ≡ decide_refusal m bs n
+  pub refusal-none : n < m → get_or bs n 0 ≡ 0 → Ok tt ≡ decide_refusal m bs n
   unfolding decide_refusal
   refusal-none h f = rw (lt-ltb n m h, eq-eqb (get_or bs n 0) 0 f)
 
   -- a decide that is not refused
-  pub refusal-free : number_of (decide_refusal m bs n) ≡ 0 → (n < m) × (get_or bs n 0 ≡ 0)
+  pub refusal-free : decide_refusal m bs n ≡ Ok tt → (n < m) × (get_or bs n 0 ≡ 0)
   unfolding decide_refusal
   refusal-free = go (ltb n m) (eqb (get_or bs n 0) 0) refl refl
     where
       go : (x y : Bool) → ltb n m ≡ x → eqb (get_or bs n 0) 0 ≡ y
-          → number_of (cond x (cond y Done Taken) Border) ≡ 0 → (n < m) × (get_or bs n 0 ≡ 0)
+          → (let o : Outcome = cond x (cond y (Ok tt) (Err Taken)) (Err Border) in o ≡ Ok tt)
+          → (n < m) × (get_or bs n 0 ≡ 0)
       go true true p q e = (ltb-true n m p, eqb-true (get_or bs n 0) 0 q)
-      go true false p q e = absurd (let z : 7 ≡ 0 = e in omega arith)
-      go false y p q e = absurd (let z : 6 ≡ 0 = e in omega arith)
+      go true false p q e = absurd (cc)
+      go false y p q e = absurd (cc)
 
 module _ (b : Board) (l : Literal) where
-  pub decide-alien : is_alien b ≡ true → returned Alien b ≡ decide_of b l
+  pub decide-alien : is_alien b ≡ true → returned (Err Alien) b ≡ decide_of b l
   unfolding decide_of
   decide-alien p = rw p
 
@@ -148,22 +159,23 @@ module _ (b : Board) (l : Literal) where
     decide-ends = rw p
 
     -- by how its tests end
-    module _ (o : Outcome) (q : o ≡ decide_refusal (border_count_of b) b.borders l.border) where
-      pub decide-refused : (number_of o ≡ 0 → ⊥) → returned o b ≡ decide_of b l
-      unfolding decide_of
-      decide-refused f = rw (p, ← q, ne_eqb (number_of o) 0 f)
+    pub decide-refused : (e : Refusal) → Err e ≡ decide_refusal (border_count_of b) b.borders l.border
+        → returned (Err e) b ≡ decide_of b l
+    unfolding decide_of
+    decide-refused e q = rw (p, ← q)
 
-      pub decide-free : number_of o ≡ 0 → returned o (pushed b l.border (code_of l.side)) ≡ decide_of b l
-      unfolding decide_of
-      decide-free z = rw (p, ← q, eq-eqb (number_of o) 0 z)
+    pub decide-free : Ok tt ≡ decide_refusal (border_count_of b) b.borders l.border
+        → returned (Ok tt) (pushed b l.border (code_of l.side)) ≡ decide_of b l
+    unfolding decide_of
+    decide-free q = rw (p, ← q)
 
     pub decide-done : l.border < border_count_of b → get_or b.borders l.border 0 ≡ 0
-        → returned Done (pushed b l.border (code_of l.side)) ≡ decide_of b l
-    decide-done r s = decide-free Done (refusal-none (border_count_of b) b.borders l.border r s) refl
+        → returned (Ok tt) (pushed b l.border (code_of l.side)) ≡ decide_of b l
+    decide-done r s = decide-free (refusal-none (border_count_of b) b.borders l.border r s)
 
 -- ---- undo
 module _ (b : Board) where
-  pub undo-alien : is_alien b ≡ true → returned Alien b ≡ undo_of b
+  pub undo-alien : is_alien b ≡ true → returned (Err Alien) b ≡ undo_of b
   unfolding undo_of
   undo-alien p = rw p
 
@@ -171,96 +183,96 @@ module _ (b : Board) where
   unfolding undo_of
   undo-ends p = rw p
 
-  module _ (p : is_alien b ≡ false) (o : Outcome) (q : o ≡ undo_refusal b.count) where
-    pub undo-refused : (number_of o ≡ 0 → ⊥) → returned o b ≡ undo_of b
+  module _ (p : is_alien b ≡ false) where
+    pub undo-refused : (e : Refusal) → Err e ≡ undo_refusal b.count → returned (Err e) b ≡ undo_of b
     unfolding undo_of
-    undo-refused f = rw (p, ← q, ne_eqb (number_of o) 0 f)
+    undo-refused e q = rw (p, ← q)
 
-    pub undo-free : number_of o ≡ 0 → returned o (popped b) ≡ undo_of b
+    pub undo-free : Ok tt ≡ undo_refusal b.count → returned (Ok tt) (popped b) ≡ undo_of b
     unfolding undo_of
-    undo-free z = rw (p, ← q, eq-eqb (number_of o) 0 z)
+    undo-free q = rw (p, ← q)
 
-  pub undo-bare : is_alien b ≡ false → b.count ≡ 0 → returned Bare b ≡ undo_of b
+  pub undo-bare : is_alien b ≡ false → b.count ≡ 0 → returned (Err Bare) b ≡ undo_of b
   unfolding undo_of undo_refusal
   undo-bare p q = rw (p, eq-eqb b.count 0 q)
 
-  pub undo-done : is_alien b ≡ false → (b.count ≡ 0 → ⊥) → returned Done (popped b) ≡ undo_of b
+  pub undo-done : is_alien b ≡ false → (b.count ≡ 0 → ⊥) → returned (Ok tt) (popped b) ≡ undo_of b
   unfolding undo_of undo_refusal
   undo-done p q = rw (p, ne_eqb b.count 0 q)
 
 -- an undo that is not refused
-pub refusal-some : (n : ℕ) → number_of (undo_refusal n) ≡ 0 → n ≡ 0 → ⊥
+pub refusal-some : (n : ℕ) → undo_refusal n ≡ Ok tt → n ≡ 0 → ⊥
 unfolding undo_refusal
-refusal-some n e z = let x : ◌≡◌ {A = ℕ} 8 0 = rw (eq-eqb n 0 z) at e in omega arith
+refusal-some n e z = let x = rw (eq-eqb n 0 z) at e in cc
 
 -- ---- making a board
 module _ (n : ℕ) (cs : List ℕ) (ks : List ℤ) where
-  pub puzzle-colours : (length cs ≡ n → ⊥) → Ragged ≡ puzzle_refusal n cs ks
+  pub puzzle-colours : (length cs ≡ n → ⊥) → Err Ragged ≡ puzzle_refusal n cs ks
   unfolding puzzle_refusal
   puzzle-colours r = rw (ne_eqb (length cs) n r)
 
   module _ (r : length cs ≡ n) where
-    pub puzzle-clues : (length ks ≡ n → ⊥) → Ragged ≡ puzzle_refusal n cs ks
+    pub puzzle-clues : (length ks ≡ n → ⊥) → Err Ragged ≡ puzzle_refusal n cs ks
     unfolding puzzle_refusal
     puzzle-clues s = rw (eq-eqb (length cs) n r, ne_eqb (length ks) n s)
 
     module _ (s : length ks ≡ n) where
-      pub puzzle-colour : colours_right cs n ≡ false → Colour ≡ puzzle_refusal n cs ks
+      pub puzzle-colour : colours_right cs n ≡ false → Err Colour ≡ puzzle_refusal n cs ks
       unfolding puzzle_refusal
       puzzle-colour t = rw (eq-eqb (length cs) n r, eq-eqb (length ks) n s, t)
 
       module _ (t : colours_right cs n ≡ true) where
-        pub puzzle-clue : clues_right ks n ≡ false → Clue ≡ puzzle_refusal n cs ks
+        pub puzzle-clue : clues_right ks n ≡ false → Err Clue ≡ puzzle_refusal n cs ks
         unfolding puzzle_refusal
         puzzle-clue u = rw (eq-eqb (length cs) n r, eq-eqb (length ks) n s, t, u)
 
-        pub puzzle-none : clues_right ks n ≡ true → Done ≡ puzzle_refusal n cs ks
+        pub puzzle-none : clues_right ks n ≡ true → Ok tt ≡ puzzle_refusal n cs ks
         unfolding puzzle_refusal
         puzzle-none u = rw (eq-eqb (length cs) n r, eq-eqb (length ks) n s, t, u)
 
   -- a puzzle that is not refused
-  pub puzzle-free : number_of (puzzle_refusal n cs ks) ≡ 0 → PuzzleFit n cs ks
+  pub puzzle-free : puzzle_refusal n cs ks ≡ Ok tt → PuzzleFit n cs ks
   unfolding puzzle_refusal
   puzzle-free =
       go (ℕ_discrete (length cs) n) (ℕ_discrete (length ks) n) (colours_right cs n) (clues_right ks n) refl refl
     where
       go : Dec (length cs ≡ n) → Dec (length ks ≡ n) → (c k : Bool) → colours_right cs n ≡ c → clues_right ks n ≡ k
-          → number_of (puzzle_refusal n cs ks) ≡ 0 → PuzzleFit n cs ks
-      go (no y) z c k p q e = absurd (let v : 2 ≡ 0 = ap number_of (puzzle-colours y) ∙ e in omega arith)
-      go (yes y) (no z) c k p q e = absurd (let v : 2 ≡ 0 = ap number_of (puzzle-clues y z) ∙ e in omega arith)
-      go (yes y) (yes z) false k p q e =
-          absurd (let v : 3 ≡ 0 = ap number_of (puzzle-colour y z p) ∙ e in omega arith)
-      go (yes y) (yes z) true false p q e =
-          absurd (let v : 4 ≡ 0 = ap number_of (puzzle-clue y z p q) ∙ e in omega arith)
+          → puzzle_refusal n cs ks ≡ Ok tt → PuzzleFit n cs ks
+      go (no y) z c k p q e = absurd (let v = puzzle-colours y ∙ e in cc)
+      go (yes y) (no z) c k p q e = absurd (let v = puzzle-clues y z ∙ e in cc)
+      go (yes y) (yes z) false k p q e = absurd (let v = puzzle-colour y z p ∙ e in cc)
+      go (yes y) (yes z) true false p q e = absurd (let v = puzzle-clue y z p q ∙ e in cc)
       go (yes y) (yes z) true true p q e = record { colours = y; clues = z; colour = p; clue = q }
 
 module _ (h w : ℕ) (cs : List ℕ) (ks : List ℤ) where
-  pub fresh-size : size_right h w ≡ false → returned Size zero_board ≡ fresh_of h w cs ks
+  pub fresh-size : size_right h w ≡ false → returned (Err Size) zero_board ≡ fresh_of h w cs ks
   unfolding fresh_of
   fresh-size p = rw p
 
-  module _ (p : size_right h w ≡ true) (o : Outcome) (q : o ≡ puzzle_refusal (h * w) cs ks) where
-    pub fresh-refused : (number_of o ≡ 0 → ⊥) → returned o zero_board ≡ fresh_of h w cs ks
+  module _ (p : size_right h w ≡ true) where
+    pub fresh-refused : (e : Refusal) → Err e ≡ puzzle_refusal (h * w) cs ks
+        → returned (Err e) zero_board ≡ fresh_of h w cs ks
     unfolding fresh_of
-    fresh-refused f = rw (p, ← q, ne_eqb (number_of o) 0 f)
+    fresh-refused e q = rw (p, ← q)
 
-    pub fresh-free : number_of o ≡ 0 → returned o (fresh_board h w cs ks) ≡ fresh_of h w cs ks
+    pub fresh-free : Ok tt ≡ puzzle_refusal (h * w) cs ks
+        → returned (Ok tt) (fresh_board h w cs ks) ≡ fresh_of h w cs ks
     unfolding fresh_of
-    fresh-free z = rw (p, ← q, eq-eqb (number_of o) 0 z)
+    fresh-free q = rw (p, ← q)
 
   pub fresh-done : size_right h w ≡ true → length cs ≡ h * w → length ks ≡ h * w → colours_right cs (h * w) ≡ true
-      → clues_right ks (h * w) ≡ true → returned Done (fresh_board h w cs ks) ≡ fresh_of h w cs ks
-  fresh-done p r s t u = fresh-free p Done (puzzle-none (h * w) cs ks r s t u) refl
+      → clues_right ks (h * w) ≡ true → returned (Ok tt) (fresh_board h w cs ks) ≡ fresh_of h w cs ks
+  fresh-done p r s t u = fresh-free p (puzzle-none (h * w) cs ks r s t u)
 
 -- ---- "Number 11 is retired and not used again"
 pub outcome-never-eleven : (o : Outcome) → number_of o ≡ 11 → ⊥
-outcome-never-eleven Done e = omega arith
-outcome-never-eleven Size e = omega arith
-outcome-never-eleven Ragged e = omega arith
-outcome-never-eleven Colour e = omega arith
-outcome-never-eleven Clue e = omega arith
-outcome-never-eleven Alien e = omega arith
-outcome-never-eleven Border e = omega arith
-outcome-never-eleven Taken e = omega arith
-outcome-never-eleven Bare e = omega arith
-outcome-never-eleven Short e = omega arith
+outcome-never-eleven (Ok u) e = omega arith
+outcome-never-eleven (Err Size) e = omega arith
+outcome-never-eleven (Err Ragged) e = omega arith
+outcome-never-eleven (Err Colour) e = omega arith
+outcome-never-eleven (Err Clue) e = omega arith
+outcome-never-eleven (Err Alien) e = omega arith
+outcome-never-eleven (Err Border) e = omega arith
+outcome-never-eleven (Err Taken) e = omega arith
+outcome-never-eleven (Err Bare) e = omega arith
+outcome-never-eleven (Err Short) e = omega arith

@@ -11,7 +11,7 @@
 --   free-unstacked, stack-room, free-left  an undecided border is not on the stack, leaves room there, and is counted
 --   free-places         what a decide that is not refused may rely on
 use Rattle.std.specs.Prelude.{◌≡◌, refl, true, false, ◌&&◌, ◌||◌, List, ℕ, zero, suc, ◌-◌, ◌<◌, ◌≤◌, ℤ, pos, negsuc}
-use Rattle.std.specs.Prelude.{length, get_or}
+use Rattle.std.specs.Prelude.{length, get_or, Ok}
 use Rattle.std.proofs.Common.{ap, sym, ◌∙◌, add-one}
 use Rattle.std.proofs.Math.Bool.{Bool, not}
 use Rattle.std.specs.Bool.{beq}
@@ -33,7 +33,7 @@ use Rattle.board.specs.Alien.{size_right, colours_right, clue_right, clues_right
 use Rattle.board.specs.Alien.{border_right, borders_right, zeros_from, clue_zero, zero_clues_from, puzzle_right}
 use Rattle.board.specs.Alien.{decisions_in, unused_in, cell_count_of, border_count_of, cells_right, decisions_right}
 use Rattle.board.specs.Alien.{code_count, tally_in, decided_in, unused_zero, is_alien}
-use Rattle.board.specs.Board.{number_of, decide_refusal}
+use Rattle.board.specs.Board.{decide_refusal}
 use Rattle.board.specs.ConditionLaws.{sized, size_is, stacked-none, stacked-more}
 use Rattle.board.specs.Cases.{refusal-free}
 use Rattle.board.specs.TallyLaws.{same-is, is_same, codes-three, codes-some}
@@ -301,7 +301,7 @@ module _ (b : Board) (N : Native b) where
   free-left n k p = rw N.tally (codes-some b.borders (border_count_of b) n 0 k p)
 
   -- a decide that is not refused has its places in both arrays, and a tally that can count it
-  pub free-places : (n : ℕ) → number_of (decide_refusal (border_count_of b) b.borders n) ≡ 0
+  pub free-places : (n : ℕ) → decide_refusal (border_count_of b) b.borders n ≡ Ok tt
       → (n < 1984) × (b.count < 1984) × (0 < b.tally.undecided) × (b.tally.walls ≤ 1984)
       × (b.tally.opens ≤ 1984)
   free-places n e =

@@ -8,15 +8,14 @@
 --
 -- Beyond the page a colour and a clue read as those of a place that is 0. No rule reads them: Rules and Check ask only
 -- for cells below the page's count. So the puzzle of a fresh board is the puzzle it was made from, as a whole record.
-use Rattle.std.specs.Prelude.{cond, List, ℕ, get_or}
+use Rattle.std.specs.Prelude.{List, ℕ, get_or, Ok, Err}
 use Rattle.lists.specs.Table.{table}
 use Rattle.rules.specs.declared.Literal.{Literal}
 use Rattle.rules.specs.Page.{Puzzle, State}
 use Rattle.rules.specs.Codes.{side_in, states_in, puzzle_in}
 use Rattle.rules.specs.Book.{Reply, refused, done}
 use Rattle.board.specs.declared.Board.{Board}
-use Rattle.board.specs.declared.Outcome.{Outcome}
-use Rattle.board.specs.Board.{number_of, is_done}
+use Rattle.board.specs.Board.{Outcome, refusal_number}
 
 unfoldable pub puzzle_of : Board → Puzzle
 puzzle_of b = puzzle_in b.height b.width b.colours b.clues
@@ -32,4 +31,5 @@ unfoldable pub literals_of : Board → List Literal
 literals_of b = table b.count (λ i. literal_in b.borders (get_or b.stack i 0))
 
 abbrev pub reply_of : Outcome → Reply
-reply_of o = cond (is_done o) done (refused (number_of o))
+reply_of (Ok u) = done
+reply_of (Err e) = refused (refusal_number e)

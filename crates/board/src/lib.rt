@@ -3,12 +3,12 @@
 
 ghost use Rattle.std.specs.Prelude.{◌≡◌, ◌-◌, ◌<◌, ◌≤◌, get_or};
 ghost use Rattle.rules.specs.Codes.{code_of, side_in};
-ghost use Rattle.board.specs.Board.{number_of, zero_board, returned, fresh_of};
+ghost use Rattle.board.specs.Board.{refusal_number, number_of, zero_board, returned, fresh_of};
 ghost use Rattle.board.specs.Board.{side_count, pushed, popped, decide_of, count_after, tallied_by, undo_of};
 ghost use Rattle.board.specs.Alien.{size_right, cells_of, borders_of, puzzle_right, decided_in, unused_in, board_of};
 ghost use Rattle.board.specs.Alien.{is_alien};
 
-use rules::{Literal, Side, Tally, index};
+use rules::{Literal, Tally};
 
 mod conditions; // conditions.rt: the conditions on colours, clues, stack entries, borders and unused places
 mod padding; // padding.rt: a puzzle's lists as arrays
@@ -27,10 +27,9 @@ pub struct Board {
     pub tally: Tally,
 }
 
-// How a call ended: done, or refused with one of 01's words.
-#[derive(Clone, Copy)]
-pub enum Outcome {
-    Done,
+// 01's words for unfit calls.
+#[derive(Clone, Copy, PartialEq, Eq)]
+pub enum Refusal {
     Size,
     Ragged,
     Colour,
@@ -45,35 +44,36 @@ pub enum Outcome {
 // What making a board, a decide or an undo returns.
 #[derive(Clone, Copy)]
 pub struct Returned {
-    pub outcome: Outcome,
+    pub outcome: Result<(), Refusal>,
     pub board: Board,
 }
 
-// The number of a refusal; 0 where the call is done.
-pub fn number(o: Outcome) -> u32
-    ensures { result ≡ number_of o }
-{
-    match o {
-        Outcome::Done => 0,
-        Outcome::Size => 1,
-        Outcome::Ragged => 2,
-        Outcome::Colour => 3,
-        Outcome::Clue => 4,
-        Outcome::Alien => 5,
-        Outcome::Border => 6,
-        Outcome::Taken => 7,
-        Outcome::Bare => 8,
-        Outcome::Short => 9,
+impl Refusal {
+    // 01's number of the refusal.
+    pub fn number(self) -> u32
+        ensures { result ≡ refusal_number self }
+    {
+        match self {
+            Refusal::Size => 1,
+            Refusal::Ragged => 2,
+            Refusal::Colour => 3,
+            Refusal::Clue => 4,
+            Refusal::Alien => 5,
+            Refusal::Border => 6,
+            Refusal::Taken => 7,
+            Refusal::Bare => 8,
+            Refusal::Short => 9,
+        }
     }
 }
 
-// What stands in a board for a border of that side.
-pub fn code(s: Side) -> u8
-    ensures { result ≡ code_of s }
+// The number of a refusal; 0 where the call is done.
+pub fn number(outcome: Result<(), Refusal>) -> u32
+    ensures { result ≡ number_of outcome }
 {
-    match s {
-        Side::Wall => 1,
-        Side::Open => 2,
+    match outcome {
+        Ok(()) => 0,
+        Err(refusal) => refusal.number(),
     }
 }
 
@@ -111,11 +111,12 @@ pub fn border_count(h: usize, w: usize) -> usize
     }
 }
 
-fn refused(outcome: Outcome) -> Returned
-    ensures { result ≡ returned outcome zero_board }
+// What a refused making of a board returns.
+fn refused(refusal: Refusal) -> Returned
+    ensures { result ≡ returned (Err refusal) zero_board }
 {
     Returned {
-        outcome,
+        outcome: Err(refusal),
         board: Board::zero(),
     }
 }
@@ -190,69 +191,6 @@ fn unused_zero<'a>(
     }
 }
 
-// Whether decides and undos cannot produce a board with these arrays from a fresh one. No board is copied.
-pub fn is_alien<'a>(
-    h: usize,
-    w: usize,
-    colours: &'a [u8; Board::CELL_LIMIT],
-    clues: &'a [i32; Board::CELL_LIMIT],
-    borders: &'a [u8; Board::BORDER_LIMIT],
-    stack: &'a [u16; Board::BORDER_LIMIT],
-    count: usize,
-    tally: Tally,
-) -> bool
-    ensures { result ≡ is_alien (board_of h w colours.now clues.now borders.now
-        stack.now count tally) }
-{
-    if size_right(h, w) {
-        let cells = cell_count(h, w);
-        let total = border_count(h, w);
-        if cells_right(cells, colours, clues) {
-            if decisions_right(total, borders, stack, count, tally) {
-                !unused_zero(cells, total, colours, clues, borders, stack, count)
-            } else {
-                true
-            }
-        } else {
-            true
-        }
-    } else {
-        true
-    }
-}
-
-// Decide on a board whose arrays are lent: borders and stack become those of the board after it. Where the decide is
-// done, count and tally of that board are one count more and `tallies::more`. No board is copied.
-pub fn decide_lent<'a>(
-    h: usize,
-    w: usize,
-    colours: &'a [u8; Board::CELL_LIMIT],
-    clues: &'a [i32; Board::CELL_LIMIT],
-    borders: &mut [u8; Board::BORDER_LIMIT],
-    stack: &mut [u16; Board::BORDER_LIMIT],
-    count: usize,
-    tally: Tally,
-    l: Literal,
-) -> Outcome
-    ensures { returned result (board_of h w colours.now clues.now borders.new
-        stack.new (count_after result count) (tallied_by result tally (code_of l.side)))
-        ≡ decide_of (board_of h w colours.now clues.now borders.old
-        stack.old count tally) l }
-{
-    if is_alien(h, w, colours, clues, borders, stack, count, tally) {
-        return Outcome::Alien;
-    }
-    let n = l.border;
-    let outcome = refusals::decide_refusal(border_count(h, w), borders, n);
-    if number(outcome) != 0 {
-        return outcome;
-    }
-    let side = l.side;
-    borders[n] = code(side);
-    stack[count] = n as u16;
-    outcome
-}
-
 impl Board {
     pub const SIDE_LIMIT: usize = 32;
 
@@ -284,131 +222,128 @@ impl Board {
     pub fn fresh(height: usize, width: usize, colours: &[u8], clues: &[i32]) -> Returned
         ensures { result ≡ fresh_of height width colours.now clues.now }
     {
-        if size_right(height, width) {
-            let outcome = refusals::puzzle_refusal(cell_count(height, width), colours, clues);
-            if number(outcome) != 0 {
-                return refused(outcome);
-            }
-            let board = Board {
-                height,
-                width,
-                colours: padding::padded_colours(colours),
-                clues: padding::padded_clues(clues),
-                borders: [0u8; Board::BORDER_LIMIT],
-                stack: [0u16; Board::BORDER_LIMIT],
-                count: 0,
-                tally: Tally {
-                    undecided: border_count(height, width),
-                    walls: 0,
-                    opens: 0,
-                },
-            };
-            Returned { outcome, board }
-        } else {
-            refused(Outcome::Size)
+        if !size_right(height, width) {
+            return refused(Refusal::Size);
+        }
+        let tested = refusals::puzzle_refusal(cell_count(height, width), colours, clues);
+        if let Err(refusal) = tested {
+            return refused(refusal);
+        }
+        let board = Board {
+            height,
+            width,
+            colours: padding::padded_colours(colours),
+            clues: padding::padded_clues(clues),
+            borders: [0u8; Board::BORDER_LIMIT],
+            stack: [0u16; Board::BORDER_LIMIT],
+            count: 0,
+            tally: Tally {
+                undecided: border_count(height, width),
+                walls: 0,
+                opens: 0,
+            },
+        };
+        Returned {
+            outcome: Ok(()),
+            board,
         }
     }
 
     // Whether decides and undos cannot produce the board from a fresh one.
-    pub fn alien(self) -> bool
-        ensures { result ≡ is_alien self }
+    pub fn alien(&self) -> bool
+        ensures { result ≡ is_alien self.now }
     {
-        let tally = self.tally;
-        is_alien(
-            self.height,
-            self.width,
-            &self.colours,
-            &self.clues,
-            &self.borders,
-            &self.stack,
-            self.count,
-            tally,
-        )
+        if !size_right(self.height, self.width) {
+            return true;
+        }
+        let cells = cell_count(self.height, self.width);
+        let total = border_count(self.height, self.width);
+        let native = cells_right(cells, &self.colours, &self.clues)
+            && decisions_right(total, &self.borders, &self.stack, self.count, self.tally)
+            && unused_zero(
+                cells,
+                total,
+                &self.colours,
+                &self.clues,
+                &self.borders,
+                &self.stack,
+                self.count,
+            );
+        !native
     }
 
     // The border n set to the code v, and put on the stack.
-    fn push(self, n: usize, v: u8) -> Self
-        requires { (n < 1984) × (self.count < 1984) × (0 < self.tally.undecided) × (self.tally.walls ≤ 1984)
-            × (self.tally.opens ≤ 1984) }
-        ensures { result ≡ pushed self n v }
+    fn push(&mut self, n: usize, v: u8)
+        requires { (n < 1984) × (self.old.count < 1984) × (0 < self.old.tally.undecided)
+            × (self.old.tally.walls ≤ 1984) × (self.old.tally.opens ≤ 1984) }
+        ensures { self.new ≡ pushed self.old n v }
     {
         let at = self.count;
-        let tally = self.tally;
-        let counted = tallies::more(tally, v);
-        let mut b = self;
-        b.borders[n] = v;
-        b.stack[at] = n as u16;
-        b.count += 1;
-        b.tally = counted;
-        b
+        self.borders[n] = v;
+        self.stack[at] = n as u16;
+        self.count += 1;
+        self.tally = tallies::more(self.tally, v);
     }
 
     // The last border of the stack taken off, and made undecided.
-    fn pop(self) -> Self
-        requires { (0 < self.count) × (self.count ≤ 1984) × (get_or self.stack (self.count - 1) 0 < 1984)
-            × (self.tally.undecided ≤ 1984) × (0 < side_count self.tally
-            (side_in (get_or self.borders (get_or self.stack (self.count - 1) 0) 0))) }
-        ensures { result ≡ popped self }
+    fn pop(&mut self)
+        requires { (0 < self.old.count) × (self.old.count ≤ 1984) × (get_or self.old.stack (self.old.count - 1) 0 < 1984)
+            × (self.old.tally.undecided ≤ 1984) × (0 < side_count self.old.tally
+            (side_in (get_or self.old.borders (get_or self.old.stack (self.old.count - 1) 0) 0))) }
+        ensures { self.new ≡ popped self.old }
     {
         let at = self.count - 1;
-        let n = index(self.stack[at]);
-        let v = self.borders[n];
-        let tally = self.tally;
-        let counted = tallies::less(tally, v);
-        let mut b = self;
-        b.borders[n] = 0;
-        b.stack[at] = 0;
-        b.count = at;
-        b.tally = counted;
-        b
+        let n = usize::from(self.stack[at]);
+        self.tally = tallies::less(self.tally, self.borders[n]);
+        self.borders[n] = 0;
+        self.stack[at] = 0;
+        self.count = at;
+    }
+
+    // Decide in place: the literal's border is decided, or the call is refused and the board as it was.
+    pub fn decide_lent(&mut self, l: Literal) -> Result<(), Refusal>
+        ensures { returned result self.new ≡ decide_of self.old l }
+    {
+        if self.alien() {
+            return Err(Refusal::Alien);
+        }
+        let total = border_count(self.height, self.width);
+        refusals::decide_refusal(total, &self.borders, l.border)?;
+        self.push(l.border, u8::from(l.side));
+        Ok(())
+    }
+
+    // Undo in place: the last decision is taken back, or the call is refused and the board as it was.
+    fn undo_lent(&mut self) -> Result<(), Refusal>
+        ensures { returned result self.new ≡ undo_of self.old }
+    {
+        if self.alien() {
+            return Err(Refusal::Alien);
+        }
+        refusals::undo_refusal(self.count)?;
+        self.pop();
+        Ok(())
     }
 
     // The board with the literal's border decided, or the refusal and the board given.
-    pub fn decide(self, l: Literal) -> Returned
+    pub fn decide(mut self, l: Literal) -> Returned
         ensures { result ≡ decide_of self l }
     {
-        if self.alien() {
-            return Returned {
-                outcome: Outcome::Alien,
-                board: self,
-            };
-        }
-        let n = l.border;
-        let total = border_count(self.height, self.width);
-        let outcome = refusals::decide_refusal(total, &self.borders, n);
-        if number(outcome) != 0 {
-            return Returned {
-                outcome,
-                board: self,
-            };
-        }
-        let side = l.side;
+        let outcome = self.decide_lent(l);
         Returned {
             outcome,
-            board: self.push(n, code(side)),
+            board: self,
         }
     }
 
     // The board with its last decision taken back, or the refusal and the board given.
-    pub fn undo(self) -> Returned
+    pub fn undo(mut self) -> Returned
         ensures { result ≡ undo_of self }
     {
-        if self.alien() {
-            return Returned {
-                outcome: Outcome::Alien,
-                board: self,
-            };
-        }
-        let outcome = refusals::undo_refusal(self.count);
-        if number(outcome) != 0 {
-            return Returned {
-                outcome,
-                board: self,
-            };
-        }
+        let outcome = self.undo_lent();
         Returned {
             outcome,
-            board: self.pop(),
+            board: self,
         }
     }
 }

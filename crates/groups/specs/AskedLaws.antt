@@ -1,9 +1,9 @@
 -- The cases of asking a board for its groups.
-use Rattle.std.specs.Prelude.{◌≡◌, true, false}
+use Rattle.std.specs.Prelude.{◌≡◌, true, false, Ok, Err}
 use Rattle.std.proofs.Math.Path.{refl}
 use Rattle.rules.specs.Flat.{flat}
 use Rattle.board.specs.declared.Board.{Board}
-use Rattle.board.specs.declared.Outcome.TheVariants.{Done, Alien}
+use Rattle.board.specs.declared.Refusal.TheVariants.{Alien}
 use Rattle.board.specs.Alien.{is_alien}
 use Rattle.board.specs.View.{puzzle_of, states_of}
 use Rattle.groups.specs.declared.Kind.{Kind}
@@ -11,10 +11,10 @@ use Rattle.groups.specs.Kinds.{joins_in, link_of}
 use Rattle.groups.specs.KindLaws.{link-in}
 use Rattle.groups.specs.Parts.{groups_of}
 use Rattle.groups.specs.Grouping.{array_of}
-use Rattle.groups.specs.Asked.{no_groups, board_groups, asked_of}
+use Rattle.groups.specs.Asked.{asked_of}
 
 module _ (b : Board) (k : Kind) where
-  pub asked-alien : is_alien b ≡ true → board_groups Alien no_groups ≡ asked_of b k
+  pub asked-alien : is_alien b ≡ true → Err Alien ≡ asked_of b k
   unfolding asked_of
   asked-alien e = rw e
 
@@ -23,7 +23,7 @@ module _ (b : Board) (k : Kind) where
   board-link = link-in k (puzzle_of b) b.height b.width b.colours b.borders refl refl
 
   pub asked-done : is_alien b ≡ false
-      → board_groups Done (array_of (groups_of (flat b.height b.width)
+      → Ok (array_of (groups_of (flat b.height b.width)
       (joins_in k b.height b.width b.colours b.borders))) ≡ asked_of b k
   unfolding asked_of puzzle_of
   asked-done e = rw (e, board-link)

@@ -5,14 +5,28 @@
 ghost use Rattle.std.specs.Prelude.{◌≡◌};
 
 // The side of a decided border.
-#[derive(Clone, Copy)]
+#[derive(Clone, Copy, PartialEq, Eq)]
 pub enum Side {
     Wall,
     Open,
 }
 
+// What stands in a board for a border of that side.
+impl From<Side> for u8 {
+    ghost use Rattle.rules.specs.Codes.{code_of};
+
+    ghost from_gives = { λ side code. code ≡ code_of side };
+
+    fn from(side: Side) -> u8 {
+        match side {
+            Side::Wall => 1,
+            Side::Open => 2,
+        }
+    }
+}
+
 // A border number with its side.
-#[derive(Clone, Copy)]
+#[derive(Clone, Copy, PartialEq, Eq)]
 pub struct Literal {
     pub border: usize,
     pub side: Side,
@@ -28,7 +42,7 @@ pub enum Call {
 }
 
 // How many borders of a board are undecided, walls and open.
-#[derive(Clone, Copy)]
+#[derive(Clone, Copy, PartialEq, Eq)]
 pub struct Tally {
     pub undecided: usize,
     pub walls: usize,
