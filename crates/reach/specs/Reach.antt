@@ -1,6 +1,6 @@
 -- The alien test is exact: a board is not alien exactly if making a board, decides and undos that are done lead to it.
 use Rattle.std.specs.Prelude.{◌≡◌, refl, Bool, false, not, List, [], ◌∷◌, ◌++◌, ◌↔◌, ℕ, zero, suc, ◌+◌, ◌<◌, ◌≤◌, ℤ}
-use Rattle.std.specs.Prelude.{pos, length, take}
+use Rattle.std.specs.Prelude.{pos, length, take, Ok}
 use Rattle.std.proofs.Math.Path.{ap, sym}
 use Rattle.std.proofs.Common.{◌∙◌, arith, le-leb, eqb-true, get_or-set_same, set-set, get_or-take}
 use Rattle.std.proofs.Math.Bool.{true}
@@ -17,7 +17,6 @@ use Rattle.rules.specs.Codes.{code_of, side_in}
 use Rattle.rules.specs.Book.{tally_of}
 use Rattle.laws.specs.CodeLaws.{side-of}
 use Rattle.board.specs.declared.Board.{Board}
-use Rattle.board.specs.declared.Outcome.TheVariants.{Done}
 use Rattle.board.specs.Alien.{colours_right, clue_right, clues_right, stacked, tally_in, cell_count_of, border_count_of}
 use Rattle.board.specs.Alien.{board_of, board_with, is_alien}
 use Rattle.board.specs.Board.{fresh_board, returned, tally_more, tally_less, pushed, fresh_of, decide_of, SmallClues}
@@ -101,7 +100,7 @@ module _ (b : Board) (N : Native b) (T : Typed b) (e : b.count ≡ 0) where
       (sym (replicate-is 0 1984 b.stack T.stack (λ j h. N.no_entry j (omega arith))) i) (sym e i)
       (tally-fresh-is i)
 
-  accepted : fresh_of b.height b.width cs ks ≡ returned Done b
+  accepted : fresh_of b.height b.width cs ks ≡ returned (Ok tt) b
   unfolding cs ks cells colours_right clues_right
   accepted =
       let f = few in
@@ -111,7 +110,7 @@ module _ (b : Board) (N : Native b) (T : Typed b) (e : b.count ≡ 0) where
       (λ i l. rw (get_or-take cells b.colours i 0 l) (le-leb (get_or b.colours i 0) 1 (N.colour i l))))
       (all-every cells (λ i. clue_right (get_or ks i (pos 0)))
       (λ i l. rw (get_or-take cells b.clues i (pos 0) l) (N.clue i l))))
-      ∙ ap (returned Done) fresh-is
+      ∙ ap (returned (Ok tt)) fresh-is
 
   bare : Produced b
   bare = made b.height b.width cs ks b ks-small accepted
@@ -138,7 +137,7 @@ module _ (b : Board) (N : Native b) (T : Typed b) (k : ℕ) (e : b.count ≡ k +
       ((ap (λ y. tally_more (tally_less b.tally (side_in v)) (side_in y)) p
       ∙ tally-again b N T.borders T.stack k e) i)
 
-  redecided : decide_of (popped_at b k) literal ≡ returned Done b
+  redecided : decide_of (popped_at b k) literal ≡ returned (Ok tt) b
   unfolding last literal
   redecided =
       let g = T.borders in
@@ -147,7 +146,7 @@ module _ (b : Board) (N : Native b) (T : Typed b) (k : ℕ) (e : b.count ≡ k +
       sym
       (decide-done (popped_at b k) literal (native-of (popped_at b k) (popped-native b N T.borders T.stack k e)) l
       (get_or-set_same b.borders last 0 0 (omega arith)))
-      ∙ ap (returned Done) repushed
+      ∙ ap (returned (Ok tt)) repushed
 
 produced-at : (k : ℕ) (b : Board) → b.count ≡ k → is_alien b ≡ false → Typed b → Produced b
 produced-at zero b e t T = bare b (native-has b t) T e
@@ -176,12 +175,12 @@ pub known-exactly : (b : Board) → Typed b → (is_alien b ≡ false) ↔ Produ
 known-exactly b T = (known-produced b T, λ p. (produced-known b p).0)
 
 -- ---- the same by an accepted puzzle and one list of moves
-run-last : {a b d : Board} {ms : List Move} (m : Move) → Leads a ms b → move_of b m ≡ returned Done d
+run-last : {a b d : Board} {ms : List Move} (m : Move) → Leads a ms b → move_of b m ≡ returned (Ok tt) d
     → Leads a (ms ++ (m ∷ [])) d
 run-last m stop e = next e stop
 run-last m (next f r) e = next f (run-last m r e)
 
-reached-more : {b d : Board} (m : Move) → Reached b → move_of b m ≡ returned Done d → Reached d
+reached-more : {b d : Board} (m : Move) → Reached b → move_of b m ≡ returned (Ok tt) d → Reached d
 reached-more m r e =
     record {
       height = r.height;
