@@ -1,23 +1,26 @@
 -- Laws of masks: one cell more, and the loops that flag the cells of a group and of some groups.
-use Rattle.std.specs.Prelude.{◌≡◌, Bool, true, false, ◌||◌, ◌≢◌, ℕ, zero, ◌+◌, ◌*◌, ◌/◌, ◌%◌, ◌^◌, ◌<◌, ◌≤◌, eqb}
+use Rattle.std.specs.Prelude.{◌≡◌, Bool, true, false, ◌||◌, ◌≢◌, ℕ, zero, ◌+◌, ◌-◌, ◌*◌, ◌/◌, ◌%◌, ◌^◌, ◌<◌, ◌≤◌, eqb}
 use Rattle.std.specs.Prelude.{length, get_or, set, replicate}
 use Rattle.std.proofs.Math.Path.{refl, ap, sym}
-use Rattle.std.proofs.Common.{ap₂, ◌∙◌, subst, mod-lt, div-lt_iff_lt-mul, arith, get_or-set_same, get_or-set_other}
+use Rattle.std.proofs.Common.{ap₂, ◌∙◌, subst, take_all, mod-lt, div-lt_iff_lt-mul, arith, get_or-set_same, get_or-set_other}
 use Rattle.std.proofs.Math.Bool.{or-false}
 use mathlib.Core.List.{List, [], ◌∷◌, ◌++◌, append_assoc, append-nil}
 use Rattle.std.proofs.Math.Logic.{⊎_elim}
 use borrow.Author.Tests.{eq-eqb, ne_eqb}
 use Rattle.std.specs.Int.Bits.{bit_or}
+use Rattle.std.proofs.Common.{take, drop, length-take, length-take-le, get_or-take, get_or-drop}
 use Rattle.std.proofs.Math.ListN.{length-set, length-replicate}
+use Rattle.adjacent.specs.Mates.{mate_count}
 use Rattle.lists.specs.Lists.{◌∈◌, any, flat_map}
 use Rattle.lists.specs.PaddedLaws.{zeros}
 use Rattle.lists.specs.Parts.{part}
 use Rattle.lists.specs.Appends.{any_append, flat_append}
-use Rattle.lists.specs.PartLaws.{part_none, part-one, part-split}
+use Rattle.lists.specs.PartLaws.{part_none, part-one, part-split, part_length}
 use Rattle.lists.specs.Arithmetic.{eq-or-not, eqb_swap}
 use Rattle.lists.specs.AnyAll.{holds-any}
 use Rattle.rules.specs.Flat.{Sized}
 use Rattle.groups.specs.Parts.{part_of}
+use Rattle.reasons.specs.Arrays.{Cells}
 use Rattle.planes.specs.Bits.{bit_at}
 use Rattle.planes.specs.BitLaws.{bit-zero, bit-with}
 use Rattle.planes.specs.Masks.{cell_is, Masked, origins_in}
@@ -95,16 +98,19 @@ module _ (w : ℕ) where
   masked-here c l i k = k.each (c / w) (c % w) l ∙ holds-any (cell_is w (c / w) (c % w)) i (cell-here c)
 
 -- the cells of a group, one after the other
-module _ (w : ℕ) (cells : List ℕ) (from : ℕ) (xs : List ℕ) where
-  pub group-none : {m : List ℕ} → Masked w xs m → Masked w (xs ++ part cells from from) m
-  group-none {m} d = rw (part_none cells from from (omega arith), append-nil xs) d
+module _ (w : ℕ) (cells xs : List ℕ) where
+  pub group-none : {m : List ℕ} → Masked w xs m → Masked w (xs ++ part cells 0 0) m
+  group-none {m} d = rw (part_none cells 0 0 (omega arith), append-nil xs) d
 
-  pub group-more : {m : List ℕ} (i : ℕ) → from ≤ i → i < length cells
-      → Masked w ((xs ++ part cells from i) ++ (get_or cells i 0 ∷ [])) m
-      → Masked w (xs ++ part cells from (i + 1)) m
-  group-more {m} i l k d =
-      rw (part-split cells from i (i + 1) l (omega arith), part-one cells i k)
-      (subst (λ (l : List ℕ). Masked w l m) (append_assoc xs (part cells from i) (get_or cells i 0 ∷ [])) d)
+  pub group-more : {m : List ℕ} (i : ℕ) → i < length cells
+      → Masked w ((xs ++ part cells 0 i) ++ (get_or cells i 0 ∷ [])) m
+      → Masked w (xs ++ part cells 0 (i + 1)) m
+  group-more {m} i k d =
+      rw (part-split cells 0 i (i + 1) (omega arith) (omega arith), part-one cells i k)
+      (subst (λ (l : List ℕ). Masked w l m) (append_assoc xs (part cells 0 i) (get_or cells i 0 ∷ [])) d)
+
+  pub group-all : {m : List ℕ} (i : ℕ) → length cells ≤ i → Masked w (xs ++ part cells 0 i) m → Masked w (xs ++ cells) m
+  group-all {m} i l d = subst (λ (ys : List ℕ). Masked w (xs ++ ys) m) (take_all (i - 0) cells (omega arith)) d
 
 -- the cells of some groups
 module _ (w : ℕ) (cells offs mates : List ℕ) (from : ℕ) where
@@ -124,3 +130,22 @@ module _ (w : ℕ) (cells offs mates : List ℕ) (from : ℕ) where
         append-nil (part_of cells offs (get_or mates i 0)),
       )
       d
+
+-- each cell of a part of a list of cells is on the page
+pub part-cells : {h w : ℕ} {cells : List ℕ} {from to : ℕ} → Cells h w cells from to
+    → (i : ℕ) → i < length (part cells from to) → get_or (part cells from to) i 0 < h * w
+part-cells {h} {w} {cells} {from} {to} p i l =
+    let m : i < to - from = omega (arith, part_length cells from to) in
+    rw (get_or-take (to - from) (drop from cells) i 0 m, get_or-drop from cells i 0) (p.each i m)
+
+-- the units in a list of mates, as the slice of its first places has them
+module _ (mates : List ℕ) where
+  pub mate-listed : (i : ℕ) → i < length (take (mate_count mates) mates) → i < mate_count mates
+  mate-listed i l = omega (arith, length-take (mate_count mates) mates)
+
+  pub mate-read : (i : ℕ) → i < mate_count mates → get_or (take (mate_count mates) mates) i 0 ≡ get_or mates i 0
+  mate-read i l = get_or-take (mate_count mates) mates i 0 l
+
+  pub mates-passed : (i : ℕ) → mate_count mates ≤ length mates → i ≤ length (take (mate_count mates) mates)
+      → length (take (mate_count mates) mates) ≤ i → i ≡ mate_count mates
+  mates-passed i r p q = omega (arith, length-take-le (mate_count mates) mates r)

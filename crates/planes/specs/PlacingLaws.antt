@@ -4,12 +4,15 @@ use Rattle.std.proofs.Common.{◌∙◌}
 use Rattle.std.specs.Bool.{beq}
 use Rattle.std.proofs.Math.Option.{Option, some, none}
 use native.Mathlib.Omega.{arith}
+use Rattle.lists.specs.Arithmetic.{le-or-lt}
 use borrow.Author.Tests.{lt-ltb, le-ltb, le-leb, lt-leb, eq-eqb, ne_eqb}
 use Rattle.std.proofs.Math.Arith.{digits_lt, digits_div, digits_mod}
 use Rattle.rules.specs.Page.{Puzzle, State}
 use Rattle.rules.specs.Rules.{one_colour}
 use Rattle.rules.specs.Codes.{colours_in, states_in, unclued}
-use Rattle.rules.specs.Flat.{flat, flat_reads, flat_reads_at, right_of, below_of, flat_first, flat_second, cell_at}
+use Rattle.std.proofs.Math.Logic.{◌⊎◌, ⊎_elim}
+use Rattle.rules.specs.Flat.{Sized, flat, flat_reads, flat_reads_at, right_of, below_of, flat_first, flat_second}
+use Rattle.rules.specs.Flat.{cell_at}
 use Rattle.laws.specs.CodeLaws.{wall-state, bit-same}
 use Rattle.planes.specs.declared.Reading.TheVariants.{Ends, Clear, Walled}
 use Rattle.planes.specs.Placing.{read_raised, reading_of, between}
@@ -108,3 +111,46 @@ module _ (h w y x : ℕ) where
       reads-right o =
           in-plane
           ∙ rw (le-leb (y - 64) (2 * (h - 1)) m, le-leb (x - 64) (2 * (w - 1)) n, ne_eqb ((y - 64) % 2) 1 o)
+
+-- the same by the doubled coordinates that the raised ones stand for, each of which is on the page or not
+module _ (h w : ℕ) (d : Sized h w) where
+  pub off-rows : (y x : ℕ) → (y < 64) ⊎ (64 + (2 * h - 1) ≤ y) → read_raised h w y x ≡ none
+  off-rows y x e =
+      ⊎_elim
+      (λ (a : y < 64). off-above h w y x a)
+      (λ (a : 64 + (2 * h - 1) ≤ y).
+      ⊎_elim
+      (λ (b : 64 ≤ x). off-below h w y x (omega arith) b (omega (arith, d.rows)))
+      (λ (b : x < 64). off-left h w y x (omega arith) b)
+      (le-or-lt 64 x))
+      e
+
+  pub off-columns : (y x : ℕ) → (x < 64) ⊎ (64 + (2 * w - 1) ≤ x) → read_raised h w y x ≡ none
+  off-columns y x e =
+      ⊎_elim
+      (λ (a : 64 ≤ y).
+      ⊎_elim
+      (λ (b : x < 64). off-left h w y x a b)
+      (λ (b : 64 + (2 * w - 1) ≤ x).
+      ⊎_elim
+      (λ (m : y - 64 ≤ 2 * (h - 1)). off-right h w y x a (omega arith) m (omega (arith, d.columns)))
+      (λ (m : 2 * (h - 1) < y - 64). off-below h w y x a (omega arith) m)
+      (le-or-lt (y - 64) (2 * (h - 1))))
+      e)
+      (λ (a : y < 64). off-above h w y x a)
+      (le-or-lt 64 y)
+
+  module _ (y x : ℕ) (p : y < 2 * h - 1) (q : x < 2 * w - 1) where
+    pub lies-below : y % 2 ≡ 1 → read_raised h w (64 + y) (64 + x) ≡ some (below_of h w (y / 2) (x / 2))
+    lies-below o =
+        let a : 64 + y - 64 ≡ y = omega arith in
+        let b : 64 + x - 64 ≡ x = omega arith in
+        let n : (64 + y - 64) % 2 ≡ 1 = rw a o in
+        rw (a, b) at (reads-below h w (64 + y) (64 + x) (omega arith) (omega arith) (omega arith) (omega arith) n)
+
+    pub lies-right : (y % 2 ≡ 1 → ⊥) → read_raised h w (64 + y) (64 + x) ≡ some (right_of h w (y / 2) (x / 2))
+    lies-right o =
+        let a : 64 + y - 64 ≡ y = omega arith in
+        let b : 64 + x - 64 ≡ x = omega arith in
+        let n : (64 + y - 64) % 2 ≡ 1 → ⊥ = rw a o in
+        rw (a, b) at (reads-right h w (64 + y) (64 + x) (omega arith) (omega arith) (omega arith) (omega arith) n)

@@ -5,18 +5,15 @@ ghost use Rattle.std.specs.Prelude.{◌≡◌, List, [], ◌∷◌, ◌++◌, �
 ghost use Rattle.std.specs.Prelude.{length, replicate};
 ghost use Rattle.std.specs.Int.Bits.{bit_and};
 ghost use Rattle.lists.specs.Count.{bit};
-ghost use Rattle.lists.specs.Parts.{part};
 ghost use Rattle.rules.specs.Flat.{Sized};
 ghost use Rattle.groups.specs.Grouping.{cells_in, starts_in};
-ghost use Rattle.reasons.specs.Arrays.{Cells};
 ghost use Rattle.shapes.specs.Raising.{Raised};
 ghost use Rattle.adjacent.specs.Mates.{mates_in, Beside};
 ghost use Rattle.planes.specs.Planes.{clear_at, clear_row, line_word, planes_of};
 ghost use Rattle.planes.specs.Masks.{Masked, Sizes, Span, origins_in, clear_word, line_fits, mask_fits};
 
 use adjacent::Mates;
-use groups::{Grouping, cell_at, start_of};
-use rules::index;
+use groups::{Grouping, cells_of};
 use shapes::turned::Turned;
 
 pub mod connection; // connection.rt: what one connection does to a placement
@@ -40,13 +37,9 @@ fn clear<'a>(
     requires { (from < 1024) × (to < 1024) × (border < 1984) }
     ensures { result ≡ bit (clear_at colours.now borders.now from to border) }
 {
-    if colours[from] != colours[to] {
-        return 0;
-    }
-    if borders[border] == 1 {
-        return 0;
-    }
-    1
+    let alike = colours[from] == colours[to];
+    let walled = borders[border] == 1;
+    u64::from(alike && !walled)
 }
 
 // Which of n borders are clear, from the number `border` up: they lie between the cells from `cell` up and those
@@ -62,10 +55,8 @@ fn clear_row<'a>(
     requires { (n ≤ 32) × (cell + n + ahead ≤ 1024) × (border + n ≤ 1984) }
     ensures { result ≡ clear_row colours.now borders.now cell ahead border n }
 {
-    let mut acc: u64 = 0;
-    let mut x = n;
-    while x > 0 {
-        x -= 1;
+    let mut acc = 0;
+    for x in (0..n).rev() {
         acc = acc * 2 + clear(colours, borders, cell + x, cell + x + ahead, border + x);
     }
     acc
@@ -94,23 +85,8 @@ pub fn draw_planes<'a>(
     requires { Sized h w × (planes.old ≡ replicate 192 0) }
     ensures { planes.new ≡ planes_of h w colours.now borders.now }
 {
-    let count = 2 * h - 1;
-    let mut r = 0;
-    while r < count {
+    for r in 0..2 * h - 1 {
         planes[64 + r] = line(h, w, colours, borders, r) << 32;
-        r += 1;
-    }
-}
-
-// Makes every place of a mask 0.
-fn clear_mask(mask: &mut [u64; 33])
-    requires { length mask.old ≡ 33 }
-    ensures { mask.new ≡ replicate 33 0 }
-{
-    let mut i = 0;
-    while i < 33 {
-        mask[i] = 0;
-        i += 1;
     }
 }
 
@@ -121,27 +97,17 @@ fn flag(h: usize, w: usize, c: usize, mask: &mut [u64; 33])
         × ((xs : List ℕ) → Masked w xs mask.old → Masked w (xs ++ (c ∷ [])) mask.new) }
 {
     let y = c / w;
-    mask[y] = mask[y] | (1u64 << (c % w));
+    mask[y] |= 1 << (c % w);
 }
 
-// Flags the cells that the list has from the place `from` to the place `to`.
-fn flag_group<'a>(
-    h: usize,
-    w: usize,
-    potential: &'a Grouping,
-    from: usize,
-    to: usize,
-    mask: &mut [u64; 33],
-)
-    requires { Sized h w × Cells h w (cells_in potential.now) from to × (length mask.old ≡ 33) }
+// Flags the cells of a group.
+fn flag_group(h: usize, w: usize, cells: &[u16], mask: &mut [u64; 33])
+    requires { Sized h w × ((i : ℕ) → i < length cells.now → get_or cells.now i 0 < h * w) × (length mask.old ≡ 33) }
     ensures { (length mask.new ≡ 33)
-        × ((xs : List ℕ) → Masked w xs mask.old
-        → Masked w (xs ++ part (cells_in potential.now) from to) mask.new) }
+        × ((xs : List ℕ) → Masked w xs mask.old → Masked w (xs ++ cells.now) mask.new) }
 {
-    let mut i = from;
-    while i < to {
-        flag(h, w, cell_at(potential, i), mask);
-        i += 1;
+    for c in cells {
+        flag(h, w, usize::from(*c), mask);
     }
 }
 
@@ -159,20 +125,9 @@ pub fn draw_mask<'a>(
     ensures { Masked w (origins_in (cells_in potential.now) (starts_in potential.now)
         (mates_in mates.now)) mask.new × (get_or mask.new 32 0 ≡ name) }
 {
-    let count = index(mates[1024]);
-    clear_mask(mask);
-    let mut i = 0;
-    while i < count {
-        let q = mates[i] as usize;
-        flag_group(
-            h,
-            w,
-            potential,
-            start_of(potential, q),
-            start_of(potential, q + 1),
-            mask,
-        );
-        i += 1;
+    mask.fill(0);
+    for mate in &mates[..usize::from(mates[1024])] {
+        flag_group(h, w, cells_of(potential, usize::from(*mate)), mask);
     }
     mask[32] = name;
 }
@@ -182,7 +137,7 @@ fn step(planes: &[u64; 192], acc: u64, y: usize, down: u8, across: u8) -> u64
     requires { (length planes.now ≡ 192) × (y < 32) × (down < 128) × (across < 128) }
     ensures { result ≡ bit_and acc (get_or planes.now (2 * y + down) 0 / 2 ^ (across / 2)) }
 {
-    acc & (planes[2 * y + down as usize] >> (across / 2))
+    acc & (planes[2 * y + usize::from(down)] >> (across / 2))
 }
 
 // The origins `word` of row y at which all n connections of a transform are clear. They stand in `turned`, raised
@@ -198,13 +153,11 @@ pub fn line_left<'a>(
     ensures { result ≡ clear_word planes.now y turned.now word n }
 {
     let mut acc = word;
-    let mut j = 0;
-    while j < n {
+    for j in 0..n {
         if acc == 0 {
             return 0;
         }
         acc = step(planes, acc, y, turned[j], turned[2048 + j]);
-        j += 1;
     }
     acc
 }
@@ -222,14 +175,7 @@ pub fn first_row(mask: &[u64; 33], h: usize) -> usize
     requires { h ≤ 32 }
     ensures { (result ≤ h) × ((y : ℕ) → y < result → get_or mask.now y 0 ≡ 0) }
 {
-    let mut y = 0;
-    while y < h {
-        if mask[y] != 0 {
-            return y;
-        }
-        y += 1;
-    }
-    h
+    mask[..h].iter().position(|row| *row != 0).unwrap_or(h)
 }
 
 // The row after the last of them that has one; 0 if none has.
@@ -237,14 +183,7 @@ pub fn end_row(mask: &[u64; 33], h: usize) -> usize
     requires { h ≤ 32 }
     ensures { (result ≤ h) × ((y : ℕ) → result ≤ y → y < h → get_or mask.now y 0 ≡ 0) }
 {
-    let mut y = h;
-    while y > 0 {
-        if mask[y - 1] != 0 {
-            return y;
-        }
-        y -= 1;
-    }
-    0
+    mask[..h].iter().rposition(|row| *row != 0).map_or(0, |y| y + 1)
 }
 
 // Whether it fits at one of the origins of the mask's h rows, which lie from the row `top` to before the row `end`.
@@ -260,12 +199,10 @@ pub fn mask_fits<'a>(
     requires { Sizes h planes.now mask.now × Span h mask.now top end × Raised turned.now n }
     ensures { result ≡ mask_fits planes.now mask.now h turned.now n }
 {
-    let mut y = top;
-    while y < end {
+    for y in top..end {
         if line_fits(planes, mask[y], y, turned, n) {
             return true;
         }
-        y += 1;
     }
     false
 }

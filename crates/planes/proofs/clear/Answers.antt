@@ -1,16 +1,15 @@
--- Each return is a case of the definition.
+-- The test is the definition's.
+use native.Mathlib.Omega.{arith}
+use Rattle.std.proofs.Common.{◌∙◌, ap}
 use borrow.Author.Tests.{eq-eqb, ne_eqb}
 use Rattle.planes.specs.Planes.{clear_at}
+use Rattle.planes.proofs.clear.Goals.{then-alike, else-alike}
 use Rattle.planes.proofs.clear.Goals as goal
-
-pub returns-then-colours-from : goal.returns-then-colours-from
-unfolding clear_at
-returns-then-colours-from c = rw (ne_eqb _ _ c.if-colours-from.true)
-
-pub returns-then-borders-border-eq1 : goal.returns-then-borders-border-eq1
-unfolding clear_at
-returns-then-borders-border-eq1 c = rw (eq-eqb _ _ c.if-colours-from.false, eq-eqb _ _ c.if-borders-border-eq1.true)
 
 pub returns : goal.returns
 unfolding clear_at
-returns c = rw (eq-eqb _ _ c.if-colours-from.false, ne_eqb _ _ c.if-borders-border-eq1.false)
+returns c =
+    elim c.if-alike.branch [
+      | then-alike w ↦ rw (c.from.ensures, w.from-is, eq-eqb _ _ w.if-alike.true)
+      | else-alike w ↦ rw (c.from.ensures, w.from-is, ne_eqb _ _ w.if-alike.false)
+    ]

@@ -11,6 +11,3 @@ invariant-loop-x l =
     × (l.acc ≡ row_from (l.n - l.x) l.x
     (λ i. clear_at l.colours l.borders (l.cell + i) (l.cell + i + l.ahead) (l.border + i)))
     × (l.acc < 4294967296)
-
-abbrev pub decreases-loop-x : goal.decreases-loop-x
-decreases-loop-x l = l.x

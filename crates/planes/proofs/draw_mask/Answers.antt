@@ -1,5 +1,5 @@
--- The loop's invariant: the cells of the groups before i are flagged, and no others.
-use mathlib.Core.Path.{◌≡◌}
+-- The loop's invariant: the cells of the groups before this one are flagged, and no others.
+use mathlib.Core.Path.{◌≡◌, ◌∙◌}
 use Prim.Native.Nat.{◌+◌, ◌<◌}
 use native.Mathlib.Omega.{arith}
 use lib.ListN.{get_or}
@@ -10,78 +10,59 @@ use Rattle.reasons.specs.Arrays.{Cells}
 use Rattle.adjacent.specs.Mates.{mate_count}
 use Rattle.adjacent.specs.BesideLaws.{mates-reach}
 use Rattle.planes.specs.MaskLaws.{masked-none, masked-tag, mates-none, mates-more}
-use Rattle.planes.proofs.draw_mask.Goals.{After-index-count, In-loop-i}
+use Rattle.planes.specs.MaskLaws.{mate-listed, mate-read, mates-passed, part-cells}
+use Rattle.planes.proofs.draw_mask.Goals.{In-loop-mate, After-from-in-loop-mate}
 use Rattle.planes.proofs.draw_mask.Goals as goal
 
-pub clear_mask-requires : goal.clear_mask-requires
-clear_mask-requires c = c.requires.2
+pub loop-mate-init : goal.loop-mate-init
+loop-mate-init c =
+    mates-none c.args.w (cells_in c.args.potential.now) (starts_in c.args.potential.now) c.args.mates.now 0
+    (masked-none c.args.w (rw c.requires.2 at (c.fill.ensures.after (λ y e. e))))
 
--- the count, read before the loop
-count-is : (c : After-index-count) → c.index-count.result ≡ mate_count c.args.mates.now
-count-is c = c.index-count.ensures
+-- the unit that is read is one of the list
+next : (c : In-loop-mate) → c.loop-mate.mate-index < mate_count c.args.mates.now
+next c =
+    mate-listed c.args.mates.now c.loop-mate.mate-index (rw c.from.ensures at c.loop-mate-test.true)
 
-pub loop-i-init : goal.loop-i-init
-loop-i-init c = (
-  omega arith,
-  mates-none c.args.w (cells_in c.args.potential.now) (starts_in c.args.potential.now)
-      c.args.mates.now 0 (masked-none c.args.w c.clear_mask.ensures),
-)
+mate : (c : After-from-in-loop-mate)
+    → c.from-in-loop-mate.result ≡ get_or c.args.mates.now c.loop-mate.mate-index 0
+mate c =
+    (rw c.from.ensures at c.from-in-loop-mate.ensures)
+    ∙ mate-read c.args.mates.now c.loop-mate.mate-index (next (goal.at.cells_of-requires c).In-loop-mate)
 
-next : (c : In-loop-i) → c.loop-i.i < mate_count c.args.mates.now
-next c = omega (arith, count-is (goal.at.In-loop-i c).After-index-count, c.loop-i-test.true)
-
-low : (c : In-loop-i) → get_or c.args.mates.now c.loop-i.i 0 < 1024
-low c = c.requires.1.low c.loop-i.i (next c)
-
-group : (c : In-loop-i) → let q = get_or c.args.mates.now c.loop-i.i 0 in
-    Cells c.args.h c.args.w (cells_in c.args.potential.now) (start_in c.args.potential.now q)
+group : (c : After-from-in-loop-mate) → let q = c.from-in-loop-mate.result in
+    (q < 1024)
+    × Cells c.args.h c.args.w (cells_in c.args.potential.now) (start_in c.args.potential.now q)
     (start_in c.args.potential.now (q + 1))
-group c = c.requires.1.each c.loop-i.i (next c)
+group c =
+    let i = c.loop-mate.mate-index in
+    let l = next (goal.at.cells_of-requires c).In-loop-mate in
+    rw (mate c) (c.requires.1.low i l, c.requires.1.each i l)
 
-pub offset_bounds-mates-i : goal.offset_bounds-mates-i
-offset_bounds-mates-i c = omega (arith, low c)
-
-pub bounds-mates-i : goal.bounds-mates-i
-bounds-mates-i c = omega (arith, next (goal.at.bounds-mates-i c).In-loop-i, c.requires.1.end)
-
-pub overflow_cast-q : goal.overflow_cast-q
-overflow_cast-q c = omega (arith, low (goal.at.overflow_cast-q c).In-loop-i)
-
-pub start_of-requires : goal.start_of-requires
-start_of-requires c = omega (arith, low (goal.at.start_of-requires c).In-loop-i)
-
-pub overflow_add-q : goal.overflow_add-q
-overflow_add-q c = omega (arith, low (goal.at.overflow_add-q c).In-loop-i)
-
-pub start_of-requires-in-loop-i : goal.start_of-requires-in-loop-i
-start_of-requires-in-loop-i c = omega (arith, low (goal.at.start_of-requires-in-loop-i c).In-loop-i)
+pub cells_of-requires : goal.cells_of-requires
+cells_of-requires c = let g = group c in (g.0, g.1.order, g.1.end)
 
 pub flag_group-requires : goal.flag_group-requires
-flag_group-requires c =
-    rw (c.start_of-in-loop-i.ensures, c.start_of.ensures)
-    (c.requires.0, group (goal.at.flag_group-requires c).In-loop-i, c.loop-i.invariant.1.size)
-
-pub overflow_add-i : goal.overflow_add-i
-overflow_add-i c = omega (arith, next (goal.at.overflow_add-i c).In-loop-i, c.requires.1.end)
-
-pub loop-i-smaller : goal.loop-i-smaller
-loop-i-smaller c = omega (arith, c.loop-i-test.true)
-
-pub loop-i-preserved : goal.loop-i-preserved
-unfolding part_of
-loop-i-preserved c = (
-  omega (arith, next (goal.at.loop-i-preserved c).In-loop-i),
-  mates-more c.args.w (cells_in c.args.potential.now) (starts_in c.args.potential.now)
-      c.args.mates.now 0 c.loop-i.i (omega arith)
-      (omega (arith, next (goal.at.loop-i-preserved c).In-loop-i, mates-reach c.requires.1))
-      ((rw (c.start_of-in-loop-i.ensures, c.start_of.ensures) at
-      c.flag_group.ensures.1) _ c.loop-i.invariant.1),
+flag_group-requires c = (
+  c.requires.0,
+  rw c.cells_of.ensures (part-cells (group (goal.at.flag_group-requires c).After-from-in-loop-mate).1),
+  c.loop-mate.invariant.size,
 )
+
+pub loop-mate-preserved : goal.loop-mate-preserved
+unfolding part_of
+loop-mate-preserved c =
+    let f = c.flag_group.ensures.1 _ c.loop-mate.invariant in
+    mates-more c.args.w (cells_in c.args.potential.now) (starts_in c.args.potential.now) c.args.mates.now 0
+    c.loop-mate.mate-index (omega arith)
+    (omega (arith, next (goal.at.loop-mate-preserved c).In-loop-mate, mates-reach c.requires.1))
+    (rw (← mate (goal.at.loop-mate-preserved c).After-from-in-loop-mate) (rw c.cells_of.ensures at f))
 
 pub returns : goal.returns
 returns c =
-    let e : c.loop-i.i ≡ mate_count c.args.mates.now =
-    omega (arith, c.loop-i-test.false, c.loop-i.invariant.0, count-is (goal.at.returns c).After-index-count) in (
-      masked-tag c.args.w c.args.name (rw e at c.loop-i.invariant.1),
-      get_or-set_same c.loop-i.mask 32 c.args.name 0 (omega (arith, c.loop-i.invariant.1.size)),
+    let e : c.loop-mate.mate-index ≡ mate_count c.args.mates.now =
+    mates-passed c.args.mates.now c.loop-mate.mate-index (mates-reach c.requires.1)
+    (rw c.from.ensures at c.loop-mate.auto.mate-index-end) (rw c.from.ensures at c.loop-mate-test.false) in (
+      masked-tag c.args.w c.args.name (rw e at c.loop-mate.invariant),
+      get_or-set_same c.loop-mate.mask 32 c.args.name 0 (omega (arith, c.loop-mate.invariant.size)),
     )

@@ -6,10 +6,5 @@ use Rattle.adjacent.specs.Mates.{mate_count}
 use Rattle.planes.specs.Masks.{Masked, origins_in}
 use Rattle.planes.proofs.draw_mask.Given as goal
 
-abbrev pub invariant-loop-i : goal.invariant-loop-i
-invariant-loop-i l =
-    (l.i ≤ mate_count l.mates)
-    × Masked l.w (origins_in (cells_in l.potential) (starts_in l.potential) (part l.mates 0 l.i)) l.mask
-
-abbrev pub decreases-loop-i : goal.decreases-loop-i
-decreases-loop-i l = l.count - l.i
+abbrev pub invariant-loop-mate : goal.invariant-loop-mate
+invariant-loop-mate l = Masked l.w (origins_in (cells_in l.potential) (starts_in l.potential) (part l.mates 0 l.mate-index)) l.mask

@@ -5,12 +5,6 @@ use Rattle.planes.specs.DrawLaws.{draw-start, draw-more, draw-end}
 use Rattle.planes.proofs.draw_planes.Goals.{After-line}
 use Rattle.planes.proofs.draw_planes.Goals as goal
 
-pub overflow_mul-count : goal.overflow_mul-count
-overflow_mul-count c = omega (arith, c.requires.0)
-
-pub overflow_sub-count : goal.overflow_sub-count
-overflow_sub-count c = omega (arith, c.requires.0)
-
 pub loop-r-init : goal.loop-r-init
 loop-r-init c = (
   omega (arith, c.requires.0),
@@ -32,9 +26,6 @@ offset_bounds-planes-r c = omega (arith, tall c)
 
 pub bounds-planes-r : goal.bounds-planes-r
 bounds-planes-r c = omega (arith, tall (goal.at.bounds-planes-r c).After-line)
-
-pub overflow_add-r : goal.overflow_add-r
-overflow_add-r c = omega (arith, tall (goal.at.overflow_add-r c).After-line)
 
 pub loop-r-smaller : goal.loop-r-smaller
 loop-r-smaller c = omega (arith, c.loop-r-test.true)

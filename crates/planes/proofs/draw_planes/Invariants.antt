@@ -5,6 +5,3 @@ use Rattle.planes.proofs.draw_planes.Given as goal
 
 abbrev pub invariant-loop-r : goal.invariant-loop-r
 invariant-loop-r l = (l.r ≤ 2 * l.h - 1) × Drawing l.h l.w l.colours l.borders l.r l.planes
-
-abbrev pub decreases-loop-r : goal.decreases-loop-r
-decreases-loop-r l = 2 * l.h - 1 - l.r

@@ -20,9 +20,6 @@ bounds-mask-y c = omega (arith, (low (goal.at.bounds-mask-y c).Start).0)
 pub overflow_shl-mask : goal.overflow_shl-mask
 overflow_shl-mask c = omega (arith, (low (goal.at.overflow_shl-mask c).Start).1)
 
-pub offset_bounds-mask-y-2 : goal.offset_bounds-mask-y-2
-offset_bounds-mask-y-2 c = omega (arith, (low (goal.at.offset_bounds-mask-y-2 c).Start).0)
-
 pub bounds-mask-y-2 : goal.bounds-mask-y-2
 bounds-mask-y-2 c = omega (arith, (low (goal.at.bounds-mask-y-2 c).Start).0)
 

@@ -51,12 +51,6 @@ step-acc-requires c = (
   rw (across-at (goal.at.step-acc-requires c).Else-acc-eq0) (small (goal.at.step-acc-requires c).Else-acc-eq0).column,
 )
 
-pub overflow_add-j-in-loop-j : goal.overflow_add-j-in-loop-j
-overflow_add-j-in-loop-j c = omega (arith, (small (goal.at.overflow_add-j-in-loop-j c).Else-acc-eq0).place)
-
-pub loop-j-smaller : goal.loop-j-smaller
-loop-j-smaller c = omega (arith, c.loop-j-test.true)
-
 pub loop-j-preserved : goal.loop-j-preserved
 loop-j-preserved c = (
   omega (arith, c.loop-j-test.true),

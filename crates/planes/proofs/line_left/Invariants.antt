@@ -6,6 +6,3 @@ use Rattle.planes.proofs.line_left.Given as goal
 
 abbrev pub invariant-loop-j : goal.invariant-loop-j
 invariant-loop-j l = (l.j ≤ l.n) × (l.acc ≡ clear_word l.planes l.y l.turned l.word l.j)
-
-abbrev pub decreases-loop-j : goal.decreases-loop-j
-decreases-loop-j l = l.n - l.j

@@ -41,12 +41,6 @@ returns-then-line_fits c =
     (omega (arith, c.loop-y-test.true, c.requires.1.low.1))
     (sym c.line_fits.ensures ∙ c.if-line_fits.true))
 
-pub overflow_add-y : goal.overflow_add-y
-overflow_add-y c = omega (arith, c.loop-y-test.true, c.requires.0.tall, c.requires.1.low.1)
-
-pub loop-y-smaller : goal.loop-y-smaller
-loop-y-smaller c = omega (arith, c.loop-y-test.true, c.requires.1.low.1)
-
 pub loop-y-preserved : goal.loop-y-preserved
 loop-y-preserved c = (
   omega (arith, c.loop-y-test.true, c.requires.1.low.1),

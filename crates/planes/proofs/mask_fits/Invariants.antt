@@ -9,6 +9,3 @@ use Rattle.planes.proofs.mask_fits.Given as goal
 
 abbrev pub invariant-loop-y : goal.invariant-loop-y
 invariant-loop-y l = (l.y ≤ l.h) × (any_below l.y (λ i. line_fits l.planes i l.turned l.n (get_or l.mask i 0)) ≡ false)
-
-abbrev pub decreases-loop-y : goal.decreases-loop-y
-decreases-loop-y l = l.h - l.y

@@ -11,7 +11,7 @@ returns-then-borders-border-eq1 c =
     between-wall c.args.colours.now c.args.borders.now _ _ _ c.requires.3 c.if-colours-from.false
     c.if-borders-border-eq1.true
 
-pub returns : goal.returns
-returns c =
+pub returns-else-borders-border-eq1 : goal.returns-else-borders-border-eq1
+returns-else-borders-border-eq1 c =
     between-clear c.args.colours.now c.args.borders.now _ _ _ c.requires.3 c.if-colours-from.false
     c.if-borders-border-eq1.false

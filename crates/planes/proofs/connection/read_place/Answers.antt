@@ -1,87 +1,68 @@
 -- Each return is what the raised place reads there, by PlacingLaws; the products' bounds are those of Counts and Spot.
--- the page's counts, and those of the cell at the place
 use Prim.Native.Nat.{◌-◌, ◌/◌}
 use native.Mathlib.Omega.{arith}
 use Rattle.rules.specs.Codes.{states_in}
 use Rattle.laws.specs.FlatLaws.{Counts, counts, Spot, spot}
-use Rattle.planes.specs.PlacingLaws.{below-reading, right-reading, off-ends, off-above, off-left, off-below}
-use Rattle.planes.specs.PlacingLaws.{off-right, reads-below, reads-right}
-use Rattle.planes.proofs.connection.read_place.Goals.{Else-w-px}
+use Rattle.planes.specs.PlacingLaws.{below-reading, right-reading, off-ends, off-rows, off-columns}
+use Rattle.planes.specs.PlacingLaws.{lies-below, lies-right}
+use Rattle.planes.proofs.connection.read_place.Goals.{In-Some-Some}
 use Rattle.planes.proofs.connection.read_place.Goals as goal
 
-at : (c : Else-w-px) → Counts c.args.h c.args.w × Spot c.args.h c.args.w ((c.args.y - 64) / 2) ((c.args.x - 64) / 2)
+-- the page's counts, and those of the cell at the place
+at : (c : In-Some-Some) → Counts c.args.h c.args.w
+    × Spot c.args.h c.args.w (c.in-Some-Some.py / 2) (c.in-Some-Some.px / 2)
 at c =
     let d = c.requires.0.sized in
+    let a = c.in-Some-Some.ensures in
+    let b = c.in-Some-Some.ensures' in
     (counts d, spot _ _ _ _ (omega arith) (omega arith))
 
-pub returns-then-y-lt64 : goal.returns-then-y-lt64
-returns-then-y-lt64 c = off-ends _ _ (off-above _ _ _ _ c.if-y-lt64.true)
+pub returns-in_default : goal.returns-in_default
+returns-in_default c =
+    off-ends _ _ (off-columns c.args.h c.args.w c.requires.0.sized c.args.y c.args.x (c.in_default.ensures'))
 
-pub returns-then-x-lt64 : goal.returns-then-x-lt64
-returns-then-x-lt64 c = off-ends _ _ (off-left _ _ _ _ c.if-y-lt64.false c.if-x-lt64.true)
-
-pub returns-then-h-py : goal.returns-then-h-py
-returns-then-h-py c = off-ends _ _ (off-below _ _ _ _ c.if-y-lt64.false c.if-x-lt64.false c.if-h-py.true)
-
-pub returns-then-w-px : goal.returns-then-w-px
-returns-then-w-px c =
-    off-ends _ _ (off-right _ _ _ _ c.if-y-lt64.false c.if-x-lt64.false
-    c.if-h-py.false c.if-w-px.true)
-
-pub overflow_mul-c : goal.overflow_mul-c
-overflow_mul-c c = let m = at (c) in omega arith
-
-pub overflow_add-c : goal.overflow_add-c
-overflow_add-c c = let m = at (c) in omega arith
-
-pub overflow_add-c-then-py-eq1 : goal.overflow_add-c-then-py-eq1
-overflow_add-c-then-py-eq1 c = let m = at (goal.at.overflow_add-c-then-py-eq1 c).Else-w-px in omega arith
-
-pub overflow_mul-h-then-py-eq1 : goal.overflow_mul-h-then-py-eq1
-overflow_mul-h-then-py-eq1 c = let m = at (goal.at.overflow_mul-h-then-py-eq1 c).Else-w-px in omega arith
-
-pub overflow_add-h : goal.overflow_add-h
-overflow_add-h c = let m = at (goal.at.overflow_add-h c).Else-w-px in omega arith
+pub returns-in_default-2 : goal.returns-in_default-2
+returns-in_default-2 c =
+    let s = c.lowered.ensures in
+    off-ends _ _ (off-rows c.args.h c.args.w c.requires.0.sized c.args.y c.args.x (rw c.in_default.is-0 at s))
 
 pub read_border-requires : goal.read_border-requires
 read_border-requires c =
-    let m = at (goal.at.read_border-requires c).Else-w-px in
+    let m = at (goal.at.read_border-requires c).In-Some-Some in
+    let a = c.in-Some-Some.ensures in
     let u = m.1.under (omega arith) in
     (omega arith, omega arith, omega arith, c.requires.0.two)
 
 pub returns-then-py-eq1 : goal.returns-then-py-eq1
 returns-then-py-eq1 c =
+    let a = c.in-Some-Some.ensures in
+    let b = c.in-Some-Some.ensures' in
     rw (
-      reads-below _ _ _ _ c.if-y-lt64.false
-          c.if-x-lt64.false c.if-h-py.false
-          c.if-w-px.false c.if-py-eq1.true,
-      below-reading c.args.h c.args.w ((c.args.y - 64) / 2) ((c.args.x - 64) / 2) c.args.colours.now
+      a.0,
+      b.0,
+      lies-below c.args.h c.args.w c.requires.0.sized c.in-Some-Some.py c.in-Some-Some.px a.1 b.1 c.if-py-eq1.true,
+      below-reading c.args.h c.args.w (c.in-Some-Some.py / 2) (c.in-Some-Some.px / 2) c.args.colours.now
           (states_in c.args.borders.now),
     )
     c.read_border.ensures
 
-pub overflow_add-c-2 : goal.overflow_add-c-2
-overflow_add-c-2 c = let m = at (goal.at.overflow_add-c-2 c).Else-w-px in omega arith
-
-pub overflow_mul-py : goal.overflow_mul-py
-overflow_mul-py c = let m = at (goal.at.overflow_mul-py c).Else-w-px in omega arith
-
-pub overflow_add-py : goal.overflow_add-py
-overflow_add-py c = let m = at (goal.at.overflow_add-py c).Else-w-px in omega arith
-
 pub read_border-requires-2 : goal.read_border-requires-2
 read_border-requires-2 c =
-    let m = at (goal.at.read_border-requires-2 c).Else-w-px in
+    let m = at (goal.at.read_border-requires-2 c).In-Some-Some in
+    let a = c.in-Some-Some.ensures in
+    let b = c.in-Some-Some.ensures' in
     let u = m.1.beside (omega arith) in
     (omega arith, omega arith, omega arith, c.requires.0.two)
 
 pub returns : goal.returns
 returns c =
+    let a = c.in-Some-Some.ensures in
+    let b = c.in-Some-Some.ensures' in
     rw (
-      reads-right _ _ _ _ c.if-y-lt64.false
-          c.if-x-lt64.false c.if-h-py.false
-          c.if-w-px.false c.if-py-eq1.false,
-      right-reading c.args.h c.args.w ((c.args.y - 64) / 2) ((c.args.x - 64) / 2) c.args.colours.now
+      a.0,
+      b.0,
+      lies-right c.args.h c.args.w c.requires.0.sized c.in-Some-Some.py c.in-Some-Some.px a.1 b.1 c.if-py-eq1.false,
+      right-reading c.args.h c.args.w (c.in-Some-Some.py / 2) (c.in-Some-Some.px / 2) c.args.colours.now
           (states_in c.args.borders.now) (omega arith) (omega arith),
     )
     c.read_border-2.ensures
