@@ -183,7 +183,10 @@ pub fn end_row(mask: &[u64; 33], h: usize) -> usize
     requires { h ≤ 32 }
     ensures { (result ≤ h) × ((y : ℕ) → result ≤ y → y < h → get_or mask.now y 0 ≡ 0) }
 {
-    mask[..h].iter().rposition(|row| *row != 0).map_or(0, |y| y + 1)
+    mask[..h]
+        .iter()
+        .rposition(|row| *row != 0)
+        .map_or(0, |y| y + 1)
 }
 
 // Whether it fits at one of the origins of the mask's h rows, which lie from the row `top` to before the row `end`.

@@ -1,6 +1,4 @@
 -- The test is the definition's.
-use native.Mathlib.Omega.{arith}
-use Rattle.std.proofs.Common.{◌∙◌, ap}
 use borrow.Author.Tests.{eq-eqb, ne_eqb}
 use Rattle.planes.specs.Planes.{clear_at}
 use Rattle.planes.proofs.clear.Goals.{then-alike, else-alike}

@@ -3,7 +3,6 @@ use mathlib.Core.Path.{◌≡◌, refl, ap₂, sym, ◌∙◌}
 use mathlib.Core.Bool.{Bool}
 use Prim.Native.Nat.{ℕ, ◌+◌, ◌-◌, ◌*◌}
 use native.Mathlib.Omega.{arith}
-use Rattle.lists.specs.CountLaws.{bit-under}
 use Rattle.planes.specs.Bits.{row_from}
 use Rattle.planes.specs.RowLaws.{row-start, row-end, row_more, row_fits}
 use Rattle.planes.specs.Planes.{clear_at, clear_row}
@@ -18,18 +17,6 @@ test s i =
 
 pub loop-x-init : goal.loop-x-init
 loop-x-init c = (omega arith, row-start c.args.n (test c), omega arith)
-
-pub clear-requires : goal.clear-requires
-clear-requires c = (omega arith, omega arith, omega arith)
-
-pub overflow_add-acc : goal.overflow_add-acc
-overflow_add-acc c =
-    omega (
-      arith,
-      c.loop-x.invariant.2,
-      c.clear.ensures,
-      bit-under (test (goal.at.overflow_add-acc c).Start (c.loop-x.x - 1)),
-    )
 
 pub loop-x-preserved : goal.loop-x-preserved
 loop-x-preserved c =

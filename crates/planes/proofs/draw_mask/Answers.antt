@@ -3,14 +3,13 @@ use mathlib.Core.Path.{◌≡◌, ◌∙◌}
 use Prim.Native.Nat.{◌+◌, ◌<◌}
 use native.Mathlib.Omega.{arith}
 use lib.ListN.{get_or}
-use lib.Seq.{get_or-set_same}
 use Rattle.groups.specs.Grouping.{cells_in, starts_in, start_in}
 use Rattle.groups.specs.Parts.{part_of}
 use Rattle.reasons.specs.Arrays.{Cells}
 use Rattle.adjacent.specs.Mates.{mate_count}
 use Rattle.adjacent.specs.BesideLaws.{mates-reach}
-use Rattle.planes.specs.MaskLaws.{masked-none, masked-tag, mates-none, mates-more}
-use Rattle.planes.specs.MaskLaws.{mate-listed, mate-read, mates-passed, part-cells}
+use Rattle.planes.specs.MaskLaws.{masked-none, mates-none, mates-more}
+use Rattle.planes.specs.MaskLaws.{mate-listed, mate-read, part-cells}
 use Rattle.planes.proofs.draw_mask.Goals.{In-loop-mate, After-from-in-loop-mate}
 use Rattle.planes.proofs.draw_mask.Goals as goal
 
@@ -57,12 +56,3 @@ loop-mate-preserved c =
     c.loop-mate.mate-index (omega arith)
     (omega (arith, next (goal.at.loop-mate-preserved c).In-loop-mate, mates-reach c.requires.1))
     (rw (← mate (goal.at.loop-mate-preserved c).After-from-in-loop-mate) (rw c.cells_of.ensures at f))
-
-pub returns : goal.returns
-returns c =
-    let e : c.loop-mate.mate-index ≡ mate_count c.args.mates.now =
-    mates-passed c.args.mates.now c.loop-mate.mate-index (mates-reach c.requires.1)
-    (rw c.from.ensures at c.loop-mate.auto.mate-index-end) (rw c.from.ensures at c.loop-mate-test.false) in (
-      masked-tag c.args.w c.args.name (rw e at c.loop-mate.invariant),
-      get_or-set_same c.loop-mate.mask 32 c.args.name 0 (omega (arith, c.loop-mate.invariant.size)),
-    )

@@ -1,8 +1,6 @@
 -- The loop's invariant: the cells of the groups before i are flagged, and no others.
-use Prim.Native.Nat.{◌-◌, ◌≤◌}
 use Rattle.lists.specs.Parts.{part}
 use Rattle.groups.specs.Grouping.{cells_in, starts_in}
-use Rattle.adjacent.specs.Mates.{mate_count}
 use Rattle.planes.specs.Masks.{Masked, origins_in}
 use Rattle.planes.proofs.draw_mask.Given as goal
 

@@ -11,18 +11,6 @@ use Rattle.planes.proofs.flag.Goals as goal
 low : (s : Start) → (s.args.c / s.args.w < 32) × (s.args.c % s.args.w < 32)
 low s = place_in s.args.c s.requires.0 s.requires.1
 
-pub offset_bounds-mask-y : goal.offset_bounds-mask-y
-offset_bounds-mask-y c = omega (arith, (low c).0)
-
-pub bounds-mask-y : goal.bounds-mask-y
-bounds-mask-y c = omega (arith, (low (goal.at.bounds-mask-y c).Start).0)
-
-pub overflow_shl-mask : goal.overflow_shl-mask
-overflow_shl-mask c = omega (arith, (low (goal.at.overflow_shl-mask c).Start).1)
-
-pub bounds-mask-y-2 : goal.bounds-mask-y-2
-bounds-mask-y-2 c = omega (arith, (low (goal.at.bounds-mask-y-2 c).Start).0)
-
 pub returns : goal.returns
 returns c = (
   length-set c.args.mask.now (c.args.c / c.args.w) _ ∙ c.requires.2,

@@ -1,13 +1,6 @@
 -- The loop's invariant: the cells before c are flagged.
-use native.Mathlib.Omega.{arith}
-use Rattle.planes.specs.MaskLaws.{group-none, group-more, group-all}
+use Rattle.planes.specs.MaskLaws.{group-more, group-all}
 use Rattle.planes.proofs.flag_group.Goals as goal
-
-pub loop-c-init : goal.loop-c-init
-loop-c-init c = (c.requires.2, λ xs m. group-none c.args.w c.args.cells.now xs m)
-
-pub flag-requires : goal.flag-requires
-flag-requires c = (c.requires.0, rw c.from.ensures (c.requires.1 c.loop-c.c-index c.loop-c-test.true), c.loop-c.invariant.0)
 
 pub loop-c-preserved : goal.loop-c-preserved
 loop-c-preserved c = (

@@ -34,15 +34,6 @@ across-at : (c : Else-acc-eq0) → let t = c.args.turned.now in
     let j = c.loop-j.j in get_or t (2048 + j) 0 ≡ get_or (xs_in t) j 0
 across-at c = section-at 2048 2048 _ _ (small c).place
 
-pub bounds-turned-j : goal.bounds-turned-j
-bounds-turned-j c = omega (arith, (small (goal.at.bounds-turned-j c).Else-acc-eq0).place)
-
-pub overflow_add-j : goal.overflow_add-j
-overflow_add-j c = omega (arith, (small (goal.at.overflow_add-j c).Else-acc-eq0).place)
-
-pub bounds-turned-j-in-loop-j : goal.bounds-turned-j-in-loop-j
-bounds-turned-j-in-loop-j c = omega (arith, (small (goal.at.bounds-turned-j-in-loop-j c).Else-acc-eq0).place)
-
 pub step-acc-requires : goal.step-acc-requires
 step-acc-requires c = (
   c.requires.0,
@@ -61,8 +52,3 @@ loop-j-preserved c = (
       ∙ clear-more c.args.planes.now c.args.y c.args.turned.now c.args.word c.loop-j.j
       c.loop-j.invariant.1,
 )
-
-pub returns : goal.returns
-returns c =
-    let e : c.loop-j.j ≡ c.args.n = omega (arith, c.loop-j.invariant.0, c.loop-j-test.false) in
-    rw e at c.loop-j.invariant.1

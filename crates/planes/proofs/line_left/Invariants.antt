@@ -1,6 +1,6 @@
 -- The loop's invariant: the word has the origins at which the connections before j are clear.
 use mathlib.Core.Path.{◌≡◌}
-use Prim.Native.Nat.{◌-◌, ◌≤◌}
+use Prim.Native.Nat.{◌≤◌}
 use Rattle.planes.specs.Masks.{clear_word}
 use Rattle.planes.proofs.line_left.Given as goal
 

@@ -24,16 +24,6 @@ loop-y-init c = (
   none_rest 0 c.args.top (test c) (any_none (test c)) (omega arith) (λ y a b. empty c y (c.requires.1.above y b)),
 )
 
-pub offset_bounds-mask-y : goal.offset_bounds-mask-y
-offset_bounds-mask-y c = omega (arith, c.requires.0.tall, c.requires.1.low.1)
-
-pub bounds-mask-y : goal.bounds-mask-y
-bounds-mask-y c = omega (arith, c.requires.0.tall, c.requires.1.low.1)
-
-pub line_fits-requires : goal.line_fits-requires
-line_fits-requires c =
-    (c.requires.0.planes, omega (arith, c.requires.0.tall, c.requires.1.low.1, c.loop-y-test.true), c.requires.2)
-
 pub returns-then-line_fits : goal.returns-then-line_fits
 unfolding mask_fits
 returns-then-line_fits c =

@@ -1,7 +1,7 @@
 -- The loop's invariant: no origin of the rows before y fits.
 use mathlib.Core.Path.{◌≡◌}
 use mathlib.Core.Bool.{false}
-use Prim.Native.Nat.{◌-◌, ◌≤◌}
+use Prim.Native.Nat.{◌≤◌}
 use lib.ListN.{get_or}
 use Rattle.lists.specs.Tests.{any_below}
 use Rattle.planes.specs.Masks.{line_fits}

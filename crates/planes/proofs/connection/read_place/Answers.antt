@@ -1,5 +1,5 @@
 -- Each return is what the raised place reads there, by PlacingLaws; the products' bounds are those of Counts and Spot.
-use Prim.Native.Nat.{◌-◌, ◌/◌}
+use Prim.Native.Nat.{◌/◌}
 use native.Mathlib.Omega.{arith}
 use Rattle.rules.specs.Codes.{states_in}
 use Rattle.laws.specs.FlatLaws.{Counts, counts, Spot, spot}
@@ -26,13 +26,6 @@ returns-in_default-2 c =
     let s = c.lowered.ensures in
     off-ends _ _ (off-rows c.args.h c.args.w c.requires.0.sized c.args.y c.args.x (rw c.in_default.is-0 at s))
 
-pub read_border-requires : goal.read_border-requires
-read_border-requires c =
-    let m = at (goal.at.read_border-requires c).In-Some-Some in
-    let a = c.in-Some-Some.ensures in
-    let u = m.1.under (omega arith) in
-    (omega arith, omega arith, omega arith, c.requires.0.two)
-
 pub returns-then-py-eq1 : goal.returns-then-py-eq1
 returns-then-py-eq1 c =
     let a = c.in-Some-Some.ensures in
@@ -45,14 +38,6 @@ returns-then-py-eq1 c =
           (states_in c.args.borders.now),
     )
     c.read_border.ensures
-
-pub read_border-requires-2 : goal.read_border-requires-2
-read_border-requires-2 c =
-    let m = at (goal.at.read_border-requires-2 c).In-Some-Some in
-    let a = c.in-Some-Some.ensures in
-    let b = c.in-Some-Some.ensures' in
-    let u = m.1.beside (omega arith) in
-    (omega arith, omega arith, omega arith, c.requires.0.two)
 
 pub returns : goal.returns
 returns c =
