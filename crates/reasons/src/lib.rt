@@ -19,21 +19,30 @@ pub mod scans; // scans.rt: what Inside lists for a cell, and the walls of a gro
 // reason that names no border twice.
 pub const WORK_LENGTH: usize = 3968;
 
-// A neighbour of a cell, if there is one: over which border, and which cell.
+// A direction from a cell.
 #[derive(Clone, Copy)]
-pub struct Neighbour {
-    pub some: bool,
-    pub border: usize,
-    pub to: usize,
+pub enum Direction {
+    Above,
+    Below,
+    Left,
+    Right,
 }
 
-impl Neighbour {
-    // The neighbour with these fields.
-    fn new(some: bool, border: usize, to: usize) -> Self
-        ensures { result ≡ record { some = some; border = border; to = to } }
-    {
-        Self { some, border, to }
-    }
+impl Direction {
+    // The four, in the order in which a cell's neighbours are tried.
+    pub const ALL: [Direction; 4] = [
+        Direction::Above,
+        Direction::Below,
+        Direction::Left,
+        Direction::Right,
+    ];
+}
+
+// A neighbour of a cell: over which border, and which cell.
+#[derive(Clone, Copy)]
+pub struct Neighbour {
+    pub border: usize,
+    pub to: usize,
 }
 
 // What reason memory holds for a literal.
@@ -59,7 +68,8 @@ fn name(memory: &mut [u16], border: usize) -> bool
     if memory.len() <= place {
         return true;
     }
-    if memory[place] != 0 {
+    let named = memory[place] != 0;
+    if named {
         return false;
     }
     memory[place] = 1;
@@ -72,7 +82,8 @@ pub fn append(memory: &mut [u16], at: usize, literal: Literal) -> usize
     requires { Spare memory.old at × (literal.border < 1984) }
     ensures { Wrote memory.old at (literal ∷ []) memory.new result }
 {
-    if 1984 <= at {
+    let full = 1984 <= at;
+    if full {
         return at;
     }
     if name(memory, literal.border) {
@@ -95,37 +106,47 @@ pub fn hand_out(memory: &mut [u16], words: &[u16]) -> usize
     i
 }
 
-// The neighbour of the cell c, which is (y,x), above, below, left, right, for d 0, 1, 2, 3.
-fn beside(h: usize, w: usize, c: usize, y: usize, x: usize, d: usize) -> Neighbour
+// The neighbour of the cell c, which is (y,x), in a direction.
+fn beside(
+    h: usize,
+    w: usize,
+    c: usize,
+    y: usize,
+    x: usize,
+    direction: Direction,
+) -> Option<Neighbour>
     requires { Sized h w × (y < h) × (x < w) × (c ≡ y * w + x) }
-    ensures { Stepped h w y x d result }
+    ensures { Stepped h w y x direction result }
 {
     let side = y * (w - 1) + x;
     let under = h * (w - 1) + c;
-    if d == 0 {
-        if y == 0 {
-            return Neighbour::new(false, 0, 0);
-        }
-        return Neighbour::new(true, under - w, c - w);
+    match direction {
+        Direction::Above if 0 < y => Some(Neighbour {
+            border: under - w,
+            to: c - w,
+        }),
+        Direction::Below if y + 1 < h => Some(Neighbour {
+            border: under,
+            to: c + w,
+        }),
+        Direction::Left if 0 < x => Some(Neighbour {
+            border: side - 1,
+            to: c - 1,
+        }),
+        Direction::Right if x + 1 < w => Some(Neighbour {
+            border: side,
+            to: c + 1,
+        }),
+        _ => None,
     }
-    if d == 1 {
-        return Neighbour::new(y + 1 < h, under, c + w);
-    }
-    if d == 2 {
-        if x == 0 {
-            return Neighbour::new(false, 0, 0);
-        }
-        return Neighbour::new(true, side - 1, c - 1);
-    }
-    Neighbour::new(x + 1 < w, side, c + 1)
 }
 
-// The neighbour of (y,x) above, below, left, right, for d 0, 1, 2, 3.
-pub fn step(h: usize, w: usize, y: usize, x: usize, d: usize) -> Neighbour
+// The neighbour of (y,x) in a direction.
+pub fn step(h: usize, w: usize, y: usize, x: usize, direction: Direction) -> Option<Neighbour>
     requires { Sized h w × (y < h) × (x < w) }
-    ensures { Stepped h w y x d result }
+    ensures { Stepped h w y x direction result }
 {
-    beside(h, w, y * w + x, y, x, d)
+    beside(h, w, y * w + x, y, x, direction)
 }
 
 // Edge of the group g, from the place `start`; gives the next place. The flags are lent: all are 0, and so they are

@@ -7,10 +7,10 @@ ghost use Rattle.reasons.specs.Memory.{Spare, Wrote};
 ghost use Rattle.reasons.specs.Arrays.{hop_at};
 ghost use Rattle.reasons.specs.Search.{path_in, Lined, Looked, Ended};
 
-use crate::{append, beside};
+use crate::{Direction, Neighbour, append, beside};
 use rules::{Literal, Side, index};
 
-// The search looks from the cell c, which is (y,x), in the direction d: a neighbour over an open border that is not
+// The search looks from the cell c, which is (y,x), in a direction: a neighbour over an open border that is not
 // found yet goes to the end of the queue. Gives the queue's new end.
 fn visit(
     queue: &mut [u16; 1024],
@@ -24,20 +24,17 @@ fn visit(
     c: usize,
     y: usize,
     x: usize,
-    d: usize,
+    direction: Direction,
 ) -> usize
     requires { Sized h w × (length borders.now ≡ 1984) × (c < h * w) × (get_or found.old c 0 ≡ 1)
         × Lined (h * w) queue.old parent.old over.old found.old tail × (y ≡ c / w) × (x ≡ c % w) }
-    ensures { Looked h w borders.now c (hop_at h w (c / w) (c % w) d) queue.old
+    ensures { Looked h w borders.now c (hop_at h w (c / w) (c % w) direction) queue.old
         parent.old over.old found.old tail queue.new parent.new
         over.new found.new result }
 {
-    let n = beside(h, w, c, y, x, d);
-    if !n.some {
+    let Some(Neighbour { border, to }) = beside(h, w, c, y, x, direction) else {
         return tail;
-    }
-    let to = n.to;
-    let border = n.border;
+    };
     if borders[border] != 2 {
         return tail;
     }
@@ -73,10 +70,62 @@ fn expand(
     // four calls and no loop, so that each is compiled for its direction
     let y = c / w;
     let x = c % w;
-    let above = visit(queue, parent, over, found, tail, borders, h, w, c, y, x, 0);
-    let below = visit(queue, parent, over, found, above, borders, h, w, c, y, x, 1);
-    let left = visit(queue, parent, over, found, below, borders, h, w, c, y, x, 2);
-    visit(queue, parent, over, found, left, borders, h, w, c, y, x, 3)
+    let above = visit(
+        queue,
+        parent,
+        over,
+        found,
+        tail,
+        borders,
+        h,
+        w,
+        c,
+        y,
+        x,
+        Direction::Above,
+    );
+    let below = visit(
+        queue,
+        parent,
+        over,
+        found,
+        above,
+        borders,
+        h,
+        w,
+        c,
+        y,
+        x,
+        Direction::Below,
+    );
+    let left = visit(
+        queue,
+        parent,
+        over,
+        found,
+        below,
+        borders,
+        h,
+        w,
+        c,
+        y,
+        x,
+        Direction::Left,
+    );
+    visit(
+        queue,
+        parent,
+        over,
+        found,
+        left,
+        borders,
+        h,
+        w,
+        c,
+        y,
+        x,
+        Direction::Right,
+    )
 }
 
 // The search from a, breadth first, until b is found or nothing is left.

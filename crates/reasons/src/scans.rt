@@ -1,7 +1,6 @@
 // What Inside lists for a cell, and the walls of a group that a scan keeps: to groups that are not flagged.
-ghost use Rattle.std.specs.Prelude.{◌≡◌, true, ◌&&◌, [], ◌*◌, ◌<◌, length};
+ghost use Rattle.std.specs.Prelude.{◌≡◌, ◌*◌, ◌<◌, length, IfSome};
 ghost use Rattle.std.specs.Bool.{beq};
-ghost use Rattle.lists.specs.Lists.{keep_if};
 ghost use Rattle.rules.specs.Flat.{Sized, flat};
 ghost use Rattle.rules.specs.Codes.{states_in, colours_in};
 ghost use Rattle.rules.specs.Groups.{entry};
@@ -12,30 +11,16 @@ ghost use Rattle.reasons.specs.Memory.{Spare, Wrote};
 ghost use Rattle.reasons.specs.Arrays.{Arrays, GroupAt, InArrays, hop_of, hops_in, is_flagged};
 ghost use Rattle.reasons.specs.Arrays.{open_kept, wall_kept, scan_at, scan_of};
 
-use crate::{Neighbour, append, beside};
+use crate::{Direction, Neighbour, append, beside};
 use groups::{Grouping, cell_at, group_of, start_of};
 use rules::{Literal, Side};
-
-// Appends a literal at the place `at`, where `kept`; otherwise nothing is written. Gives the next place.
-fn append_if(memory: &mut [u16], at: usize, kept: bool, literal: Literal) -> usize
-    requires { Spare memory.old at × (kept ≡ true → literal.border < 1984) }
-    ensures { Wrote memory.old at (keep_if kept literal []) memory.new result }
-{
-    if kept {
-        return append(memory, at, literal);
-    }
-    at
-}
 
 // The cells c and to have one colour.
 fn one_colour(colours: &[u8; 1024], c: usize, to: usize) -> bool
     requires { (length colours.now ≡ 1024) × (c < 1024) × (to < 1024) }
     ensures { result ≡ beq (colours_in colours.now c) (colours_in colours.now to) }
 {
-    if colours[c] == 1 {
-        return colours[to] == 1;
-    }
-    colours[to] != 1
+    (colours[c] == 1) == (colours[to] == 1)
 }
 
 // The group is flagged. A number past the last flag has no flag.
@@ -43,31 +28,20 @@ fn is_flagged(flagged: &[u8; 1024], group: usize) -> bool
     requires { length flagged.now ≡ 1024 }
     ensures { result ≡ is_flagged flagged.now group }
 {
-    if group < 1024 {
-        return flagged[group] == 1;
-    }
-    false
+    group < 1024 && flagged[group] == 1
 }
 
-// The border to the neighbour n is open, and n is in the group g. False if there is no neighbour.
+// The border to the neighbour n is open, and n is in the group g.
 fn open_kept<'a>(borders: &'a [u8; 1984], grouping: &'a Grouping, g: usize, n: Neighbour) -> bool
-    requires { Arrays borders.now (numbers_in grouping.now) × (n.some ≡ true → InArrays n) }
-    ensures { result ≡ (n.some && open_kept (states_in borders.now)
-        (entry (numbers_in grouping.now)) g (hop_of n)) }
+    requires { Arrays borders.now (numbers_in grouping.now) × InArrays n }
+    ensures { result ≡ open_kept (states_in borders.now) (entry (numbers_in grouping.now)) g (hop_of n) }
 {
-    if !n.some {
-        return false;
-    }
-    let border = n.border;
-    let to = n.to;
-    if borders[border] != 2 {
-        return false;
-    }
-    group_of(grouping, to) == g
+    let open = borders[n.border] == 2;
+    open && group_of(grouping, n.to) == g
 }
 
 // The border to the neighbour n of the cell c is wall, n has the colour of c (or, if `same` is false, the other one),
-// and its group is not flagged. False if there is no neighbour.
+// and its group is not flagged.
 fn wall_kept<'a>(
     colours: &'a [u8; 1024],
     borders: &'a [u8; 1984],
@@ -78,52 +52,42 @@ fn wall_kept<'a>(
     n: Neighbour,
 ) -> bool
     requires { Arrays borders.now (numbers_in grouping.now) × (length colours.now ≡ 1024)
-        × (length flagged.now ≡ 1024)
-        × (c < 1024) × (n.some ≡ true → InArrays n) }
-    ensures { result ≡ (n.some && wall_kept (colours_in colours.now) (states_in borders.now)
-        (entry (numbers_in grouping.now)) same (is_flagged flagged.now) c (hop_of n)) }
+        × (length flagged.now ≡ 1024) × (c < 1024) × InArrays n }
+    ensures { result ≡ wall_kept (colours_in colours.now) (states_in borders.now)
+        (entry (numbers_in grouping.now)) same (is_flagged flagged.now) c (hop_of n) }
 {
-    if !n.some {
-        return false;
-    }
-    let border = n.border;
-    let to = n.to;
-    if borders[border] != 1 {
-        return false;
-    }
-    if one_colour(colours, c, to) != same {
-        return false;
-    }
-    !is_flagged(flagged, group_of(grouping, to))
+    let wall = borders[n.border] == 1;
+    wall && one_colour(colours, c, n.to) == same && !is_flagged(flagged, group_of(grouping, n.to))
 }
 
-// Writes the border to the neighbour n, if it is open and n is in the group g.
+// Writes the border to the neighbour, if there is one, the border is open, and the neighbour is in the group g.
 fn open_hop<'a>(
     memory: &mut [u16],
     from: usize,
     borders: &'a [u8; 1984],
     grouping: &'a Grouping,
     g: usize,
-    n: Neighbour,
+    neighbour: Option<Neighbour>,
 ) -> usize
-    requires { Arrays borders.now (numbers_in grouping.now) × (n.some ≡ true → InArrays n)
+    requires { Arrays borders.now (numbers_in grouping.now) × IfSome neighbour InArrays
         × Spare memory.old from }
     ensures { Wrote memory.old from (gather Open (open_kept (states_in borders.now)
-        (entry (numbers_in grouping.now)) g) (hops_in n)) memory.new result }
+        (entry (numbers_in grouping.now)) g) (hops_in neighbour)) memory.new result }
 {
-    let kept = open_kept(borders, grouping, g, n);
-    append_if(
-        memory,
-        from,
-        kept,
-        Literal {
-            border: n.border,
-            side: Side::Open,
-        },
-    )
+    match neighbour {
+        Some(n) if open_kept(borders, grouping, g, n) => append(
+            memory,
+            from,
+            Literal {
+                border: n.border,
+                side: Side::Open,
+            },
+        ),
+        _ => from,
+    }
 }
 
-// Writes the border to the neighbour n of the cell c, if it is a wall that the scan keeps.
+// Writes the border to the neighbour of the cell c, if there is one and the border is a wall that the scan keeps.
 fn wall_hop<'a>(
     memory: &mut [u16],
     from: usize,
@@ -133,26 +97,27 @@ fn wall_hop<'a>(
     same: bool,
     flagged: &'a [u8; 1024],
     c: usize,
-    n: Neighbour,
+    neighbour: Option<Neighbour>,
 ) -> usize
     requires { Arrays borders.now (numbers_in grouping.now) × (length colours.now ≡ 1024)
         × (length flagged.now ≡ 1024)
-        × (c < 1024) × (n.some ≡ true → InArrays n) × Spare memory.old from }
+        × (c < 1024) × IfSome neighbour InArrays × Spare memory.old from }
     ensures { Wrote memory.old from (gather Wall (wall_kept (colours_in colours.now)
         (states_in borders.now) (entry (numbers_in grouping.now)) same
         (is_flagged flagged.now) c)
-        (hops_in n)) memory.new result }
+        (hops_in neighbour)) memory.new result }
 {
-    let kept = wall_kept(colours, borders, grouping, same, flagged, c, n);
-    append_if(
-        memory,
-        from,
-        kept,
-        Literal {
-            border: n.border,
-            side: Side::Wall,
-        },
-    )
+    match neighbour {
+        Some(n) if wall_kept(colours, borders, grouping, same, flagged, c, n) => append(
+            memory,
+            from,
+            Literal {
+                border: n.border,
+                side: Side::Wall,
+            },
+        ),
+        _ => from,
+    }
 }
 
 // Writes the open borders of the cell c into the group g: below, right.
@@ -173,8 +138,8 @@ pub fn open_cell<'a>(
     // a call for each direction and no loop, so that each is compiled for its direction
     let y = c / w;
     let x = c % w;
-    let below = beside(h, w, c, y, x, 1);
-    let right = beside(h, w, c, y, x, 3);
+    let below = beside(h, w, c, y, x, Direction::Below);
+    let right = beside(h, w, c, y, x, Direction::Right);
     let at = open_hop(memory, from, borders, grouping, g, below);
     open_hop(memory, at, borders, grouping, g, right)
 }
@@ -200,11 +165,9 @@ fn wall_cell<'a>(
     let y = c / w;
     let x = c % w;
     let mut at = from;
-    let mut d = 0;
-    while d < 4 {
-        let n = beside(h, w, c, y, x, d);
+    for direction in Direction::ALL {
+        let n = beside(h, w, c, y, x, direction);
         at = wall_hop(memory, at, colours, borders, grouping, same, flagged, c, n);
-        d += 1;
     }
     at
 }

@@ -1,13 +1,15 @@
 -- Bounds: a breach's border is on the page.
-use Rattle.std.specs.Prelude.{◌≡◌, refl, Bool, true, false, cond, List}
+use Rattle.std.specs.Prelude.{Bool, true, false, cond, List, Option, Some, None}
 use Rattle.std.proofs.Common.{sym, ap, ◌∙◌}
 use Prim.Native.Nat.{ℕ, zero, suc, ◌+◌, ◌*◌, ◌/◌, ◌%◌, ◌<◌, ◌≤◌}
 use native.Mathlib.Omega.{arith}
 use Rattle.rules.specs.Page.{State}
-use Rattle.rules.specs.Flat.{Sized, flat, hop_if}
+use Rattle.rules.specs.Flat.{Sized, flat}
 use Rattle.rules.specs.Codes.{states_in}
 use Rattle.rules.specs.Groups.{entry}
 use Rattle.laws.specs.FlatLaws.{row_of_lem}
+use Rattle.reasons.specs.declared.Direction.{Direction}
+use Rattle.reasons.specs.declared.Direction.TheVariants.{Below, Right}
 use Rattle.reasons.specs.declared.Neighbour.{Neighbour}
 use Rattle.reasons.specs.Arrays.{Stepped, hops_in, hop_of}
 use Rattle.reasons.specs.StepLaws.{step-any}
@@ -23,29 +25,24 @@ or-small a b p q = go a.found
     go true = p
     go false = q
 
-hop-small : {h w y x d : ℕ} (s : ℕ → State) (block : ℕ → ℕ) (c : ℕ) (r : Neighbour) → Stepped h w y x d r
-    → (breach_on s block c (hops_in r)).border < 1984
-unfolding hops_in hop_if breach_on hop_breach
-hop-small s block c r p = go r.some refl
+hop-small : {h w y x : ℕ} {d : Direction} (s : ℕ → State) (block : ℕ → ℕ) (c : ℕ) (r : Option Neighbour)
+    → Stepped h w y x d r → (breach_on s block c (hops_in r)).border < 1984
+unfolding hops_in breach_on hop_breach
+hop-small s block c None p = omega arith
+hop-small s block c (Some n) p =
+    or-small (hop_breach s block c (hop_of n)) no_breach (at (is_breach s block c (hop_of n))) (omega arith)
   where
-    at : (v : Bool) → r.border < 1984
-        → (cond v (record { found = true; cell = c; border = r.border; to = r.to }) no_breach).border < 1984
-    at true q = q
-    at false q = omega arith
-
-    go : (v : Bool) → r.some ≡ v → (breach_on s block c (hop_if v r.border r.to)).border < 1984
-    go true e =
-        or-small (hop_breach s block c (hop_of r)) no_breach
-        (at (is_breach s block c (hop_of r)) (p.near e).fits.border)
-        (omega arith)
-    go false e = omega arith
+    at : (v : Bool)
+        → (cond v (record { found = true; cell = c; border = n.border; to = n.to }) no_breach).border < 1984
+    at true = p.near.fits.border
+    at false = omega arith
 
 module _ {h w : ℕ} (z : Sized h w) (bs ids : List ℕ) where
   cell-small : (c : ℕ) → c < h * w → (breach_at h w bs ids c).border < 1984
   cell-small c q =
       let r = row_of_lem h w c q in
-      let n = step-any z r.row r.column 1 in
-      let k = step-any z r.row r.column 3 in
+      let n = step-any z r.row r.column Below in
+      let k = step-any z r.row r.column Right in
       let e = ap (breach_at h w bs ids) r.same
       ∙ sym (cell-split h w (c / w) (c % w) r.row r.column bs ids n.0 k.0 n.1 k.1) in
       rw e (or-small _ _ (hop-small _ _ _ n.0 n.1) (hop-small _ _ _ k.0 k.1))

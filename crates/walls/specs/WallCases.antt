@@ -3,16 +3,17 @@
 --   breach_at h w bs ids c  the first breach at cell c, over arrays
 use Rattle.std.proofs.Math.Path.{◌≡◌, refl}
 use Rattle.std.proofs.Common.{sym, ◌∙◌, mul-le-mul_right, add-mul}
-use Rattle.std.specs.Prelude.{Bool, ◌&&◌}
+use Rattle.std.specs.Prelude.{Bool, Option, Some, None}
 use Rattle.std.proofs.Math.Bool.{true, false, cond}
 use mathlib.Core.List.{List, [], ◌∷◌, ◌++◌}
 use Prim.Native.Nat.{ℕ, zero, suc, ◌+◌, ◌-◌, ◌*◌, ◌<◌, ◌≤◌}
 use native.Mathlib.Omega.{arith}
 use Rattle.rules.specs.Page.{State, Hop}
-use Rattle.rules.specs.Flat.{flat, ahead_at, hop_if}
+use Rattle.rules.specs.Flat.{flat, ahead_at}
 use Rattle.rules.specs.Codes.{states_in}
 use Rattle.rules.specs.Groups.{entry}
 use Rattle.laws.specs.FlatLaws.{spot}
+use Rattle.reasons.specs.declared.Direction.TheVariants.{Below, Right}
 use Rattle.reasons.specs.declared.Neighbour.{Neighbour}
 use Rattle.reasons.specs.Arrays.{Stepped, hop_at, hops_in, hop_of}
 use Rattle.walls.specs.declared.Breach.{Breach}
@@ -49,38 +50,31 @@ module _ (s : ℕ → State) (block : ℕ → ℕ) (c : ℕ) where
           at false q = refl
 
   -- the neighbour that `step` answers
-  module _ (n : Neighbour) where
-    pub hop-found : (n.some && is_breach s block c (hop_of n)) ≡ true
-        → record { found = true; cell = c; border = n.border; to = n.to } ≡ breach_on s block c (hops_in n)
-    unfolding hops_in hop_if breach_on hop_breach or_breach
-    hop-found e = go n.some e
-      where
-        go : (v : Bool) → (v && is_breach s block c (hop_of n)) ≡ true
-            → record { found = true; cell = c; border = n.border; to = n.to }
-            ≡ breach_on s block c (hop_if v n.border n.to)
-        go true q = rw q
-        go false q = let z : ◌≡◌ {A = ℕ} 0 1 = cc in absurd (omega arith)
+  pub hop-off : no_breach ≡ breach_on s block c (hops_in None)
+  unfolding hops_in breach_on
+  hop-off = refl
 
-    pub hop-missed : (n.some && is_breach s block c (hop_of n)) ≡ false → no_breach ≡ breach_on s block c (hops_in n)
-    unfolding hops_in hop_if breach_on hop_breach or_breach
-    hop-missed e = go n.some e
-      where
-        go : (v : Bool) → (v && is_breach s block c (hop_of n)) ≡ false
-            → no_breach ≡ breach_on s block c (hop_if v n.border n.to)
-        go true q = rw q
-        go false q = refl
+  module _ (n : Neighbour) where
+    pub hop-found : true ≡ is_breach s block c (hop_of n)
+        → record { found = true; cell = c; border = n.border; to = n.to } ≡ breach_on s block c (hops_in (Some n))
+    unfolding hops_in breach_on hop_breach or_breach
+    hop-found e = rw (← e)
+
+    pub hop-missed : false ≡ is_breach s block c (hop_of n) → no_breach ≡ breach_on s block c (hops_in (Some n))
+    unfolding hops_in breach_on hop_breach or_breach
+    hop-missed e = rw (← e)
 
 -- below, then right
-module _ (h w y x : ℕ) (hy : y < h) (hx : x < w) (bs ids : List ℕ) (n k : Neighbour) (p : Stepped h w y x 1 n)
-    (q : Stepped h w y x 3 k) where
-  abbrev on : Neighbour → Breach
+module _ (h w y x : ℕ) (hy : y < h) (hx : x < w) (bs ids : List ℕ) (n k : Option Neighbour) (p : Stepped h w y x Below n)
+    (q : Stepped h w y x Right k) where
+  abbrev on : Option Neighbour → Breach
   on r = breach_on (states_in bs) (entry ids) (y * w + x) (hops_in r)
 
   pub cell-split : or_breach (on n) (on k) ≡ breach_at h w bs ids (y * w + x)
   unfolding breach_at flat ahead_at hop_at
   cell-split =
       rw ((spot h w y x hy hx).row, (spot h w y x hy hx).column, p.is, q.is)
-      (sym (on-append (states_in bs) (entry ids) (y * w + x) (hop_at h w y x 1) (hop_at h w y x 3)))
+      (sym (on-append (states_in bs) (entry ids) (y * w + x) (hop_at h w y x Below) (hop_at h w y x Right)))
 
 -- some cells, and then the others
 module _ (f : ℕ → Breach) where

@@ -1,7 +1,7 @@
 // Step 2 of the check: the first wall between two cells of one block, and the reason of it.
 #![tactic(auto)]
 
-ghost use Rattle.std.specs.Prelude.{◌≡◌, true, ◌&&◌, ◌+◌, ◌*◌, ◌<◌, ◌≤◌, length, eqb};
+ghost use Rattle.std.specs.Prelude.{◌≡◌, true, ◌&&◌, ◌+◌, ◌*◌, ◌<◌, ◌≤◌, length, eqb, IfSome};
 ghost use Rattle.lists.specs.Count.{bit};
 ghost use Rattle.rules.specs.Flat.{Sized, flat};
 ghost use Rattle.rules.specs.Codes.{states_in};
@@ -15,7 +15,7 @@ ghost use Rattle.walls.specs.Clean.{Apart};
 ghost use Rattle.walls.specs.Written.{breach_literals};
 
 use groups::{Grouping, group_of};
-use reasons::Neighbour;
+use reasons::{Direction, Neighbour, step};
 
 // A wall between two cells of one block: the cell, the wall and the neighbour over it. Nothing found: all 0.
 #[derive(Clone, Copy)]
@@ -26,22 +26,12 @@ pub struct Breach {
     pub to: usize,
 }
 
-// The border to the neighbour n of the cell c is wall, and n is in the block of c. False if there is no neighbour.
+// The border to the neighbour n of the cell c is wall, and n is in the block of c.
 fn is_breach<'a>(borders: &'a [u8; 1984], blocks: &'a Grouping, c: usize, n: Neighbour) -> bool
-    requires { Arrays borders.now (numbers_in blocks.now) × (c < 1024) × (n.some ≡ true → InArrays n) }
-    ensures { result ≡ (n.some && is_breach (states_in borders.now)
-        (entry (numbers_in blocks.now)) c
-        (hop_of n)) }
+    requires { Arrays borders.now (numbers_in blocks.now) × (c < 1024) × InArrays n }
+    ensures { result ≡ is_breach (states_in borders.now) (entry (numbers_in blocks.now)) c (hop_of n) }
 {
-    if !n.some {
-        return false;
-    }
-    let border = n.border;
-    let to = n.to;
-    if borders[border] != 1 {
-        return false;
-    }
-    group_of(blocks, c) == group_of(blocks, to)
+    borders[n.border] == 1 && group_of(blocks, c) == group_of(blocks, n.to)
 }
 
 // Nothing found.
@@ -56,21 +46,26 @@ fn nothing() -> Breach
     }
 }
 
-// The breach over the border to the neighbour n of the cell c, if there is one.
-fn hop_breach<'a>(borders: &'a [u8; 1984], blocks: &'a Grouping, c: usize, n: Neighbour) -> Breach
-    requires { Arrays borders.now (numbers_in blocks.now) × (c < 1024) × (n.some ≡ true → InArrays n) }
+// The breach over the border to the neighbour of the cell c, if there is one.
+fn hop_breach<'a>(
+    borders: &'a [u8; 1984],
+    blocks: &'a Grouping,
+    c: usize,
+    neighbour: Option<Neighbour>,
+) -> Breach
+    requires { Arrays borders.now (numbers_in blocks.now) × (c < 1024) × IfSome neighbour InArrays }
     ensures { result ≡ breach_on (states_in borders.now) (entry (numbers_in blocks.now)) c
-        (hops_in n) }
+        (hops_in neighbour) }
 {
-    if is_breach(borders, blocks, c, n) {
-        return Breach {
+    match neighbour {
+        Some(n) if is_breach(borders, blocks, c, n) => Breach {
             found: true,
             cell: c,
             border: n.border,
             to: n.to,
-        };
+        },
+        _ => nothing(),
     }
-    nothing()
 }
 
 // The first breach at the cell (y,x): below, then right.
@@ -86,11 +81,13 @@ fn cell_breach<'a>(
     ensures { result ≡ breach_at h w borders.now (numbers_in blocks.now) (y * w + x) }
 {
     let c = y * w + x;
-    let below = hop_breach(borders, blocks, c, reasons::step(h, w, y, x, 1));
-    if below.found {
-        return below;
+    let below = step(h, w, y, x, Direction::Below);
+    let breach = hop_breach(borders, blocks, c, below);
+    if breach.found {
+        return breach;
     }
-    hop_breach(borders, blocks, c, reasons::step(h, w, y, x, 3))
+    let right = step(h, w, y, x, Direction::Right);
+    hop_breach(borders, blocks, c, right)
 }
 
 // The first breach in the row y.

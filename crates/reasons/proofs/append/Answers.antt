@@ -14,8 +14,8 @@ noted : (c : After-name) {r : Bool} → c.name.result ≡ r → c.name.new.memor
     ≡ cond r (naming c.args.memory.now c.args.literal.border) c.args.memory.now
 noted c e = rw (← e) c.name.ensures.1
 
-pub returns-then-at-ge1984 : goal.returns-then-at-ge1984
-returns-then-at-ge1984 c = naming-full _ _ _ c.requires.0 c.if-at-ge1984.true
+pub returns-then-full : goal.returns-then-full
+returns-then-full c = naming-full _ _ _ c.requires.0 c.if-full.true
 
 pub bounds-memory-at : goal.bounds-memory-at
 bounds-memory-at c =
@@ -25,14 +25,14 @@ bounds-memory-at c =
       ap length e,
       length-naming c.args.memory.now c.args.literal.border,
       c.requires.0.long,
-      c.if-at-ge1984.false,
+      c.if-full.false,
     )
 
 pub returns-then-name : goal.returns-then-name
 returns-then-name c =
     let q = not-true _ (sym c.name.ensures.0 ∙ c.if-name.true) in
     rw (c.code.ensures, noted (goal.at.returns-then-name c).After-name c.if-name.true)
-    (naming-new _ _ _ c.requires.0 c.if-at-ge1984.false q)
+    (naming-new _ _ _ c.requires.0 c.if-full.false q)
 
 pub returns : goal.returns
 returns c =

@@ -7,9 +7,9 @@ use Rattle.reasons.proofs.name.Goals as goal
 pub returns-then-memory-place : goal.returns-then-memory-place
 returns-then-memory-place c = (rw (named-out _ _ c.if-memory-place.true), sym (naming-out _ _ c.if-memory-place.true))
 
-pub returns-then-memory-place-ne0 : goal.returns-then-memory-place-ne0
-returns-then-memory-place-ne0 c = (rw (named_some _ _ c.if-memory-place-ne0.true), refl)
+pub returns-then-named : goal.returns-then-named
+returns-then-named c = (rw (named_some _ _ c.if-named.true), refl)
 
 pub returns : goal.returns
 unfolding naming
-returns c = (rw (named_none _ _ c.if-memory-place-ne0.false), refl)
+returns c = (rw (named_none _ _ c.if-named.false), refl)

@@ -2,7 +2,8 @@
 use mathlib.Core.Path.{sym, ◌∙◌}
 use native.Mathlib.Omega.{arith}
 use Rattle.laws.specs.FlatLaws.{Counts, counts, Spot, spot}
-use Rattle.reasons.specs.StepLaws.{step-any}
+use Rattle.reasons.specs.declared.Direction.TheVariants.{Right}
+use Rattle.reasons.specs.StepLaws.{step-any, near-fits}
 use Rattle.walls.specs.WallCases.{or-found, or-missed, cell-split}
 use Rattle.walls.proofs.cell_breach.Goals.{Start}
 use Rattle.walls.proofs.cell_breach.Goals as goal
@@ -19,29 +20,29 @@ overflow_mul-c c = omega (arith, at c, all c)
 pub overflow_add-c : goal.overflow_add-c
 overflow_add-c c = omega (arith, at c, all c)
 
-pub hop_breach-below-requires : goal.hop_breach-below-requires
-hop_breach-below-requires c = (
+pub hop_breach-breach-requires : goal.hop_breach-breach-requires
+hop_breach-breach-requires c = (
   c.requires.1,
-  omega (arith, at (goal.at.hop_breach-below-requires c).Start, all (goal.at.hop_breach-below-requires c).Start),
-  λ t. (c.step.ensures.near t).fits,
+  omega (arith, at (goal.at.hop_breach-breach-requires c).Start, all (goal.at.hop_breach-breach-requires c).Start),
+  near-fits c.step-below.ensures,
 )
 
-pub returns-then-below : goal.returns-then-below
-returns-then-below c =
-    let right = step-any c.requires.0 c.requires.2 c.requires.3 3 in
-    or-found _ _ _ c.hop_breach-below.ensures c.if-below.true
-    ∙ cell-split _ _ _ _ c.requires.2 c.requires.3 _ _ _ _ c.step.ensures right.1
+pub returns-then-breach : goal.returns-then-breach
+returns-then-breach c =
+    let right = step-any c.requires.0 c.requires.2 c.requires.3 Right in
+    or-found _ _ _ c.hop_breach-breach.ensures c.if-breach.true
+    ∙ cell-split _ _ _ _ c.requires.2 c.requires.3 _ _ _ _ c.step-below.ensures right.1
 
 pub hop_breach-requires : goal.hop_breach-requires
 hop_breach-requires c = (
   c.requires.1,
   omega (arith, at (goal.at.hop_breach-requires c).Start, all (goal.at.hop_breach-requires c).Start),
-  λ t. (c.step-2.ensures.near t).fits,
+  near-fits c.step-right.ensures,
 )
 
 pub returns : goal.returns
 returns c =
     c.hop_breach.ensures
-    ∙ sym (or-missed _ _ _ c.hop_breach-below.ensures c.if-below.false)
-    ∙ cell-split _ _ _ _ c.requires.2 c.requires.3 _ _ _ _ c.step.ensures
-    c.step-2.ensures
+    ∙ sym (or-missed _ _ _ c.hop_breach-breach.ensures c.if-breach.false)
+    ∙ cell-split _ _ _ _ c.requires.2 c.requires.3 _ _ _ _ c.step-below.ensures
+    c.step-right.ensures

@@ -12,8 +12,9 @@ use Rattle.rules.specs.Reasons.{gather, inside_at}
 use Rattle.laws.specs.FlatLaws.{OnPage, row_of_lem}
 use Rattle.groups.specs.Grouping.{numbers_in}
 use Rattle.reasons.specs.Memory.{Wrote}
-use Rattle.reasons.specs.Arrays.{hop_at, open_kept}
+use Rattle.reasons.specs.Arrays.{hop_at, direction_at, open_kept}
 use Rattle.reasons.proofs.MemoryLaws.{turns-none, turns_more}
+use Rattle.reasons.specs.StepLaws.{near-fits}
 use Rattle.reasons.specs.ScanLaws.{inside-hops}
 use Rattle.reasons.proofs.scans.open_cell.Goals.{Start}
 use Rattle.reasons.proofs.scans.open_cell.Goals as goal
@@ -28,7 +29,7 @@ abbrev at : Start → ℕ → List Literal
 at s i =
     let a = s.args in
     gather Open (open_kept (states_in a.borders.now) (number s) a.g)
-    (hop_at a.h a.w (a.c / a.w) (a.c % a.w) (2 * i + 1))
+    (hop_at a.h a.w (a.c / a.w) (a.c % a.w) (direction_at (2 * i + 1)))
 
 whole : (s : Start) → let a = s.args in
     inside_at (flat a.h a.w) (states_in a.borders.now) (number s) a.g a.c ≡ up_to (at s) 2
@@ -55,12 +56,13 @@ beside-right-requires c = (
 )
 
 pub open_hop-at-requires : goal.open_hop-at-requires
-open_hop-at-requires c = (c.requires.1, λ t. (c.beside-below.ensures.near t).fits, c.requires.3)
+open_hop-at-requires c = (c.requires.1, near-fits c.beside-below.ensures, c.requires.3)
 
 pub open_hop-requires : goal.open_hop-requires
-open_hop-requires c = (c.requires.1, λ t. (c.beside-right.ensures.near t).fits, c.open_hop-at.ensures.spare)
+open_hop-requires c = (c.requires.1, near-fits c.beside-right.ensures, c.open_hop-at.ensures.spare)
 
 pub returns : goal.returns
+unfolding direction_at
 returns c =
     let one =
     turns_more (at (goal.at.returns c).Start) 0 (start (goal.at.returns c).Start)

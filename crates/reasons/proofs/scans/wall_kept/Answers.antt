@@ -1,67 +1,37 @@
 -- Each return by the tests that led there.
-use mathlib.Core.Path.{◌≡◌}
-use mathlib.Core.Bool.{true, false, beq}
-use native.Mathlib.Omega.{arith}
-use borrow.Author.Tests.{eq-eqb, ne_eqb, not-true, not-false}
+use Rattle.std.proofs.Common.{◌≡◌, ◌∙◌, eq-eqb, ne_eqb}
+use Rattle.std.proofs.Math.Bool.{◌&&◌, beq}
+use Rattle.std.proofs.Math.Dec.{eqb}
+use Rattle.std.proofs.Math.ListN.{get_or}
 use Rattle.rules.specs.Groups.{entry}
+use Rattle.rules.specs.Codes.{colours_in}
 use Rattle.laws.specs.CodeLaws.{state-wall}
-use Rattle.reasons.specs.Arrays.{InArrays, wall_kept}
-use Rattle.reasons.proofs.scans.wall_kept.Goals.{Else-not-n}
+use Rattle.reasons.specs.Arrays.{wall_kept}
+use Rattle.reasons.proofs.scans.wall_kept.Goals.{Joined-wall, then-wall, else-wall}
 use Rattle.reasons.proofs.scans.wall_kept.Goals as goal
 
-there : (c : Else-not-n) → c.args.n.some ≡ true
-there c = not-false _ c.if-not-n.false
-
-near : (c : Else-not-n) → InArrays c.args.n
-near c = c.requires.4 (there c)
-
-pub returns-then-not-n : goal.returns-then-not-n
-returns-then-not-n c = let e : c.args.n.some ≡ false = not-true _ c.if-not-n.true in rw e
-
-pub bounds-borders-border : goal.bounds-borders-border
-bounds-borders-border c = omega (arith, near (goal.at.bounds-borders-border c).Else-not-n)
-
-pub returns-then-borders-border-ne1 : goal.returns-then-borders-border-ne1
-unfolding wall_kept
-returns-then-borders-border-ne1 c =
-    rw (
-      there (goal.at.returns-then-borders-border-ne1 c).Else-not-n,
-      state-wall,
-      ne_eqb _ _ c.if-borders-border-ne1.true,
-    )
-
-pub one_colour-requires : goal.one_colour-requires
-one_colour-requires c =
-    let n = near (goal.at.one_colour-requires c).Else-not-n in
-    (c.requires.1, c.requires.3, n.to)
+-- what the first two tests say
+both : (c : Joined-wall) → let a = c.args in
+    c.if-wall.value ≡ (eqb (get_or a.borders.now a.n.border 0) 1
+    && beq (beq (colours_in a.colours.now a.c) (colours_in a.colours.now a.n.to)) a.same)
+both c =
+    elim c.if-wall.branch [
+      | then-wall w ↦ rw (eq-eqb _ _ w.if-wall.true) (w.value-is ∙ rw w.one_colour.ensures)
+      | else-wall w ↦ rw (ne_eqb _ _ w.if-wall.false) (w.value-is ∙ rw (ne_eqb _ _ w.if-wall.false))
+    ]
 
 pub returns-then-one_colour-same : goal.returns-then-one_colour-same
-unfolding wall_kept
-returns-then-one_colour-same c =
-    let s = c.args in
-    let e : beq c.one_colour.result s.same ≡ false = not-true _ c.if-one_colour-same.true in
-    rw (
-      there (goal.at.returns-then-one_colour-same c).Else-not-n,
-      state-wall,
-      eq-eqb _ _ c.if-borders-border-ne1.false,
-      ← c.one_colour.ensures,
-      e,
-    )
-
-pub group_of-requires : goal.group_of-requires
-group_of-requires c = (near (goal.at.group_of-requires c).Else-not-n).to
-
-pub returns : goal.returns
 unfolding wall_kept entry
-returns c =
-    let s = c.args in
-    let e : beq c.one_colour.result s.same ≡ true = not-false _ c.if-one_colour-same.false in
+returns-then-one_colour-same c =
     rw (
-      there (goal.at.returns c).Else-not-n,
       state-wall,
-      eq-eqb _ _ c.if-borders-border-ne1.false,
-      ← c.one_colour.ensures,
-      e,
+      ← both (goal.at.returns-then-one_colour-same c).Joined-wall,
+      c.if-one_colour-same.true,
       c.is_flagged.ensures,
       c.group_of.ensures,
     )
+
+pub returns-else-one_colour-same : goal.returns-else-one_colour-same
+unfolding wall_kept
+returns-else-one_colour-same c =
+    rw (state-wall, ← both (goal.at.returns-else-one_colour-same c).Joined-wall, c.if-one_colour-same.false)
