@@ -1,8 +1,8 @@
 -- Laws of the array of parents: it follows the labels merge by merge.
-use Rattle.std.specs.Prelude.{◌≡◌, true, List, map, ℕ, ◌<◌, ◌≤◌, get_or, set, replicate}
+use Rattle.std.specs.Prelude.{◌≡◌, true, List, map, ℕ, ◌<◌, ◌≤◌, max, min, get_or, set, replicate}
 use Rattle.std.proofs.Common.{sym, ap, ◌∙◌, arith, length-set, get_or-set_same, get_or-set_other}
-use Rattle.std.proofs.Math.Decide.{ℕ_discrete}
-use Rattle.std.proofs.lemmas.List.{length-replicate}
+use Rattle.std.proofs.Math.Decide.{ℕ_discrete, dec_lt}
+use Rattle.std.proofs.lemmas.List.{length-replicate, set-get_or}
 use Rattle.lists.specs.PaddedLaws.{zeros}
 use Rattle.rules.specs.Groups.{entry, rename, merge_if}
 use Rattle.laws.specs.LabelLaws.{rename-hit, rename-miss, renamed, labelled-renamed, merge-earlier, merge-later}
@@ -76,6 +76,18 @@ module _ (n : ℕ) (p L : List ℕ) (f : Forest p) (r : Rep n p L) (few : n ≤ 
 
   pub rep-one : u ≡ v → Rep n p (merge_if true (entry L a) (entry L b) L)
   rep-one e = rw (merge-same L a b (sym eu ∙ e ∙ ev)) r
+
+  pub rep-roots : (hi lo : ℕ) → hi ≡ max u v → lo ≡ min u v → Rep n (set p hi lo) (merge_if true (entry L a) (entry L b) L)
+  rep-roots hi lo eh el =
+      elim (dec_lt u v) [
+        | yes h ↦ let i : hi ≡ v = omega arith in let j : lo ≡ u = omega arith in rw (i, j) (rep-earlier h)
+        | no h ↦ elim (dec_lt v u) [
+          | yes k ↦ let i : hi ≡ u = omega arith in let j : lo ≡ v = omega arith in rw (i, j) (rep-later k)
+          | no k ↦ let i : hi ≡ u = omega arith in let j : lo ≡ u = omega arith in
+              let q : set p u u ≡ p = rw ru at (set-get_or p u 0) in
+              rw (i, j, q) (rep-one (omega arith))
+        ]
+      ]
 
 -- cells whose parents have one parent are of one group
 pub rep-cousins : (n : ℕ) (p L : List ℕ) → Forest p → Rep n p L → (a b : ℕ) → a < n → b < n

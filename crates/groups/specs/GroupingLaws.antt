@@ -1,9 +1,15 @@
 -- Laws of a grouping: a place of its numbers, an array that may be lent, an array that was filled.
-use Rattle.std.specs.Prelude.{◌≡◌, List, [], ◌∷◌, ◌++◌, ℕ, ◌+◌, ◌<◌, ◌≤◌, length, get_or, drop, set, replicate}
+use Rattle.std.specs.Prelude.{◌≡◌, List, [], ◌∷◌, ◌++◌, ℕ, ◌+◌, ◌-◌, ◌<◌, ◌≤◌, length, get_or, take, drop}
+use Rattle.std.specs.Prelude.{set, replicate}
 use Rattle.std.proofs.Common.{sym, ap, ◌∙◌, arith, length-take, length-set, take-append-drop, drop_of_length-le}
-use Rattle.std.proofs.Common.{get_or-take, drop-drop, drop-cons}
+use Rattle.std.proofs.Common.{get_or-take, drop-drop, drop-cons, length-append, length-drop, length-take-le}
+use borrow.Rule.Slice.PartMut.{mid_of, mid_len, post_of, put_mid, same_len_mid, take_put, drop_put}
+use Rattle.std.proofs.Math.ListN.{get_or-append}
+use Rattle.std.proofs.Math.Seq.{get_or-drop, drop_at}
+use Rattle.lists.specs.Table.{table}
+use Rattle.lists.specs.TableLaws.{length-table, get_d-table}
 use Rattle.std.proofs.Math.Decide.{dec_lt}
-use Rattle.std.proofs.lemmas.List.{length-replicate}
+use Rattle.std.proofs.lemmas.List.{length-replicate, get_or-append_right}
 use Rattle.lists.specs.Sections.{section, Only}
 use Rattle.lists.specs.SectionLaws.{section-at, section-past, section-length, section-set, section-low, section-high}
 use Rattle.lists.specs.SectionLaws.{front_at, front-set}
@@ -32,6 +38,46 @@ section-stored a N n f {l = l} {m = m} h o s = record {
     | no j ↦ section-past a N m x (omega arith) ∙ sym (section-past a N l x (omega arith))
   ];
 }
+
+-- a part of the list is written, from the place a on
+module _ (a n e : ℕ) (q : e ≡ a + n) (l : List ℕ) (room : e ≤ length l) (new : List ℕ) where
+  part-stored : (f : ℕ → ℕ) → length new ≡ n → ((x : ℕ) → x < n → get_or new x 0 ≡ f x)
+      → Stored n f (drop a l) (drop a (put_mid a (e - a) l new)) × Only a (a + n) l (put_mid a (e - a) l new)
+  part-stored f size at = (
+    rw behind (record {
+      long = simp (length-append, length-drop) (omega (arith, size));
+      at = λ x h. get_or-append new _ 0 x (omega arith) ∙ at x h;
+      rest = λ x h. get_or-append_right new _ n x 0 size h
+          ∙ get_or-drop (e - a) (drop a l) (x - n) 0
+          ∙ ap (λ (j : ℕ). get_or (drop a l) j 0) (omega arith);
+    }),
+    rw (← q) (record {
+      long = same_len_mid a (e - a) l new (size ∙ sym whole);
+      low = take_put a (e - a) l new (omega arith);
+      high = drop_put a e l new (omega arith) room (omega arith);
+    }),
+  )
+    where
+      whole : length (mid_of a (e - a) l) ≡ n
+      whole = mid_len a e l room ∙ omega arith
+
+      behind : drop a (put_mid a (e - a) l new) ≡ new ++ post_of a (e - a) l
+      behind = drop_at (take a l) (new ++ post_of a (e - a) l) a (length-take-le a l (omega arith))
+
+  pub part-counted : new ≡ table (length (mid_of a (e - a) l)) (λ x. x)
+      → Stored n (λ x. x) (drop a l) (drop a (put_mid a (e - a) l new)) × Only a (a + n) l (put_mid a (e - a) l new)
+  part-counted h =
+      let m : length (mid_of a (e - a) l) ≡ n = mid_len a e l room ∙ omega arith in
+      let k : new ≡ table n (λ x. x) = rw m at h in
+      part-stored (λ x. x) (omega (arith, ap length k, length-table n (λ x. x)))
+      (λ x i. rw k (get_d-table n (λ x. x) x 0 i))
+
+  pub part-cleared : new ≡ replicate (length (mid_of a (e - a) l)) 0
+      → Stored n (λ x. 0) (drop a l) (drop a (put_mid a (e - a) l new)) × Only a (a + n) l (put_mid a (e - a) l new)
+  part-cleared h =
+      let m : length (mid_of a (e - a) l) ≡ n = mid_len a e l room ∙ omega arith in
+      let k : new ≡ replicate n 0 = rw m at h in
+      part-stored (λ x. 0) (ap length k ∙ length-replicate n 0) (λ x i. rw k (zeros n x))
 
 -- arrays that may be lent: one of zeros, one after a store to a place of the page, and one that was filled
 zeros-section : (a n k : ℕ) → get_or (section a n (replicate 3074 0)) k 0 ≡ 0

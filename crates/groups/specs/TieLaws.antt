@@ -1,8 +1,8 @@
 -- Laws of the flags on a flat page: they say which borders join, and the pass over them leads to the labels.
-use Rattle.std.specs.Prelude.{◌≡◌, Bool, false, ◌⊎◌, length, set, take, replicate}
+use Rattle.std.specs.Prelude.{◌≡◌, Bool, false, ◌⊎◌, length, set, take, drop, replicate}
 use Rattle.std.proofs.Math.Path.{sym, ap}
 use Rattle.std.proofs.Common.{◌∙◌, inl, inr, add-zero, add-mul, mul-zero, div-lt_iff_lt-mul, length-set}
-use Rattle.std.proofs.Common.{get_or-set_other, get_or-take, length-take-le}
+use Rattle.std.proofs.Common.{get_or-take, length-take-le, length-drop}
 use Rattle.std.proofs.Math.Bool.{true}
 use mathlib.Core.List.{List}
 use Prim.Native.Nat.{ℕ, ◌+◌, ◌-◌, ◌*◌, ◌/◌, ◌%◌, ◌<◌, ◌≤◌}
@@ -11,8 +11,9 @@ use native.Mathlib.Omega.{arith}
 use Rattle.std.proofs.Math.Decide.{ℕ_discrete, dec_lt}
 use borrow.Author.Tests.{eq-eqb, ne_eqb, lt-ltb, le-ltb}
 use Rattle.std.proofs.Math.Arith.{digits_lt, digits_div, digits_mod}
-use Rattle.std.proofs.Math.ListN.{get_or}
-use Rattle.std.proofs.lemmas.List.{length-replicate}
+use borrow.Rule.Slice.PartMut.{put_mid, same_len_mid}
+use Rattle.std.proofs.Math.ListN.{get_or, get_or-append}
+use Rattle.std.proofs.lemmas.List.{length-replicate, get_or-append_right}
 use Rattle.lists.specs.TableLaws.{stored_more}
 use Rattle.lists.specs.PaddedLaws.{replicate-at}
 use Rattle.lists.specs.Booleans.{false-true}
@@ -35,14 +36,24 @@ tie-flags-more n m f flags v h e q s =
       at = stored_more f false v flags n (omega (arith, s.long)) e s.at;
     })
 
--- a flag past those that matter
-pub flagged-past : (n i : ℕ) (f : ℕ → Bool) (flags : List Bool) (v : Bool) → n ≤ i → TieFlags n f flags
-    → TieFlags n f (set flags i v)
-flagged-past n i f flags v h s =
+-- k flags in a row, of which the first m matter
+pub tie-flags-put : (n k m : ℕ) (f : ℕ → Bool) (flags new : List Bool) → m ≤ k → n + k ≤ 1024 → length new ≡ k
+    → ((i : ℕ) → i < m → get_or new i false ≡ f (n + i)) → TieFlags n f flags
+    → TieFlags (n + m) f (put_mid n k flags new)
+tie-flags-put n k m f flags new h room e at s =
     record {
-      long = length-set flags i v ∙ s.long;
-      at = λ x l. get_or-set_other flags i x v false (λ e. omega arith) ∙ s.at x l;
+      long = same_len_mid n k flags new (e ∙ sym (length-take-le k (drop n flags) (omega (arith, length-drop n flags, s.long)))) ∙ s.long;
+      at = λ x l. elim (dec_lt x n) [
+        | yes i ↦ get_or-append (take n flags) _ false x (omega (arith, front)) ∙ get_or-take n flags x false i ∙ s.at x i
+        | no i ↦
+            let j : n + (x - n) ≡ x = omega arith in
+            get_or-append_right (take n flags) _ n x false front (omega arith)
+            ∙ get_or-append new _ false (x - n) (omega arith) ∙ at (x - n) (omega arith) ∙ ap f j
+      ];
     }
+  where
+    front : length (take n flags) ≡ n
+    front = length-take-le n flags (omega (arith, s.long))
 
 pub tie-flags-none : (f : ℕ → Bool) (flags : List Bool) → length flags ≡ 1024 → TieFlags 0 f flags
 tie-flags-none f flags e = record { long = e; at = λ x h. absurd (omega arith) }

@@ -1,10 +1,9 @@
 // From borders to parents: which cells are joined, and trees of cells whose roots are the groups' first cells.
-ghost use Rattle.std.specs.Prelude.{◌≡◌, Bool, true, false, not, ◌&&◌, cond, List, ℕ, ◌+◌, ◌-◌, ◌*◌, ◌≤◌, ◌<◌, eqb};
+ghost use Rattle.std.specs.Prelude.{◌≡◌, Bool, true, false, List, ℕ, ◌+◌, ◌-◌, ◌*◌, ◌≤◌, ◌<◌};
 ghost use Rattle.std.specs.Prelude.{length, get_or, replicate};
-ghost use Rattle.lists.specs.Count.{bit};
 ghost use Rattle.rules.specs.Flat.{Sized};
 ghost use Rattle.rules.specs.Groups.{entry, merge_if};
-ghost use Rattle.groups.specs.Kinds.{one_colour_by, joins_by, joins_in};
+ghost use Rattle.groups.specs.Kinds.{joins_by, joins_in};
 ghost use Rattle.groups.specs.Forests.{Forest, Rep, ForestLinked};
 ghost use Rattle.groups.specs.Ties.{tied_left, above_at, flag_at, TieFlags, Scanned, joined};
 ghost use Rattle.groups.specs.Grouping.{cells_in, Vacant};
@@ -12,21 +11,16 @@ ghost use Rattle.groups.specs.Grouping.{cells_in, Vacant};
 use crate::{Grouping, Kind};
 use board::Board;
 
-// Whether two cells have one colour: both are 1, or neither is.
-fn one_colour(a: u8, b: u8) -> bool
-    ensures { result ≡ one_colour_by a b }
-{
-    (a == 1) == (b == 1)
-}
-
 // Whether a border with the number v joins its two cells, which have the colours a and b.
 fn joins(kind: Kind, v: u8, a: u8, b: u8) -> bool
     ensures { result ≡ joins_by kind v a b }
 {
+    // both are 1, or neither is
+    let one_colour = (a == 1) == (b == 1);
     match kind {
         Kind::Blocks => v == 2,
-        Kind::Units => (v == 2) & one_colour(a, b),
-        Kind::Potential => (v != 1) & one_colour(a, b),
+        Kind::Units => (v == 2) & one_colour,
+        Kind::Potential => (v != 1) & one_colour,
     }
 }
 
@@ -37,8 +31,8 @@ fn find(p: &[u16; Board::CELL_LIMIT], a: usize) -> usize
         × ((n : ℕ) (L : List ℕ) → a < n → Rep n p.now L → result ≡ get_or L a 0) }
 {
     let mut x = a;
-    while p[x] as usize != x {
-        x = p[x] as usize;
+    while usize::from(p[x]) != x {
+        x = usize::from(p[x]);
     }
     x
 }
@@ -50,24 +44,30 @@ fn join(p: &mut [u16; Board::CELL_LIMIT], a: usize, b: usize)
         × ((n : ℕ) (L : List ℕ) → n ≤ 1024 → a < n → b < n → Rep n p.old L
         → Rep n p.new (merge_if true (entry L a) (entry L b) L)) }
 {
-    let c = p[a] as usize;
-    let d = p[b] as usize;
-    if p[c] == p[d] {
-        return;
+    let c = usize::from(p[a]);
+    let d = usize::from(p[b]);
+    if p[c] != p[d] {
+        let x = find(p, c);
+        let y = find(p, d);
+        p[x.max(y)] = x.min(y) as u16;
     }
-    let x = find(p, c);
-    let y = find(p, d);
-    if x < y {
-        p[y] = x as u16;
-    } else {
-        if y < x {
-            p[x] = y as u16;
-        }
+}
+
+// Whether each border joins its two cells: a flag for each, from the colours of its first and of its second cell.
+fn tie<'a>(kind: Kind, borders: &'a [u8], firsts: &'a [u8], seconds: &'a [u8], flags: &mut [bool])
+    requires { (length borders.now ≡ length flags.old) × (length firsts.now ≡ length flags.old)
+        × (length seconds.now ≡ length flags.old) }
+    ensures { (length flags.new ≡ length flags.old)
+        × ((i : ℕ) → i < length flags.old → get_or flags.new i false
+        ≡ joins_by kind (get_or borders.now i 0) (get_or firsts.now i 0) (get_or seconds.now i 0)) }
+{
+    for (i, flag) in flags.iter_mut().enumerate() {
+        *flag = joins(kind, borders[i], firsts[i], seconds[i]);
     }
 }
 
 // Whether each cell of row y is joined to the cell left of it; the first never is. It takes the row's borders, or one
-// more: the flag past the row's end is written over later. The loop takes 32 borders at a time, but not 31.
+// more: the flag past the row's end is written over later. `tie` takes 32 borders at a time, but not 31.
 fn row<'a>(
     kind: Kind,
     h: usize,
@@ -87,12 +87,13 @@ fn row<'a>(
     let c = y * w;
     let b = y * (w - 1);
     lefts[c] = false;
-    let mut x = 0;
-    while x < count {
-        let next = c + x + 1;
-        lefts[next] = joins(kind, borders[b + x], colours[c + x], colours[next]);
-        x += 1;
-    }
+    tie(
+        kind,
+        &borders[b..b + count],
+        &colours[c..c + count],
+        &colours[c + 1..c + 1 + count],
+        &mut lefts[c + 1..c + 1 + count],
+    );
 }
 
 // Whether each cell is joined to the cell left of it, row by row.
@@ -108,12 +109,10 @@ fn across<'a>(
     ensures { TieFlags (h * w) (tied_left h w (joins_in kind h w colours.now borders.now))
         lefts.new }
 {
-    let mut y = 0;
-    while y + 1 < h {
+    for y in 0..h - 1 {
         row(kind, h, w, colours, borders, y, w, lefts);
-        y += 1;
     }
-    row(kind, h, w, colours, borders, y, w - 1, lefts);
+    row(kind, h, w, colours, borders, h - 1, w - 1, lefts);
 }
 
 // Whether each cell is joined to the cell above it; those of the first row never are.
@@ -131,25 +130,13 @@ fn down<'a>(
 {
     let b = h * (w - 1);
     let n = (h - 1) * w;
-    let mut c = 0;
-    while c < n {
-        aboves[c + w] = joins(kind, borders[b + c], colours[c], colours[c + w]);
-        c += 1;
-    }
-}
-
-// One of two numbers, without a branch.
-fn pick(t: bool, a: u16, b: u16) -> u16
-    ensures { result ≡ cond t a b }
-{
-    if t { a } else { b }
-}
-
-// 1 if a cell is joined to the cell left of it and to the one above it, and these have different parents; otherwise 0.
-fn clash(left: bool, above: bool, root: u16, over: u16) -> usize
-    ensures { result ≡ bit ((left && above) && not (eqb root over)) }
-{
-    (left & above & (root != over)) as usize
+    tie(
+        kind,
+        &borders[b..b + n],
+        &colours[..n],
+        &colours[w..w + n],
+        &mut aboves[w..w + n],
+    );
 }
 
 // The parents of the first row: a cell that is joined to the one left of it has that one's, any other is its own.
@@ -158,13 +145,11 @@ fn first_row(p: &mut [u16; Board::CELL_LIMIT], w: usize, lefts: &[bool; Board::C
     ensures { Forest p.new × ((above : ℕ → Bool) (list : List ℕ)
         → Scanned w w (flag_at lefts.now) above p.new list 0) }
 {
-    let mut root: u16 = 0;
+    let mut root = 0;
     p[0] = root;
-    let mut c: usize = 1;
-    while c < w {
-        root = pick(lefts[c], root, c as u16);
+    for c in 1..w {
+        root = if lefts[c] { root } else { c as u16 };
         p[c] = root;
-        c += 1;
     }
 }
 
@@ -184,18 +169,17 @@ fn later_rows<'a>(
         × Scanned n w (flag_at lefts.now) (flag_at aboves.now) p.new
         (cells_in grouping.new) result }
 {
-    let mut k: usize = 0;
+    let mut k = 0;
     let mut root = p[w - 1];
-    let mut c = w;
-    while c < n {
+    for c in w..n {
         let left = lefts[c];
         let above = aboves[c];
         let over = p[c - w];
         grouping[1024 + k] = c as u16;
-        k += clash(left, above, root, over);
-        root = pick(above, over, pick(left, root, c as u16));
+        k += usize::from(left & above & (root != over));
+        let own = if left { root } else { c as u16 };
+        root = if above { over } else { own };
         p[c] = root;
-        c += 1;
     }
     k
 }
@@ -209,11 +193,9 @@ fn settle(p: &mut [u16; Board::CELL_LIMIT], grouping: &Grouping, k: usize)
         → ((i : ℕ) → i < k → get_or (cells_in grouping.now) i 0 < n) → Rep n p.old L
         → Rep n p.new (joined L (entry (cells_in grouping.now)) k)) }
 {
-    let mut i = 0;
-    while i < k {
-        let c = grouping[1024 + i] as usize;
+    for &cell in &grouping[1024..1024 + k] {
+        let c = usize::from(cell);
         join(p, c - 1, c);
-        i += 1;
     }
 }
 

@@ -1,69 +1,37 @@
--- Whether the cells are joined to those above them. The loop has passed c borders.
+-- Whether the cells are joined to those above them: what `tie` says of the borders below the rows.
 use mathlib.Core.Path.{◌≡◌, sym, ◌∙◌}
-use Prim.Native.Nat.{◌+◌, ◌-◌, ◌*◌, ◌<◌}
-use native.Mathlib.Nat.{add-mul, zero-add}
+use Prim.Native.Nat.{◌+◌, ◌-◌, ◌*◌}
+use native.Mathlib.Nat.{add-mul}
 use native.Mathlib.Omega.{arith}
-use borrow.Author.Rules.{rules}
-use Rattle.laws.specs.FlatLaws.{Counts, counts}
-use Rattle.groups.specs.GridLaws.{joins-below, below-lt}
-use Rattle.groups.specs.TieLaws.{tied-above-none, above_at_lem, tie-flags-more}
-use Rattle.groups.proofs.linking.down.Goals.{In-loop-c}
+use borrow.Rule.Slice.PartMut.{mid_len}
+use Rattle.lists.specs.Sections.{section}
+use Rattle.lists.specs.SectionLaws.{section-at, front_at}
+use Rattle.laws.specs.FlatLaws.{counts}
+use Rattle.groups.specs.Kinds.{joins_in}
+use Rattle.groups.specs.GridLaws.{joins-below}
+use Rattle.groups.specs.TieLaws.{tied-above-none, above_at_lem, tie-flags-put}
 use Rattle.groups.proofs.linking.down.Goals as goal
 
--- the numbers at the cell that the loop has come to
-at : (c : In-loop-c) → let s = c.args in
-    Counts s.h s.w × (c.loop-c.c + s.w < s.h * s.w)
-at c = (counts c.requires.0, below-lt _ _ _ c.requires.0.rows c.loop-c-test.true)
-
-pub overflow_mul-b : goal.overflow_mul-b
-overflow_mul-b c = omega (arith, counts c.requires.0)
-
-pub overflow_mul-n : goal.overflow_mul-n
-overflow_mul-n c = omega (arith, counts c.requires.0)
-
-pub loop-c-init : goal.loop-c-init
-loop-c-init c = (search rules, rw (zero-add c.args.w) (tied-above-none c.args.h c.args.w _ _ c.requires.1))
-
-pub overflow_add-b : goal.overflow_add-b
-overflow_add-b c = omega (arith, at c)
-
-pub bounds-borders-b : goal.bounds-borders-b
-bounds-borders-b c = omega (arith, at (goal.at.bounds-borders-b c).In-loop-c)
-
-pub bounds-colours-c : goal.bounds-colours-c
-bounds-colours-c c = omega (arith, at (goal.at.bounds-colours-c c).In-loop-c)
-
-pub overflow_add-c : goal.overflow_add-c
-overflow_add-c c = omega (arith, at (goal.at.overflow_add-c c).In-loop-c)
-
-pub bounds-colours-c-in-loop-c : goal.bounds-colours-c-in-loop-c
-bounds-colours-c-in-loop-c c = omega (arith, at (goal.at.bounds-colours-c-in-loop-c c).In-loop-c)
-
-pub overflow_add-aboves : goal.overflow_add-aboves
-overflow_add-aboves c = omega (arith, at (goal.at.overflow_add-aboves c).In-loop-c)
-
-pub bounds-aboves-c : goal.bounds-aboves-c
-bounds-aboves-c c = omega (arith, at (goal.at.bounds-aboves-c c).In-loop-c, c.loop-c.invariant.1.long)
-
-pub overflow_add-c-in-loop-c : goal.overflow_add-c-in-loop-c
-overflow_add-c-in-loop-c c = omega (arith, at (goal.at.overflow_add-c-in-loop-c c).In-loop-c)
-
-pub loop-c-preserved : goal.loop-c-preserved
-loop-c-preserved c =
-    let l = c.loop-c in
-    let a = c.args in
-    let t = joins-below a.h a.w l.c a.kind a.colours.now a.borders.now in (
-      omega arith,
-      tie-flags-more (l.c + a.w) _ _ _ _ (omega (arith, at (goal.at.loop-c-preserved c).In-loop-c))
-          (c.joins.ensures ∙ sym t ∙ sym (above_at_lem a.h a.w _ l.c)) (omega arith) l.invariant.1,
-    )
-
 pub returns : goal.returns
+unfolding section
 returns c =
-    let h = c.args.h in
-    let w = c.args.w in
-    let l = c.loop-c in
-    let e : h - 1 + 1 ≡ h = omega (arith, c.requires.0.rows) in
-    let m : (h - 1 + 1) * w ≡ (h - 1) * w + w = add-mul (h - 1) 1 w ∙ omega arith in
-    let k : h * w ≡ l.c + w = omega (arith, rw e at m) in
-    rw k l.invariant.1
+    let s = c.args in
+    let b = s.h * (s.w - 1) in
+    let n = (s.h - 1) * s.w in
+    let z = counts c.requires.0 in
+    let k : s.w + n - s.w ≡ n = omega arith in
+    let p : b + n - b ≡ n = omega arith in
+    let e : s.h - 1 + 1 ≡ s.h = omega (arith, c.requires.0.rows) in
+    let m : (s.h - 1 + 1) * s.w ≡ n + s.w = add-mul (s.h - 1) 1 s.w ∙ omega arith in
+    let q : s.h * s.w ≡ s.w + n = omega (arith, rw e at m) in
+    let link = joins_in s.kind s.h s.w s.colours.now s.borders.now in
+    let t = tied-above-none s.h s.w link s.aboves.now c.requires.1 in
+    let size = mid_len s.w (s.w + n) s.aboves.now (omega (arith, t.long)) ∙ k in
+    rw (k, q)
+    (tie-flags-put s.w n n _ _ _ (omega arith) (omega arith) (c.tie.ensures.0 ∙ size)
+    (λ i l.
+    let j : s.w + i ≡ i + s.w = omega arith in
+    c.tie.ensures.1 i (omega (arith, size))
+    ∙ rw (k, p, ← section-at b n s.borders.now i l, ← front_at n s.colours.now i l, ← section-at s.w n s.colours.now i l, j)
+    (sym (above_at_lem s.h s.w link i ∙ joins-below s.h s.w i s.kind s.colours.now s.borders.now)))
+    t)

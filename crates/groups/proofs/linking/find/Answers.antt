@@ -7,12 +7,6 @@ use Rattle.groups.proofs.linking.find.Goals as goal
 pub loop-x-init : goal.loop-x-init
 loop-x-init c = (search rules, λ n L l x. refl)
 
-pub overflow_cast-p : goal.overflow_cast-p
-overflow_cast-p c = omega (arith, c.requires.1.down c.loop-x.x)
-
-pub overflow_cast-x : goal.overflow_cast-x
-overflow_cast-x c = omega (arith, c.requires.1.down c.loop-x.x)
-
 pub loop-x-smaller : goal.loop-x-smaller
 loop-x-smaller c = omega (arith, c.requires.1.down c.loop-x.x)
 
@@ -20,12 +14,14 @@ pub loop-x-preserved : goal.loop-x-preserved
 loop-x-preserved c =
     let x = c.loop-x.x in
     let d = c.requires.1.down x in
+    rw c.from-x.ensures
     (omega arith, λ n L l r. r.same x (omega arith) ∙ c.loop-x.invariant.1 n L l r)
 
 pub returns : goal.returns
 returns c =
-    let x = c.loop-x.x in (
+    let x = c.loop-x.x in
+    let e = rw c.from.ensures at c.loop-x-test.false in (
       search rules,
-      c.loop-x-test.false,
-      λ n L l r. sym (r.root x (omega arith) c.loop-x-test.false) ∙ c.loop-x.invariant.1 n L l r,
+      e,
+      λ n L l r. sym (r.root x (omega arith) e) ∙ c.loop-x.invariant.1 n L l r,
     )

@@ -9,8 +9,5 @@ use Rattle.groups.proofs.linking.later_rows.Given as goal
 
 abbrev pub invariant-loop-c : goal.invariant-loop-c
 invariant-loop-c l =
-    (l.w ≤ l.c) × (l.c ≤ l.n) × (l.k ≤ l.c) × (l.root ≡ get_or l.p (l.c - 1) 0) × Forest l.p × Vacant l.n l.grouping
+    (l.k ≤ l.c) × (l.root ≡ get_or l.p (l.c - 1) 0) × Forest l.p × Vacant l.n l.grouping
     × Scanned l.c l.w (flag_at l.lefts) (flag_at l.aboves) l.p (cells_in l.grouping) l.k
-
-abbrev pub decreases-loop-c : goal.decreases-loop-c
-decreases-loop-c l = l.n - l.c

@@ -1,56 +1,66 @@
--- The cells of the list are joined to those left of them. The loop has passed i of them.
-use mathlib.Core.Path.{◌≡◌}
-use Prim.Native.Nat.{◌+◌, ◌≤◌, ◌<◌}
+-- The cells of the list are joined to those left of them. The loop has passed some of them.
+use mathlib.Core.Path.{◌≡◌, sym, ◌∙◌}
+use Prim.Native.Nat.{◌+◌, ◌-◌, ◌≤◌, ◌<◌}
 use native.Mathlib.Numerals.{add-one}
 use native.Mathlib.Omega.{arith}
-use borrow.Author.Rules.{rules}
-use lib.ListN.{get_or}
-use Rattle.lists.specs.SectionLaws.{section-at}
+use borrow.Rule.Slice.PartMut.{mid_len}
+use lib.ListN.{length, get_or, take, drop}
+use lib.Seq.{get_or-take}
+use Rattle.lists.specs.Sections.{section}
 use Rattle.rules.specs.Groups.{entry}
 use Rattle.groups.specs.Ties.{joined}
 use Rattle.groups.specs.Grouping.{cells_in}
-use Rattle.groups.proofs.linking.settle.Goals.{After-c-1}
+use Rattle.groups.proofs.linking.settle.Goals.{After-from-c, Start}
 use Rattle.groups.proofs.linking.settle.Goals as goal
 
+-- the list's length
+size : (c : Start) → let k = c.args.k in length (take (1024 + k - 1024) (drop 1024 c.args.grouping.now)) ≡ k
+size c =
+    let k = c.args.k in
+    let e : 1024 + k - 1024 ≡ k = omega arith in
+    mid_len 1024 (1024 + k) c.args.grouping.now (omega arith) ∙ e
+
 -- the cell that the loop has come to
-is : (c : After-c-1) → let g = c.args.grouping.now in
-    let i = c.loop-i.i in get_or g (1024 + i) 0 ≡ get_or (cells_in g) i 0
-is c = section-at 1024 1024 _ c.loop-i.i (omega arith)
+is : (c : After-from-c) → let i = c.loop-cell.cell-index in
+    (i < c.args.k) × (c.from-c.result ≡ get_or (cells_in c.args.grouping.now) i 0)
+unfolding section
+is c =
+    let i = c.loop-cell.cell-index in
+    let l = drop 1024 c.args.grouping.now in
+    let h : i < c.args.k = omega (arith, size (goal.at.After-from-c c).Start, c.loop-cell-test.true) in (
+      h,
+      c.from-c.ensures ∙ get_or-take (1024 + c.args.k - 1024) l i 0 (omega arith) ∙ sym (get_or-take 1024 l i 0 (omega arith)),
+    )
 
-at : (c : After-c-1) → let s = c.args in
-    let d = get_or s.grouping.now (1024 + c.loop-i.i) 0 in (1 ≤ d) × (d < 1024)
-at c = rw (is c) (c.requires.1 c.loop-i.i c.loop-i-test.true)
+at : (c : After-from-c) → (1 ≤ c.from-c.result) × (c.from-c.result < 1024)
+at c = rw (is c).1 (c.requires.1 c.loop-cell.cell-index (is c).0)
 
-pub loop-i-init : goal.loop-i-init
+pub loop-cell-init : goal.loop-cell-init
 unfolding joined
-loop-i-init c = (search rules, c.requires.2, λ n L h f r. r)
-
-pub overflow_cast-c : goal.overflow_cast-c
-overflow_cast-c c = omega (arith, at c)
+loop-cell-init c = (c.requires.2, λ n L h f r. r)
 
 pub overflow_sub-c : goal.overflow_sub-c
-overflow_sub-c c = omega (arith, at (goal.at.overflow_sub-c c).After-c-1)
+overflow_sub-c c = omega (arith, at (goal.at.overflow_sub-c c).After-from-c)
 
 pub join-requires : goal.join-requires
 join-requires c =
-    let m = at (goal.at.join-requires c).After-c-1 in
-    (omega arith, omega arith, c.loop-i.invariant.1)
+    let m = at (goal.at.join-requires c).After-from-c in
+    (omega arith, omega arith, c.loop-cell.invariant.0)
 
-pub loop-i-preserved : goal.loop-i-preserved
+pub loop-cell-preserved : goal.loop-cell-preserved
 unfolding joined entry
-loop-i-preserved c =
-    let l = c.loop-i in
-    let m = at (goal.at.loop-i-preserved c).After-c-1 in (
-      omega arith,
+loop-cell-preserved c =
+    let l = c.loop-cell in
+    let e = is (goal.at.loop-cell-preserved c).After-from-c in (
       c.join.ensures.0,
       λ n L h f r.
-          let d = f l.i (omega arith) in
-          let e = is (goal.at.loop-i-preserved c).After-c-1 in
-          rw (add-one l.i) (rw e at (c.join.ensures.1 n _ h (omega arith) (omega arith) (l.invariant.2 n L h f r))),
+          let d = f l.cell-index e.0 in
+          rw (add-one l.cell-index)
+          (rw e.1 at (c.join.ensures.1 n _ h (omega (arith, e.1)) (omega (arith, e.1)) (l.invariant.1 n L h f r))),
     )
 
 pub returns : goal.returns
 returns c =
-    let l = c.loop-i in
-    let e : l.i ≡ c.args.k = omega arith in
-    (l.invariant.1, λ n L h f r. rw e at (l.invariant.2 n L h f r))
+    let l = c.loop-cell in
+    let e : l.cell-index ≡ c.args.k = omega (arith, size (goal.at.returns c).Start) in
+    (l.invariant.0, λ n L h f r. rw e at (l.invariant.1 n L h f r))

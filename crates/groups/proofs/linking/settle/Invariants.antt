@@ -1,6 +1,6 @@
--- The cells of the list are joined to those left of them. The loop has passed i of them.
+-- The cells of the list are joined to those left of them. The loop has passed some of them.
 use mathlib.Core.List.{List}
-use Prim.Native.Nat.{ℕ, ◌-◌, ◌≤◌, ◌<◌}
+use Prim.Native.Nat.{ℕ, ◌≤◌, ◌<◌}
 use lib.ListN.{get_or}
 use Rattle.rules.specs.Groups.{entry}
 use Rattle.groups.specs.Forests.{Forest, Rep}
@@ -8,12 +8,9 @@ use Rattle.groups.specs.Ties.{joined}
 use Rattle.groups.specs.Grouping.{cells_in}
 use Rattle.groups.proofs.linking.settle.Given as goal
 
-abbrev pub invariant-loop-i : goal.invariant-loop-i
-invariant-loop-i l =
-    (l.i ≤ l.k) × Forest l.p
+abbrev pub invariant-loop-cell : goal.invariant-loop-cell
+invariant-loop-cell l =
+    Forest l.p
     × ((n : ℕ) (L : List ℕ) → n ≤ 1024 → ((j : ℕ) → j < l.k → get_or (cells_in l.grouping) j 0 < n)
     → Rep n l.initial.p L
-    → Rep n l.p (joined L (entry (cells_in l.grouping)) l.i))
-
-abbrev pub decreases-loop-i : goal.decreases-loop-i
-decreases-loop-i l = l.k - l.i
+    → Rep n l.p (joined L (entry (cells_in l.grouping)) l.cell-index))
