@@ -2,12 +2,13 @@
 use Rattle.std.specs.Prelude.{◌≡◌, refl, ◌⊎◌, Bool, true, false, not, cond, ℕ, zero, suc, ◌+◌, ◌*◌, ◌<◌, ◌≤◌, ℤ, pos}
 use Rattle.std.specs.Prelude.{negsuc, neg_ℤ, ◌+ℤ◌, ◌-ℤ◌, ◌*ℤ◌, T, ltb}
 use Rattle.std.proofs.Common.{sym, ap, ap₂, ◌∙◌, subst, inl, inr, arith, lt-ltb, le-ltb, ltb→lt, nltb→le, SFits, to_z}
-use Rattle.std.proofs.Common.{of_z, to_z-of_z}
+use Rattle.std.proofs.Common.{of_z, to_z-of_z, Less, Equal, Greater}
 use Rattle.std.proofs.Math.IntN.{sub_ℕ, neg_ℤ-+ℤ}
 use Rattle.std.specs.Int.Signed.{mag, lt_z}
+use Rattle.std.specs.Ordering.{is_lt, int_cmp, ordering_then}
 use Rattle.std.specs.Int.{w8, w32}
 use Rattle.lists.specs.Booleans.{same_test, T-dec}
-use Rattle.rules.specs.Page.{Point}
+use Rattle.rules.specs.Page.{Point, ◌⊕◌, opposite}
 use Rattle.rules.specs.Turns.{Axis, layerward, rowward, columnward, Row, coordinate, signed, read, apply, flat_turn}
 use Rattle.rules.specs.Shapes.{before, lessℤ, sameℤ}
 use Rattle.laws.specs.PointLaws.{point-eq}
@@ -15,7 +16,8 @@ use Rattle.laws.specs.OrderLaws.{less-irrefl, less-total}
 use Rattle.laws.specs.SameLaws.{sameℤ→eq, sameℤ-refl}
 use Rattle.shapes.specs.declared.Pair.{Pair}
 use Rattle.shapes.specs.declared.Signs.{Signs}
-use Rattle.shapes.specs.Pairs.{point_at, point_of, Small, Sign, BothSigns, turn_by, sign_of, signs_of}
+use Rattle.shapes.specs.Pairs.{point_at, point_of, Small, SmallPair, DifferenceFits, Sign, BothSigns, turn_by, sign_of}
+use Rattle.shapes.specs.Pairs.{signs_of}
 use Rattle.shapes.specs.Rows.{turn_at}
 
 pub one-times : (z : ℤ) → pos 1 *ℤ z ≡ z
@@ -151,20 +153,28 @@ less-known {y} {b} {t} f g e =
 pub read_back : {z : ℤ} (n : ℕ) → z ≡ pos n → n < 4096 → to_z w32 (of_z w32 z) ≡ pos n
 read_back {z} n e h = ap (λ k. to_z w32 (of_z w32 k)) e ∙ small-back (pos n) h
 
-pub before-known : (p q : Pair) {t : Bool} → SFits w32 p.y → SFits w32 p.x → SFits w32 q.y → SFits w32 q.x
-    → before (point_at (to_z w32 (of_z w32 p.y)) (to_z w32 (of_z w32 p.x)))
-    (point_at (to_z w32 (of_z w32 q.y)) (to_z w32 (of_z w32 q.x))) ≡ t
-    → before (point_of p) (point_of q) ≡ t
-before-known p q {t} a b c d e =
-    sym (ap₂ before (ap₂ point_at (to_z-of_z {w = w32} {z = p.y} a) (to_z-of_z {w = w32} {z = p.x} b))
-    (ap₂ point_at (to_z-of_z {w = w32} {z = q.y} c) (to_z-of_z {w = w32} {z = q.x} d)))
-    ∙ e
+-- the derived order is the definition's, and the smaller of two is the one that stands first
+first-less : (a b : ℤ) → is_lt (int_cmp a b) ≡ lessℤ a b
+first-less a b = go (lt_z a b) (lt_z b a) ∙ less-test a b
+  where
+    go : (s t : Bool) → is_lt (cond s Less (cond t Greater Equal)) ≡ s
+    go true t = refl
+    go false true = refl
+    go false false = refl
 
-pub cond_yes : {A : Type 0} {t : Bool} (a b : A) → t ≡ true → a ≡ cond t a b
-cond_yes a b e = rw e
-
-pub cond_no : {A : Type 0} {t : Bool} (a b : A) → t ≡ false → b ≡ cond t a b
-cond_no a b e = rw e
+pub in-order : (p q : Pair)
+    → is_lt (ordering_then (int_cmp p.y q.y) (int_cmp p.x q.x)) ≡ before (point_of p) (point_of q)
+in-order p q = go (lt_z p.y q.y) (lt_z q.y p.y) refl refl
+  where
+    go : (s t : Bool) → lt_z p.y q.y ≡ s → lt_z q.y p.y ≡ t
+        → is_lt (ordering_then (cond s Less (cond t Greater Equal)) (int_cmp p.x q.x))
+        ≡ before (point_of p) (point_of q)
+    go true t d e = sym (before-yes p.y p.x q.y q.x (sym (less-test p.y q.y) ∙ d))
+    go false true d e =
+        sym (before-no p.y p.x q.y q.x (sym (less-test p.y q.y) ∙ d) (sym (less-test q.y p.y) ∙ e))
+    go false false d e =
+        first-less p.x q.x
+        ∙ sym (before-even p.y p.x q.y q.x (sym (less-test p.y q.y) ∙ d) (sym (less-test q.y p.y) ∙ e))
 
 -- sums and differences of small numbers
 mag-sub : (a b : ℕ) → mag (sub_ℕ a b) ≤ a + b
@@ -222,3 +232,26 @@ twice-back a b h k =
     {z = to_z w32 (of_z w32 a) -ℤ to_z w32 (of_z w32 (to_z w32 (of_z w32 b) +ℤ to_z w32 (of_z w32 b)))}
     (twice-fits a b h k)
     ∙ ap₂ (λ x y. x +ℤ y) (small-back a h) (ap neg_ℤ (sum_back b b k k) ∙ neg_ℤ-+ℤ b b)
+
+-- the differences of places whose coordinates are small
+pub differences-fit : (p m : Pair) → SmallPair p → SmallPair m → DifferenceFits p m
+differences-fit p m a b =
+    record {
+      down = record { sfits = omega (arith, difference-small p.y m.y a.down b.down) };
+      across = record { sfits = omega (arith, difference-small p.x m.x a.across b.across) };
+    }
+
+pub again-fit : (p q m : Pair) → point_of q ≡ point_of p ⊕ opposite (point_of m) → SmallPair p → SmallPair m
+    → DifferenceFits q m
+unfolding ◌⊕◌ opposite
+again-fit p q m e a b =
+    let y : q.y ≡ p.y -ℤ m.y = ap (λ z. z.row) e in
+    let x : q.x ≡ p.x -ℤ m.x = ap (λ z. z.column) e in
+    record {
+      down =
+          rw y
+          (record { sfits = omega (arith, mag_sum (p.y -ℤ m.y) (neg_ℤ m.y), mag-neg m.y, difference-small p.y m.y a.down b.down) });
+      across =
+          rw x
+          (record { sfits = omega (arith, mag_sum (p.x -ℤ m.x) (neg_ℤ m.x), mag-neg m.x, difference-small p.x m.x a.across b.across) });
+    }

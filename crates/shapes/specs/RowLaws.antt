@@ -1,10 +1,10 @@
 -- The listed transforms of a shape are its images by the listed rows.
 use Rattle.std.specs.Prelude.{◌≡◌, Bool, ◌||◌}
 use Rattle.std.proofs.Math.Path.{refl, sym, ap, ap₂}
-use Rattle.std.proofs.Common.{◌∙◌, subst}
+use Rattle.std.proofs.Common.{◌∙◌, subst, arith}
 use Rattle.std.proofs.Math.Bool.{true, false, cond, xor}
 use mathlib.Core.List.{List, [], ◌∷◌, ◌++◌, map, map-append}
-use Prim.Native.Nat.{ℕ, ◌+◌}
+use Prim.Native.Nat.{ℕ, zero, suc, ◌+◌, ◌≤◌, ◌<◌}
 use Rattle.std.proofs.Math.Dec.{T}
 use Rattle.lists.specs.Lists.{any}
 use Rattle.lists.specs.Booleans.{same_test}
@@ -169,21 +169,41 @@ module _ (t : Shape) (settled : turned (apply keep) t ≡ t) where
 
 -- the tests of the code, one law for each answer
 module _ (t : Shape) where
-  pub flip-first : fixes t 4 ≡ true → true ≡ flip_listed t
+  pub flip-some : (r : ℕ) → 4 ≤ r → r < 8 → fixes t r ≡ true → true ≡ flip_listed t
   unfolding flip_listed
-  flip-first a = rw a
+  flip-some zero a b e = absurd (omega arith)
+  flip-some (suc zero) a b e = absurd (omega arith)
+  flip-some (suc (suc zero)) a b e = absurd (omega arith)
+  flip-some (suc (suc (suc zero))) a b e = absurd (omega arith)
+  flip-some (suc (suc (suc (suc zero)))) a b e = rw e
+  flip-some (suc (suc (suc (suc (suc zero))))) a b e = rw e (go (fixes t 4))
+    where
+      go : (u : Bool) → true ≡ u || true || fixes t 6 || fixes t 7
+      go true = refl
+      go false = refl
+  flip-some (suc (suc (suc (suc (suc (suc zero)))))) a b e = rw e (go (fixes t 4) (fixes t 5))
+    where
+      go : (u v : Bool) → true ≡ u || v || true || fixes t 7
+      go true v = refl
+      go false true = refl
+      go false false = refl
+  flip-some (suc (suc (suc (suc (suc (suc (suc zero))))))) a b e = rw e (go (fixes t 4) (fixes t 5) (fixes t 6))
+    where
+      go : (u v q : Bool) → true ≡ u || v || q || true
+      go true v q = refl
+      go false true q = refl
+      go false false true = refl
+      go false false false = refl
+  flip-some (suc (suc (suc (suc (suc (suc (suc (suc r)))))))) a b e = absurd (omega arith)
 
-  pub flip-second : fixes t 4 ≡ false → fixes t 5 ≡ true → true ≡ flip_listed t
+  pub flip-none : ((r : ℕ) → 4 ≤ r → r < 8 → fixes t r ≡ false) → false ≡ flip_listed t
   unfolding flip_listed
-  flip-second a b = rw (a, b)
-
-  pub flip-third : fixes t 4 ≡ false → fixes t 5 ≡ false → fixes t 6 ≡ true → true ≡ flip_listed t
-  unfolding flip_listed
-  flip-third a b c = rw (a, b, c)
-
-  pub flip-fourth : fixes t 4 ≡ false → fixes t 5 ≡ false → fixes t 6 ≡ false → fixes t 7 ≡ flip_listed t
-  unfolding flip_listed
-  flip-fourth a b c = rw (a, b, c)
+  flip-none f = rw (
+    f 4 (omega arith) (omega arith),
+    f 5 (omega arith) (omega arith),
+    f 6 (omega arith) (omega arith),
+    f 7 (omega arith) (omega arith),
+  )
 
   pub rows-symmetric : {q f : Bool} → fixes t 1 ≡ true → q ≡ fixes t 3 → f ≡ flip_listed t → rows_by true q f
       ≡ rows_of t

@@ -13,9 +13,8 @@ ghost use Rattle.shapes.specs.Joints.{joint_if, JointRoom, Grown, OutlineJoined,
 ghost use Rattle.shapes.specs.Pairs.{point_of, SmallPair};
 ghost use Rattle.shapes.specs.Spots.{joint_spot, UnitAt};
 
-use crate::{Outline, Pair, apply, signed};
+use crate::{Outline, Pair, apply, cell_count};
 use groups::{Grouping, group_of, start_of};
-use rules::index;
 
 // Writes the rows and columns of the cells of unit `g` into an outline, and how many there are.
 pub fn places(units: &Grouping, g: usize, w: usize, outline: &mut Outline)
@@ -26,12 +25,10 @@ pub fn places(units: &Grouping, g: usize, w: usize, outline: &mut Outline)
     let width = w as u16;
     let from = start_of(units, g);
     let n = start_of(units, g + 1) - from;
-    let mut i: usize = 0;
-    while i < n {
+    for i in 0..n {
         let c = units[1024 + (from + i)];
         outline[i] = c / width;
         outline[1024 + i] = c % width;
-        i += 1;
     }
     outline[6144] = n as u16;
 }
@@ -52,14 +49,13 @@ fn join(
     ensures { Grown outline.old k
         (joint_if (on && eqb (entry (numbers_in units.now) to) g) y x) outline.new result }
 {
-    if on {
-        if group_of(units, to) == g {
-            outline[2048 + k] = y;
-            outline[4096 + k] = x;
-            return k + 1;
-        }
+    if on && group_of(units, to) == g {
+        outline[2048 + k] = y;
+        outline[4096 + k] = x;
+        k + 1
+    } else {
+        k
     }
-    k
 }
 
 // Writes the connections of the cell (y,x) of unit `g`, below then right, from number `k` on; gives the next number.
@@ -90,7 +86,7 @@ fn joints_at(
         c + w,
         (row + 1) as u16,
         column as u16,
-        &mut *outline,
+        outline,
         k,
     );
     join(
@@ -100,7 +96,7 @@ fn joints_at(
         c + 1,
         row as u16,
         (column + 1) as u16,
-        &mut *outline,
+        outline,
         next,
     )
 }
@@ -112,34 +108,21 @@ pub fn joints(units: &Grouping, h: usize, w: usize, g: usize, outline: &mut Outl
     ensures { UnitAt h w units.now g outline.new
         × OutlineJoined h w units.now g outline.new }
 {
-    let n = index(outline[6144]);
-    let mut k: usize = 0;
-    let mut i: usize = 0;
-    while i < n {
+    let n = cell_count(outline);
+    let mut k = 0;
+    for i in 0..n {
         k = joints_at(
             units,
             h,
             w,
             g,
-            index(outline[i]),
-            index(outline[1024 + i]),
-            &mut *outline,
+            usize::from(outline[i]),
+            usize::from(outline[1024 + i]),
+            outline,
             k,
         );
-        i += 1;
     }
     outline[6145] = k as u16;
-}
-
-// The place `p` shifted back by twice `m`.
-fn back_twice(p: Pair, m: Pair) -> Pair
-    requires { SmallPair p × SmallPair m }
-    ensures { point_of result ≡ point_of p ⊕ (opposite (point_of m) ⊕ opposite (point_of m)) }
-{
-    Pair {
-        y: p.y - (m.y + m.y),
-        x: p.x - (m.x + m.x),
-    }
 }
 
 // Connection `j` of the unit's image by a row whose first cell is the image `m`.
@@ -148,8 +131,7 @@ pub fn joint(row: usize, outline: &Outline, j: usize, m: Pair) -> Pair
     ensures { point_of result ≡ apply (turn_at row) (joint_spot outline.now j)
         ⊕ (opposite (point_of m) ⊕ opposite (point_of m)) }
 {
-    back_twice(
-        apply(row, signed(outline[2048 + j]), signed(outline[4096 + j])),
-        m,
-    )
+    let y = i32::from(outline[2048 + j]);
+    let x = i32::from(outline[4096 + j]);
+    apply(row, y, x) - m - m
 }

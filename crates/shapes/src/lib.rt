@@ -1,22 +1,22 @@
 // The eight rows of signs and swaps, a unit's connections, and which rows are listed.
 #![tactic(auto)]
 
-ghost use Rattle.std.specs.Prelude.{◌≡◌, true, cond, ◌+◌, ◌-◌, ◌*◌, ◌<◌, length, get_or, pos};
+ghost use Rattle.std.specs.Prelude.{◌≡◌, ◌+◌, ◌-◌, ◌*◌, ◌<◌, length, get_or, pos};
 ghost use Rattle.rules.specs.Page.{◌⊕◌, opposite};
 ghost use Rattle.rules.specs.Flat.{Sized, flat};
 ghost use Rattle.rules.specs.Groups.{entry};
 ghost use Rattle.rules.specs.Turns.{apply};
-ghost use Rattle.rules.specs.Shapes.{before, shape_of};
+ghost use Rattle.rules.specs.Shapes.{shape_of};
 ghost use Rattle.groups.specs.Grouping.{numbers_in};
 ghost use Rattle.shapes.specs.Rows.{turn_at, fixes, flip_listed, rows_by, rows_of};
-ghost use Rattle.shapes.specs.Listing.{listing};
-ghost use Rattle.shapes.specs.Pairs.{point_at, point_of, Small, SmallPair, BothSigns, turn_by, signs_of};
+ghost use Rattle.shapes.specs.Pairs.{point_at, point_of, Small, SmallPair, SumFits, DifferenceFits, BothSigns, turn_by};
+ghost use Rattle.shapes.specs.Pairs.{signs_of};
 ghost use Rattle.shapes.specs.Outlines.{rows_in, columns_in, cell_count, joint_count};
 ghost use Rattle.shapes.specs.Spots.{place_at, cell_spots, least_image, cell_in, has_cell, within, SpotIn, Spotted};
 ghost use Rattle.shapes.specs.Spots.{UnitAt};
 
 use groups::{Grouping, group_of};
-use rules::index;
+use std::ops::{Add, Sub};
 
 pub mod connections; // connections.rt: a unit's cells and connections, and those of its images
 pub mod turned; // turned.rt: the connections of a unit's image, raised
@@ -26,15 +26,47 @@ pub mod turned; // turned.rt: the connections of a unit's image, raised
 // connections.
 pub type Outline = [u16; 6146];
 
-// A place on a flat page, down and across.
-#[derive(Clone, Copy)]
+// A place on a flat page, down and across, in order by row and then by column.
+#[derive(Clone, Copy, PartialEq, Eq, PartialOrd, Ord)]
 pub struct Pair {
     pub y: i32,
     pub x: i32,
 }
 
+// The place shifted by `v`.
+impl Add for Pair {
+    type Output = Self;
+
+    ghost can_add = { SumFits };
+
+    ghost add_gives = { λ p v r. point_of r ≡ point_of p ⊕ point_of v };
+
+    fn add(self, v: Self) -> Self {
+        Self {
+            y: self.y + v.y,
+            x: self.x + v.x,
+        }
+    }
+}
+
+// The place shifted back by `v`.
+impl Sub for Pair {
+    type Output = Self;
+
+    ghost can_sub = { DifferenceFits };
+
+    ghost sub_gives = { λ p v r. point_of r ≡ point_of p ⊕ opposite (point_of v) };
+
+    fn sub(self, v: Self) -> Self {
+        Self {
+            y: self.y - v.y,
+            x: self.x - v.x,
+        }
+    }
+}
+
 // A row of the table: whether the coordinates change places, and the signs of the new ones, 1 or -1.
-#[derive(Clone, Copy)]
+#[derive(Clone, Copy, PartialEq, Eq)]
 pub struct Signs {
     pub swap: bool,
     pub down: i8,
@@ -96,20 +128,13 @@ pub fn signs_at(row: usize) -> Signs
     TABLE[row]
 }
 
-// The sign as a factor of coordinates.
-fn factor(sign: i8) -> i32
-    ensures { result ≡ sign }
-{
-    sign as i32
-}
-
 // The place (y,x), its coordinates swapped or not, the new ones times a sign.
 pub fn turn(s: Signs, y: i32, x: i32) -> Pair
     requires { BothSigns s × Small y × Small x }
     ensures { result ≡ turn_by s y x }
 {
-    let down = factor(s.down);
-    let across = factor(s.across);
+    let down = i32::from(s.down);
+    let across = i32::from(s.across);
     if s.swap {
         Pair {
             y: down * x,
@@ -131,45 +156,18 @@ pub fn apply(row: usize, y: i32, x: i32) -> Pair
     turn(signs_at(row), y, x)
 }
 
-// The number with a sign.
-fn signed(x: u16) -> i32
-    ensures { result ≡ pos x }
-{
-    x as i32
-}
-
-// Whether (y,x) stands before (b,a), by row and then by column.
-fn before(y: i32, x: i32, b: i32, a: i32) -> bool
-    ensures { result ≡ before (point_at y x) (point_at b a) }
-{
-    if y < b {
-        return true;
-    }
-    if b < y {
-        return false;
-    }
-    x < a
-}
-
-// The one of `p` and `q` that stands first; `q` where they are the same.
-fn earlier(p: Pair, q: Pair) -> Pair
-    ensures { result ≡ cond (before (point_of p) (point_of q)) p q }
-{
-    if before(p.y, p.x, q.y, q.x) { p } else { q }
-}
-
-// How many cells the outline has.
+// How many cells the outline has. This and the next stay two functions: one would take the place in the array.
 pub fn cell_count(outline: &Outline) -> usize
     ensures { result ≡ cell_count outline.now }
 {
-    index(outline[6144])
+    usize::from(outline[6144])
 }
 
 // How many connections it has.
 pub fn joint_count(outline: &Outline) -> usize
     ensures { result ≡ joint_count outline.now }
 {
-    index(outline[6145])
+    usize::from(outline[6145])
 }
 
 // The image of the outline's cell `i` by the row `s` of the table.
@@ -178,7 +176,7 @@ fn moved(s: Signs, outline: &Outline, i: usize) -> Pair
     ensures { result ≡ turn_by s (pos (get_or (rows_in outline.now) i 0))
         (pos (get_or (columns_in outline.now) i 0)) }
 {
-    turn(s, signed(outline[i]), signed(outline[1024 + i]))
+    turn(s, i32::from(outline[i]), i32::from(outline[1024 + i]))
 }
 
 // The first in order of the images of the outline's cells by a row of the table.
@@ -189,10 +187,8 @@ pub fn least(row: usize, outline: &Outline) -> Pair
     let n = cell_count(outline);
     let s = signs_at(row);
     let mut best = moved(s, outline, 0);
-    let mut i: usize = 1;
-    while i < n {
-        best = earlier(moved(s, outline, i), best);
-        i += 1;
+    for i in 1..n {
+        best = best.min(moved(s, outline, i));
     }
     best
 }
@@ -202,13 +198,7 @@ fn cell_in(units: &Grouping, h: usize, w: usize, g: usize, y: usize, x: usize) -
     requires { Sized h w × (length (numbers_in units.now) ≡ 1024) }
     ensures { result ≡ cell_in h w (entry (numbers_in units.now)) g y x }
 {
-    if h <= y {
-        return false;
-    }
-    if w <= x {
-        return false;
-    }
-    group_of(units, y * w + x) == g
+    y < h && x < w && group_of(units, y * w + x) == g
 }
 
 // The same of signed coordinates.
@@ -216,13 +206,7 @@ pub fn has_cell(units: &Grouping, h: usize, w: usize, g: usize, y: i32, x: i32) 
     requires { Sized h w × (length (numbers_in units.now) ≡ 1024) }
     ensures { result ≡ has_cell h w (entry (numbers_in units.now)) g (point_at y x) }
 {
-    if y < 0 {
-        return false;
-    }
-    if x < 0 {
-        return false;
-    }
-    cell_in(units, h, w, g, y as usize, x as usize)
+    y >= 0 && x >= 0 && cell_in(units, h, w, g, y as usize, x as usize)
 }
 
 // The same of the place `p` shifted by `v`.
@@ -230,7 +214,8 @@ fn lands(units: &Grouping, h: usize, w: usize, g: usize, p: Pair, v: Pair) -> bo
     requires { Sized h w × (length (numbers_in units.now) ≡ 1024) × SmallPair p × SmallPair v }
     ensures { result ≡ has_cell h w (entry (numbers_in units.now)) g (point_of p ⊕ point_of v) }
 {
-    has_cell(units, h, w, g, p.y + v.y, p.x + v.x)
+    let q = p + v;
+    has_cell(units, h, w, g, q.y, q.x)
 }
 
 // The shift that lays the place `m` on (y,x).
@@ -239,9 +224,9 @@ fn shift(m: Pair, y: u16, x: u16) -> Pair
     ensures { point_of result ≡ opposite (point_of m) ⊕ place_at y x }
 {
     Pair {
-        y: signed(y) - m.y,
-        x: signed(x) - m.x,
-    }
+        y: i32::from(y),
+        x: i32::from(x),
+    } - m
 }
 
 // Whether every image of the outline's cells by a row, shifted by `v`, is a cell of unit `g`.
@@ -260,12 +245,8 @@ fn within<'a>(
 {
     let n = cell_count(outline);
     let s = signs_at(row);
-    let mut i: usize = 0;
-    while i < n {
-        let p = moved(s, outline, i);
-        if lands(units, h, w, g, p, v) {
-            i += 1;
-        } else {
+    for i in 0..n {
+        if !lands(units, h, w, g, moved(s, outline, i), v) {
             return false;
         }
     }
@@ -294,79 +275,40 @@ fn flip_listed<'a>(units: &'a Grouping, h: usize, w: usize, g: usize, outline: &
     requires { UnitAt h w units.now g outline.now }
     ensures { result ≡ flip_listed (shape_of (flat h w) (entry (numbers_in units.now)) g) }
 {
-    if fixes(units, h, w, g, outline, 4) {
-        return true;
+    for row in 4..8 {
+        if fixes(units, h, w, g, outline, row) {
+            return true;
+        }
     }
-    if fixes(units, h, w, g, outline, 5) {
-        return true;
-    }
-    if fixes(units, h, w, g, outline, 6) {
-        return true;
-    }
-    fixes(units, h, w, g, outline, 7)
+    false
 }
 
-// The listed rows of the table, in order; the places beyond the count are 0.
-#[derive(Clone, Copy)]
-pub struct Listed {
-    pub count: usize,
-    pub rows: [u8; 8],
-}
-
-// The listed rows, by whether the half and the quarter leave the shape, and whether a reflection does.
-fn rows_by(half: bool, quarter: bool, listed: bool) -> Listed
-    ensures { result ≡ listing (rows_by half quarter listed) }
+// The listed rows of the table, by whether the half and the quarter leave the shape, and whether a reflection does.
+fn rows_by(half: bool, quarter: bool, listed: bool) -> &'static [u8]
+    ensures { result.now ≡ rows_by half quarter listed }
 {
-    if half {
-        if quarter {
-            if listed {
-                return Listed {
-                    count: 1,
-                    rows: [0, 0, 0, 0, 0, 0, 0, 0],
-                };
-            }
-            return Listed {
-                count: 2,
-                rows: [0, 4, 0, 0, 0, 0, 0, 0],
-            };
-        }
-        if listed {
-            return Listed {
-                count: 2,
-                rows: [0, 3, 0, 0, 0, 0, 0, 0],
-            };
-        }
-        return Listed {
-            count: 4,
-            rows: [0, 3, 4, 7, 0, 0, 0, 0],
-        };
-    }
-    if listed {
-        return Listed {
-            count: 4,
-            rows: [0, 1, 2, 3, 0, 0, 0, 0],
-        };
-    }
-    Listed {
-        count: 8,
-        rows: [0, 1, 2, 3, 4, 5, 6, 7],
+    match (half, quarter, listed) {
+        (true, true, true) => &[0],
+        (true, true, false) => &[0, 4],
+        (true, false, true) => &[0, 3],
+        (true, false, false) => &[0, 3, 4, 7],
+        (false, _, true) => &[0, 1, 2, 3],
+        (false, _, false) => &[0, 1, 2, 3, 4, 5, 6, 7],
     }
 }
 
-// The rows by which the transforms of unit `g` are listed.
+// The rows by which the transforms of unit `g` are listed, in order.
 pub fn list_rows<'a>(
     units: &'a Grouping,
     h: usize,
     w: usize,
     g: usize,
     outline: &'a Outline,
-) -> Listed
+) -> &'static [u8]
     requires { UnitAt h w units.now g outline.now }
-    ensures { result ≡ listing (rows_of (shape_of (flat h w) (entry (numbers_in units.now)) g)) }
+    ensures { result.now ≡ rows_of (shape_of (flat h w) (entry (numbers_in units.now)) g) }
 {
-    let flipped = flip_listed(units, h, w, g, outline);
-    if fixes(units, h, w, g, outline, 1) {
-        return rows_by(true, fixes(units, h, w, g, outline, 3), flipped);
-    }
-    rows_by(false, false, flipped)
+    let half = fixes(units, h, w, g, outline, 1);
+    let quarter = half && fixes(units, h, w, g, outline, 3);
+    rows_by(half, quarter, flip_listed(units, h, w, g, outline))
 }

@@ -14,16 +14,14 @@ use crate::{Outline, joint_count, least, signs_at};
 // by 64: from 0 how far down they stand, from 2,048 how far across.
 pub type Turned = [u8; 4096];
 
-// A coordinate turned, shifted and raised: `base` is the shift, raised by 64.
+// A coordinate turned, shifted and raised: `base` is the shift, raised by 64. The flag is the sign of the row, as the
+// definition `lift_of` has it; a closure in its place would need a contract of its own in `lift_all`.
 fn lift(minus: bool, k: u16, base: usize) -> u8
     requires { Lifts minus base k × (base < 128) }
     ensures { result ≡ lift_of minus base k }
 {
-    let a = k as usize;
-    if minus {
-        return (base - a) as u8;
-    }
-    (base + a) as u8
+    let a = usize::from(k);
+    (if minus { base - a } else { base + a }) as u8
 }
 
 // The outline's coordinates from the place `from` on, turned, shifted and raised, written from the place `to` on.
@@ -43,10 +41,8 @@ fn lift_all(
         ≡ lift_of minus base (get_or (section from 2048 outline.now) i 0)) }
 {
     let n = joint_count(outline);
-    let mut i = 0;
-    while i < n {
+    for i in 0..n {
         turned[to + i] = lift(minus, outline[from + i], base);
-        i += 1;
     }
 }
 
@@ -68,13 +64,9 @@ fn turn_joints(
         ≡ moved_by (apply (turn_of swap upward leftward)) (raised y x) (joint_spots outline.now))
         × (length turned.new ≡ 4096) }
 {
-    if swap {
-        lift_all(outline, 4096, upward, y, turned, 0);
-        lift_all(outline, 2048, leftward, x, turned, 2048);
-    } else {
-        lift_all(outline, 2048, upward, y, turned, 0);
-        lift_all(outline, 4096, leftward, x, turned, 2048);
-    }
+    let (rows, columns) = if swap { (4096, 2048) } else { (2048, 4096) };
+    lift_all(outline, rows, upward, y, turned, 0);
+    lift_all(outline, columns, leftward, x, turned, 2048);
 }
 
 // The shift back by twice `v`, raised by 64.

@@ -1,14 +1,10 @@
 -- `shapes::apply` meets its contract: the turn is by the row that was read.
 use mathlib.Core.Path.{ap, ap₂, ◌∙◌}
-use borrow.Author.Rules.{rules}
 use Rattle.rules.specs.Turns.{apply}
 use Rattle.shapes.specs.Pairs.{point_at, point_of}
-use Rattle.shapes.specs.PairLaws.{small-back, signs-read, turns-read}
+use Rattle.shapes.specs.PairLaws.{small-back, turns-read}
 use Rattle.shapes.specs.Rows.{turn_at}
 use Rattle.shapes.proofs.apply.Goals as goal
-
-pub turn-requires : goal.turn-requires
-turn-requires c = search (rules, signs-read c.args.row c.signs_at.ensures)
 
 pub returns : goal.returns
 returns c =

@@ -1,17 +1,10 @@
 -- `shapes::least` meets its contract. The loop's invariant: the best is the first in order of the images passed.
-use mathlib.Core.Path.{◌≡◌, sym, ap, ◌∙◌}
+use mathlib.Core.Path.{sym, ap, ◌∙◌}
 use native.Mathlib.Omega.{arith}
 use Rattle.shapes.specs.Pairs.{point_of}
-use Rattle.shapes.specs.PairLaws.{signs-read, turns-read}
-use Rattle.shapes.specs.Outlines.{cell_count}
-use Rattle.shapes.specs.SpotLaws.{spot_in, least-one, earlier_more}
+use Rattle.shapes.specs.PairLaws.{turns-read, in-order}
+use Rattle.shapes.specs.SpotLaws.{least-one, earlier_more}
 use Rattle.shapes.proofs.least.Goals as goal
-
-pub moved-best-requires : goal.moved-best-requires
-moved-best-requires c = (
-  signs-read c.args.row c.signs_at-s.ensures,
-  spot_in c.requires.1 c.requires.1.some,
-)
 
 pub loop-i-init : goal.loop-i-init
 loop-i-init c = (
@@ -21,25 +14,13 @@ loop-i-init c = (
       ∙ (turns-read c.args.row c.signs_at-s.ensures _ _ ∙ sym (least-one _ _ _)),
 )
 
-pub moved-requires : goal.moved-requires
-moved-requires c = (
-  signs-read c.args.row c.signs_at-s.ensures,
-  spot_in c.requires.1
-      (omega (arith, c.cell_count-n.ensures)),
-)
-
 pub loop-i-preserved : goal.loop-i-preserved
 loop-i-preserved c =
     let m = c.moved in
     let l = c.loop-i in (
       omega arith,
       omega (arith, c.cell_count-n.ensures),
-      earlier_more _ _ _ l.i m.result l.best c.earlier-best.result l.invariant.0
+      earlier_more _ _ _ l.i m.result l.best c.min-best.result l.invariant.0
           (ap point_of m.ensures ∙ turns-read c.args.row c.signs_at-s.ensures _ _)
-          l.invariant.2 c.earlier-best.ensures,
+          l.invariant.2 (rw (in-order m.result l.best) at c.min-best.ensures),
     )
-
-pub returns : goal.returns
-returns c =
-    let e : c.loop-i.i ≡ cell_count c.args.outline.now = omega (arith, c.cell_count-n.ensures) in
-    rw e at c.loop-i.invariant.2

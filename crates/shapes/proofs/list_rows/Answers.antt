@@ -1,17 +1,16 @@
 -- `shapes::list_rows` meets its contract: the tests are those of the definition.
-use mathlib.Core.Path.{sym, ap, ◌∙◌}
-use Rattle.shapes.specs.Listing.{listing}
+use mathlib.Core.Path.{sym, ◌∙◌}
 use Rattle.shapes.specs.RowLaws.{rows-symmetric, rows-plain}
+use Rattle.shapes.proofs.list_rows.Goals.{then-half, else-half}
 use Rattle.shapes.proofs.list_rows.Goals as goal
 
-pub returns-then-fixes : goal.returns-then-fixes
-returns-then-fixes c =
-    c.rows_by.ensures
-    ∙ ap listing (rows-symmetric _ (sym c.fixes.ensures ∙ c.if-fixes.true)
-    c.fixes-then-fixes.ensures c.flip_listed-flipped.ensures)
-
 pub returns : goal.returns
-returns c =
-    c.rows_by-2.ensures
-    ∙ ap listing (rows-plain _ (sym c.fixes.ensures ∙ c.if-fixes.false)
-    c.flip_listed-flipped.ensures)
+returns c = c.rows_by.ensures ∙ elim c.if-half.branch [
+  | then-half w ↦
+      rw w.if-half.true
+      (rows-symmetric _ (sym c.fixes-half.ensures ∙ w.if-half.true) (w.quarter-is ∙ w.fixes-quarter.ensures)
+      c.flip_listed.ensures)
+  | else-half w ↦
+      rw (w.quarter-is, w.if-half.false)
+      (rows-plain _ (sym c.fixes-half.ensures ∙ w.if-half.false) c.flip_listed.ensures)
+]

@@ -23,9 +23,9 @@ column-at s = section-at 1024 1024 s.args.outline.now s.args.i s.requires.1.insi
 pub turn-requires : goal.turn-requires
 turn-requires c = (
   c.requires.0,
-  rw (read_back _ c.signed.ensures (omega (arith, row_at (goal.at.turn-requires c).Start, c.requires.1.down)))
+  rw (read_back _ c.from.ensures (omega (arith, row_at (goal.at.turn-requires c).Start, c.requires.1.down)))
       (omega (arith, row_at (goal.at.turn-requires c).Start, c.requires.1.down)),
-  rw (read_back _ c.signed-2.ensures (omega (arith, column-at (goal.at.turn-requires c).Start, c.requires.1.across)))
+  rw (read_back _ c.from-2.ensures (omega (arith, column-at (goal.at.turn-requires c).Start, c.requires.1.across)))
       (omega (arith, column-at (goal.at.turn-requires c).Start, c.requires.1.across)),
 )
 
@@ -33,7 +33,7 @@ pub returns : goal.returns
 returns c =
     c.turn.ensures
     ∙ ap₂ (turn_by c.args.s)
-    (read_back _ c.signed.ensures (omega (arith, row_at (goal.at.returns c).Start, c.requires.1.down))
+    (read_back _ c.from.ensures (omega (arith, row_at (goal.at.returns c).Start, c.requires.1.down))
     ∙ ap pos (row_at (goal.at.returns c).Start))
-    (read_back _ c.signed-2.ensures (omega (arith, column-at (goal.at.returns c).Start, c.requires.1.across))
+    (read_back _ c.from-2.ensures (omega (arith, column-at (goal.at.returns c).Start, c.requires.1.across))
     ∙ ap pos (column-at (goal.at.returns c).Start))

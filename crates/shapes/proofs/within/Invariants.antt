@@ -1,7 +1,7 @@
 -- `shapes::within` meets its contract. The loop's invariant: every image passed is a cell of the unit.
 use mathlib.Core.Path.{◌≡◌}
 use mathlib.Core.Bool.{true}
-use Prim.Native.Nat.{◌-◌, ◌≤◌}
+use Prim.Native.Nat.{◌≤◌}
 use Rattle.lists.specs.Tests.{all_below}
 use Rattle.rules.specs.Page.{◌⊕◌}
 use Rattle.rules.specs.Groups.{entry}
@@ -20,6 +20,3 @@ invariant-loop-i l =
     (λ j. has_cell l.h l.w (entry (numbers_in l.units)) l.g
     (apply (turn_at l.row) (cell_spot l.outline j) ⊕ point_of l.v))
     ≡ true)
-
-abbrev pub decreases-loop-i : goal.decreases-loop-i
-decreases-loop-i l = l.n - l.i

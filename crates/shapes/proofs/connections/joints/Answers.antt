@@ -1,49 +1,25 @@
 -- `shapes::joints` meets its contract. The loop's invariant: the outline has the connections of the cells passed.
-use mathlib.Core.Path.{◌≡◌, ◌∙◌}
-use Prim.Native.Nat.{◌≤◌, ◌<◌}
+use mathlib.Core.Path.{◌∙◌}
+use Prim.Native.Nat.{◌<◌}
 use native.Mathlib.Omega.{arith}
 use Rattle.rules.specs.Groups.{entry}
 use Rattle.groups.specs.Grouping.{numbers_in}
 use Rattle.shapes.specs.JointLaws.{joining-none, joining-more, joining-all, row_read, column-read, unit-stays}
 use Rattle.shapes.specs.Outlines.{cell_count}
 use Rattle.shapes.specs.PartLaws.{unit-bounds}
-use Rattle.shapes.proofs.connections.joints.Goals.{After-index-n}
 use Rattle.shapes.proofs.connections.joints.Goals as goal
-
--- the count of the cells, read before the loop
-count : (a : After-index-n) → a.index-n.result ≡ cell_count a.args.outline.now
-count a = a.index-n.ensures
-
-small : (a : After-index-n) → a.index-n.result ≤ 1024
-small a = rw (count a) a.requires.spotted.most
 
 pub loop-i-init : goal.loop-i-init
 loop-i-init c = (omega arith, joining-none _ _ (entry (numbers_in c.args.units.now)) _ _)
 
-pub offset_bounds-outline-i : goal.offset_bounds-outline-i
-offset_bounds-outline-i c = omega (arith, small (goal.at.offset_bounds-outline-i c).After-index-n)
-
-pub bounds-outline-i : goal.bounds-outline-i
-bounds-outline-i c = omega (arith, small (goal.at.bounds-outline-i c).After-index-n)
-
-pub overflow_add-i : goal.overflow_add-i
-overflow_add-i c = omega (arith, small (goal.at.overflow_add-i c).After-index-n)
-
-pub offset_bounds-outline-i-in-loop-i : goal.offset_bounds-outline-i-in-loop-i
-offset_bounds-outline-i-in-loop-i c = omega (arith, small (goal.at.offset_bounds-outline-i-in-loop-i c).After-index-n)
-
-pub bounds-outline-i-in-loop-i : goal.bounds-outline-i-in-loop-i
-bounds-outline-i-in-loop-i c = omega (arith, small (goal.at.bounds-outline-i-in-loop-i c).After-index-n)
-
 pub joints_at-k-requires : goal.joints_at-k-requires
 joints_at-k-requires c =
     let l = c.loop-i in
-    let low : l.i < cell_count c.args.outline.now =
-    omega (arith, count (goal.at.joints_at-k-requires c).After-index-n) in
+    let low : l.i < cell_count c.args.outline.now = omega (arith, c.cell_count-n.ensures) in
     let p = unit-bounds l.i c.requires low in
     let few : l.i < 1024 = omega (arith, c.requires.spotted.most) in
-    let y = c.index.ensures ∙ row_read l.invariant.1.only l.i few in
-    let x = c.index-in-loop-i.ensures ∙ column-read l.invariant.1.only l.i few in (
+    let y = c.from.ensures ∙ row_read l.invariant.1.only l.i few in
+    let x = c.from-in-loop-i.ensures ∙ column-read l.invariant.1.only l.i few in (
       c.requires.sized,
       c.requires.long,
       rw y p.0,
@@ -54,29 +30,21 @@ joints_at-k-requires c =
       },
     )
 
-pub overflow_add-i-in-loop-i : goal.overflow_add-i-in-loop-i
-overflow_add-i-in-loop-i c = omega (arith, small (goal.at.overflow_add-i-in-loop-i c).After-index-n)
-
 pub loop-i-preserved : goal.loop-i-preserved
 loop-i-preserved c =
     let l = c.loop-i in
-    let low : l.i < cell_count c.args.outline.now = omega (arith, count (goal.at.loop-i-preserved c).After-index-n) in
+    let low : l.i < cell_count c.args.outline.now = omega (arith, c.cell_count-n.ensures) in
     let few : l.i < 1024 = omega (arith, c.requires.spotted.most) in
-    let y = c.index.ensures ∙ row_read l.invariant.1.only l.i few in
-    let x = c.index-in-loop-i.ensures ∙ column-read l.invariant.1.only l.i few in (
+    let y = c.from.ensures ∙ row_read l.invariant.1.only l.i few in
+    let x = c.from-in-loop-i.ensures ∙ column-read l.invariant.1.only l.i few in (
       omega arith,
       joining-more _ _ (entry (numbers_in c.args.units.now)) _ l.i l.invariant.1 y x
           (rw x (unit-bounds l.i c.requires low).1) c.joints_at-k.ensures,
     )
 
-pub overflow_cast-outline : goal.overflow_cast-outline
-overflow_cast-outline c =
-    let l = c.loop-i in
-    omega (arith, l.invariant.1.few, l.invariant.0, c.requires.spotted.most)
-
 pub returns : goal.returns
 returns c =
     let l = c.loop-i in (
       unit-stays c.requires l.invariant.1.only l.k,
-      joining-all c.requires l.invariant.0 (omega (arith, count (goal.at.returns c).After-index-n)) l.invariant.1,
+      joining-all c.requires l.invariant.0 (omega (arith, c.cell_count-n.ensures)) l.invariant.1,
     )

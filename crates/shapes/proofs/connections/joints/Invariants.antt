@@ -1,5 +1,5 @@
 -- `shapes::joints` meets its contract. The loop's invariant: the outline has the connections of the cells passed.
-use Prim.Native.Nat.{◌-◌, ◌≤◌}
+use Prim.Native.Nat.{◌≤◌}
 use Rattle.rules.specs.Groups.{entry}
 use Rattle.groups.specs.Grouping.{numbers_in}
 use Rattle.shapes.specs.Joints.{Joining}
@@ -10,6 +10,3 @@ abbrev pub invariant-loop-i : goal.invariant-loop-i
 invariant-loop-i l =
     (l.i ≤ cell_count l.initial.outline)
     × Joining l.h l.w (entry (numbers_in l.units)) l.g l.initial.outline l.outline l.k l.i
-
-abbrev pub decreases-loop-i : goal.decreases-loop-i
-decreases-loop-i l = l.n - l.i

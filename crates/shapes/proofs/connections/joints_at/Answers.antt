@@ -10,26 +10,6 @@ use Rattle.groups.specs.Grouping.{numbers_in}
 use Rattle.shapes.specs.JointLaws.{cell_room, grown-count, joint-one, joints-are}
 use Rattle.shapes.proofs.connections.joints_at.Goals as goal
 
-pub overflow_mul-c : goal.overflow_mul-c
-overflow_mul-c c = omega (arith, (cell_room c.requires.0 c.requires.2 c.requires.3).0)
-
-pub overflow_add-c : goal.overflow_add-c
-overflow_add-c c = omega (arith, (cell_room c.requires.0 c.requires.2 c.requires.3).0)
-
-pub overflow_add-c-2 : goal.overflow_add-c-2
-overflow_add-c-2 c = omega (arith, (cell_room c.requires.0 c.requires.2 c.requires.3).0, c.requires.0.broad)
-
-pub join-next-requires : goal.join-next-requires
-join-next-requires c =
-    let r = c.requires.4 in (
-      c.requires.1,
-      (cell_room c.requires.0 c.requires.2 c.requires.3).1,
-      record { long = r.long; space = omega (arith, r.space) },
-    )
-
-pub overflow_add-c-3 : goal.overflow_add-c-3
-overflow_add-c-3 c = omega (arith, (cell_room c.requires.0 c.requires.2 c.requires.3).0)
-
 pub join-requires : goal.join-requires
 join-requires c =
     let j = c.join-next.ensures in

@@ -12,61 +12,12 @@ use Rattle.shapes.specs.PartLaws.{row-stored, column-stored, placed-is, placed-c
 use Rattle.shapes.proofs.connections.places.Goals.{After-start_of}
 use Rattle.shapes.proofs.connections.places.Goals as goal
 
-pub overflow_cast-width : goal.overflow_cast-width
-overflow_cast-width c = omega (arith, c.requires.0.broad)
-
-pub start_of-from-requires : goal.start_of-from-requires
-start_of-from-requires c = omega (arith, c.requires.0.group)
-
-pub overflow_add-g : goal.overflow_add-g
-overflow_add-g c = omega (arith, c.requires.0.group)
-
-pub start_of-requires : goal.start_of-requires
-start_of-requires c = omega (arith, c.requires.0.group)
-
 -- the unit's part ends behind its start, and in the list
 reach : (a : After-start_of) →
     (a.start_of-from.result ≤ a.start_of.result) × (a.start_of.result ≤ 1024)
 reach a =
     let p = a.requires.0 in
     rw (a.start_of-from.ensures, a.start_of.ensures) (p.order, p.inside)
-
-pub overflow_sub-n : goal.overflow_sub-n
-overflow_sub-n c = omega (arith, (reach c).0)
-
-pub loop-i-init : goal.loop-i-init
-loop-i-init c = (omega arith, c.requires.1, λ j h. absurd (omega arith), λ j h. absurd (omega arith))
-
-pub overflow_add-c : goal.overflow_add-c
-overflow_add-c c = omega (arith, (reach (goal.at.overflow_add-c c).After-start_of).1)
-
-pub overflow_add-c-in-loop-i : goal.overflow_add-c-in-loop-i
-overflow_add-c-in-loop-i c = omega (arith, (reach (goal.at.overflow_add-c-in-loop-i c).After-start_of).1)
-
-pub offset_bounds-units-from : goal.offset_bounds-units-from
-offset_bounds-units-from c = omega (arith, (reach (goal.at.offset_bounds-units-from c).After-start_of).1)
-
-pub bounds-units-from : goal.bounds-units-from
-bounds-units-from c = omega (arith, (reach (goal.at.bounds-units-from c).After-start_of).1)
-
-pub offset_bounds-outline-i : goal.offset_bounds-outline-i
-offset_bounds-outline-i c = omega (arith, (reach (goal.at.offset_bounds-outline-i c).After-start_of).1)
-
-pub bounds-outline-i : goal.bounds-outline-i
-bounds-outline-i c = omega (arith, (reach (goal.at.bounds-outline-i c).After-start_of).1)
-
-pub overflow_add-outline : goal.overflow_add-outline
-overflow_add-outline c = omega (arith, (reach (goal.at.overflow_add-outline c).After-start_of).1)
-
-pub offset_bounds-outline-i-in-loop-i : goal.offset_bounds-outline-i-in-loop-i
-offset_bounds-outline-i-in-loop-i c =
-    omega (arith, (reach (goal.at.offset_bounds-outline-i-in-loop-i c).After-start_of).1)
-
-pub bounds-outline-i-in-loop-i : goal.bounds-outline-i-in-loop-i
-bounds-outline-i-in-loop-i c = omega (arith, (reach (goal.at.bounds-outline-i-in-loop-i c).After-start_of).1)
-
-pub overflow_add-i : goal.overflow_add-i
-overflow_add-i c = omega (arith, (reach (goal.at.overflow_add-i c).After-start_of).1)
 
 pub loop-i-preserved : goal.loop-i-preserved
 loop-i-preserved c =
@@ -90,9 +41,6 @@ loop-i-preserved c =
           (stored_more (λ j. get_or (cells_in units) (from + j) 0 % w) 0 x (columns_in o) i
           (omega (arith, v.1, section-length 1024 1024 o (omega (arith, v.1)))) (rw e) v.3),
     )
-
-pub overflow_cast-outline : goal.overflow_cast-outline
-overflow_cast-outline c = omega (arith, (reach (goal.at.overflow_cast-outline c).After-start_of).1)
 
 pub returns : goal.returns
 returns c =

@@ -1,7 +1,7 @@
 -- `shapes::places` meets its contract. The loop's invariant: the entries passed are the rows and columns of their
 -- cells.
 use mathlib.Core.Path.{◌≡◌}
-use Prim.Native.Nat.{ℕ, ◌+◌, ◌-◌, ◌/◌, ◌%◌, ◌≤◌, ◌<◌}
+use Prim.Native.Nat.{ℕ, ◌+◌, ◌/◌, ◌%◌, ◌≤◌, ◌<◌}
 use lib.ListN.{length, get_or}
 use Rattle.groups.specs.Grouping.{cells_in}
 use Rattle.shapes.specs.Outlines.{rows_in, columns_in}
@@ -13,6 +13,3 @@ invariant-loop-i l =
     × (length l.outline ≡ 6146)
     × ((j : ℕ) → j < l.i → get_or (rows_in l.outline) j 0 ≡ get_or (cells_in l.units) (l.from + j) 0 / l.w)
     × ((j : ℕ) → j < l.i → get_or (columns_in l.outline) j 0 ≡ get_or (cells_in l.units) (l.from + j) 0 % l.w)
-
-abbrev pub decreases-loop-i : goal.decreases-loop-i
-decreases-loop-i l = l.n - l.i

@@ -4,7 +4,7 @@ use Prim.Native.Nat.{ℕ, ◌+◌, ◌≤◌, ◌<◌}
 use native.Mathlib.Omega.{arith}
 use lib.ListN.{get_or}
 use Rattle.lists.specs.Sections.{section}
-use Rattle.lists.specs.SectionLaws.{section-at, section-set, section-length, only_none, only_set}
+use Rattle.lists.specs.SectionLaws.{section-at, section-set, section-length, only_set}
 use Rattle.lists.specs.TableLaws.{stored_more}
 use Rattle.shapes.specs.Raising.{lift_of}
 use Rattle.shapes.proofs.turned.lift_all.Goals.{After-joint_count-n}
@@ -13,19 +13,6 @@ use Rattle.shapes.proofs.turned.lift_all.Goals as goal
 -- the count of the connections, read before the loop
 few : (a : After-joint_count-n) → a.joint_count-n.result ≤ 2048
 few a = rw a.joint_count-n.ensures a.requires.2
-
-pub loop-i-init : goal.loop-i-init
-loop-i-init c = (omega arith, only_none _ _ c.args.turned.now, λ j h. absurd (omega arith))
-
-pub overflow_add-from : goal.overflow_add-from
-overflow_add-from c = omega (arith, few (goal.at.overflow_add-from c).After-joint_count-n, c.requires.0)
-
-pub offset_bounds-outline-from : goal.offset_bounds-outline-from
-offset_bounds-outline-from c =
-    omega (arith, few (goal.at.offset_bounds-outline-from c).After-joint_count-n, c.requires.0)
-
-pub bounds-outline-from : goal.bounds-outline-from
-bounds-outline-from c = omega (arith, few (goal.at.bounds-outline-from c).After-joint_count-n, c.requires.0)
 
 -- the coordinate that is read
 read_is : (l : After-joint_count-n) (i : ℕ) → i < l.joint_count-n.result
@@ -40,15 +27,6 @@ lift-requires c =
           (c.requires.4 i (omega (arith, c.joint_count-n.ensures))),
       c.requires.3,
     )
-
-pub overflow_add-turned : goal.overflow_add-turned
-overflow_add-turned c = omega (arith, few (goal.at.overflow_add-turned c).After-joint_count-n, c.requires.1)
-
-pub bounds-turned-to : goal.bounds-turned-to
-bounds-turned-to c = omega (arith, few (goal.at.bounds-turned-to c).After-joint_count-n, c.requires.1)
-
-pub overflow_add-i : goal.overflow_add-i
-overflow_add-i c = omega (arith, few (goal.at.overflow_add-i c).After-joint_count-n)
 
 pub loop-i-preserved : goal.loop-i-preserved
 loop-i-preserved c =
@@ -67,8 +45,3 @@ loop-i-preserved c =
           (rw (← read_is (goal.at.loop-i-preserved c).After-joint_count-n i c.loop-i-test.true) c.lift.ensures)
           l.invariant.2),
     )
-
-pub returns : goal.returns
-returns c =
-    let l = c.loop-i.invariant in
-    (l.1, λ i h. l.2 i (omega (arith, c.joint_count-n.ensures)))

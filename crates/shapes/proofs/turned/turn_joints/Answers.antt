@@ -13,7 +13,7 @@ use Rattle.shapes.specs.Outlines.{down_in, across_in, joint_count}
 use Rattle.shapes.specs.RaiseLaws.{turned-raised, turned-spelled}
 use Rattle.shapes.specs.Raising.{Raised, Turnable, lift_of, moved_by, raised, spelled, turn_of, xs_in, ys_in}
 use Rattle.shapes.specs.Spots.{joint_spots}
-use Rattle.shapes.proofs.turned.turn_joints.Goals.{Start}
+use Rattle.shapes.proofs.turned.turn_joints.Goals.{Start, then-swap, else-swap}
 use Rattle.shapes.proofs.turned.turn_joints.Goals as goal
 
 chosen : (s : Start) {v : Bool} → s.args.swap ≡ v
@@ -21,25 +21,18 @@ chosen : (s : Start) {v : Bool} → s.args.swap ≡ v
     (across_in s.args.outline.now) (joint_count s.args.outline.now)
 chosen s e = rw e at s.requires.0
 
-pub lift_all-requires : goal.lift_all-requires
-lift_all-requires c =
-    let t = chosen (goal.at.lift_all-requires c).Start c.if-swap.true in
-    (omega arith, omega arith, t.few, t.low.0, t.rows, c.requires.1)
-
-pub lift_all-requires-then-swap : goal.lift_all-requires-then-swap
-lift_all-requires-then-swap c =
-    let t = chosen (goal.at.lift_all-requires-then-swap c).Start c.if-swap.true in
-    (omega arith, omega arith, t.few, t.low.1, t.columns, c.lift_all.ensures.0.long ∙ c.requires.1)
-
-pub lift_all-requires-else-swap : goal.lift_all-requires-else-swap
-lift_all-requires-else-swap c =
-    let t = chosen (goal.at.lift_all-requires-else-swap c).Start c.if-swap.false in
-    (omega arith, omega arith, t.few, t.low.0, t.rows, c.requires.1)
-
-pub lift_all-requires-else-swap-2 : goal.lift_all-requires-else-swap-2
-lift_all-requires-else-swap-2 c =
-    let t = chosen (goal.at.lift_all-requires-else-swap-2 c).Start c.if-swap.false in
-    (omega arith, omega arith, t.few, t.low.1, t.columns, c.lift_all-else-swap.ensures.0.long ∙ c.requires.1)
+pub lift_all-requires-2 : goal.lift_all-requires-2
+lift_all-requires-2 c =
+    let s = (goal.at.lift_all-requires-2 c).Start in
+    let long = c.lift_all.ensures.0.long ∙ c.requires.1 in
+    elim c.if-swap.branch [
+      | then-swap w ↦
+          let t = chosen s w.if-swap.true in
+          rw w.rows-is (omega arith, omega arith, t.few, t.low.1, t.columns, long)
+      | else-swap w ↦
+          let t = chosen s w.if-swap.false in
+          rw w.rows-is (omega arith, omega arith, t.few, t.low.1, t.columns, long)
+    ]
 
 -- the rows after the columns are written
 still : {t u : List ℕ} {n : ℕ} {f : ℕ → ℕ} → Only 2048 4096 t u → ((i : ℕ) → i < n → get_or (ys_in t) i 0 ≡ f i)
@@ -63,12 +56,12 @@ written s v e {u = u} y x =
     let rows = still x.0 y.1 in
     (turned-raised t u rows x.1, rw e (turned-spelled t u rows x.1), x.0.long ∙ (y.0.long ∙ s.requires.1))
 
-pub returns-then-swap : goal.returns-then-swap
-returns-then-swap c =
-    written (goal.at.returns-then-swap c).Start true c.if-swap.true
-    c.lift_all.ensures c.lift_all-then-swap.ensures
-
-pub returns-else-swap : goal.returns-else-swap
-returns-else-swap c =
-    written (goal.at.returns-else-swap c).Start false c.if-swap.false
-    c.lift_all-else-swap.ensures c.lift_all-else-swap-2.ensures
+pub returns : goal.returns
+returns c =
+    let s = (goal.at.returns c).Start in
+    elim c.if-swap.branch [
+      | then-swap w ↦
+          written s true w.if-swap.true (rw w.rows-is at c.lift_all.ensures) (rw w.rows-is at c.lift_all-2.ensures)
+      | else-swap w ↦
+          written s false w.if-swap.false (rw w.rows-is at c.lift_all.ensures) (rw w.rows-is at c.lift_all-2.ensures)
+    ]
