@@ -18,8 +18,6 @@ use Rattle.groups.specs.PartLaws.{ids-length}
 use Rattle.groups.specs.Pages.{potential_in}
 use Rattle.groups.specs.PageLaws.{cells-some, cells-few}
 use Rattle.reasons.specs.Memory.{Wrote}
-use Rattle.shapes.specs.declared.Listed.{Listed as RowList}
-use Rattle.shapes.specs.Listing.{listing}
 use Rattle.shapes.specs.Rows.{rows_of}
 use Rattle.shapes.specs.Spots.{UnitAt}
 use Rattle.shapes.specs.Joints.{OutlineJoined}
@@ -86,8 +84,8 @@ module _ {h w : ℕ} {cs bs us ps : List ℕ} {u : ℕ} (q : StuckAt h w cs bs u
         mates = l;
       }
 
-  pub imaged : {o : List ℕ} {t : RowList} → UnitAt h w us u o → OutlineJoined h w us u o
-      → t ≡ listing (rows_of (shape_of (flat h w) (entry (numbers_in us)) u)) → Imaged h w cs bs us o t u
+  pub imaged : {o t : List ℕ} → UnitAt h w us u o → OutlineJoined h w us u o
+      → t ≡ rows_of (shape_of (flat h w) (entry (numbers_in us)) u) → Imaged h w cs bs us o t u
   imaged a j e = record { cells = a; connections = j; rows = e; transforms = transforms-are q.ready u q.low }
 
   pub home-in : home_in us ps u ≡ potential_in Z s u

@@ -1,13 +1,11 @@
 -- What the arrays give is the reason of the unit: its blockers, its Inside, and the walls of its potential unit.
-use Rattle.std.specs.Prelude.{◌≡◌, ℕ, ◌*◌, ◌<◌, ◌≤◌, length, get_or}
+use Rattle.std.specs.Prelude.{◌≡◌, ℕ, ◌*◌, ◌<◌, ◌≤◌, get_or}
 use Rattle.std.proofs.Math.Path.{refl, ap}
 use Rattle.std.proofs.Common.{sym, ◌∙◌, arith}
 use mathlib.Core.List.{List, ◌++◌, map}
 use Rattle.std.proofs.Math.Option.{Option, none}
-use Rattle.std.proofs.Math.ListN.{get_or-append}
 use Rattle.lists.specs.Lists.{flat_map}
 use Rattle.lists.specs.Flats.{flat-map, flat-flat, flat-same}
-use Rattle.lists.specs.UpToLaws.{flat_up, up_same}
 use Rattle.rules.specs.Codes.{clued_by, states_in, colours_in, unclued}
 use Rattle.rules.specs.declared.Literal.{Literal}
 use Rattle.rules.specs.Page.{Puzzle, Point, Shape, State}
@@ -23,8 +21,6 @@ use Rattle.reasons.specs.Arrays.{GroupAt, inside_in, edge_in, is_flagged}
 use Rattle.reasons.specs.FarLaws.{far-walls}
 use Rattle.reasons.specs.Memory.{Wrote}
 use Rattle.reasons.proofs.MemoryLaws.{naming-more}
-use Rattle.shapes.specs.declared.Listed.{Listed as RowList}
-use Rattle.shapes.specs.Listing.{listing}
 use Rattle.shapes.specs.Rows.{image, rows_of}
 use Rattle.shapes.specs.Spots.{cell_spots, joint_spots}
 use Rattle.shapes.specs.UnitLaws.{transforms-flat}
@@ -137,7 +133,7 @@ module _ {h w : ℕ} {cs bs us ps list : List ℕ} {u p : ℕ} (a : Arranged h w
   unfolding walls_in
   walls-are = rw (edge-is p, edges_are, far-is)
 
-  module _ {o : List ℕ} {t : RowList} (b : Imaged h w cs bs us o t u) where
+  module _ {o t : List ℕ} (b : Imaged h w cs bs us o t u) where
     abbrev shape : Shape
     shape = shape_of (flat h w) (entry ids) u
 
@@ -169,19 +165,9 @@ module _ {h w : ℕ} {cs bs us ps list : List ℕ} {u p : ℕ} (a : Arranged h w
     unfolding blocks_by
     row_is r = ap blocks_of (image-is b.cells b.connections r)
 
-    -- the listed rows, as the code reads them
-    rows_are : flat_map blocks_row (rows_of shape)
-        ≡ blocks_listed Z s pcells poffs (mates_in list) (cell_spots o) (joint_spots o)
-        (listing (rows_of shape))
-    unfolding blocks_listed
-    rows_are =
-        flat_up blocks_row (rows_of shape)
-        ∙ up_same (λ i. blocks_row (get_or (rows_of shape) i 0)) _ (length (rows_of shape))
-        (λ i h. ap blocks_row (sym (get_or-append (rows_of shape) _ 0 i h)))
-
     blocks-are : flat_map (blockers Z s) (placements Z s u p)
         ≡ blocks_listed Z s pcells poffs (mates_in list) (cell_spots o) (joint_spots o) t
-    unfolding placements
+    unfolding placements blocks_listed
     blocks-are =
         flat-flat (blockers Z s)
         (λ x. flat_map (λ Q. map (laid Z s x) (members (flat h w) (potential_of Z s) Q)) (mates Z s p))
@@ -191,9 +177,7 @@ module _ {h w : ℕ} {cs bs us ps list : List ℕ} {u p : ℕ} (a : Arranged h w
         (b.transforms ∙ transforms-flat h w (entry ids) u b.cells.sized.columns)
         ∙ flat-map (λ x. blocks_of (joints x)) (λ r. image r shape) (rows_of shape)
         ∙ flat-same _ blocks_row (rows_of shape) (λ r m. row_is r)
-        ∙ rows_are
-        ∙ ap (blocks_listed Z s pcells poffs (mates_in list) (cell_spots o) (joint_spots o))
-        (sym b.rows)
+        ∙ ap (flat_map blocks_row) (sym b.rows)
 
     abbrev inner : List Literal
     inner = inside_in h w bs ids u

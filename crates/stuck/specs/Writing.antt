@@ -14,7 +14,6 @@
 use Rattle.std.specs.Prelude.{◌≡◌, false, List, ◌++◌, ℕ, ◌*◌, ◌<◌, ◌≤◌, eqb, length, get_or}
 use Rattle.lists.specs.Lists.{any, flat_map}
 use Rattle.lists.specs.Table.{table}
-use Rattle.lists.specs.UpTo.{up_to}
 use Rattle.lists.specs.Count.{bit}
 use Rattle.rules.specs.declared.Literal.{Literal}
 use Rattle.rules.specs.Page.{Puzzle, Point, State}
@@ -26,8 +25,6 @@ use Rattle.rules.specs.Check.{mates, transforms_of}
 use Rattle.groups.specs.Grouping.{numbers_in, cells_in, starts_in, count_in}
 use Rattle.groups.specs.Pages.{Drawn}
 use Rattle.reasons.specs.Arrays.{GroupAt, edge_in, scan_of}
-use Rattle.shapes.specs.declared.Listed.{Listed as RowList}
-use Rattle.shapes.specs.Listing.{listing}
 use Rattle.shapes.specs.Rows.{rows_of}
 use Rattle.shapes.specs.Spots.{UnitAt}
 use Rattle.shapes.specs.Joints.{OutlineJoined}
@@ -81,13 +78,13 @@ module _ (Z : Puzzle) (s : ℕ → State) (cells offs mates : List ℕ) where
   unfoldable pub blocks_by : List Point → List Point → ℕ → List Literal
   blocks_by ps js r = blocks_beside Z s (bare (image_joints r ps js)) cells offs mates
 
-  unfoldable pub blocks_listed : List Point → List Point → RowList → List Literal
-  blocks_listed ps js l = up_to (λ j. blocks_by ps js (get_or l.rows j 0)) l.count
+  unfoldable pub blocks_listed : List Point → List Point → List ℕ → List Literal
+  blocks_listed ps js rows = flat_map (blocks_by ps js) rows
 
-pub record Imaged (h w : ℕ) (cs bs us o : List ℕ) (l : RowList) (u : ℕ) : Type 0 where
+pub record Imaged (h w : ℕ) (cs bs us o l : List ℕ) (u : ℕ) : Type 0 where
   pub cells : UnitAt h w us u o
   pub connections : OutlineJoined h w us u o
-  pub rows : l ≡ listing (rows_of (shape_of (flat h w) (entry (numbers_in us)) u))
+  pub rows : l ≡ rows_of (shape_of (flat h w) (entry (numbers_in us)) u)
   pub transforms : transforms_of (unclued h w cs) (states_in bs) u
       ≡ flat_transforms (shape_of (flat h w) (entry (numbers_in us)) u)
 

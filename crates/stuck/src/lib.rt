@@ -23,7 +23,7 @@ use planes::draw_mask;
 use reasons::inside;
 use shapes::connections::{joints, places};
 use shapes::turned::turn_row;
-use shapes::{Listed, Outline, joint_count, list_rows};
+use shapes::{Outline, joint_count, list_rows};
 
 mod survivors; // survivors.rt: the origins at which a transform lies on one colour, and the blockers there
 pub mod unit_walls; // unit_walls.rt: the walls of a potential unit, of those adjacent to it, and to the others
@@ -37,18 +37,18 @@ fn block_rows<'a>(
     w: usize,
     colours: &'a [u8; Board::CELL_LIMIT],
     borders: &'a [u8; Board::BORDER_LIMIT],
-    listed: Listed,
+    listed: &'a [u8],
     outline: &'a Outline,
     potential: &'a Grouping,
     mates: &'a Mates,
 ) -> usize
-    requires { Rows listed × Drawn h w colours.now × Spotted outline.now × Jointed outline.now
+    requires { Rows listed.now × Drawn h w colours.now × Spotted outline.now × Jointed outline.now
         × Beside h w potential.now mates.now
         × Spare memory.old 0 }
     ensures { Wrote memory.old 0
         (blocks_listed (unclued h w colours.now) (states_in borders.now)
         (cells_in potential.now) (starts_in potential.now) (mates_in mates.now)
-        (cell_spots outline.now) (joint_spots outline.now) listed) memory.new result }
+        (cell_spots outline.now) (joint_spots outline.now) listed.now) memory.new result }
 {
     let mut same = [0u64; 192];
     draw_colours(h, w, colours, &mut same);
@@ -59,17 +59,13 @@ fn block_rows<'a>(
     let mut turned = [0u8; 4096];
     let mut left = [0u64; 32];
     let k = joint_count(outline);
-    let count = listed.count;
     let mut at = 0;
-    let mut j = 0;
-    while j < count {
-        let row = listed.rows[j];
-        turn_row(row as usize, outline, &mut turned);
+    for row in listed {
+        turn_row(usize::from(*row), outline, &mut turned);
         survivors(&same, &mask, h, &turned, k, &mut left);
         at = block_mates(
             memory, at, h, w, borders, &spread, &left, &turned, k, potential, mates,
         );
-        j += 1;
     }
     at
 }
@@ -86,13 +82,13 @@ fn write_unit<'a>(
     units: &'a Grouping,
     potential: &'a Grouping,
     mates: &'a Mates,
-    listed: Listed,
+    listed: &'a [u8],
     outline: &'a Outline,
     u: usize,
     p: usize,
 ) -> usize
     requires { Arranged h w colours.now borders.now units.now potential.now mates.now u p
-        × Imaged h w colours.now borders.now units.now outline.now listed u
+        × Imaged h w colours.now borders.now units.now outline.now listed.now u
         × Spare memory.old 0 }
     ensures { (c : ℕ → Option ℕ) → Wrote memory.old 0
         (unit_reason (clued_by h w colours.now c) (states_in borders.now) u p)

@@ -12,8 +12,7 @@ pub block_rows-blocked-requires : goal.block_rows-blocked-requires
 block_rows-blocked-requires c =
     let a = c.requires.0 in
     let b = c.requires.1 in (
-      rows-listed (shape_of (flat c.args.h c.args.w) (entry (numbers_in c.args.units.now)) c.args.u)
-          b.rows,
+      rw b.rows (rows-listed (shape_of (flat c.args.h c.args.w) (entry (numbers_in c.args.units.now)) c.args.u)),
       a.drawn,
       b.cells.spotted,
       jointed b.cells b.connections,
