@@ -1,10 +1,10 @@
 -- What is handed back, case by case.
-use Rattle.std.specs.Prelude.{◌≡◌, true, false, List, [], map, ℕ, ◌-◌, ◌<◌, ◌≤◌, ℤ, replicate}
+use Rattle.std.specs.Prelude.{◌≡◌, true, false, List, [], map, ℕ, ◌<◌, ◌≤◌, ℤ, Ok, Err}
 use Rattle.std.proofs.Math.Path.{refl, sym, ap, ap₂}
-use Rattle.std.proofs.Common.{◌∙◌, arith}
+use Rattle.std.proofs.Common.{◌∙◌}
 use Rattle.std.proofs.Math.Option.{none}
 use borrow.Author.Tests.{lt-ltb, le-ltb}
-use Rattle.std.proofs.Math.ListN.{length, get_or, get_or-append, get_or-eq_default}
+use Rattle.std.proofs.Math.ListN.{length, get_or, get_or-eq_default}
 use Rattle.std.proofs.lemmas.List.{length-map}
 use Rattle.std.proofs.Math.Seq.{sets}
 use Rattle.lists.specs.Lists.{flat_map}
@@ -17,7 +17,7 @@ use Rattle.rules.specs.Groups.{entry, unit_count}
 use Rattle.rules.specs.Shapes.{shape_of, flat_transforms}
 use Rattle.rules.specs.Check.{transforms_of}
 use Rattle.board.specs.declared.Board.{Board}
-use Rattle.board.specs.declared.Outcome.TheVariants.{Done, Alien, Short}
+use Rattle.board.specs.declared.Refusal.TheVariants.{Alien, Short}
 use Rattle.board.specs.Alien.{is_alien}
 use Rattle.board.specs.View.{puzzle_of, states_of}
 use Rattle.groups.specs.declared.Kind.TheVariants.{Units}
@@ -25,8 +25,6 @@ use Rattle.groups.specs.Kinds.{joins_in}
 use Rattle.groups.specs.Parts.{groups_of}
 use Rattle.groups.specs.Grouping.{numbers_in, count_in, Filled}
 use Rattle.groups.specs.PageLaws.{kind-count}
-use Rattle.shapes.specs.declared.Listed.{Listed}
-use Rattle.shapes.specs.Listing.{listing}
 use Rattle.shapes.specs.Rows.{image, rows_of}
 use Rattle.shapes.specs.UnitLaws.{transforms-flat}
 use Rattle.adjacent.specs.Homes.{UnitIn}
@@ -40,53 +38,46 @@ module _ (ts : List Shape) (k : ℕ) (l : length ts ≤ k) where
   unfolding kth
   past = get_or-eq_default ts nothing l
 
-  pub past-answer : {n : ℕ} → n ≡ length ts → transformed Done n nothing ≡ kth_answer ts k
+  pub past-answer : {n : ℕ} → n ≡ length ts → transformed n nothing ≡ kth_answer ts k
   unfolding kth_answer
-  past-answer e = ap₂ (transformed Done) e (sym past)
+  past-answer e = ap₂ transformed e (sym past)
 
   pub past_memory : (m : List ℤ) → m ≡ kth_memory ts k m
   unfolding kth_memory words flat_map
   past_memory m = rw past
 
 -- a unit's listed rows
-module _ (h w : ℕ) (ids : List ℕ) (g : ℕ) (index : 1 ≤ w) {t : Listed}
-    (rows : t ≡ listing (rows_of (shape_of (flat h w) (entry ids) g))) where
+module _ (h w : ℕ) (ids : List ℕ) (g : ℕ) (index : 1 ≤ w) {rows : List ℕ}
+    (listed : rows ≡ rows_of (shape_of (flat h w) (entry ids) g)) where
   abbrev shape : Shape
   shape = shape_of (flat h w) (entry ids) g
 
   abbrev ts : List Shape
   ts = flat_transforms shape
 
-  transforms-are : ts ≡ map (λ r. image r shape) (rows_of shape)
-  transforms-are = transforms-flat h w (entry ids) g index
+  transforms-are : ts ≡ map (λ r. image r shape) rows
+  transforms-are = transforms-flat h w (entry ids) g index ∙ ap (map (λ r. image r shape)) (sym listed)
 
-  pub listed-count : t.count ≡ length (flat_transforms (shape_of (flat h w) (entry ids) g))
-  listed-count =
-      ap (λ (r : Listed). r.count) rows
-      ∙ sym (ap length transforms-are ∙ length-map (rows_of shape) (λ r. image r shape))
+  pub listed-count : length rows ≡ length (flat_transforms (shape_of (flat h w) (entry ids) g))
+  listed-count = sym (ap length transforms-are ∙ length-map rows (λ r. image r shape))
 
-  module _ (k : ℕ) (l : k < t.count) where
-    kth-image : kth ts k ≡ image (get_or t.rows k 0) shape
+  module _ (k : ℕ) (l : k < length rows) where
+    kth-image : kth ts k ≡ image (get_or rows k 0) shape
     unfolding kth
     kth-image =
-        let few : k < length (rows_of shape) = omega (arith, ap (λ (r : Listed). r.count) rows) in
-        ap (λ xs. get_or xs k nothing) transforms-are
-        ∙ (get_d_map (λ r. image r shape) (rows_of shape) k 0 nothing few
-        ∙ ap (λ r. image r shape)
-        (sym (ap (λ (r : Listed). get_or r.rows k 0) rows
-        ∙ get_or-append (rows_of shape) (replicate (8 - length (rows_of shape)) 0) 0 k few)))
+        ap (λ xs. get_or xs k nothing) transforms-are ∙ get_d_map (λ r. image r shape) rows k 0 nothing l
 
-    pub listed_answer : {n j : ℕ} → length (image (get_or t.rows k 0) (shape_of (flat h w) (entry ids) g)).cells ≡ n
-        → length (image (get_or t.rows k 0) (shape_of (flat h w) (entry ids) g)).connections ≡ j
-        → record { outcome = Done; listed = t.count; cells = n; connections = j }
+    pub listed_answer : {n j : ℕ} → length (image (get_or rows k 0) (shape_of (flat h w) (entry ids) g)).cells ≡ n
+        → length (image (get_or rows k 0) (shape_of (flat h w) (entry ids) g)).connections ≡ j
+        → record { listed = length rows; cells = n; connections = j }
         ≡ kth_answer (flat_transforms (shape_of (flat h w) (entry ids) g)) k
     unfolding kth_answer
     listed_answer {n} {j} a c =
-        (λ i. record { outcome = Done; listed = listed-count i; cells = sym a i; connections = sym c i })
-        ∙ ap (transformed Done (length ts)) (sym kth-image)
+        (λ i. record { listed = listed-count i; cells = sym a i; connections = sym c i })
+        ∙ ap (transformed (length ts)) (sym kth-image)
 
     pub listed-memory : (m : List ℤ) {m' : List ℤ}
-        → m' ≡ sets m 0 (words (image (get_or t.rows k 0) (shape_of (flat h w) (entry ids) g)))
+        → m' ≡ sets m 0 (words (image (get_or rows k 0) (shape_of (flat h w) (entry ids) g)))
         → m' ≡ kth_memory (flat_transforms (shape_of (flat h w) (entry ids) g)) k m
     unfolding kth_memory
     listed-memory m e = e ∙ ap (λ s. sets m 0 (words s)) (sym kth-image)
@@ -117,7 +108,7 @@ module _ (b : Board) (u k : ℕ) (m : List ℤ) where
   unfolding transforms_of puzzle_of states_of joins_unit one_colour
   board-transforms = refl
 
-  pub alien-answer : is_alien b ≡ true → transformed Alien 0 nothing ≡ transform_of b u k (length m)
+  pub alien-answer : is_alien b ≡ true → Err Alien ≡ transform_of b u k (length m)
   unfolding transform_of
   alien-answer e = rw e
 
@@ -125,7 +116,7 @@ module _ (b : Board) (u k : ℕ) (m : List ℤ) where
   unfolding memory_after
   alien-memory e = rw e
 
-  pub short-answer : is_alien b ≡ false → length m < room → transformed Short 0 nothing ≡ transform_of b u k (length m)
+  pub short-answer : is_alien b ≡ false → length m < room → Err Short ≡ transform_of b u k (length m)
   unfolding transform_of
   short-answer e l = rw (e, lt-ltb (length m) room l)
 
@@ -134,7 +125,7 @@ module _ (b : Board) (u k : ℕ) (m : List ℤ) where
   short-memory e l = rw (e, lt-ltb (length m) room l)
 
   pub done-answer : is_alien b ≡ false → room ≤ length m
-      → kth_answer (transforms_of (puzzle_of b) (states_of b) u) k ≡ transform_of b u k (length m)
+      → Ok (kth_answer (transforms_of (puzzle_of b) (states_of b) u) k) ≡ transform_of b u k (length m)
   unfolding transform_of
   done-answer e l = rw (e, le-ltb (length m) room l)
 

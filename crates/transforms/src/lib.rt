@@ -13,7 +13,6 @@ ghost use Rattle.rules.specs.Shapes.{shape_of, flat_transforms};
 ghost use Rattle.groups.specs.Grouping.{numbers_in};
 ghost use Rattle.shapes.specs.Joints.{OutlineJoined};
 ghost use Rattle.shapes.specs.Pairs.{point_at, point_of, Small, SmallPair};
-ghost use Rattle.shapes.specs.Listing.{listing};
 ghost use Rattle.shapes.specs.Rows.{turn_at, image, rows_of};
 ghost use Rattle.shapes.specs.Outlines.{joint_count};
 ghost use Rattle.shapes.specs.Images.{Jointed};
@@ -22,20 +21,18 @@ ghost use Rattle.transforms.specs.Transforms.{nothing, words, transformed, kth_a
 ghost use Rattle.transforms.specs.Transforms.{transform_of, memory_after};
 ghost use Rattle.transforms.specs.Box.{box_at, reversed, of_image, box_cell, sweep, moved_back};
 
-use board::{Board, Outcome};
+use board::{Board, Refusal};
 use groups::{Grouping, Kind, count_of, groups_of};
 use shapes::connections::{joint, joints, places};
 use shapes::{
-    Listed, Outline, Pair, Signs, cell_count, has_cell, joint_count, least, list_rows, signs_at,
-    turn,
+    Outline, Pair, Signs, cell_count, has_cell, joint_count, least, list_rows, signs_at, turn,
 };
 
-// What asking for a transform returns: how many transforms the unit has, and how many cells and connections the one
+// What asking for a transform gives: how many transforms the unit has, and how many cells and connections the one
 // asked for has. Each place takes two numbers of the lent memory, down and across: first the cells, sorted, with the
 // first at (0,0), then the connections, in doubled coordinates.
 #[derive(Clone, Copy)]
 pub struct Transformed {
-    pub outcome: Outcome,
     pub listed: usize,
     pub cells: usize,
     pub connections: usize,
@@ -52,10 +49,8 @@ fn put(memory: &mut [i32], at: usize, p: Pair) -> usize
     requires { at + 2 ≤ length memory.old }
     ensures { WrotePoints memory.old at (point_of p ∷ []) memory.new result }
 {
-    let y = p.y;
-    let x = p.x;
-    memory[at] = y;
-    memory[at + 1] = x;
+    memory[at] = p.y;
+    memory[at + 1] = p.x;
     at + 2
 }
 
@@ -70,29 +65,19 @@ fn box_place(i: usize) -> Pair
     }
 }
 
-// The place `p` shifted back by `m`.
-fn back(p: Pair, m: Pair) -> Pair
-    requires { SmallPair p × SmallPair m }
-    ensures { point_of result ≡ point_of p ⊕ opposite (point_of m) }
-{
-    Pair {
-        y: p.y - m.y,
-        x: p.x - m.x,
-    }
-}
-
 // The row that leads back from where `s` leads: where the coordinates change places, so do their signs.
 fn reversed(s: Signs) -> Signs
     ensures { result ≡ reversed s }
 {
     if s.swap {
-        return Signs {
+        Signs {
             swap: true,
             down: s.across,
             across: s.down,
-        };
+        }
+    } else {
+        s
     }
-    s
 }
 
 // The place that a row of the table turns to (y,x).
@@ -131,9 +116,10 @@ fn put_cell(
 {
     let p = box_place(i);
     if of_image(units, h, w, g, row, p) {
-        return put(memory, at, back(p, m));
+        put(memory, at, p - m)
+    } else {
+        at
     }
-    at
 }
 
 // Writes the cells of the unit's image by a row, in order, shifted back by `m`, from the start of the memory.
@@ -152,11 +138,9 @@ fn put_cells(
     ensures { WrotePoints memory.old 0
         (sweep h w (entry (numbers_in units.now)) g row (point_of m) 4356) memory.new result }
 {
-    let mut at: usize = 0;
-    let mut i: usize = 0;
-    while i < BOX {
-        at = put_cell(&mut *memory, at, units, h, w, g, row, m, i);
-        i += 1;
+    let mut at = 0;
+    for i in 0..BOX {
+        at = put_cell(memory, at, units, h, w, g, row, m, i);
     }
     at
 }
@@ -169,13 +153,9 @@ fn put_joints(memory: &mut [i32], start: usize, row: usize, outline: &Outline, m
     ensures { WrotePoints memory.old start
         (moved_back row (point_of m) (joint_spots outline.now)) memory.new result }
 {
-    let k = joint_count(outline);
     let mut at = start;
-    let mut j: usize = 0;
-    while j < k {
-        let p = joint(row, outline, j, m);
-        at = put(&mut *memory, at, p);
-        j += 1;
+    for j in 0..joint_count(outline) {
+        at = put(memory, at, joint(row, outline, j, m));
     }
     at
 }
@@ -196,16 +176,15 @@ fn put_image<'a>(
         (words (image row (shape_of (flat h w) (entry (numbers_in units.now)) g))) }
 {
     let m = least(row, outline);
-    let at = put_cells(&mut *memory, units, h, w, g, row, m);
-    put_joints(&mut *memory, at, row, outline, m);
+    let at = put_cells(memory, units, h, w, g, row, m);
+    put_joints(memory, at, row, outline, m);
 }
 
 // No transform.
-fn none(outcome: Outcome, listed: usize) -> Transformed
-    ensures { result ≡ transformed outcome listed nothing }
+fn none(listed: usize) -> Transformed
+    ensures { result ≡ transformed listed nothing }
 {
     Transformed {
-        outcome,
         listed,
         cells: 0,
         connections: 0,
@@ -220,24 +199,22 @@ fn put_listed<'a>(
     w: usize,
     g: usize,
     outline: &'a Outline,
-    listed: Listed,
+    listed: &'a [u8],
     k: usize,
 ) -> Transformed
     requires { UnitAt h w units.now g outline.now × OutlineJoined h w units.now g outline.now
-        × (listed ≡ listing (rows_of (shape_of (flat h w) (entry (numbers_in units.now)) g)))
+        × (listed.now ≡ rows_of (shape_of (flat h w) (entry (numbers_in units.now)) g))
         × (6144 ≤ length memory.old) }
     ensures { (result ≡ kth_answer (flat_transforms (shape_of (flat h w) (entry (numbers_in units.now)) g)) k)
         × (memory.new ≡ kth_memory (flat_transforms (shape_of (flat h w)
         (entry (numbers_in units.now)) g)) k memory.old) }
 {
-    if listed.count <= k {
-        return none(Outcome::Done, listed.count);
+    if listed.len() <= k {
+        return none(listed.len());
     }
-    let row = listed.rows[k];
-    put_image(memory, units, h, w, g, outline, row as usize);
+    put_image(memory, units, h, w, g, outline, usize::from(listed[k]));
     Transformed {
-        outcome: Outcome::Done,
-        listed: listed.count,
+        listed: listed.len(),
         cells: cell_count(outline),
         connections: joint_count(outline),
     }
@@ -261,7 +238,7 @@ fn put_transform<'a>(
 {
     let units = groups_of(h, w, colours, borders, Kind::Units);
     if count_of(&units) <= u {
-        return none(Outcome::Done, 0);
+        return none(0);
     }
     let mut outline = [0u16; 6146];
     places(&units, u, w, &mut outline);
@@ -272,17 +249,15 @@ fn put_transform<'a>(
 
 // Transform `k` of unit `u` of a board, counted from 0, written from the start of the memory. Refused, and none, where
 // the board is alien or the memory has under 6,144 numbers. None where no unit has the number, or no transform.
-pub fn transform(b: Board, u: usize, k: usize, memory: &mut [i32]) -> Transformed
+pub fn transform(b: Board, u: usize, k: usize, memory: &mut [i32]) -> Result<Transformed, Refusal>
     ensures { (result ≡ transform_of b u k (length memory.old))
         × (memory.new ≡ memory_after b u k memory.old) }
 {
     if b.alien() {
-        return none(Outcome::Alien, 0);
+        return Err(Refusal::Alien);
     }
     if memory.len() < ROOM {
-        return none(Outcome::Short, 0);
+        return Err(Refusal::Short);
     }
-    let colours = b.colours;
-    let borders = b.borders;
-    put_transform(memory, b.height, b.width, &colours, &borders, u, k)
+    Ok(put_transform(memory, b.height, b.width, &b.colours, &b.borders, u, k))
 }

@@ -1,14 +1,9 @@
 -- `transforms::put` meets its contract: the two numbers are stored as they are.
-use native.Mathlib.Omega.{arith}
-use lib.ListN.{length-set}
 use mir.Syntax.{w32}
 use mir.Facts.{to_z-of_z}
 use Rattle.shapes.specs.Pairs.{point_of}
 use Rattle.transforms.specs.ImageLaws.{wrote-point}
 use Rattle.transforms.proofs.put.Goals as goal
-
-pub bounds-memory-at-2 : goal.bounds-memory-at-2
-bounds-memory-at-2 c = simp length-set (omega arith)
 
 pub returns : goal.returns
 returns c =

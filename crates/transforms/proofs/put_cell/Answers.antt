@@ -33,14 +33,14 @@ returns-then-of_image c =
     let m = point_of c.args.m in
     wrote-same
     (ap (λ (p : Point). p ∷ [])
-    (c.back.ensures ∙ ap (λ p. p ⊕ opposite m) c.box_place-p.ensures.0)
+    (c.sub.ensures ∙ ap (λ p. p ⊕ opposite m) c.box_place-p.ensures.0)
     ∙ sym (cell-yes c.args.h c.args.w (entry (numbers_in c.args.units.now)) c.args.g c.args.row m
     c.args.i (sym (tested (goal.at.returns-then-of_image c).After-of_image) ∙ c.if-of_image.true)))
     c.put.ensures
 
-pub returns : goal.returns
-returns c =
+pub returns-else-of_image : goal.returns-else-of_image
+returns-else-of_image c =
     wrote-same
     (sym (cell-no c.args.h c.args.w (entry (numbers_in c.args.units.now)) c.args.g c.args.row
-    (point_of c.args.m) c.args.i (sym (tested (goal.at.returns c).After-of_image) ∙ c.if-of_image.false)))
+    (point_of c.args.m) c.args.i (sym (tested (goal.at.returns-else-of_image c).After-of_image) ∙ c.if-of_image.false)))
     (wrote_none _ _)

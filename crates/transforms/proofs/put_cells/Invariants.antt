@@ -1,5 +1,4 @@
 -- `transforms::put_cells` meets its contract. The loop's invariant: the cells among the places passed are written.
-use Prim.Native.Nat.{◌-◌, ◌≤◌}
 use Rattle.rules.specs.Groups.{entry}
 use Rattle.groups.specs.Grouping.{numbers_in}
 use Rattle.shapes.specs.Pairs.{point_of}
@@ -9,9 +8,5 @@ use Rattle.transforms.proofs.put_cells.Given as goal
 
 abbrev pub invariant-loop-i : goal.invariant-loop-i
 invariant-loop-i l =
-    (l.i ≤ 4356)
-    × WrotePoints l.initial.memory 0 (sweep l.h l.w (entry (numbers_in l.units)) l.g l.row (point_of l.m) l.i)
+    WrotePoints l.initial.memory 0 (sweep l.h l.w (entry (numbers_in l.units)) l.g l.row (point_of l.m) l.i)
     l.memory l.at
-
-abbrev pub decreases-loop-i : goal.decreases-loop-i
-decreases-loop-i l = 4356 - l.i

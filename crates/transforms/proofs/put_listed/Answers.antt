@@ -14,10 +14,9 @@ use Rattle.transforms.specs.ImageLaws.{cell-count, joint-count}
 use Rattle.transforms.proofs.put_listed.Goals.{Start}
 use Rattle.transforms.proofs.put_listed.Goals as goal
 
-rows : (c : Start) → Rows c.args.listed
+rows : (c : Start) → Rows c.args.listed.now
 rows c =
-    rows-listed (shape_of (flat c.args.h c.args.w) (entry (numbers_in c.args.units.now)) c.args.g)
-    c.requires.2
+    rw c.requires.2 (rows-listed (shape_of (flat c.args.h c.args.w) (entry (numbers_in c.args.units.now)) c.args.g))
 
 pub returns-then-listed-k : goal.returns-then-listed-k
 returns-then-listed-k c =
@@ -29,12 +28,9 @@ returns-then-listed-k c =
       past_memory ts c.args.k (omega (arith, e)) c.args.memory.now,
     )
 
-pub bounds-listed-k : goal.bounds-listed-k
-bounds-listed-k c = omega (arith, (rows (goal.at.bounds-listed-k c).Start).few)
-
 pub put_image-requires : goal.put_image-requires
 put_image-requires c =
-    ((rows (goal.at.put_image-requires c).Start).low c.args.k (search rules), c.requires.0, c.requires.1, c.requires.3)
+    (rw c.from.ensures ((rows (goal.at.put_image-requires c).Start).low c.args.k (search rules)), c.requires.0, c.requires.1, c.requires.3)
 
 pub returns : goal.returns
 returns c =
@@ -46,5 +42,5 @@ returns c =
           (cell-count u _ ∙ sym c.cell_count.ensures)
           (joint-count u _ refl c.requires.1 ∙ sym c.joint_count.ensures),
       listed-memory c.args.h c.args.w ids c.args.g w c.requires.2 k (search rules)
-          c.args.memory.now c.put_image.ensures,
+          c.args.memory.now (rw c.from.ensures at c.put_image.ensures),
     )

@@ -1,6 +1,7 @@
 -- `transforms::transform` meets its contract: each return cites the law of its case.
 use mathlib.Core.Path.{◌≡◌, sym, ap, ◌∙◌}
 use mathlib.Core.Bool.{false}
+use Rattle.std.specs.Prelude.{Ok}
 use borrow.Author.Rules.{rules}
 use Rattle.board.specs.Alien.{is_alien}
 use Rattle.board.specs.NativeLaws.{native-has}
@@ -16,14 +17,14 @@ known c = sym c.alien.ensures ∙ c.if-alien.false
 pub returns-then-alien : goal.returns-then-alien
 returns-then-alien c =
     let e = sym c.alien.ensures ∙ c.if-alien.true in (
-      c.none.ensures ∙ alien-answer c.args.b c.args.u c.args.k c.args.memory.now e,
+      alien-answer c.args.b c.args.u c.args.k c.args.memory.now e,
       alien-memory c.args.b c.args.u c.args.k c.args.memory.now e,
     )
 
 pub returns-then-memory-lt-ROOM : goal.returns-then-memory-lt-ROOM
 returns-then-memory-lt-ROOM c =
     let e = known (goal.at.returns-then-memory-lt-ROOM c).Else-alien in (
-      c.none-then-memory-lt-ROOM.ensures ∙ short-answer c.args.b c.args.u c.args.k c.args.memory.now e (search rules),
+      short-answer c.args.b c.args.u c.args.k c.args.memory.now e (search rules),
       short-memory c.args.b c.args.u c.args.k c.args.memory.now e (search rules),
     )
 
@@ -37,9 +38,8 @@ returns c =
     let m = c.args.memory.now in
     let p = c.put_transform.ensures in
     let t = board-transforms c.args.b c.args.u c.args.k m in (
-      p.0
-          ∙ (ap (λ ts. kth_answer ts c.args.k) t
-          ∙ done-answer c.args.b c.args.u c.args.k m e (search rules)),
+      ap Ok (p.0 ∙ ap (λ ts. kth_answer ts c.args.k) t)
+          ∙ (done-answer c.args.b c.args.u c.args.k m e (search rules)),
       p.1
           ∙ (ap (λ ts. kth_memory ts c.args.k m) t
           ∙ done-memory c.args.b c.args.u c.args.k m e (search rules)),
