@@ -1,7 +1,7 @@
 -- Bridges: the arrays of crate groups are what step 1's functions ask for, and hold what the rules mean.
 --
 --   fault_in B    the fault of block B, by these arrays
-use Rattle.std.specs.Prelude.{◌≡◌, Bool, ℤ, get_or}
+use Rattle.std.specs.Prelude.{◌≡◌, Bool, ℤ, get_or, Option}
 use Rattle.std.proofs.Math.Path.{ap, fun_ext}
 use Rattle.std.proofs.Common.{◌∙◌}
 use mathlib.Core.List.{List}
@@ -104,7 +104,7 @@ module _ {h w : ℕ} (z : Sized h w) (cs : List ℕ) (ks : List ℤ) (bs : List 
       ∙ ap (λ (f : ℕ → ℕ). λ (g : ℕ). length (members (flat h w) f g)) (kind-number z cs (clues_in ks) bs kind)
 
   -- step 1: what `first_faulty` finds with these arrays is the first faulty block
-  abbrev pub fault_in : ℕ → Fault
+  abbrev pub fault_in : ℕ → Option Fault
   fault_in B =
       fault_on (colours_in cs) (clues_in ks) (entry (groups_in Potential h w cs bs).ids)
       (size_in (groups_in Potential h w cs bs).offs)

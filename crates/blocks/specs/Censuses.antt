@@ -4,7 +4,6 @@
 --   option_of k          a clue as the rules have it
 --   clue_in o            a clue of the rules as the code has it
 --   next_part p u k      the part p with one cell more, of potential unit u; k says whether it has a clue
---   first_clue j k       the clue j, or k where j is none
 --   next_census t c u k  the census t with one cell more, of colour c, potential unit u and clue k
 --   no_part, no_census   the part and the census of no cell
 --   of_colour c xs       the cells of colour c among xs
@@ -12,17 +11,16 @@
 --   has_clue xs          one of the cells xs has a clue
 --   colour_part c xs     what step 1 asks of the cells of colour c among xs
 --   census_of xs         what step 1 asks of the cells xs
-use Rattle.std.specs.Prelude.{◌≡◌, Bool, ◌||◌, List, [], ◌∷◌, ◌++◌, ℕ, ◌+◌, eqb}
+use Rattle.std.specs.Prelude.{◌≡◌, Bool, ◌||◌, List, [], ◌∷◌, ◌++◌, ℕ, ◌+◌, eqb, Option, None, Some}
+use Rattle.std.specs.Option as option
 use Rattle.std.proofs.Math.Path.{refl, ap}
-use Rattle.std.proofs.Common.{sym, ◌∙◌, append-nil, arith, ne_eqb}
+use Rattle.std.proofs.Common.{◌∙◌, append-nil, arith, ne_eqb}
 use Rattle.std.proofs.Math.Bool.{true, false, cond, beq, or-false}
-use Rattle.std.proofs.Math.Option.{Option, some, none}
+use Rattle.std.proofs.Math.Option.{Option as Maybe, some, none}
 use Rattle.std.proofs.Math.ListN.{length, length-append}
 use Rattle.lists.specs.Lists.{keep_if, filter, any, first_hit, or_else}
 use Rattle.lists.specs.Appends.{filter-append, any_append, first-append}
 use Rattle.rules.specs.Check.{is_some, block_clue}
-use Rattle.blocks.specs.declared.Clue.{Clue}
-use Rattle.blocks.specs.declared.Clue.TheVariants.{Free, Is}
 use Rattle.blocks.specs.declared.Part.{Part}
 use Rattle.blocks.specs.declared.Census.{Census}
 
@@ -30,15 +28,15 @@ abbrev pub first_in : (ℕ → ℕ) → List ℕ → ℕ
 first_in f [] = 0
 first_in f (x ∷ xs) = f x
 
-abbrev pub option_of : Clue → Option ℕ
-option_of Free = none
-option_of (Is n) = some n
+abbrev pub option_of : Option ℕ → Maybe ℕ
+option_of None = none
+option_of (Some n) = some n
 
-abbrev pub clue_in : Option ℕ → Clue
-clue_in none = Free
-clue_in (some n) = Is n
+abbrev pub clue_in : Maybe ℕ → Option ℕ
+clue_in none = None
+clue_in (some n) = Some n
 
-pub option-clue : (o : Option ℕ) → option_of (clue_in o) ≡ o
+pub option-clue : (o : Maybe ℕ) → option_of (clue_in o) ≡ o
 option-clue none = refl
 option-clue (some n) = refl
 
@@ -47,24 +45,20 @@ unfoldable pub next_part : Part → ℕ → Bool → Part
 next_part p u k =
     record { size = p.size + 1; unit = cond (eqb p.size 0) u p.unit; clued = p.clued || k }
 
-abbrev pub first_clue : Clue → Clue → Clue
-first_clue Free k = k
-first_clue (Is n) k = Is n
-
 -- a census with one cell more, of colour c
-unfoldable pub next_census : Census → Bool → ℕ → Clue → Census
+unfoldable pub next_census : Census → Bool → ℕ → Option ℕ → Census
 next_census t true u k =
-    record { zero = t.zero; one = next_part t.one u (is_some (option_of k)); clue = first_clue t.clue k }
+    record { zero = t.zero; one = next_part t.one u (option.is_some k); clue = option.option_or t.clue k }
 next_census t false u k =
-    record { zero = next_part t.zero u (is_some (option_of k)); one = t.one; clue = first_clue t.clue k }
+    record { zero = next_part t.zero u (option.is_some k); one = t.one; clue = option.option_or t.clue k }
 
 abbrev pub no_part : Part
 no_part = record { size = 0; unit = 0; clued = false }
 
 abbrev pub no_census : Census
-no_census = record { zero = no_part; one = no_part; clue = Free }
+no_census = record { zero = no_part; one = no_part; clue = None }
 
-module _ (colour_at : ℕ → Bool) (clue_at : ℕ → Option ℕ) (unit_at : ℕ → ℕ) where
+module _ (colour_at : ℕ → Bool) (clue_at : ℕ → Maybe ℕ) (unit_at : ℕ → ℕ) where
   unfoldable pub of_colour : Bool → List ℕ → List ℕ
   of_colour c xs = filter (λ x. beq (colour_at x) c) xs
 
@@ -134,11 +128,12 @@ module _ (colour_at : ℕ → Bool) (clue_at : ℕ → Option ℕ) (unit_at : �
       go false = ap part_from (append-nil (of_colour c xs))
 
   pub clue-more : (xs : List ℕ) (x : ℕ)
-      → clue_in (block_clue clue_at (snoc xs x)) ≡ first_clue (clue_in (block_clue clue_at xs)) (clue_in (clue_at x))
+      → clue_in (block_clue clue_at (snoc xs x))
+      ≡ option.option_or (clue_in (block_clue clue_at xs)) (clue_in (clue_at x))
   unfolding block_clue first_hit or_else
   clue-more xs x = ap clue_in (first-append clue_at xs (x ∷ [])) ∙ go (first_hit clue_at xs) (clue_at x)
     where
-      go : (o k : Option ℕ) → clue_in (or_else o (or_else k none)) ≡ first_clue (clue_in o) (clue_in k)
+      go : (o k : Maybe ℕ) → clue_in (or_else o (or_else k none)) ≡ option.option_or (clue_in o) (clue_in k)
       go none none = refl
       go none (some k) = refl
       go (some n) k = refl
@@ -153,8 +148,12 @@ module _ (colour_at : ℕ → Bool) (clue_at : ℕ → Option ℕ) (unit_at : �
   unfolding census_of next_census
   census-more xs x = go (colour_at x) refl
     where
-      k : is_some (clue_at x) ≡ is_some (option_of (clue_in (clue_at x)))
-      k = ap is_some (sym (option-clue (clue_at x)))
+      some-there : (o : Maybe ℕ) → is_some o ≡ option.is_some (clue_in o)
+      some-there none = refl
+      some-there (some n) = refl
+
+      k : is_some (clue_at x) ≡ option.is_some (clue_in (clue_at x))
+      k = some-there (clue_at x)
 
       go : (c : Bool) → colour_at x ≡ c
           → census_of (snoc xs x) ≡ next_census (census_of xs) c (unit_at x) (clue_in (clue_at x))

@@ -1,21 +1,20 @@
--- Case laws of the faults: one for each way a function of blocks.rt returns.
-use Rattle.std.specs.Prelude.{◌≡◌, refl, Bool, true, false, ℕ, ◌+◌, ◌<◌, ◌≤◌, ltb}
+-- Case laws of the faults.
+use Rattle.std.specs.Prelude.{◌≡◌, Bool, true, false, ℕ, ◌+◌, ◌<◌, ◌≤◌, ltb, Option, None, Some}
+use Rattle.std.specs.Option.{option_or}
 use mathlib.Core.List.{List, [], ◌∷◌}
-use Rattle.std.proofs.Math.Option.{Option}
+use Rattle.std.proofs.Math.Option.{Option as Maybe}
 use native.Mathlib.Omega.{arith}
+use Rattle.std.proofs.Math.Bool.{and-false}
 use borrow.Author.Tests.{eq-eqb, ne_eqb, lt-ltb, le-ltb}
 use Rattle.std.proofs.Math.ListN.{get_or}
 use Rattle.rules.specs.Check.{clash}
 use Rattle.rules.specs.Groups.{entry}
-use Rattle.blocks.specs.declared.Clue.{Clue}
-use Rattle.blocks.specs.declared.Clue.TheVariants.{Free, Is}
 use Rattle.blocks.specs.declared.Part.{Part}
 use Rattle.blocks.specs.declared.Census.{Census}
-use Rattle.blocks.specs.declared.Fault.{Fault}
-use Rattle.blocks.specs.declared.Fault.TheVariants.{Clear, InsideEdge, Inside, Edge, EdgeInside}
+use Rattle.blocks.specs.declared.Fault.TheVariants.{InsideEdge, Inside, Edge, EdgeInside}
 use Rattle.blocks.specs.Arrays.{Parted}
 use Rattle.blocks.specs.Censuses.{first_in, of_colour, colour_unit, colour_part, census_of}
-use Rattle.blocks.specs.Faults.{or_fault, is_faultless, scan_fault, small_fault, big_fault, clue_fault, census_fault}
+use Rattle.blocks.specs.Faults.{scan_fault, small_fault, big_fault, clue_fault, census_fault}
 use Rattle.blocks.specs.Faults.{scan_on, fault_on}
 
 some_size : (n : ℕ) → (n ≡ 0 → ⊥) → ltb 0 n ≡ true
@@ -24,93 +23,77 @@ some_size n h = lt-ltb 0 n (omega arith)
 no_size : (n : ℕ) → n ≡ 0 → ltb 0 n ≡ false
 no_size n e = le-ltb 0 n (omega arith)
 
-pub or-clear : (f g : Fault) → is_faultless f ≡ true → g ≡ or_fault f g
-unfolding or_fault
-or-clear Clear g e = refl
-or-clear (InsideEdge p) g e = let z : ◌≡◌ {A = ℕ} 0 1 = cc in absurd (omega arith)
-or-clear Inside g e = let z : ◌≡◌ {A = ℕ} 0 1 = cc in absurd (omega arith)
-or-clear (Edge p) g e = let z : ◌≡◌ {A = ℕ} 0 1 = cc in absurd (omega arith)
-or-clear (EdgeInside p) g e = let z : ◌≡◌ {A = ℕ} 0 1 = cc in absurd (omega arith)
-
-pub or-fault : (f g : Fault) → is_faultless f ≡ false → f ≡ or_fault f g
-unfolding or_fault
-or-fault Clear g e = let z : ◌≡◌ {A = ℕ} 0 1 = cc in absurd (omega arith)
-or-fault (InsideEdge p) g e = refl
-or-fault Inside g e = refl
-or-fault (Edge p) g e = refl
-or-fault (EdgeInside p) g e = refl
-
 module _ (mine other : Part) (size : ℕ) where
-  pub small-none : mine.size ≡ 0 → Clear ≡ small_fault mine other size
+  pub small-none : mine.size ≡ 0 → None ≡ small_fault mine other size
   unfolding small_fault
   small-none e = rw (no_size mine.size e)
 
-  pub small-hit : (mine.size ≡ 0 → ⊥) → size < other.size → InsideEdge mine.unit ≡ small_fault mine other size
+  pub small-hit : (mine.size ≡ 0 → ⊥) → size < other.size → Some (InsideEdge mine.unit) ≡ small_fault mine other size
   unfolding small_fault
   small-hit h k = rw (some_size mine.size h, lt-ltb size other.size k)
 
-  pub small-fits : (mine.size ≡ 0 → ⊥) → other.size ≤ size → Clear ≡ small_fault mine other size
+  pub small-fits : other.size ≤ size → None ≡ small_fault mine other size
   unfolding small_fault
-  small-fits h k = rw (some_size mine.size h, le-ltb size other.size k)
+  small-fits k = rw (le-ltb size other.size k, and-false)
 
 module _ (n : ℕ) (p : Part) (size : ℕ) where
-  pub big-none : p.size ≡ 0 → Clear ≡ big_fault n p size
+  pub big-none : p.size ≡ 0 → None ≡ big_fault n p size
   unfolding big_fault
   big-none e = rw (no_size p.size e)
 
-  pub big-fits : (p.size ≡ 0 → ⊥) → n ≤ size → Clear ≡ big_fault n p size
+  pub big-fits : n ≤ size → None ≡ big_fault n p size
   unfolding big_fault
-  big-fits h k = rw (some_size p.size h, le-ltb size n k)
+  big-fits k = rw (le-ltb size n k, and-false)
 
-  pub big-clued : (p.size ≡ 0 → ⊥) → size < n → p.clued ≡ true → Edge p.unit ≡ big_fault n p size
+  pub big-clued : (p.size ≡ 0 → ⊥) → size < n → p.clued ≡ true → Some (Edge p.unit) ≡ big_fault n p size
   unfolding big_fault
   big-clued h k e = rw (some_size p.size h, lt-ltb size n k, e)
 
-  pub big-bare : (p.size ≡ 0 → ⊥) → size < n → p.clued ≡ false → EdgeInside p.unit ≡ big_fault n p size
+  pub big-bare : (p.size ≡ 0 → ⊥) → size < n → p.clued ≡ false → Some (EdgeInside p.unit) ≡ big_fault n p size
   unfolding big_fault
   big-bare h k e = rw (some_size p.size h, lt-ltb size n k, e)
 
-module _ (k : Clue) (p q : Part) (a b : ℕ) where
-  pub clue-none : k ≡ Free → Clear ≡ clue_fault k p q a b
+module _ (k : Option ℕ) (p q : Part) (a b : ℕ) where
+  pub clue-none : k ≡ None → None ≡ clue_fault k p q a b
   unfolding clue_fault
   clue-none e = rw e
 
-  pub clue-first : (n : ℕ) → k ≡ Is n → n < p.size → Inside ≡ clue_fault k p q a b
+  pub clue-first : (n : ℕ) → k ≡ Some n → n < p.size → Some Inside ≡ clue_fault k p q a b
   unfolding clue_fault
   clue-first n e h = rw (e, lt-ltb n p.size h)
 
-  pub clue-second : (n : ℕ) → k ≡ Is n → p.size ≤ n → n < q.size → Inside ≡ clue_fault k p q a b
+  pub clue-second : (n : ℕ) → k ≡ Some n → p.size ≤ n → n < q.size → Some Inside ≡ clue_fault k p q a b
   unfolding clue_fault
   clue-second n e g h = rw (e, le-ltb n p.size g, lt-ltb n q.size h)
 
-  pub clue-big : (n : ℕ) → k ≡ Is n → p.size ≤ n → q.size ≤ n
-      → or_fault (big_fault n p a) (big_fault n q b) ≡ clue_fault k p q a b
+  pub clue-big : (n : ℕ) → k ≡ Some n → p.size ≤ n → q.size ≤ n
+      → option_or (big_fault n p a) (big_fault n q b) ≡ clue_fault k p q a b
   unfolding clue_fault
   clue-big n e g h = rw (e, le-ltb n p.size g, le-ltb n q.size h)
 
-module _ (q : Bool → ℕ) (n : Option ℕ) (c : Bool) (u : ℕ) (k : Option ℕ) where
-  pub scan-stray : (q c ≡ u → ⊥) → InsideEdge u ≡ scan_fault q n c u k
+module _ (q : Bool → ℕ) (n : Maybe ℕ) (c : Bool) (u : ℕ) (k : Maybe ℕ) where
+  pub scan-stray : (q c ≡ u → ⊥) → Some (InsideEdge u) ≡ scan_fault q n c u k
   unfolding scan_fault
   scan-stray h = rw (ne_eqb (q c) u h)
 
-  pub scan-clash : q c ≡ u → clash n k ≡ true → Inside ≡ scan_fault q n c u k
+  pub scan-clash : q c ≡ u → clash n k ≡ true → Some Inside ≡ scan_fault q n c u k
   unfolding scan_fault
   scan-clash e h = rw (eq-eqb (q c) u e, h)
 
-  pub scan-clear : q c ≡ u → clash n k ≡ false → Clear ≡ scan_fault q n c u k
+  pub scan-clear : q c ≡ u → clash n k ≡ false → None ≡ scan_fault q n c u k
   unfolding scan_fault
   scan-clear e h = rw (eq-eqb (q c) u e, h)
 
 -- where no cell is wrong, the census tells
-module _ (colour_at : ℕ → Bool) (clue_at : ℕ → Option ℕ) (unit_at size_at : ℕ → ℕ) (xs : List ℕ) where
+module _ (colour_at : ℕ → Bool) (clue_at : ℕ → Maybe ℕ) (unit_at size_at : ℕ → ℕ) (xs : List ℕ) where
   pub fault-census : (t : Census) → t ≡ census_of colour_at clue_at unit_at xs
-      → scan_on colour_at clue_at unit_at xs ≡ Clear
+      → scan_on colour_at clue_at unit_at xs ≡ None
       → census_fault t (size_at t.zero.unit) (size_at t.one.unit) ≡ fault_on colour_at clue_at unit_at size_at xs
-  unfolding fault_on or_fault census_of colour_part
+  unfolding fault_on census_of colour_part
   fault-census t e h = rw (e, h)
 
 -- the potential unit of a block's first cell has a size
-module _ (colour_at : ℕ → Bool) (clue_at : ℕ → Option ℕ) (ids offs xs : List ℕ) (p : Parted ids offs) where
+module _ (colour_at : ℕ → Bool) (clue_at : ℕ → Maybe ℕ) (ids offs xs : List ℕ) (p : Parted ids offs) where
   pub own-parted : (c : Bool)
       → (colour_unit colour_at clue_at (entry ids) xs c < 1024)
       × (get_or offs (colour_unit colour_at clue_at (entry ids) xs c) 0 ≤ get_or offs

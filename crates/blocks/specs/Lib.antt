@@ -1,6 +1,7 @@
 pub mod Arrays
 pub mod Censuses
 pub mod Scan
+pub mod Written
 pub mod Faults
 pub mod BlockCases
 pub mod Surveyed
@@ -10,6 +11,5 @@ pub mod Looks
 pub mod Looked
 pub mod Faulty
 pub mod Bridges
-pub mod Written
 pub mod Bounds
 pub mod BlockHits

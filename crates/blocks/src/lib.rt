@@ -5,13 +5,6 @@ mod censuses; // censuses.rt: what step 1 asks of a block's cells
 pub mod faults; // faults.rt: what is wrong with a block
 pub mod write; // write.rt: the reason
 
-// A cell's clue.
-#[derive(Clone, Copy)]
-pub enum Clue {
-    Free,
-    Is(usize),
-}
-
 // What a block's cells of one colour are: how many, the potential unit of the first, and whether one has a clue.
 #[derive(Clone, Copy)]
 pub struct Part {
@@ -25,13 +18,12 @@ pub struct Part {
 pub struct Census {
     pub zero: Part,
     pub one: Part,
-    pub clue: Clue,
+    pub clue: Option<usize>,
 }
 
 // What is wrong with a block B, by the parts of its reason; the number is that of a potential unit P.
 #[derive(Clone, Copy)]
 pub enum Fault {
-    Clear,
     // Inside(B), Edge(P)
     InsideEdge(usize),
     // Inside(B)
@@ -42,11 +34,11 @@ pub enum Fault {
     EdgeInside(usize),
 }
 
-// What one look at a block's cells shows: whether it settles what is wrong with the block, and if so what it is.
+// What one look at a block's cells shows: what is wrong with the block, or that a census is to tell.
 #[derive(Clone, Copy)]
-pub struct Look {
-    pub settled: bool,
-    pub fault: Fault,
+pub enum Look {
+    Settled(Option<Fault>),
+    Unsure,
 }
 
 // A block and what is wrong with it.

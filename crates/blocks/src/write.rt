@@ -58,9 +58,7 @@ pub fn write_fault<'a>(
         (numbers_in blocks.now) (numbers_in potential.now) faulty) memory.new result }
 {
     let b = faulty.block;
-    let fault = faulty.fault;
-    match fault {
-        Fault::Clear => 0,
+    match faulty.fault {
         Fault::InsideEdge(p) => {
             let at = inside(memory, 0, h, w, borders, blocks, b);
             edge_of(memory, at, h, w, colours, borders, potential, p)

@@ -5,7 +5,8 @@
 --   nothing-found, reason-found  what the search found, as the answer of a check; a pass has the stored number
 use Rattle.std.proofs.Math.Path.{◌≡◌, refl, sym, ap}
 use Rattle.std.proofs.Common.{◌∙◌, arith}
-use Rattle.std.specs.Prelude.{false, List, ℕ, ◌*◌}
+use Rattle.std.specs.Prelude.{false, List, ℕ, ◌*◌, None, Some}
+use Rattle.std.proofs.lemmas.Option.{none-some, same_Some}
 use Rattle.std.proofs.Math.Option.{Option, some, none}
 use Rattle.std.proofs.Math.Decide.{dec_lt}
 use Rattle.std.proofs.Math.ListN.{length}
@@ -17,7 +18,6 @@ use Rattle.board.specs.View.{puzzle_of, states_of}
 use Rattle.board.specs.NativeLaws.{native-has}
 use Rattle.board.proofs.ViewLaws.{pass-stored}
 use Rattle.groups.specs.Pages.{Drawn}
-use Rattle.steps.specs.declared.Found.TheVariants.{Nothing, Reason as Given}
 use Rattle.steps.specs.Found.{found_of, written_by, Answers}
 use Rattle.calls.specs.declared.Answer.TheVariants.{Pass, Conflict}
 use Rattle.calls.specs.Answers.{as_answer, written}
@@ -57,29 +57,29 @@ module _ (b : Board) (t : is_alien b ≡ false) where
   checked o e = ap (λ (k : Option Reason). verdict_of (free_on b) (once_in k)) e
 
   module _ (m after : List ℕ) where
-    pub nothing-found : Answers hit_of m after Nothing
+    pub nothing-found : Answers hit_of m after None
         → (Pass b.tally.undecided ≡ as_answer (found_on b)) × (after ≡ written m (found_on b))
     unfolding found_of written_by
     nothing-found a = go hit_of refl a.found a.memory
       where
-        go : (o : Option Reason) → hit_of ≡ o → Nothing ≡ found_of o → after ≡ written_by o m
+        go : (o : Option Reason) → hit_of ≡ o → None ≡ found_of o → after ≡ written_by o m
             → (Pass b.tally.undecided ≡ as_answer (found_on b)) × (after ≡ written m (found_on b))
         go none e f g = (
           ap Pass (sym (pass-stored b (native-has b t))) ∙ sym (ap as_answer (checked none e)),
           g ∙ sym (ap (written m) (checked none e)),
         )
-        go (some r) e f g = let z : ◌≡◌ {A = ℕ} 0 1 = cc in absurd (omega arith)
+        go (some r) e f g = absurd (none-some _ f)
 
-    pub reason-found : (n : ℕ) → Answers hit_of m after (Given n)
+    pub reason-found : (n : ℕ) → Answers hit_of m after (Some n)
         → (Conflict n ≡ as_answer (found_on b)) × (after ≡ written m (found_on b))
     unfolding found_of written_by
     reason-found n a = go hit_of refl a.found a.memory
       where
-        go : (o : Option Reason) → hit_of ≡ o → Given n ≡ found_of o → after ≡ written_by o m
+        go : (o : Option Reason) → hit_of ≡ o → Some n ≡ found_of o → after ≡ written_by o m
             → (Conflict n ≡ as_answer (found_on b)) × (after ≡ written m (found_on b))
-        go none e f g = let z : ◌≡◌ {A = ℕ} 0 1 = cc in absurd (omega arith)
+        go none e f g = absurd (none-some n (sym f))
         go (some r) e f g =
-            let q : n ≡ length (once r) = cc in (
+            let q = same_Some n (length (once r)) f in (
               ap Conflict q ∙ sym (ap as_answer (checked (some r) e)),
               g ∙ sym (ap (written m) (checked (some r) e)),
             )

@@ -10,7 +10,6 @@ ghost use Rattle.calls.specs.Counted.{counted_of, counted_memory};
 
 use board::{Board, Outcome, Returned};
 use rules::{Call, Literal, Tally};
-use steps::Found;
 
 pub mod lent; // lent.rt: a call on a tally record that is lent
 
@@ -81,10 +80,9 @@ pub fn answer_known<'a>(
     // as slices, so that the proof knows their lengths
     let cells: &[u8] = colours;
     let states: &[u8] = borders;
-    let found = steps::find(h, w, colours, clues, borders, memory);
-    match found {
-        Found::Nothing => Answer::Pass(undecided),
-        Found::Reason(n) => Answer::Conflict(n),
+    match steps::find(h, w, colours, clues, borders, memory) {
+        None => Answer::Pass(undecided),
+        Some(n) => Answer::Conflict(n),
     }
 }
 

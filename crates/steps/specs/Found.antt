@@ -7,41 +7,39 @@
 --   early_hit           the first hit of steps 1 and 2
 --   Answers o m after r  for the hit o the code answers r, and leaves the memory `after` where it was m
 --   Room cs bs m        the arrays of colours and borders are whole, and the memory has a place for each border
-use Rattle.std.specs.Prelude.{◌≡◌, List, ℕ, ◌≤◌, length}
-use Rattle.std.proofs.Math.Option.{Option, some, none}
+use Rattle.std.specs.Prelude.{◌≡◌, List, ℕ, ◌≤◌, length, Option, None, Some}
+use Rattle.std.proofs.Math.Option.{Option as Maybe, some, none}
 use Rattle.lists.specs.Lists.{first_hit, or_else, range}
 use Rattle.rules.specs.Page.{Puzzle, State}
 use Rattle.rules.specs.Codes.{put}
 use Rattle.rules.specs.Groups.{block_count, unit_count}
 use Rattle.rules.specs.Check.{Reason, block_hit, wall_hits, unit_hit, once}
-use Rattle.steps.specs.declared.Found.{Found}
-use Rattle.steps.specs.declared.Found.TheVariants.{Nothing, Reason as Given}
 
-unfoldable pub found_of : Option Reason → Found
-found_of none = Nothing
-found_of (some r) = Given (length (once r))
+unfoldable pub found_of : Maybe Reason → Option ℕ
+found_of none = None
+found_of (some r) = Some (length (once r))
 
-unfoldable pub written_by : Option Reason → List ℕ → List ℕ
+unfoldable pub written_by : Maybe Reason → List ℕ → List ℕ
 written_by none m = m
 written_by (some r) m = put m 0 (once r)
 
 module _ (Z : Puzzle) (s : ℕ → State) where
   -- "Per block B"
-  unfoldable pub blocks_hit : Option Reason
+  unfoldable pub blocks_hit : Maybe Reason
   blocks_hit = first_hit (block_hit Z s) (range (block_count Z s))
 
   -- "Row by row"
-  unfoldable pub walls_hit : Option Reason
+  unfoldable pub walls_hit : Maybe Reason
   walls_hit = first_hit (wall_hits Z s) (range Z.page.cells)
 
-  unfoldable pub early_hit : Option Reason
+  unfoldable pub early_hit : Maybe Reason
   early_hit = or_else blocks_hit walls_hit
 
   -- "Per unit U"
-  unfoldable pub units_hit : Option Reason
+  unfoldable pub units_hit : Maybe Reason
   units_hit = first_hit (unit_hit Z s) (range (unit_count Z s))
 
-pub record Answers (o : Option Reason) (m after : List ℕ) (r : Found) : Type 0 where
+pub record Answers (o : Maybe Reason) (m after : List ℕ) (r : Option ℕ) : Type 0 where
   pub found : r ≡ found_of o
   pub memory : after ≡ written_by o m
 

@@ -1,8 +1,10 @@
 -- What steps 1 and 2 find over the arrays of a board is the hit of the definitions.
 use Rattle.std.specs.Prelude.{◌≡◌, Bool, true, false, List, ◌++◌, map, ℕ, ◌*◌, ◌≤◌, ℤ, length, take, drop, replicate}
-use Rattle.std.proofs.Common.{sym, ◌∙◌, arith}
+use Rattle.std.specs.Prelude.{Option, None, Some}
+use Rattle.std.proofs.Common.{sym, ◌∙◌}
 use Rattle.std.proofs.Math.Path.{ap}
-use Rattle.std.proofs.Math.Option.{Option, some, none}
+use Rattle.std.proofs.lemmas.Option.{none-some}
+use Rattle.std.proofs.Math.Option.{Option as Maybe, some, none}
 use Rattle.std.proofs.lemmas.List.{length-map}
 use Rattle.lists.specs.Lists.{or_else}
 use Rattle.rules.specs.Flat.{Sized, flat}
@@ -25,38 +27,35 @@ use Rattle.reasons.specs.Arrays.{Arrays, GroupAt}
 use Rattle.reasons.specs.Memory.{Wrote, WordsWritten}
 use Rattle.reasons.proofs.MemoryLaws.{once-handed, plain-handed}
 use Rattle.blocks.specs.declared.Faulty.{Faulty}
-use Rattle.blocks.specs.Faults.{is_faultless}
 use Rattle.blocks.specs.Written.{fault_unit, faulty_literals}
 use Rattle.blocks.specs.BlockHits.{faulty_in, block_at_lem, fault-unit-at, one_hit, one_none}
 use Rattle.walls.specs.declared.Breach.{Breach}
 use Rattle.walls.specs.Written.{breach_literals}
 use Rattle.walls.specs.WallHits.{breach_in, two-hit, two_none}
-use Rattle.steps.specs.declared.Found.{Found}
-use Rattle.steps.specs.declared.Found.TheVariants.{Nothing, Reason as Given}
 use Rattle.steps.specs.Found.{found_of, written_by, blocks_hit, walls_hit, units_hit, Answers}
 
-pub answers-none : {o : Option Reason} (m : List ℕ) → o ≡ none → Answers o m m Nothing
+pub answers-none : {o : Maybe Reason} (m : List ℕ) → o ≡ none → Answers o m m None
 unfolding found_of written_by
 answers-none m e = record { found = rw e; memory = rw e }
 
 -- a hit's reason, each literal once, was written from the start of the memory
-answers-words : {o : Option Reason} {m after : List ℕ} {r : Reason} {k : ℕ} → o ≡ some r
-    → WordsWritten m (map literal_code (once r)) after k → Answers o m after (Given k)
+answers-words : {o : Maybe Reason} {m after : List ℕ} {r : Reason} {k : ℕ} → o ≡ some r
+    → WordsWritten m (map literal_code (once r)) after k → Answers o m after (Some k)
 unfolding found_of written_by put
 answers-words {r = r} e w =
-    record { found = rw (e, w.count) (ap Given (length-map (once r) literal_code)); memory = rw e w.memory }
+    record { found = rw (e, w.count) (ap Some (length-map (once r) literal_code)); memory = rw e w.memory }
 
 -- by way of working memory, which has it so
-pub answers-some : {o : Option Reason} (bs : List ℕ) {m work after : List ℕ} {r : Reason} {n k : ℕ} → length bs ≡ 1984
+pub answers-some : {o : Maybe Reason} (bs : List ℕ) {m work after : List ℕ} {r : Reason} {n k : ℕ} → length bs ≡ 1984
     → Each (Contains (states_in bs)) o → o ≡ some r → Wrote (replicate 3968 0) 0 r work n
-    → WordsWritten m (take n work) after k → Answers o m after (Given k)
+    → WordsWritten m (take n work) after k → Answers o m after (Some k)
 answers-some bs {r = r} l h e w p =
     answers-words e (once-handed bs l r (each-some (Contains (states_in bs)) r (rw e at h)) w p)
 
 -- straight away, where the reason names no border twice
-pub answers-plain : {o : Option Reason} (bs : List ℕ) {m after : List ℕ} {r : Reason} {n : ℕ} → length bs ≡ 1984
+pub answers-plain : {o : Maybe Reason} (bs : List ℕ) {m after : List ℕ} {r : Reason} {n : ℕ} → length bs ≡ 1984
     → 1984 ≤ length m → Each (Contains (states_in bs)) o → Each NoTwice o → o ≡ some r
-    → Wrote (take 1984 m) 0 r after n → Answers o m (after ++ drop 1984 m) (Given n)
+    → Wrote (take 1984 m) 0 r after n → Answers o m (after ++ drop 1984 m) (Some n)
 answers-plain bs {r = r} l room h d e w =
     answers-words e
     (plain-handed bs l r (each-some (Contains (states_in bs)) r (rw e at h)) room (each-some NoTwice r (rw e at d)) w)
@@ -90,28 +89,23 @@ module _ {h w : ℕ} (z : Sized h w) (cs : List ℕ) (ks : List ℤ) (bs : List 
   units-held = units-form Z (states_in bs) _ forms
 
 -- one search after another: the first one's hit stands, and where there was none the memory is still the old one
-pub answers-first : (a b : Option Reason) {m after : List ℕ} {r : Found} (n : ℕ) → r ≡ Given n → Answers a m after r
-    → Answers (or_else a b) m after r
+pub answers-first : (a b : Maybe Reason) {m after : List ℕ} (n : ℕ) → Answers a m after (Some n)
+    → Answers (or_else a b) m after (Some n)
 unfolding found_of or_else
-answers-first (some q) b n e t = t
-answers-first none b n e t = let z : ◌≡◌ {A = ℕ} 0 1 = (let u = t.found in cc) in absurd (omega arith)
+answers-first (some q) b n t = t
+answers-first none b n t = absurd (none-some n (sym t.found))
 
-pub answers_next : (a b : Option Reason) {m mid after : List ℕ} {r : Found} → Answers a m mid Nothing
+pub answers_next : (a b : Maybe Reason) {m mid after : List ℕ} {r : Option ℕ} → Answers a m mid None
     → Answers b mid after r → Answers (or_else a b) m after r
 unfolding found_of written_by or_else
 answers_next none b t u = record { found = u.found; memory = u.memory ∙ ap (written_by b) t.memory }
-answers_next (some q) b t u = let z : ◌≡◌ {A = ℕ} 0 1 = (let v = t.found in cc) in absurd (omega arith)
+answers_next (some q) b t u = absurd (none-some _ t.found)
 
 -- where nothing was found the memory is as it was
-pub answers-kept : (o : Option Reason) {m after : List ℕ} → Answers o m after Nothing → after ≡ m
+pub answers-kept : (o : Maybe Reason) {m after : List ℕ} → Answers o m after None → after ≡ m
 unfolding found_of written_by
 answers-kept none a = a.memory
-answers-kept (some r) a = let z : ◌≡◌ {A = ℕ} 0 1 = (let v = a.found in cc) in absurd (omega arith)
-
--- nothing was found, as a match tells it
-pub answers-told : {o : Option Reason} {m after : List ℕ} {r : Found} → r ≡ Nothing → Answers o m after r
-    → Answers o m after Nothing
-answers-told e t = rw e at t
+answers-kept (some r) a = absurd (none-some _ a.found)
 
 -- a grouping that holds the groups of a page: the length of its numbers, and it may be lent again
 module _ {h w : ℕ} (z : Sized h w) (link : ℕ → Bool) {g : List ℕ} (f : Filled (groups_of (flat h w) link) g) where
@@ -135,31 +129,26 @@ module _ {h w : ℕ} (z : Sized h w) (link : ℕ → Bool) {g : List ℕ} (f : F
     starts = rw f.starts (filled-offs (flat h w) link one few);
   }
 
--- step 1: r is what first_faulty found
-module _ {h w : ℕ} (z : Sized h w) (cs : List ℕ) (ks : List ℤ) (bs : List ℕ) (r : Faulty)
-    (is : r ≡ faulty_in z cs ks bs) where
-  pub blocks-clear : is_faultless r.fault ≡ true → blocks_hit (puzzle_in h w cs ks) (states_in bs) ≡ none
+-- step 1: o is what first_faulty found
+module _ {h w : ℕ} (z : Sized h w) (cs : List ℕ) (ks : List ℤ) (bs : List ℕ) (o : Option Faulty)
+    (is : o ≡ faulty_in z cs ks bs) where
+  pub blocks-clear : o ≡ None → blocks_hit (puzzle_in h w cs ks) (states_in bs) ≡ none
   unfolding blocks_hit
-  blocks-clear e = one_none z cs ks bs (ap (λ (f : Faulty). is_faultless f.fault) (sym is) ∙ e)
+  blocks-clear e = one_none z cs ks bs (sym is ∙ e)
 
-  pub blocks-fault : is_faultless r.fault ≡ false
-      → blocks_hit (puzzle_in h w cs ks) (states_in bs)
-      ≡ some (faulty_literals h w cs bs (groups_in Blocks h w cs bs).ids (groups_in Potential h w cs bs).ids r)
-  unfolding blocks_hit
-  blocks-fault e =
-      one_hit z cs ks bs (ap (λ (f : Faulty). is_faultless f.fault) (sym is) ∙ e)
-      ∙ ap (λ (f : Faulty). some (faulty_literals h w cs bs (groups_in Blocks h w cs bs).ids
-      (groups_in Potential h w cs bs).ids f))
-      (sym is)
+  module _ (r : Faulty) (e : o ≡ Some r) where
+    pub blocks-fault : blocks_hit (puzzle_in h w cs ks) (states_in bs)
+        ≡ some (faulty_literals h w cs bs (groups_in Blocks h w cs bs).ids (groups_in Potential h w cs bs).ids r)
+    unfolding blocks_hit
+    blocks-fault = one_hit z cs ks bs r (sym is ∙ e)
 
-  -- the block and the potential unit that a fault names have their parts
-  pub fault-block : {blocks : List ℕ} → Filled (groups_in Blocks h w cs bs) blocks → is_faultless r.fault ≡ false
-      → GroupAt h w blocks r.block
-  fault-block f e = rw is (block_at_lem z cs ks bs f (ap (λ (f : Faulty). is_faultless f.fault) (sym is) ∙ e))
+    -- the block and the potential unit that a fault names have their parts
+    pub fault-block : {blocks : List ℕ} → Filled (groups_in Blocks h w cs bs) blocks → GroupAt h w blocks r.block
+    fault-block f = block_at_lem z cs ks bs r (sym is ∙ e) f
 
-  pub fault-unit : {potential : List ℕ} → Filled (groups_in Potential h w cs bs) potential
-      → GroupAt h w potential (fault_unit r.fault)
-  fault-unit f = rw is (fault-unit-at z cs ks bs f)
+    pub fault-unit : {potential : List ℕ} → Filled (groups_in Potential h w cs bs) potential
+        → GroupAt h w potential (fault_unit r.fault)
+    fault-unit f = fault-unit-at z cs ks bs r (sym is ∙ e) f
 
 -- step 2: b is what first_breach found
 module _ {h w : ℕ} (z : Sized h w) (cs : List ℕ) (ks : List ℤ) (bs : List ℕ) (b : Breach)

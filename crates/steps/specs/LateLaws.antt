@@ -1,8 +1,8 @@
 -- Step 3: what the search for a stuck unit means; the steps together.
-use Rattle.std.specs.Prelude.{◌≡◌, refl, List, ℕ, ◌<◌, ◌≤◌, ℤ}
+use Rattle.std.specs.Prelude.{◌≡◌, refl, List, ℕ, ◌<◌, ◌≤◌, ℤ, Option}
 use Rattle.std.proofs.Math.Path.{sym, ap}
 use Rattle.std.proofs.Common.{◌∙◌, arith, lt-ltb, le-ltb}
-use Rattle.std.proofs.Math.Option.{Option, some, none}
+use Rattle.std.proofs.Math.Option.{Option as Maybe, some, none}
 use Rattle.lists.specs.Lists.{or_else}
 use Rattle.rules.specs.Page.{State, Puzzle}
 use Rattle.rules.specs.Flat.{Sized}
@@ -14,7 +14,6 @@ use Rattle.groups.specs.Pages.{groups_in, potential_in}
 use Rattle.groups.specs.PageLaws.{kind-count}
 use Rattle.fitting.specs.FirstStuck.{fits_unit, first_fail, stuck_hit}
 use Rattle.fitting.specs.ClueLaws.{stuck-clue}
-use Rattle.steps.specs.declared.Found.{Found}
 use Rattle.steps.specs.Found.{blocks_hit, walls_hit, early_hit, units_hit, Answers}
 
 -- u is what the search found
@@ -49,11 +48,11 @@ pub hit-parts : (Z : Puzzle) (s : ℕ → State) → or_else (early_hit Z s) (un
 unfolding hit early_hit blocks_hit walls_hit units_hit or_else
 hit-parts Z s = go (blocks_hit Z s)
   where
-    go : (a : Option Reason) → or_else (or_else a (walls_hit Z s)) (units_hit Z s) ≡ or_else a
+    go : (a : Maybe Reason) → or_else (or_else a (walls_hit Z s)) (units_hit Z s) ≡ or_else a
         (or_else (walls_hit Z s) (units_hit Z s))
     go none = refl
     go (some r) = refl
 
-pub answers-hit : (Z : Puzzle) (s : ℕ → State) {m after : List ℕ} {r : Found}
+pub answers-hit : (Z : Puzzle) (s : ℕ → State) {m after : List ℕ} {r : Option ℕ}
     → Answers (or_else (early_hit Z s) (units_hit Z s)) m after r → Answers (hit Z s) m after r
 answers-hit Z s a = rw (hit-parts Z s) at a

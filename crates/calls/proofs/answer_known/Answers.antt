@@ -4,20 +4,18 @@ use Rattle.calls.specs.declared.Answer.TheVariants.{Pass}
 use Rattle.calls.specs.CheckLaws.{drawn-of, nothing-found, reason-found}
 use Rattle.calls.proofs.answer_known.Goals as goal
 
-pub find-found-requires : goal.find-found-requires
-find-found-requires c =
+pub find-requires : goal.find-requires
+find-requires c =
     let p = c.requires in (
       drawn-of _ p.0.native,
       record { colours = c.told-colours; borders = c.told-borders; memory = p.1 },
     )
 
-pub returns-in-Nothing : goal.returns-in-Nothing
-returns-in-Nothing c =
+pub returns-in-None : goal.returns-in-None
+returns-in-None c =
     let k = c.requires.0 in
-    let r = nothing-found _ k.native _ _ (rw c.in-Nothing.is at c.find-found.ensures) in
+    let r = nothing-found _ k.native _ _ c.in-None.ensures in
     (ap Pass (sym k.stored) ∙ r.0, r.1)
 
-pub returns-in-Reason : goal.returns-in-Reason
-returns-in-Reason c =
-    let t = c.requires.0.native in
-    reason-found _ t _ _ _ (rw c.in-Reason.is at c.find-found.ensures)
+pub returns-in-Some : goal.returns-in-Some
+returns-in-Some c = reason-found _ c.requires.0.native _ _ _ c.in-Some.ensures

@@ -10,11 +10,11 @@ use Rattle.groups.specs.Grouping.{numbers_in}
 use Rattle.reasons.proofs.MemoryLaws.{spare-front}
 use Rattle.walls.specs.WallHits.{breach_in}
 use Rattle.walls.specs.Bounds.{breach-small}
-use Rattle.steps.specs.declared.Found.TheVariants.{Nothing}
+use Rattle.std.specs.Prelude.{None}
 use Rattle.steps.specs.Found.{blocks_hit, early_hit, Answers}
-use Rattle.steps.specs.HitLaws.{answers-first, answers_next, answers-told, answers-none, answers-plain}
+use Rattle.steps.specs.HitLaws.{answers-first, answers_next, answers-none, answers-plain}
 use Rattle.steps.specs.HitLaws.{answers-kept, walls-held, walls-plain, walls-clear, walls-breach, arrays-of}
-use Rattle.steps.proofs.early_hit.Goals.{After-first_breach-breach, In-Nothing}
+use Rattle.steps.proofs.early_hit.Goals.{After-first_breach-breach, In_default}
 use Rattle.steps.proofs.early_hit.Goals as goal
 
 found : (c : After-first_breach-breach) → c.first_breach-breach.result
@@ -22,22 +22,22 @@ found : (c : After-first_breach-breach) → c.first_breach-breach.result
 found c = rw c.requires.2.numbers at c.first_breach-breach.ensures
 
 -- the memory that step 1 leaves
-abbrev left : In-Nothing → List ℕ
-left c = c.block_hit-found.new.memory
+abbrev left : In_default → List ℕ
+left c = c.block_hit.new.memory
 
 -- step 1 found nothing
-nothing : (c : In-Nothing) → Answers (blocks_hit (puzzle_in c.args.h c.args.w c.args.colours.now c.args.clues.now)
+nothing : (c : In_default) → Answers (blocks_hit (puzzle_in c.args.h c.args.w c.args.colours.now c.args.clues.now)
     (states_in c.args.borders.now))
-    c.args.memory.now (left c) Nothing
-nothing c = answers-told c.in-Nothing.is c.block_hit-found.ensures
+    c.args.memory.now (left c) None
+nothing c = rw c.in_default.is at c.block_hit.ensures
 
 -- so that the memory is as long as it was
-room : (c : In-Nothing) → 1984 ≤ length (left c)
+room : (c : In_default) → 1984 ≤ length (left c)
 room c = rw (answers-kept _ (nothing c)) c.requires.1.memory
 
-pub returns-in_default : goal.returns-in_default
+pub returns-in-Some : goal.returns-in-Some
 unfolding early_hit
-returns-in_default c = answers-first _ _ _ c.in_default.is c.block_hit-found.ensures
+returns-in-Some c = answers-first _ _ _ c.in-Some.ensures
 
 pub first_breach-breach-requires : goal.first_breach-breach-requires
 first_breach-breach-requires c =
@@ -48,18 +48,18 @@ pub returns-then-not-breach : goal.returns-then-not-breach
 unfolding early_hit
 returns-then-not-breach c =
     let p = c.requires in
-    answers_next _ _ (nothing (goal.at.returns-then-not-breach c).In-Nothing)
+    answers_next _ _ (nothing (goal.at.returns-then-not-breach c).In_default)
     (answers-none _
     (walls-clear p.0 _ _ _ _ (found (goal.at.returns-then-not-breach c).After-first_breach-breach)
     (not-true _ c.if-not-breach.true)))
 
 pub slice_bounds-write_breach-end : goal.slice_bounds-write_breach-end
-slice_bounds-write_breach-end c = room (goal.at.slice_bounds-write_breach-end c).In-Nothing
+slice_bounds-write_breach-end c = room (goal.at.slice_bounds-write_breach-end c).In_default
 
 pub slice_bounds-write_breach-end-2 : goal.slice_bounds-write_breach-end-2
 slice_bounds-write_breach-end-2 c =
-    sym (length-take-le 1984 (left (goal.at.slice_bounds-write_breach-end-2 c).In-Nothing)
-    (room (goal.at.slice_bounds-write_breach-end-2 c).In-Nothing))
+    sym (length-take-le 1984 (left (goal.at.slice_bounds-write_breach-end-2 c).In_default)
+    (room (goal.at.slice_bounds-write_breach-end-2 c).In_default))
 
 pub write_breach-requires : goal.write_breach-requires
 write_breach-requires c =
@@ -68,15 +68,15 @@ write_breach-requires c =
       p.0,
       p.1.borders,
       rw c.first_breach-breach.ensures small,
-      spare-front (left (goal.at.write_breach-requires c).In-Nothing)
-          (room (goal.at.write_breach-requires c).In-Nothing),
+      spare-front (left (goal.at.write_breach-requires c).In_default)
+          (room (goal.at.write_breach-requires c).In_default),
     )
 
 pub returns : goal.returns
 unfolding early_hit
 returns c =
     let p = c.requires in
-    answers_next _ _ (nothing (goal.at.returns c).In-Nothing)
-    (answers-plain _ p.1.borders (room (goal.at.returns c).In-Nothing) (walls-held p.0 _ _ _) (walls-plain p.0 _ _ _)
+    answers_next _ _ (nothing (goal.at.returns c).In_default)
+    (answers-plain _ p.1.borders (room (goal.at.returns c).In_default) (walls-held p.0 _ _ _) (walls-plain p.0 _ _ _)
     (walls-breach p.0 _ _ _ _ (found (goal.at.returns c).After-first_breach-breach)
     (not-false _ c.if-not-breach.false)) c.write_breach.ensures)

@@ -2,7 +2,7 @@
 use borrow.Author.Rules.{rules}
 use Rattle.groups.specs.ForestLaws.{forest-zeros}
 use Rattle.groups.specs.GroupingLaws.{vacant-zeros}
-use Rattle.steps.specs.HitLaws.{answers-first, answers_next, answers-told, vacant-of}
+use Rattle.steps.specs.HitLaws.{answers-first, answers_next, vacant-of}
 use Rattle.steps.specs.LateLaws.{answers-hit}
 use Rattle.steps.proofs.find.Goals as goal
 
@@ -16,8 +16,8 @@ fill-requires-2 c = (
   c.fill.ensures.1,
 )
 
-pub returns-in_default : goal.returns-in_default
-returns-in_default c = answers-hit _ _ (answers-first _ _ _ c.in_default.is c.early_hit-found.ensures)
+pub returns-in-Some : goal.returns-in-Some
+returns-in-Some c = answers-hit _ _ (answers-first _ _ _ c.in-Some.ensures)
 
 pub late_hit-requires : goal.late_hit-requires
 late_hit-requires c =
@@ -32,5 +32,5 @@ late_hit-requires c =
 pub returns : goal.returns
 returns c =
     answers-hit _ _
-    (answers_next _ _ (answers-told c.in-Nothing.is c.early_hit-found.ensures)
+    (answers_next _ _ (rw c.in_default.is at c.early_hit.ensures)
     (c.late_hit.ensures _))

@@ -1,12 +1,12 @@
 -- Each arm by its case law: one list, or one after the other.
 use mathlib.Core.Path.{◌≡◌}
-use mathlib.Core.List.{List, [], ◌++◌}
+use mathlib.Core.List.{List, ◌++◌}
 use Prim.Native.Nat.{ℕ}
 use Rattle.rules.specs.declared.Literal.{Literal}
 use Rattle.groups.specs.Grouping.{numbers_in}
 use Rattle.reasons.specs.Arrays.{inside_in, edge_in}
-use Rattle.reasons.proofs.MemoryLaws.{naming-none, naming-more}
-use Rattle.blocks.specs.declared.Fault.TheVariants.{Clear, InsideEdge, Inside, Edge, EdgeInside}
+use Rattle.reasons.proofs.MemoryLaws.{naming-more}
+use Rattle.blocks.specs.declared.Fault.TheVariants.{InsideEdge, Inside, Edge, EdgeInside}
 use Rattle.blocks.specs.Written.{fault_literals, faulty_literals}
 use Rattle.blocks.proofs.write.write_fault.Goals.{Start}
 use Rattle.blocks.proofs.write.write_fault.Goals as goal
@@ -22,10 +22,6 @@ within s = let a = s.args in inside_in a.h a.w a.borders.now (numbers_in a.block
 
 abbrev around : Start → ℕ → List Literal
 around s = let a = s.args in edge_in a.h a.w a.colours.now a.borders.now (numbers_in a.potential.now)
-
-clear : (s : Start) → s.args.faulty.fault ≡ Clear → whole s ≡ []
-unfolding faulty_literals fault_literals
-clear s e = rw e
 
 inside-edge : (s : Start) {p : ℕ} → s.args.faulty.fault ≡ InsideEdge p → whole s ≡ within s ++ around s p
 unfolding faulty_literals fault_literals
@@ -66,9 +62,6 @@ edge_of-at-requires c =
 
 pub inside-requires-in-EdgeInside : goal.inside-requires-in-EdgeInside
 inside-requires-in-EdgeInside c = (c.requires.0, c.requires.1, c.requires.3, c.edge_of-at.ensures.spare)
-
-pub returns-in-Clear : goal.returns-in-Clear
-returns-in-Clear c = rw (clear (goal.at.returns-in-Clear c).Start c.in-Clear.is) (naming-none c.requires.5)
 
 pub returns-in-InsideEdge : goal.returns-in-InsideEdge
 returns-in-InsideEdge c =
