@@ -1,16 +1,20 @@
 -- Laws of bytes: a number from its two or four bytes, the bytes of a number that was read, and signed numbers.
-use Rattle.std.specs.Prelude.{◌≡◌, refl, true, List, [], ◌∷◌, ◌++◌, ℕ, zero, suc, ◌+◌, ◌*◌, ◌/◌, ◌%◌, ◌<◌, ◌≤◌, ℤ, pos}
+use Rattle.std.specs.Prelude.{◌≡◌, refl, true, List, [], ◌∷◌, ◌++◌, ℕ, zero, suc, ◌+◌, ◌-◌, ◌*◌, ◌/◌, ◌%◌, ◌<◌, ◌≤◌, ℤ, pos}
 use Rattle.std.specs.Prelude.{negsuc, length, take, drop}
 use Rattle.std.proofs.Math.Path.{ap, ap₂, sym}
 use Rattle.std.proofs.Common.{◌∙◌, lt-ltb, le-ltb, le-leb, leb-true, take-add, drop-drop}
 use Rattle.std.proofs.Math.Decide.{dec_lt}
 use native.Mathlib.Omega.{arith}
 use Rattle.std.proofs.Math.ListN.{get_or}
-use Rattle.std.proofs.lemmas.List.Edits.{sets}
+use borrow.Rule.Slice.PartMut.{put_mid}
+use Rattle.std.proofs.lemmas.List.Edits.{sets, sets-eq, paste_all}
+use Rattle.std.proofs.lemmas.Slice.{put_mid-paste}
+use Rattle.std.specs.Int.{w32, to_le_bytes, cast_unsigned}
+use mathlib.Core.List.{append_assoc}
 use Rattle.std.specs.Int.Signed.{le_z}
 use Rattle.lists.specs.Table.{table}
 use Rattle.lists.specs.TableLaws.{table-part}
-use Rattle.image.specs.Image.{pair, quad, from_bits, two_bytes, four_bytes, bits_of, Bytes}
+use Rattle.image.specs.Image.{pair, quad, from_bits, two_bytes, four_bytes, bits_of, clue_bytes, Bytes}
 
 pub two-long : (v : ℕ) → length (two_bytes v) ≡ 2
 unfolding two_bytes
@@ -24,6 +28,25 @@ four-long v = refl
 pub two-over : (v w : ℕ) (l : List ℕ) → sets (two_bytes v ++ l) 0 (two_bytes w) ≡ two_bytes w ++ l
 unfolding two_bytes
 two-over v w l = refl
+
+-- a part of a list that is overwritten by as many elements: they are stored one after the other
+pub part-stored : {A : Type 0} (a k : ℕ) (l part vs : List A) → part ≡ vs → length vs ≡ k → a + k ≤ length l
+    → put_mid a k l part ≡ sets l a vs
+part-stored a k l part vs e n h =
+    put_mid-paste a k l part vs k e refl (sym n)
+    ∙ paste_all l a vs k (sym n)
+    ∙ sym (sets-eq vs l a (omega arith) ∙ rw n (append_assoc (take a l) vs (drop (a + k) l)))
+
+-- the library's bytes of a number of 32 bits, and of a clue
+four-le : (v : ℕ) → to_le_bytes w32 v ≡ four_bytes v
+unfolding four_bytes two_bytes
+four-le v =
+    let e : v / 16777216 ≡ v / 65536 / 256 = omega arith in
+    ap (λ t. v % 256 ∷ v / 256 % 256 ∷ v / 65536 % 256 ∷ t % 256 ∷ []) e
+
+pub clue-le : (z : ℤ) → to_le_bytes w32 (cast_unsigned w32 z) ≡ clue_bytes z
+clue-le (pos n) = four-le n
+clue-le (negsuc n) = let e : 4294967296 - suc n ≡ 4294967295 - n = omega arith in four-le (4294967296 - suc n) ∙ ap four_bytes e
 
 -- ---- a number from its bytes
 module _ (s : List ℕ) (k v : ℕ) where

@@ -48,22 +48,13 @@ pub fn alien(image: &[u8]) -> bool
     b.alien()
 }
 
-// The literal of a decide on an image.
-fn literal(border: u32, side: u32) -> Literal
+// The literal of a decide on an image; side 0 is open, any other wall.
+pub fn literal(border: usize, side: usize) -> Literal
     ensures { result ≡ decide_literal border side }
 {
-    let n = border as usize;
-    if side == 0 {
-        Literal {
-            border: n,
-            side: Side::Open,
-        }
-    } else {
-        Literal {
-            border: n,
-            side: Side::Wall,
-        }
-    }
+    let open = side == 0;
+    let side = if open { Side::Open } else { Side::Wall };
+    Literal { border, side }
 }
 
 // Decides a border of the image; side 0 is open, any other wall. The refusal's number, or 0.

@@ -1,69 +1,24 @@
 // A fresh image made in lent bytes.
-ghost use Rattle.std.specs.Prelude.{◌≡◌, ◌+◌, ◌*◌, ◌<◌, ◌≤◌, length, replicate};
+ghost use Rattle.std.specs.Prelude.{◌≡◌, ◌+◌, ◌*◌, ◌<◌, ◌≤◌, length};
 ghost use Rattle.std.proofs.lemmas.List.Edits.{sets};
 ghost use Rattle.lists.specs.Lists.{flat_map};
 ghost use Rattle.rules.specs.Flat.{Sized};
 ghost use Rattle.board.specs.Board.{fresh_board};
-ghost use Rattle.image.specs.Image.{four_bytes, bits_of, clue_bytes, image_of};
+ghost use Rattle.image.specs.Image.{clue_bytes, image_of};
 ghost use Rattle.image.specs.Making.{fresh_number, fresh_image};
 
 use crate::writing::put_two;
 use crate::{ALIEN, CLUES, COLOURS, LENGTH, TALLY};
 use board::Board;
-use rules::index_byte;
 
-// Makes every byte 0.
-fn clear(s: &mut [u8])
-    ensures { s.new ≡ replicate (length s.old) 0 }
-{
-    let mut i: usize = 0;
-    while i < s.len() {
-        s[i] = 0;
-        i += 1;
-    }
-}
-
-// Stores the colours at their places.
-fn put_colours(s: &mut [u8], colours: &[u8])
-    requires { 2 + length colours.now ≤ length s.old }
-    ensures { s.new ≡ sets s.old 2 colours.now }
-{
-    let mut i: usize = 0;
-    while i < colours.len() {
-        s[COLOURS + i] = colours[i];
-        i += 1;
-    }
-}
-
-// The 32 bits of a clue, two's complement.
-fn bits(k: i32) -> usize
-    ensures { result ≡ bits_of k }
-{
-    if 0 <= k {
-        k as usize
-    } else {
-        4294967295 - ((-1 - k) as usize)
-    }
-}
-
-// Stores a number in four bytes, low byte first.
-fn put_four(s: &mut [u8], k: usize, v: usize)
-    requires { k + 3 < length s.old }
-    ensures { s.new ≡ sets s.old k (four_bytes v) }
-{
-    put_two(s, k, v);
-    put_two(s, k + 2, v / 65536);
-}
-
-// Stores the clues at their places.
+// Stores the clues at their places, each low byte first, two's complement.
 fn put_clues(s: &mut [u8], clues: &[i32])
     requires { 1026 + 4 * length clues.now ≤ length s.old }
     ensures { s.new ≡ sets s.old 1026 (flat_map clue_bytes clues.now) }
 {
-    let mut i: usize = 0;
-    while i < clues.len() {
-        put_four(s, CLUES + 4 * i, bits(clues[i]));
-        i += 1;
+    for (i, clue) in clues.iter().enumerate() {
+        let k = CLUES + 4 * i;
+        s[k..k + 4].copy_from_slice(&clue.to_le_bytes());
     }
 }
 
@@ -73,12 +28,12 @@ fn put_fresh(s: &mut [u8], height: u8, width: u8, colours: &[u8], clues: &[i32])
         × (length clues.now ≤ 1024) }
     ensures { s.new ≡ image_of (fresh_board height width colours.now clues.now) }
 {
-    clear(s);
-    let total = board::border_count(index_byte(height), index_byte(width));
+    s.fill(0);
+    let total = board::border_count(usize::from(height), usize::from(width));
     put_two(s, TALLY, total);
     s[0] = height;
     s[1] = width;
-    put_colours(s, colours);
+    s[COLOURS..COLOURS + colours.len()].copy_from_slice(colours);
     put_clues(s, clues);
 }
 
@@ -101,7 +56,8 @@ pub fn dbchoco_fresh(
     if number != 0 {
         return number;
     }
-    if image.len() != LENGTH {
+    let other = image.len() != LENGTH;
+    if other {
         return ALIEN;
     }
     put_fresh(image, height as u8, width as u8, colours, clues);

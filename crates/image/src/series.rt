@@ -9,7 +9,6 @@ use crate::reading::{tally, two};
 use crate::writing::rewrite;
 use crate::{BORDERS, COUNT, STACK, alien, literal};
 use board::tallies;
-use rules::{index, index_byte};
 
 // The code of an undo in a list of calls. Any other is that of a literal, which is decided.
 const UNDO: u16 = 65535;
@@ -19,7 +18,7 @@ fn border_count(image: &[u8]) -> usize
     requires { length image.now ≡ 11082 }
     ensures { result ≡ borders_of (get_or image.now 0 0) (get_or image.now 1 0) }
 {
-    board::border_count(index_byte(image[0]), index_byte(image[1]))
+    board::border_count(usize::from(image[0]), usize::from(image[1]))
 }
 
 // Decides a border of an image that is not alien. The refusal's number, or 0.
@@ -27,7 +26,7 @@ pub fn decided(image: &mut [u8], border: u32, side: u32) -> u32
     requires { (length image.old ≡ 11082) × (image_alien image.old ≡ false) }
     ensures { SeriesStepped image.old (decide border side) image.new result }
 {
-    let l = literal(border, side);
+    let l = literal(border as usize, side as usize);
     let n = l.border;
     let s = l.side;
     let outcome = board::refusals::decide_refusal(border_count(image), &image[BORDERS..COUNT], n);
@@ -35,7 +34,7 @@ pub fn decided(image: &mut [u8], border: u32, side: u32) -> u32
     if number != 0 {
         return number;
     }
-    let at = index(two(image, COUNT));
+    let at = usize::from(two(image, COUNT));
     let v = board::code(s);
     let t = tally(image);
     rewrite(image, n, v, at + 1, at, n, tallies::more(t, v));
@@ -47,14 +46,14 @@ pub fn undone(image: &mut [u8]) -> u32
     requires { (length image.old ≡ 11082) × (image_alien image.old ≡ false) }
     ensures { SeriesStepped image.old undo image.new result }
 {
-    let count = index(two(image, COUNT));
+    let count = usize::from(two(image, COUNT));
     let outcome = board::refusals::undo_refusal(count);
     let number = board::number(outcome);
     if number != 0 {
         return number;
     }
     let at = count - 1;
-    let n = index(two(image, STACK + 2 * at));
+    let n = usize::from(two(image, STACK + 2 * at));
     let t = tally(image);
     let counted = tallies::less(t, image[BORDERS + n]);
     rewrite(image, n, 0, at, at, 0, counted);
@@ -69,7 +68,7 @@ fn step(image: &mut [u8], code: u16) -> u32
     if code == UNDO {
         return undone(image);
     }
-    decided(image, (code / 2) as u32, (code % 2) as u32)
+    decided(image, u32::from(code / 2), u32::from(code % 2))
 }
 
 // Makes the calls of the codes one after another, up to the first that is refused; none on an alien image. How many are
@@ -81,13 +80,10 @@ pub fn dbchoco_calls(image: &mut [u8], codes: &[u16]) -> usize
     if alien(image) {
         return 0;
     }
-    let mut i: usize = 0;
-    while i < codes.len() {
-        if step(image, codes[i]) == 0 {
-            i += 1;
-        } else {
+    for (i, code) in codes.iter().enumerate() {
+        if step(image, *code) != 0 {
             return i;
         }
     }
-    i
+    codes.len()
 }

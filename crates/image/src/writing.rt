@@ -4,7 +4,7 @@ ghost use Rattle.std.proofs.lemmas.List.Edits.{sets};
 ghost use Rattle.image.specs.Image.{two_bytes, tally_bytes, image_written, put_codes, is_short};
 
 use crate::{BORDERS, COUNT, STACK, TALLY};
-use rules::{Tally, index};
+use rules::Tally;
 
 // The least length of reason memory beside an image.
 const REASON_LENGTH: usize = 3968;
@@ -14,8 +14,9 @@ pub fn put_two(s: &mut [u8], k: usize, v: usize)
     requires { k + 1 < length s.old }
     ensures { s.new ≡ sets s.old k (two_bytes v) }
 {
-    s[k] = (v % 256) as u8;
-    s[k + 1] = (v / 256 % 256) as u8;
+    let [low, high, ..] = v.to_le_bytes();
+    s[k] = low;
+    s[k + 1] = high;
 }
 
 // Stores the three counts of a tally at their places.
@@ -51,9 +52,7 @@ pub fn put_codes(memory: &mut [u8], codes: &[u16], n: usize)
     requires { (n ≤ length codes.now) × (2 * n ≤ length memory.old) }
     ensures { memory.new ≡ put_codes memory.old codes.now n }
 {
-    let mut i: usize = 0;
-    while i < n {
-        put_two(memory, 2 * i, index(codes[i]));
-        i += 1;
+    for (i, code) in codes[..n].iter().enumerate() {
+        put_two(memory, 2 * i, usize::from(*code));
     }
 }

@@ -17,10 +17,9 @@ use reasons::hand_out;
 fn which_of(which: u32) -> Which
     ensures { result ≡ which_of which }
 {
-    if which == 0 {
-        Which::Units
-    } else {
-        Which::Potential
+    match which {
+        0 => Which::Units,
+        _ => Which::Potential,
     }
 }
 

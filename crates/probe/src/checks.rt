@@ -13,22 +13,13 @@ ghost use Rattle.probe.specs.ProbeChecks.{checked_number, checked_memory};
 use crate::board_from;
 use board::{Board, Outcome};
 use calls::Answer;
-use rules::{Literal, Side, Tally, index};
+use rules::{Literal, Tally};
 
 // The literal with the code n.
 pub fn literal(n: usize) -> Literal
     ensures { result ≡ literal_of n }
 {
-    if n % 2 == 1 {
-        return Literal {
-            border: n / 2,
-            side: Side::Wall,
-        };
-    }
-    Literal {
-        border: n / 2,
-        side: Side::Open,
-    }
+    image::literal(n / 2, n % 2)
 }
 
 // What a board keeps beside its arrays.
@@ -65,7 +56,7 @@ fn decide_next<'a>(
         ≡ (decide_of (board_of h w colours.now clues.now borders.old
         stack.old kept.count kept.tally) (literal_of code)).board }
 {
-    let l = literal(index(code));
+    let l = literal(usize::from(code));
     let count = kept.count;
     let tally = kept.tally;
     let o = board::decide_lent(h, w, colours, clues, borders, stack, count, tally, l);
@@ -139,10 +130,8 @@ fn checks<'a>(
         borders.now stack.now kept.count kept.tally) times memory.old) }
 {
     let mut last: usize = 0;
-    let mut i: usize = 0;
-    while i < times {
+    for _ in 0..times {
         last = check_once(h, w, colours, clues, borders, stack, kept, memory);
-        i += 1;
     }
     last
 }
@@ -169,11 +158,9 @@ fn decided<'a>(
         memory.old) }
 {
     let mut now = kept;
-    let mut i: usize = 0;
-    while i < codes.len() {
-        now = decide_next(h, w, colours, clues, borders, stack, now, codes[i]);
+    for code in codes {
+        now = decide_next(h, w, colours, clues, borders, stack, now, *code);
         checks(h, w, colours, clues, borders, stack, now, memory, each);
-        i += 1;
     }
     now
 }

@@ -39,42 +39,13 @@ fn board_from(s: &[u8]) -> Board
     image::reading::board(s)
 }
 
-// The byte of s at a place; 0 past its end.
-fn byte(s: &[u8], i: usize) -> u8
-    ensures { result ≡ entry s.now i }
+// The bytes of s in N places, cut off or filled up with 0.
+fn places<const N: usize>(s: &[u8]) -> [u8; N]
+    ensures { result ≡ places_of N s.now }
 {
-    if i < s.len() {
-        return s[i];
-    }
-    0
-}
-
-// Fills the list with the bytes of s, then with 0.
-fn copy(out: &mut [u8], s: &[u8])
-    ensures { out.new ≡ places_of (length out.old) s.now }
-{
-    let mut i: usize = 0;
-    while i < out.len() {
-        out[i] = byte(s, i);
-        i += 1;
-    }
-}
-
-// The colours of a page's cells.
-fn colours_in(s: &[u8]) -> [u8; Board::CELL_LIMIT]
-    ensures { result ≡ places_of 1024 s.now }
-{
-    let mut out = [0u8; Board::CELL_LIMIT];
-    copy(&mut out, s);
-    out
-}
-
-// A page's borders.
-fn borders_in(s: &[u8]) -> [u8; Board::BORDER_LIMIT]
-    ensures { result ≡ places_of 1984 s.now }
-{
-    let mut out = [0u8; Board::BORDER_LIMIT];
-    copy(&mut out, s);
+    let mut out = [0u8; N];
+    let n = s.len().min(N);
+    out[..n].copy_from_slice(&s[..n]);
     out
 }
 
@@ -82,23 +53,18 @@ fn borders_in(s: &[u8]) -> [u8; Board::BORDER_LIMIT]
 fn fits(h: usize, w: usize, room: usize) -> bool
     ensures { result ≡ probe_fits h w room }
 {
-    if board::cell_count(h, w) < 1 {
-        return false;
-    }
-    room >= ROOM
+    board::cell_count(h, w) >= 1 && room >= ROOM
 }
 
 // 0 is blocks, 1 units, any other number potential units.
 fn kind_of(kind: u32) -> Kind
     ensures { result ≡ kind_of kind }
 {
-    if kind == 0 {
-        return Kind::Blocks;
+    match kind {
+        0 => Kind::Blocks,
+        1 => Kind::Units,
+        _ => Kind::Potential,
     }
-    if kind == 1 {
-        return Kind::Units;
-    }
-    Kind::Potential
 }
 
 // The groups of one kind.
@@ -106,9 +72,7 @@ fn grouped(h: usize, w: usize, colours: &[u8], borders: &[u8], kind: u32) -> Gro
     requires { Sized h w }
     ensures { Filled (kind_groups h w colours.now borders.now kind) result }
 {
-    let c = colours_in(colours);
-    let b = borders_in(borders);
-    groups::groups_of(h, w, &c, &b, kind_of(kind))
+    groups::groups_of(h, w, &places(colours), &places(borders), kind_of(kind))
 }
 
 // Writes Inside (side 0) or Edge (any other side) of the group with that number, each border once.
@@ -131,14 +95,14 @@ fn put_reason(
     if count_of(&grouping) <= group {
         return 0;
     }
-    let b = borders_in(borders);
+    let b = places(borders);
     let mut work = [0u16; WORK_LENGTH];
     if side == 0 {
         let n = reasons::inside(&mut work, 0, h, w, &b, &grouping, group);
         return hand_out(memory, &work[..n]);
     }
-    let c = colours_in(colours);
-    let mut flagged = [0u8; 1024];
+    let c = places(colours);
+    let mut flagged = [0u8; Board::CELL_LIMIT];
     let f = &mut flagged;
     let n = reasons::edge(&mut work, 0, h, w, &c, &b, &grouping, group, f);
     hand_out(memory, &work[..n])
@@ -150,7 +114,7 @@ fn put_path(memory: &mut [u16], h: usize, w: usize, borders: &[u8], a: usize, b:
     ensures { WordsWritten memory.old (path_words h w borders.now a b) memory.new
         result }
 {
-    let states = borders_in(borders);
+    let states = places(borders);
     let mut work = [0u16; WORK_LENGTH];
     let n = reasons::paths::path(&mut work, 0, h, w, &states, a, b);
     hand_out(memory, &work[..n])

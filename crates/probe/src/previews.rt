@@ -18,8 +18,7 @@ fn previews(board: Board, l: Literal, times: usize, memory: &mut [u16]) -> usize
 {
     let tally = board.tally;
     let mut last: usize = 0;
-    let mut i: usize = 0;
-    while i < times {
+    for _ in 0..times {
         let a = calls::preview_lent(
             board.height,
             board.width,
@@ -33,7 +32,6 @@ fn previews(board: Board, l: Literal, times: usize, memory: &mut [u16]) -> usize
             memory,
         );
         last = number(a);
-        i += 1;
     }
     last
 }

@@ -19,16 +19,12 @@ fn call_with(which: usize, code: usize) -> Call
     ensures { result ≡ call_with which (literal_of code) }
 {
     let l = literal(code);
-    if which == 0 {
-        return Call::Decide(l);
+    match which {
+        0 => Call::Decide(l),
+        1 => Call::Undo,
+        2 => Call::Check,
+        _ => Call::Preview(l),
     }
-    if which == 1 {
-        return Call::Undo;
-    }
-    if which == 2 {
-        return Call::Check;
-    }
-    Call::Preview(l)
 }
 
 // Stores the three counts.

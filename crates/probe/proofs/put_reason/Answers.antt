@@ -12,17 +12,17 @@ use Rattle.reasons.proofs.MemoryLaws.{spare-zeros, front_length, front_fits}
 use Rattle.probe.specs.Probe.{places_of, kind_groups, reason_words}
 use Rattle.image.specs.Image.{side_of}
 use Rattle.probe.specs.ProbeLaws.{places-length, group-is, no-reason, reason-held, literals}
-use Rattle.probe.proofs.put_reason.Goals.{After-borders_in-b}
+use Rattle.probe.proofs.put_reason.Goals.{After-places-b}
 use Rattle.probe.proofs.put_reason.Goals as goal
 
 -- the group that reasons ask for
-group : (k : After-borders_in-b) → GroupAt k.args.h k.args.w k.grouped-grouping.result k.args.group
+group : (k : After-places-b) → GroupAt k.args.h k.args.w k.grouped-grouping.result k.args.group
 group k =
     group-is k.requires.0 k.args.colours.now k.args.borders.now k.args.kind k.grouped-grouping.ensures
     k.args.group (omega (arith, k.count_of.ensures, k.if-count_of-group.false))
 
 -- its Inside and Edge hold on the board
-held : (k : After-borders_in-b) (side : Side) → let a = k.args in
+held : (k : After-places-b) (side : Side) → let a = k.args in
     Contains (states_in (places_of 1984 a.borders.now))
     (group_reason a.h a.w (places_of 1024 a.colours.now) (places_of 1984 a.borders.now)
     (kind_groups a.h a.w a.colours.now a.borders.now a.kind).ids side a.group)
@@ -39,8 +39,8 @@ returns-then-count_of-group c =
 pub inside-n-requires : goal.inside-n-requires
 inside-n-requires c = (
   c.requires.0,
-  rw c.borders_in-b.ensures (places-length 1984 _),
-  group (goal.at.inside-n-requires c).After-borders_in-b,
+  rw c.places-b.ensures (places-length 1984 _),
+  group (goal.at.inside-n-requires c).After-places-b,
   spare-zeros,
 )
 
@@ -54,16 +54,16 @@ pub returns-then-side-eq0 : goal.returns-then-side-eq0
 unfolding reason_words
 returns-then-side-eq0 c =
     rw (eq-eqb _ _ c.if-side-eq0.true)
-    (literals _ (held (goal.at.returns-then-side-eq0 c).After-borders_in-b Open)
-    (rw (c.borders_in-b.ensures, c.grouped-grouping.ensures.numbers) at c.inside-n.ensures)
+    (literals _ (held (goal.at.returns-then-side-eq0 c).After-places-b Open)
+    (rw (c.places-b.ensures, c.grouped-grouping.ensures.numbers) at c.inside-n.ensures)
     c.hand_out.ensures)
 
 pub edge-n-requires : goal.edge-n-requires
 edge-n-requires c = (
   c.requires.0,
-  rw c.borders_in-b.ensures (places-length 1984 _),
-  rw c.colours_in-c.ensures (places-length 1024 _),
-  group (goal.at.edge-n-requires c).After-borders_in-b,
+  rw c.places-b.ensures (places-length 1984 _),
+  rw c.places-c.ensures (places-length 1024 _),
+  group (goal.at.edge-n-requires c).After-places-b,
   spare-zeros,
   refl,
 )
@@ -78,11 +78,11 @@ pub returns : goal.returns
 unfolding reason_words
 returns c =
     rw (ne_eqb _ _ c.if-side-eq0.false)
-    (literals _ (held (goal.at.returns c).After-borders_in-b Wall)
+    (literals _ (held (goal.at.returns c).After-places-b Wall)
     (rw (
-      c.borders_in-b.ensures,
+      c.places-b.ensures,
       c.grouped-grouping.ensures.numbers,
-      c.colours_in-c.ensures,
+      c.places-c.ensures,
     ) at
     c.edge-n.ensures.0)
     c.hand_out-2.ensures)

@@ -34,13 +34,13 @@ returns-then-number-ne0 c =
       bytes = sym (bytes-refused _ _ _ _ _ (λ z. c.if-number-ne0.true (said ∙ sym e ∙ z)));
     }
 
-pub returns-then-image-ne-LENGTH : goal.returns-then-image-ne-LENGTH
-returns-then-image-ne-LENGTH c =
+pub returns-then-other : goal.returns-then-other
+returns-then-other c =
     let a = c.args in
-    let said = here (goal.at.returns-then-image-ne-LENGTH c).After-number-number in
+    let said = here (goal.at.returns-then-other c).After-number-number in
     let e =
     making-other _ _ _ _ a.image.now (sym said ∙ c.if-number-ne0.false)
-    c.if-image-ne-LENGTH.true in
+    c.if-other.true in
     record {
       number = sym e;
       bytes = sym (bytes-refused _ _ _ _ _ (λ z. let y : 5 ≡ 0 = sym e ∙ z in omega arith));
@@ -64,7 +64,7 @@ put_fresh-requires c =
     let p = m.fit.colours in
     let q = m.fit.clues in
     let n = (counts m.size).cells in
-    (c.if-image-ne-LENGTH.false, m.size, omega arith, omega arith)
+    (c.if-other.false, m.size, omega arith, omega arith)
 
 pub returns : goal.returns
 returns c =
@@ -73,7 +73,7 @@ returns c =
     let a = c.args in
     let e =
     number-done _ _ _ _ a.image.now (sym said ∙ c.if-number-ne0.false)
-    c.if-image-ne-LENGTH.false in
+    c.if-other.false in
     record {
       number = sym e;
       bytes = c.put_fresh.ensures ∙ sym (bytes-done _ _ _ _ _ e ∙ ap image_of m.is);

@@ -38,19 +38,19 @@ pub loop-i-preserved : goal.loop-i-preserved
 loop-i-preserved c =
     running-next c.loop-i.invariant c.loop-i-test.true
     (λ i. omega (arith, c.slice_known-in-loop-i-1.given i))
-    (rw c.if-step-eq0.true at c.step.ensures)
+    (rw c.if-step-ne0.false at c.step.ensures)
 
-pub shape_of-image-else-step-eq0 : goal.shape_of-image-else-step-eq0
-shape_of-image-else-step-eq0 c =
+pub shape_of-image-then-step-ne0 : goal.shape_of-image-then-step-ne0
+shape_of-image-then-step-ne0 c =
     c.step.auto.image
-    ∙ running-long (bytes (goal.at.shape_of-image-else-step-eq0 c).Else-alien)
-    (known (goal.at.shape_of-image-else-step-eq0 c).Else-alien) c.loop-i.invariant
+    ∙ running-long (bytes (goal.at.shape_of-image-then-step-ne0 c).Else-alien)
+    (known (goal.at.shape_of-image-then-step-ne0 c).Else-alien) c.loop-i.invariant
 
-pub returns-else-step-eq0 : goal.returns-else-step-eq0
-returns-else-step-eq0 c =
+pub returns-then-step-ne0 : goal.returns-then-step-ne0
+returns-then-step-ne0 c =
     let told =
     running-stop c.loop-i.invariant c.loop-i-test.true
-    c.step.ensures c.if-step-eq0.false in
+    c.step.ensures c.if-step-ne0.true in
     record { number = told.0; bytes = told.1 }
 
 pub shape_of-image : goal.shape_of-image
@@ -62,4 +62,4 @@ pub returns : goal.returns
 returns c =
     let told =
     running-end c.loop-i.invariant (omega (arith, c.loop-i-test.false)) in
-    record { number = told.0; bytes = told.1 }
+    record { number = omega (arith, told.0); bytes = told.1 }

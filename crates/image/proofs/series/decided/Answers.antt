@@ -64,7 +64,7 @@ returns-then-number-ne0 c =
 -- the places of a decide that is not refused, and the tally that can count it
 room : (c : After-tally-t)
     → let t = c.tally-t.result in
-    (c.literal-l.result.border < 1984) × (c.index-at.result < 1984)
+    (c.literal-l.result.border < 1984) × (c.from-at.result < 1984)
     × (0 < t.undecided) × (t.walls ≤ 1984) × (t.opens ≤ 1984)
 room c =
     let l = c.literal-l in
@@ -74,7 +74,7 @@ room c =
     l.result l.ensures
     c.border_count.result c.border_count.ensures _ c.decide_refusal-outcome.ensures
     (zero (goal.at.After-tally-t c).Else-number-ne0) _
-    (c.index-at.ensures ∙ c.two.ensures) _ c.tally-t.ensures
+    (c.from-at.ensures ∙ c.two.ensures) _ c.tally-t.ensures
 
 pub more-requires : goal.more-requires
 more-requires c = let r = room (goal.at.more-requires c).After-tally-t in (r.2, r.3, r.4)
@@ -92,5 +92,5 @@ returns c =
     (side (goal.at.returns c).After-border_count) l.result l.ensures
     c.border_count.result c.border_count.ensures _ c.decide_refusal-outcome.ensures
     (zero (goal.at.returns c).Else-number-ne0) _
-    (c.index-at.ensures ∙ c.two.ensures) _ c.tally-t.ensures c.code-v.ensures
+    (c.from-at.ensures ∙ c.two.ensures) _ c.tally-t.ensures c.code-v.ensures
     c.more.ensures c.rewrite.ensures

@@ -9,4 +9,4 @@ returns-then-code-eq-UNDO c = rw (eq-eqb _ 65535 c.if-code-eq-UNDO.true) c.undon
 
 pub returns : goal.returns
 unfolding code_call
-returns c = rw (ne_eqb _ 65535 c.if-code-eq-UNDO.false) c.decided.ensures
+returns c = rw (ne_eqb _ 65535 c.if-code-eq-UNDO.false, ← c.from.ensures, ← c.from-2.ensures) c.decided.ensures
