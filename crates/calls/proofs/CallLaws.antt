@@ -7,12 +7,12 @@
 --   check-written       the memory after a conflict
 --   call-told           the answer of a call is the book's reply
 --   call-written        the memory after a call is what the book's reply says
-use Rattle.std.specs.Prelude.{◌≡◌, Bool, List, ◌++◌, map, ℕ, ◌<◌, ◌≤◌, eqb, length, drop}
+use Rattle.std.specs.Prelude.{◌≡◌, Bool, List, ◌++◌, map, ℕ, ◌<◌, ◌≤◌, length, drop, Ok, Err}
 use Rattle.std.proofs.Math.Path.{refl, ap}
 use Rattle.std.proofs.Common.{ap₂, sym, ◌∙◌}
 use Rattle.std.proofs.Math.Bool.{true, false, cond}
 use native.Mathlib.Omega.{arith}
-use borrow.Author.Tests.{ltb-false, eqb-true}
+use borrow.Author.Tests.{ltb-false}
 use Rattle.std.proofs.Math.Dec.{ltb}
 use Rattle.lists.specs.Lists.{Distinct}
 use Rattle.rules.specs.declared.Literal.{Literal}
@@ -21,39 +21,32 @@ use Rattle.rules.specs.declared.Call.TheVariants.{Decide, Undo, Check, Preview}
 use Rattle.rules.specs.Page.{Puzzle}
 use Rattle.rules.specs.Codes.{literal_code}
 use Rattle.rules.specs.Check.{Reason, Verdict, pass, conflict, borders_named, check}
-use Rattle.rules.specs.Book.{Reply, refused, done, answered, states, with_last, then_reply, check_reply, reply_to}
+use Rattle.rules.specs.Book.{Reply, refused, answered, states, with_last, then_reply, check_reply, reply_to}
 use Rattle.laws.specs.FlatLaws.{borders-le}
 use Rattle.argument.proofs.FlatDemand.{flat-once, flat-few}
 use Rattle.board.specs.declared.Board.{Board}
-use Rattle.board.specs.declared.Outcome.{Outcome}
-use Rattle.board.specs.declared.Outcome.TheVariants.{Short}
+use Rattle.board.specs.declared.Refusal.TheVariants.{Short}
 use Rattle.board.specs.Alien.{is_alien}
-use Rattle.board.specs.Board.{number_of, is_done, decide_of, undo_of, Typed}
+use Rattle.board.specs.Board.{Outcome, number_of, is_done, decide_of, undo_of, Typed}
 use Rattle.board.specs.View.{puzzle_of, states_of, literals_of, reply_of}
 use Rattle.board.specs.NativeLaws.{native-has}
 use Rattle.board.proofs.DecideLaws.{done-returned, decide-keeps}
 use Rattle.board.proofs.ViewLaws.{states-literals, literals-length, decided-puzzle}
 use Rattle.board.proofs.LiteralLaws.{literals-decided}
 use Rattle.board.proofs.StepLaws.{decide-reply, undo-reply}
-use Rattle.calls.specs.declared.Answer.TheVariants.{Done, Refused}
-use Rattle.calls.specs.Answers.{reason_in, told, memory_as, as_answer, written, check_answer, check_memory, ended}
+use Rattle.calls.specs.declared.Answer.TheVariants.{Refused}
+use Rattle.calls.specs.Answers.{reason_in, told, memory_as, as_answer, written, check_answer, check_memory, then_answer, ended}
 use Rattle.calls.specs.Answers.{preview_answer, preview_memory, call_of, call_memory}
 use Rattle.calls.specs.AnswerLaws.{reason-in, put-start, found-long, check-known}
 
 -- how a decide or an undo ended
 told-ended : (o : Outcome) (m : List ℕ) → told (ended o) m ≡ reply_of o
-told-ended o m = go (eqb (number_of o) 0)
-  where
-    go : (x : Bool) → told (cond x Done (Refused o)) m ≡ cond x done (refused (number_of o))
-    go true = refl
-    go false = refl
+told-ended (Ok u) m = refl
+told-ended (Err e) m = refl
 
 kept-ended : (o : Outcome) (m : List ℕ) → m ≡ memory_as m (reply_of o)
-kept-ended o m = go (eqb (number_of o) 0)
-  where
-    go : (x : Bool) → m ≡ memory_as m (cond x done (refused (number_of o)))
-    go true = refl
-    go false = refl
+kept-ended (Ok u) m = refl
+kept-ended (Err e) m = refl
 
 -- an answered check, where the reason fits the memory
 Fits : List ℕ → Verdict → Type 0
@@ -143,9 +136,9 @@ record Copied (b : Board) (l : Literal) (d : Board) : Type 0 where
   stack : literals_of d ≡ with_last (literals_of b) l
 
 module _ (b : Board) (t : is_alien b ≡ false) (T : Typed b) where
-  copied : (l : Literal) → is_done (decide_of b l).outcome ≡ true → Copied b l (decide_of b l).board
+  copied : (l : Literal) → (decide_of b l).outcome ≡ Ok tt → Copied b l (decide_of b l).board
   copied l e =
-      let r = done-returned (decide_of b l) (eqb-true (number_of (decide_of b l).outcome) 0 e) in
+      let r = done-returned (decide_of b l) (ap number_of e) in
       record {
         known = decide-keeps b l T.borders T.stack r;
         puzzle = decided-puzzle b l r;
@@ -154,7 +147,7 @@ module _ (b : Board) (t : is_alien b ≡ false) (T : Typed b) where
 
   module _ (l : Literal) (m : List ℕ) where
     -- the check's reply on the copy is that of the sequence with the literal put last
-    copy-reply : is_done (decide_of b l).outcome ≡ true
+    copy-reply : (decide_of b l).outcome ≡ Ok tt
         → check_reply (puzzle_of (decide_of b l).board) (literals_of (decide_of b l).board) (length m)
         ≡ check_reply (puzzle_of b) (with_last (literals_of b) l) (length m)
     copy-reply e =
@@ -165,44 +158,37 @@ module _ (b : Board) (t : is_alien b ≡ false) (T : Typed b) where
         ≡ reply_to (puzzle_of b) (literals_of b) (length m) (Preview l)
     unfolding preview_answer preview_memory reply_to
     preview-told =
-        go (is_done (decide_of b l).outcome) refl
+        go (decide_of b l).outcome refl
         ∙ ap (λ (r : Reply). then_reply r (check_reply (puzzle_of b) (with_last (literals_of b) l) (length m)))
         (decide-reply b t l)
       where
-        o : Outcome
-        o = (decide_of b l).outcome
-
         d : Board
         d = (decide_of b l).board
 
-        go : (x : Bool) → is_done o ≡ x
-            → told (cond x (check_answer d (length m)) (Refused o)) (cond x (check_memory d m) m)
-            ≡ then_reply (cond x done (refused (number_of o)))
-            (check_reply (puzzle_of b) (with_last (literals_of b) l) (length m))
-        go true e = check-told d (copied l e).known m ∙ copy-reply e
-        go false e = refl
+        go : (o : Outcome) → (decide_of b l).outcome ≡ o
+            → told (then_answer o (check_answer d (length m))) (cond (is_done o) (check_memory d m) m)
+            ≡ then_reply (reply_of o) (check_reply (puzzle_of b) (with_last (literals_of b) l) (length m))
+        go (Ok u) e = check-told d (copied l e).known m ∙ copy-reply e
+        go (Err r) e = refl
 
     preview-written : preview_memory b l m
         ≡ memory_as m (reply_to (puzzle_of b) (literals_of b) (length m) (Preview l))
     unfolding preview_memory reply_to
     preview-written =
-        go (is_done (decide_of b l).outcome) refl
+        go (decide_of b l).outcome refl
         ∙ ap (λ (r : Reply). memory_as m
         (then_reply r (check_reply (puzzle_of b) (with_last (literals_of b) l) (length m))))
         (decide-reply b t l)
       where
-        o : Outcome
-        o = (decide_of b l).outcome
-
         d : Board
         d = (decide_of b l).board
 
-        go : (x : Bool) → is_done o ≡ x
-            → cond x (check_memory d m) m
-            ≡ memory_as m (then_reply (cond x done (refused (number_of o)))
-            (check_reply (puzzle_of b) (with_last (literals_of b) l) (length m)))
-        go true e = check-memory d (copied l e).known m ∙ ap (memory_as m) (copy-reply e)
-        go false e = refl
+        go : (o : Outcome) → (decide_of b l).outcome ≡ o
+            → cond (is_done o) (check_memory d m) m
+            ≡ memory_as m
+            (then_reply (reply_of o) (check_reply (puzzle_of b) (with_last (literals_of b) l) (length m)))
+        go (Ok u) e = check-memory d (copied l e).known m ∙ ap (memory_as m) (copy-reply e)
+        go (Err r) e = refl
 
   -- ---- any call
   pub call-told : (c : Call) (m : List ℕ)

@@ -4,7 +4,7 @@
 --   counted-other     one that disagrees: refused, and all is kept
 --   record-kept       a call that is not done keeps the record
 --   record-true       a record that agrees is afterwards the borders counted, of the board that the call returns
-use Rattle.std.specs.Prelude.{◌≡◌, Bool, true, false, cond, List, ℕ}
+use Rattle.std.specs.Prelude.{◌≡◌, Bool, true, false, cond, List, ℕ, Ok, Err}
 use Rattle.std.proofs.Math.Path.{refl}
 use Rattle.std.proofs.Common.{ap, sym, ◌∙◌}
 use Rattle.rules.specs.declared.Call.{Call}
@@ -13,10 +13,9 @@ use Rattle.rules.specs.declared.Tally.{Tally}
 use Rattle.rules.specs.Book.{same_tally}
 use Rattle.rules.specs.Codes.{code_of}
 use Rattle.board.specs.declared.Board.{Board}
-use Rattle.board.specs.declared.Outcome.{Outcome}
-use Rattle.board.specs.declared.Outcome.TheVariants.{Alien}
+use Rattle.board.specs.declared.Refusal.TheVariants.{Alien}
 use Rattle.board.specs.Alien.{tally_in, border_count_of, is_alien}
-use Rattle.board.specs.Board.{is_done, returned, ended_by, pushed, popped, decide_refusal, decide_of, undo_refusal}
+use Rattle.board.specs.Board.{Outcome, returned, ended_by, pushed, popped, decide_refusal, decide_of, undo_refusal}
 use Rattle.board.specs.Board.{undo_of}
 use Rattle.board.specs.Board.{Typed}
 use Rattle.board.specs.TallyLaws.{same-is}
@@ -41,14 +40,11 @@ module _ (b : Board) (c : Call) (t : Tally) (m : List ℕ) where
 
 -- ---- a call that is not done
 -- what a decide or an undo returned, where it is not done
-kept_by : (b d : Board) (x : Bool) (o : Outcome) → let r = cond x (returned Alien b) (ended_by b d o) in
+kept_by : (b d : Board) (x : Bool) (o : Outcome) → let r = cond x (returned (Err Alien) b) (ended_by b d o) in
     (ended r.outcome ≡ Done → ⊥) → r.board ≡ b
 kept_by b d true o f = refl
-kept_by b d false o f = go (is_done o) f
-  where
-    go : (y : Bool) → (cond y Done (Refused o) ≡ Done → ⊥) → cond y d b ≡ b
-    go true f = absurd (f refl)
-    go false f = refl
+kept_by b d false (Ok u) f = absurd (f refl)
+kept_by b d false (Err e) f = refl
 
 module _ (b : Board) (m : List ℕ) where
   board-kept : (c : Call) → ((call_of b c m).answer ≡ Done → ⊥) → (call_of b c m).board ≡ b

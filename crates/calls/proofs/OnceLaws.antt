@@ -3,20 +3,20 @@
 --   NamesOnce m k n     the k literals at the start of the memory m name no border twice, and they are at most n
 --   check-names-once    so it is after a check, with n the decided borders of the board ..
 --   preview-names-once  .. and after a preview, with n those of the copy
-use Rattle.std.specs.Prelude.{◌≡◌, Bool, true, false, cond, List, ℕ, ◌≤◌, ltb, length}
+use Rattle.std.specs.Prelude.{◌≡◌, Bool, true, false, cond, List, ℕ, ◌≤◌, ltb, length, Ok, Err}
 use Rattle.std.proofs.Math.Path.{refl}
 use Rattle.std.proofs.Common.{arith, ltb-false}
 use Rattle.lists.specs.Lists.{Distinct}
 use Rattle.rules.specs.declared.Literal.{Literal}
 use Rattle.rules.specs.Check.{Verdict, pass, conflict, borders_named, check}
 use Rattle.board.specs.declared.Board.{Board}
-use Rattle.board.specs.declared.Outcome.TheVariants.{Alien, Short}
+use Rattle.board.specs.declared.Refusal.TheVariants.{Alien, Short}
 use Rattle.board.specs.Alien.{is_alien}
-use Rattle.board.specs.Board.{is_done, decide_of}
+use Rattle.board.specs.Board.{Outcome, is_done, decide_of}
 use Rattle.board.specs.View.{puzzle_of, states_of}
 use Rattle.calls.specs.declared.Answer.TheVariants.{Conflict, Refused}
 use Rattle.calls.specs.Answers.{reason_in, as_answer, written, check_answer, check_memory}
-use Rattle.calls.specs.Answers.{preview_answer, preview_memory}
+use Rattle.calls.specs.Answers.{then_answer, preview_answer, preview_memory}
 use Rattle.calls.proofs.CallLaws.{reason-once, reason-few, reason-short, reason-read}
 
 -- "no border is named twice, so a reason has at most as many literals as there are decided borders"
@@ -52,12 +52,12 @@ module _ (b : Board) (m : List ℕ) (k : ℕ) where
 pub preview-names-once : (b : Board) (l : Literal) (m : List ℕ) (k : ℕ) → preview_answer b l (length m) ≡ Conflict k
     → NamesOnce (preview_memory b l m) k (decide_of b l).board.count
 unfolding preview_answer preview_memory
-preview-names-once b l m k e = go (is_done (decide_of b l).outcome) e
+preview-names-once b l m k e = go (decide_of b l).outcome e
   where
     d : Board
     d = (decide_of b l).board
 
-    go : (x : Bool) → cond x (check_answer d (length m)) (Refused (decide_of b l).outcome) ≡ Conflict k
-        → NamesOnce (cond x (check_memory d m) m) k d.count
-    go true a = check-names-once d m k a
-    go false a = let z : ◌≡◌ {A = ℕ} 0 1 = cc in absurd (omega arith)
+    go : (o : Outcome) → then_answer o (check_answer d (length m)) ≡ Conflict k
+        → NamesOnce (cond (is_done o) (check_memory d m) m) k d.count
+    go (Ok u) a = check-names-once d m k a
+    go (Err r) a = let z : ◌≡◌ {A = ℕ} 0 1 = cc in absurd (omega arith)

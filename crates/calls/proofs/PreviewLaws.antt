@@ -1,55 +1,66 @@
--- A preview, where its decide returned the outcome o and the board d: one law for each return of the code.
+-- A preview, by how its decide ends: one law for each return of the code.
 --
 --   preview-stopped     the decide is refused, and so is the preview
---   preview-goes        the decide is done, and the preview is the check of d
---   preview-known, preview-left  d is not alien then, and b has an undecided border
+--   preview-goes        the decide is done, and the preview is the check of the board that it leaves
+--   preview-decided     what the decide says then
+--   preview-known, preview-left  that board is not alien then, and b has an undecided border
 --   check-stored, preview-stored  the number after a pass is the stored one
 --   preview-checks, preview-stops  a preview, by the answers of a decide and of a check after it
 --   preview-keeps       the board given is returned
 --   preview-order       the refusals of a preview in their order, and the check of the copy after them
-use Rattle.std.specs.Prelude.{◌≡◌, true, false, List, ℕ, ◌<◌, eqb, ltb, length, get_or}
+use Rattle.std.specs.Prelude.{◌≡◌, true, false, List, ℕ, ◌<◌, eqb, ltb, length, get_or, Ok, Err}
 use Rattle.std.proofs.Math.Path.{refl}
 use Rattle.std.proofs.Common.{ap, sym, ◌∙◌, arith}
 use Rattle.std.proofs.Math.Bool.{Bool, cond}
 use Rattle.std.proofs.Math.Option.{Option, some, none}
-use borrow.Author.Tests.{eq-eqb, ne_eqb, eqb-true, ltb-true}
+use borrow.Author.Tests.{eqb-true, ltb-true}
 use Rattle.rules.specs.declared.Literal.{Literal}
 use Rattle.rules.specs.declared.Call.TheVariants.{Decide, Check, Preview}
 use Rattle.rules.specs.Codes.{code_of}
 use Rattle.rules.specs.Check.{Reason, check, hit, once_in, verdict_of, undecided_count}
 use Rattle.board.specs.declared.Board.{Board}
-use Rattle.board.specs.declared.Outcome.{Outcome}
-use Rattle.board.specs.declared.Outcome.TheVariants.{Done as Fine, Alien, Border, Taken, Short}
+use Rattle.board.specs.declared.Refusal.{Refusal}
+use Rattle.board.specs.declared.Refusal.TheVariants.{Alien, Border, Taken, Short}
 use Rattle.board.specs.Alien.{border_count_of, is_alien}
-use Rattle.board.specs.Board.{number_of, is_done, returned, ended_by, pushed, decide_refusal, decide_of}
+use Rattle.board.specs.Board.{Outcome, number_of, returned, ended_by, pushed, decide_refusal, decide_of}
 use Rattle.board.specs.View.{puzzle_of, states_of}
 use Rattle.board.specs.Cases.{decide-done}
 use Rattle.board.specs.NativeLaws.{native-has, free-left}
-use Rattle.board.proofs.DecideLaws.{done-returned, decided-is, decide-keeps}
+use Rattle.board.proofs.DecideLaws.{Decided, done-returned, decided-is, decide-keeps}
 use Rattle.board.proofs.ViewLaws.{pass-stored}
 use Rattle.calls.specs.declared.Answer.TheVariants.{Done, Pass, Refused}
 use Rattle.calls.specs.Answers.{as_answer, found_answer, check_answer, check_memory, preview_answer}
-use Rattle.calls.specs.Answers.{preview_memory, ended, call_of, call_memory}
+use Rattle.calls.specs.Answers.{preview_memory, then_answer, ended, call_of, call_memory}
 
-module _ (b : Board) (l : Literal) {o : Outcome} {d : Board} (e : returned o d ≡ decide_of b l) where
-  module _ (m : List ℕ) where
-    pub preview-stopped : (number_of o ≡ 0 → ⊥)
-        → (Refused o ≡ preview_answer b l (length m)) × (m ≡ preview_memory b l m)
+module _ (b : Board) (l : Literal) where
+  -- the outcome of its decide, and the board that it leaves
+  abbrev ends : Outcome
+  ends = (decide_of b l).outcome
+
+  abbrev copy : Board
+  copy = (decide_of b l).board
+
+  pub preview-stopped : (m : List ℕ) (e : Refusal) → Err e ≡ ends
+      → (Refused e ≡ preview_answer b l (length m)) × (m ≡ preview_memory b l m)
+  unfolding preview_answer preview_memory
+  preview-stopped m e p = (rw (← p), rw (← p))
+
+  module _ (p : Ok tt ≡ ends) where
+    pub preview-goes : (m : List ℕ)
+        → (check_answer copy (length m) ≡ preview_answer b l (length m)) × (check_memory copy m ≡ preview_memory b l m)
     unfolding preview_answer preview_memory
-    preview-stopped z = let f = ne_eqb (number_of o) 0 z in (rw (← e, f), rw (← e, f))
+    preview-goes m = (rw (← p), rw (← p))
 
-    pub preview-goes : number_of o ≡ 0
-        → (check_answer d (length m) ≡ preview_answer b l (length m)) × (check_memory d m ≡ preview_memory b l m)
-    unfolding preview_answer preview_memory
-    preview-goes z = let f = eq-eqb (number_of o) 0 z in (rw (← e, f), rw (← e, f))
+    pub preview-decided : Decided b l copy
+    preview-decided = decided-is (done-returned (decide_of b l) (sym (ap number_of p)))
 
-  pub preview-known : length b.borders ≡ 1984 → length b.stack ≡ 1984 → number_of o ≡ 0 → is_alien d ≡ false
-  preview-known B S z = decide-keeps b l B S (sym e ∙ done-returned (returned o d) z)
+    pub preview-known : length b.borders ≡ 1984 → length b.stack ≡ 1984 → is_alien copy ≡ false
+    preview-known B S = decide-keeps b l B S (done-returned (decide_of b l) (sym (ap number_of p)))
 
-  pub preview-left : number_of o ≡ 0 → 0 < b.tally.undecided
-  preview-left z =
-      let f = decided-is (sym e ∙ done-returned (returned o d) z) in
-      free-left b (native-has b f.known) l.border f.below f.free
+    pub preview-left : 0 < b.tally.undecided
+    preview-left =
+        let f = preview-decided in
+        free-left b (native-has b f.known) l.border f.below f.free
 
 -- ---- the number after a pass
 -- "The number after pass is the stored one"
@@ -71,27 +82,21 @@ check-stored b n k e = go (is_alien b) (ltb n 1984) (hit (puzzle_of b) (states_o
 pub preview-stored : (b : Board) (l : Literal) (n k : ℕ) → preview_answer b l n ≡ Pass k
     → k ≡ (decide_of b l).board.tally.undecided
 unfolding preview_answer
-preview-stored b l n k e = go (is_done (decide_of b l).outcome) e
+preview-stored b l n k e = go (decide_of b l).outcome e
   where
-    go : (x : Bool) → cond x (check_answer (decide_of b l).board n) (Refused (decide_of b l).outcome) ≡ Pass k
+    go : (o : Outcome) → then_answer o (check_answer (decide_of b l).board n) ≡ Pass k
         → k ≡ (decide_of b l).board.tally.undecided
-    go true f = check-stored (decide_of b l).board n k f
-    go false f = let z : ◌≡◌ {A = ℕ} 0 1 = cc in absurd (omega arith)
+    go (Ok u) f = check-stored (decide_of b l).board n k f
+    go (Err r) f = let z : ◌≡◌ {A = ℕ} 0 1 = cc in absurd (omega arith)
 
 -- ---- what a preview is, by the calls that it stands for
-ended-done : (o : Outcome) → ended o ≡ Done → is_done o ≡ true
-ended-done o e = go (is_done o) e
-  where
-    go : (x : Bool) → cond x Done (Refused o) ≡ Done → x ≡ true
-    go true f = refl
-    go false f = let z : ◌≡◌ {A = ℕ} 0 1 = cc in absurd (omega arith)
+ended-done : (o : Outcome) → ended o ≡ Done → o ≡ Ok tt
+ended-done (Ok u) e = refl
+ended-done (Err r) e = let z : ◌≡◌ {A = ℕ} 0 1 = cc in absurd (omega arith)
 
-ended-refused : (o p : Outcome) → ended o ≡ Refused p → (is_done o ≡ false) × (o ≡ p)
-ended-refused o p e = go (is_done o) e
-  where
-    go : (x : Bool) → cond x Done (Refused o) ≡ Refused p → (x ≡ false) × (o ≡ p)
-    go true f = let z : ◌≡◌ {A = ℕ} 0 1 = cc in absurd (omega arith)
-    go false f = let q : o ≡ p = cc in (refl, q)
+ended-refused : (o : Outcome) (p : Refusal) → ended o ≡ Refused p → o ≡ Err p
+ended-refused (Ok u) p e = let z : ◌≡◌ {A = ℕ} 0 1 = cc in absurd (omega arith)
+ended-refused (Err r) p e = cc
 
 module _ (b : Board) (l : Literal) (m : List ℕ) where
   -- "It returns and writes what decide followed by check would on a copy of the board"
@@ -101,11 +106,10 @@ module _ (b : Board) (l : Literal) (m : List ℕ) where
   unfolding call_of call_memory preview_answer preview_memory
   preview-checks e = let z = ended-done (decide_of b l).outcome e in (rw z, rw z)
 
-  pub preview-stops : (o : Outcome) → (call_of b (Decide l) m).answer ≡ Refused o
-      → ((call_of b (Preview l) m).answer ≡ Refused o) × (call_memory b (Preview l) m ≡ m)
+  pub preview-stops : (r : Refusal) → (call_of b (Decide l) m).answer ≡ Refused r
+      → ((call_of b (Preview l) m).answer ≡ Refused r) × (call_memory b (Preview l) m ≡ m)
   unfolding call_of call_memory preview_answer preview_memory
-  preview-stops o e =
-      let z = ended-refused (decide_of b l).outcome o e in (rw z.0 (ap Refused z.1), rw z.0)
+  preview-stops r e = let z = ended-refused (decide_of b l).outcome r e in (rw z, rw z)
 
   -- "The board given is unaltered"
   pub preview-keeps : (call_of b (Preview l) m).board ≡ b
@@ -138,12 +142,12 @@ module _ (b : Board) (l : Literal) (n : ℕ) (B : length b.borders ≡ 1984) (S 
       go (is_alien b) (ltb l.border (border_count_of b)) (eqb (get_or b.borders l.border 0) 0) refl refl refl
     where
       o : Bool → Bool → Outcome
-      o x y = cond x (cond y Fine Taken) Border
+      o x y = cond x (cond y (Ok tt) (Err Taken)) (Err Border)
 
       go : (t x y : Bool) → is_alien b ≡ t → ltb l.border (border_count_of b) ≡ x
           → eqb (get_or b.borders l.border 0) 0 ≡ y
-          → (let r = cond t (returned Alien b) (ended_by b pushed_copy (o x y)) in
-          cond (is_done r.outcome) (check_answer r.board n) (Refused r.outcome))
+          → (let r = cond t (returned (Err Alien) b) (ended_by b pushed_copy (o x y)) in
+          then_answer r.outcome (check_answer r.board n))
           ≡ cond t (Refused Alien)
           (cond x
           (cond y (found_answer (check (puzzle_of pushed_copy) (states_of pushed_copy)) n) (Refused Taken))

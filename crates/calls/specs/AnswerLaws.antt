@@ -20,7 +20,7 @@ use Rattle.rules.specs.declared.Call.TheVariants.{Decide, Undo, Check, Preview}
 use Rattle.rules.specs.Codes.{side_code, literal_code, put}
 use Rattle.rules.specs.Check.{Verdict, pass, conflict, check}
 use Rattle.board.specs.declared.Board.{Board}
-use Rattle.board.specs.declared.Outcome.TheVariants.{Alien, Short}
+use Rattle.board.specs.declared.Refusal.TheVariants.{Alien, Short}
 use Rattle.board.specs.Alien.{is_alien}
 use Rattle.board.specs.Board.{is_done, decide_of}
 use Rattle.board.specs.View.{puzzle_of, states_of}

@@ -13,12 +13,13 @@
 --   check_memory b m   the memory m after it
 --   preview_answer b l n  what a preview of the literal l answers on the board b, where n is the length of the memory
 --   preview_memory b l m  the memory m after it
+--   then_answer o a    the answer a where the outcome o is done, otherwise its refusal
 --   ended o            how a decide or an undo ended, as the answer of a call
 --   stepped b a        a board with an answer
 --   stepped_by r       what a decide or an undo returned, as a board with an answer
 --   call_of b c m      what the call c returns on the board b with the memory m lent
 --   call_memory b c m  the memory m after it
-use Rattle.std.specs.Prelude.{cond, List, ◌++◌, map, ℕ, ◌+◌, ◌/◌, ◌%◌, eqb, ltb, length, take, drop}
+use Rattle.std.specs.Prelude.{cond, List, ◌++◌, map, ℕ, ◌+◌, ◌/◌, ◌%◌, eqb, ltb, length, take, drop, Ok, Err}
 use Rattle.rules.specs.declared.Side.TheVariants.{Wall, Open}
 use Rattle.rules.specs.declared.Literal.{Literal}
 use Rattle.rules.specs.declared.Call.{Call}
@@ -27,11 +28,10 @@ use Rattle.rules.specs.Codes.{literal_code, put}
 use Rattle.rules.specs.Check.{Verdict, pass, conflict, check}
 use Rattle.rules.specs.Book.{Reply, refused, done, answered}
 use Rattle.board.specs.declared.Board.{Board}
-use Rattle.board.specs.declared.Outcome.{Outcome}
-use Rattle.board.specs.declared.Outcome.TheVariants.{Alien, Short}
+use Rattle.board.specs.declared.Refusal.TheVariants.{Alien, Short}
 use Rattle.board.specs.declared.Returned.{Returned}
 use Rattle.board.specs.Alien.{is_alien}
-use Rattle.board.specs.Board.{number_of, is_done, decide_of, undo_of}
+use Rattle.board.specs.Board.{Outcome, refusal_number, is_done, decide_of, undo_of}
 use Rattle.board.specs.View.{puzzle_of, states_of}
 use Rattle.calls.specs.declared.Answer.{Answer}
 use Rattle.calls.specs.declared.Answer.TheVariants.{Done, Pass, Conflict, Refused}
@@ -43,7 +43,7 @@ abbrev pub answer_number : Answer → ℕ
 answer_number Done = 0
 answer_number (Pass n) = 32 + n
 answer_number (Conflict n) = 65536 + n
-answer_number (Refused o) = number_of o
+answer_number (Refused e) = refusal_number e
 
 -- "a literal is 2·border, plus 1 for wall"
 unfoldable pub literal_of : ℕ → Literal
@@ -57,7 +57,7 @@ abbrev pub told : Answer → List ℕ → Reply
 told Done m = done
 told (Pass n) m = answered (pass n)
 told (Conflict n) m = answered (conflict (reason_in m n))
-told (Refused o) m = refused (number_of o)
+told (Refused e) m = refused (refusal_number e)
 
 -- "An answered check writes its literals from the start of the memory and nothing beyond; a pass writes none"
 abbrev pub memory_as : List ℕ → Reply → List ℕ
@@ -93,10 +93,13 @@ unfoldable pub check_memory : Board → List ℕ → List ℕ
 check_memory b m = cond (is_alien b) m (found_memory (check (puzzle_of b) (states_of b)) m)
 
 -- ---- preview
+abbrev pub then_answer : Outcome → Answer → Answer
+then_answer (Ok u) a = a
+then_answer (Err e) a = Refused e
+
 -- "It returns .. what decide followed by check would on a copy of the board"
 unfoldable pub preview_answer : Board → Literal → ℕ → Answer
-preview_answer b l n =
-    cond (is_done (decide_of b l).outcome) (check_answer (decide_of b l).board n) (Refused (decide_of b l).outcome)
+preview_answer b l n = then_answer (decide_of b l).outcome (check_answer (decide_of b l).board n)
 
 -- "and writes what decide followed by check would"
 unfoldable pub preview_memory : Board → Literal → List ℕ → List ℕ
@@ -104,7 +107,7 @@ preview_memory b l m = cond (is_done (decide_of b l).outcome) (check_memory (dec
 
 -- ---- any call
 abbrev pub ended : Outcome → Answer
-ended o = cond (is_done o) Done (Refused o)
+ended o = then_answer o Done
 
 abbrev pub stepped : Board → Answer → Stepped
 stepped b a = record { board = b; answer = a }

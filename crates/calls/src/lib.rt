@@ -2,13 +2,13 @@
 #![tactic(auto)]
 
 ghost use Rattle.std.specs.Prelude.{◌≡◌, ◌≤◌, length};
-ghost use Rattle.board.specs.Alien.{board_of};
+ghost use Rattle.board.specs.Board.{decide_of};
 ghost use Rattle.calls.specs.Answers.{as_answer, written, found_answer, found_memory, ended, stepped_by};
 ghost use Rattle.calls.specs.Answers.{check_answer, check_memory, preview_answer, preview_memory, call_of, call_memory};
 ghost use Rattle.calls.specs.Known.{KnownBoard, found_in};
 ghost use Rattle.calls.specs.Counted.{counted_of, counted_memory};
 
-use board::{Board, Outcome, Returned};
+use board::{Board, Refusal, Returned, refusals};
 use rules::{Call, Literal, Tally};
 
 pub mod lent; // lent.rt: a call on a tally record that is lent
@@ -20,7 +20,7 @@ pub enum Answer {
     Done,
     Pass(usize),
     Conflict(usize),
-    Refused(Outcome),
+    Refused(Refusal),
 }
 
 // The board after a call, with its answer.
@@ -38,25 +38,22 @@ pub struct Counted {
 }
 
 // How a decide or an undo ended, as an answer.
-fn ending(o: Outcome) -> Answer
-    ensures { result ≡ ended o }
+fn ending(outcome: Result<(), Refusal>) -> Answer
+    ensures { result ≡ ended outcome }
 {
-    if board::number(o) == 0 {
-        Answer::Done
-    } else {
-        Answer::Refused(o)
+    match outcome {
+        Ok(()) => Answer::Done,
+        Err(refusal) => Answer::Refused(refusal),
     }
 }
 
 // What a decide or an undo returned, as what a call returns.
-fn step(r: Returned) -> Stepped
-    ensures { result ≡ stepped_by r }
+fn step(returned: Returned) -> Stepped
+    ensures { result ≡ stepped_by returned }
 {
-    let b = r.board;
-    let o = r.outcome;
     Stepped {
-        board: b,
-        answer: ending(o),
+        board: returned.board,
+        answer: ending(returned.outcome),
     }
 }
 
@@ -104,33 +101,29 @@ fn answer_tested<'a>(
 {
     let short = memory.len() < 1984;
     if short {
-        return Answer::Refused(Outcome::Short);
+        return Answer::Refused(Refusal::Short);
     }
     answer_known(h, w, colours, clues, borders, undecided, memory)
 }
 
-// What a check of a board answers whose arrays are lent; a reason's literals stand from the start of the memory. No
-// board is copied.
-pub fn check_lent<'a>(
-    h: usize,
-    w: usize,
-    colours: &'a [u8; Board::CELL_LIMIT],
-    clues: &'a [i32; Board::CELL_LIMIT],
-    borders: &'a [u8; Board::BORDER_LIMIT],
-    stack: &'a [u16; Board::BORDER_LIMIT],
-    count: usize,
-    tally: Tally,
-    memory: &mut [u16],
-) -> Answer
-    ensures { (result ≡ check_answer (board_of h w colours.now clues.now borders.now
-        stack.now count tally) (length memory.old))
-        × (memory.new ≡ check_memory (board_of h w colours.now clues.now
-        borders.now stack.now count tally) memory.old) }
+// What a check of a board that is lent answers; a reason's literals stand from the start of the memory. No board is
+// copied.
+pub fn check_lent(board: &Board, memory: &mut [u16]) -> Answer
+    ensures { (result ≡ check_answer board.now (length memory.old))
+        × (memory.new ≡ check_memory board.now memory.old) }
 {
-    if board::is_alien(h, w, colours, clues, borders, stack, count, tally) {
-        return Answer::Refused(Outcome::Alien);
+    if board.alien() {
+        return Answer::Refused(Refusal::Alien);
     }
-    answer_tested(h, w, colours, clues, borders, tally.undecided, memory)
+    answer_tested(
+        board.height,
+        board.width,
+        &board.colours,
+        &board.clues,
+        &board.borders,
+        board.tally.undecided,
+        memory,
+    )
 }
 
 // What a check of a board answers.
@@ -138,59 +131,40 @@ pub fn check(board: Board, memory: &mut [u16]) -> Answer
     ensures { (result ≡ check_answer board (length memory.old))
         × (memory.new ≡ check_memory board memory.old) }
 {
-    let tally = board.tally;
-    check_lent(
+    check_lent(&board, memory)
+}
+
+// How a decide of the literal would end.
+fn decide_ends(board: &Board, l: Literal) -> Result<(), Refusal>
+    ensures { result ≡ (decide_of board.now l).outcome }
+{
+    if board.alien() {
+        return Err(Refusal::Alien);
+    }
+    let total = board::border_count(board.height, board.width);
+    refusals::decide_refusal(total, &board.borders, l.border)
+}
+
+// What a check would answer after a decide of the literal, on a board that is lent. Of the board the borders are
+// copied, once. The decide has tested it, and what the decide leaves is not tested again.
+pub fn preview_lent(board: &Board, l: Literal, memory: &mut [u16]) -> Answer
+    ensures { (result ≡ preview_answer board.now l (length memory.old))
+        × (memory.new ≡ preview_memory board.now l memory.old) }
+{
+    if let Err(refusal) = decide_ends(board, l) {
+        return Answer::Refused(refusal);
+    }
+    let mut borders = board.borders;
+    borders[l.border] = u8::from(l.side);
+    answer_tested(
         board.height,
         board.width,
         &board.colours,
         &board.clues,
-        &board.borders,
-        &board.stack,
-        board.count,
-        tally,
+        &borders,
+        board.tally.undecided - 1,
         memory,
     )
-}
-
-// What a check would answer after a decide of the literal, on a board whose arrays are lent. Of the board borders and
-// stack are copied, once. The decide has tested it, and what the decide leaves is not tested again.
-pub fn preview_lent<'a>(
-    h: usize,
-    w: usize,
-    colours: &'a [u8; Board::CELL_LIMIT],
-    clues: &'a [i32; Board::CELL_LIMIT],
-    borders: &'a [u8; Board::BORDER_LIMIT],
-    stack: &'a [u16; Board::BORDER_LIMIT],
-    count: usize,
-    tally: Tally,
-    l: Literal,
-    memory: &mut [u16],
-) -> Answer
-    ensures { (result ≡ preview_answer (board_of h w colours.now clues.now borders.now
-        stack.now count tally) l (length memory.old))
-        × (memory.new ≡ preview_memory (board_of h w colours.now clues.now
-        borders.now stack.now count tally) l memory.old) }
-{
-    // as slices, so that the proof knows their lengths
-    let given: &[u8] = borders;
-    let order: &[u16] = stack;
-    let mut states = *borders;
-    let mut entries = *stack;
-    let outcome = board::decide_lent(
-        h,
-        w,
-        colours,
-        clues,
-        &mut states,
-        &mut entries,
-        count,
-        tally,
-        l,
-    );
-    if board::number(outcome) != 0 {
-        return Answer::Refused(outcome);
-    }
-    answer_tested(h, w, colours, clues, &states, tally.undecided - 1, memory)
 }
 
 // What a check would answer after a decide of the literal; the board given stays as it is.
@@ -198,19 +172,7 @@ pub fn preview(board: Board, l: Literal, memory: &mut [u16]) -> Answer
     ensures { (result ≡ preview_answer board l (length memory.old))
         × (memory.new ≡ preview_memory board l memory.old) }
 {
-    let tally = board.tally;
-    preview_lent(
-        board.height,
-        board.width,
-        &board.colours,
-        &board.clues,
-        &board.borders,
-        &board.stack,
-        board.count,
-        tally,
-        l,
-        memory,
-    )
+    preview_lent(&board, l, memory)
 }
 
 // One call on a board: the board afterwards, and the answer.
@@ -222,12 +184,12 @@ pub fn call(board: Board, call: Call, memory: &mut [u16]) -> Stepped
         Call::Decide(l) => step(board.decide(l)),
         Call::Undo => step(board.undo()),
         Call::Check => {
-            let a = check(board, memory);
-            Stepped { board, answer: a }
+            let answer = check_lent(&board, memory);
+            Stepped { board, answer }
         }
         Call::Preview(l) => {
-            let a = preview(board, l, memory);
-            Stepped { board, answer: a }
+            let answer = preview_lent(&board, l, memory);
+            Stepped { board, answer }
         }
     }
 }
@@ -237,19 +199,18 @@ pub fn call_by_value(board: Board, asked: Call, given: Tally, memory: &mut [u16]
     ensures { (result ≡ counted_of board asked given memory.old)
         × (memory.new ≡ counted_memory board asked given memory.old) }
 {
-    let own = board.tally;
-    if board::tallies::same(given, own) {
+    if given == board.tally {
         let stepped = call(board, asked, memory);
-        let after = stepped.board;
-        let tally = after.tally;
-        return Counted { stepped, tally };
+        return Counted {
+            stepped,
+            tally: stepped.board.tally,
+        };
     }
-    let stepped = Stepped {
-        board,
-        answer: Answer::Refused(Outcome::Alien),
-    };
     Counted {
-        stepped,
+        stepped: Stepped {
+            board,
+            answer: Answer::Refused(Refusal::Alien),
+        },
         tally: given,
     }
 }

@@ -21,8 +21,7 @@ use Rattle.laws.specs.BookLaws.{plain-answered}
 use Rattle.argument.specs.Demand.{Full, SameSides, BookAnswered, BookRuledOut, BookStoodAt, Passes, BookDemand}
 use Rattle.argument.proofs.FlatDemand.{flat-demand}
 use Rattle.board.specs.declared.Board.{Board}
-use Rattle.board.specs.declared.Outcome.{Outcome}
-use Rattle.board.specs.Board.{returned, decide_of}
+use Rattle.board.specs.Board.{Outcome, returned, decide_of}
 use Rattle.board.specs.Accepted.{Accepted, made_board}
 use Rattle.board.specs.View.{puzzle_of, states_of, literals_of}
 use Rattle.board.specs.NativeLaws.{native-has}

@@ -13,7 +13,7 @@
 --   run-written         the memories afterwards are what the book's answers say
 --   run-tallies         the records afterwards are the book's
 --   run-append          the run of a list that is followed by another
-use Rattle.std.specs.Prelude.{◌≡◌, Bool, true, false, cond, eqb, ltb, get_or}
+use Rattle.std.specs.Prelude.{◌≡◌, Bool, true, false, cond, eqb, ltb, get_or, Ok, Err}
 use Rattle.std.proofs.Math.Path.{refl, ap, ap₂, sym, subst}
 use Rattle.std.proofs.Common.{◌∙◌, ltb-true, eqb-true}
 use Rattle.std.proofs.Math.Bool.{not}
@@ -37,7 +37,7 @@ use Rattle.laws.specs.CodeLaws.{side-in}
 use Rattle.laws.specs.BookLaws.{without-last, alien-after, agreed-after, undo-takes, check-leaves, preview-leaves}
 use Rattle.laws.specs.BookLaws.{preview-decides}
 use Rattle.board.specs.declared.Board.{Board}
-use Rattle.board.specs.declared.Outcome.TheVariants.{Done, Border, Taken}
+use Rattle.board.specs.declared.Refusal.TheVariants.{Border, Taken}
 use Rattle.board.specs.declared.Returned.{Returned}
 use Rattle.board.specs.Alien.{border_count_of, is_alien}
 use Rattle.board.specs.Board.{returned, tally_more, pushed, decide_refusal, ended_by, decide_of, undo_of, Typed}
@@ -59,7 +59,7 @@ use Rattle.demand3.specs.Runs.{next_board, board_after, run_from, memories}
 
 pub data Built (start : Board) : List Literal → Board → Type 0 where
   none : Built start [] start
-  more : {ls : List Literal} {b : Board} (l : Literal) (d : Board) → Built start ls b → decide_of b l ≡ returned Done d
+  more : {ls : List Literal} {b : Board} (l : Literal) (d : Board) → Built start ls b → decide_of b l ≡ returned (Ok tt) d
       → Built start (with_last ls l) d
 
 pub record Facts (start : Board) (ls : List Literal) (b : Board) : Type 0 where
@@ -136,7 +136,7 @@ module _ (start : Board) (S : Bare start) where
           → Built start
           (after_by (cond x (cond (not y) (refused 7) done) (refused 6)) k
           (record { sequence = with_last k.sequence l })).sequence
-          (ended_by b (pushed b l.border (code_of l.side)) (cond x (cond y Done Taken) Border)).board
+          (ended_by b (pushed b l.border (code_of l.side)) (cond x (cond y (Ok tt) (Err Taken)) (Err Border))).board
       go t true true p q =
           more l (pushed b l.border (code_of l.side)) B
           (sym (decide-done b l t (ltb-true l.border m p) (eqb-true (get_or b.borders l.border 0) 0 q)))

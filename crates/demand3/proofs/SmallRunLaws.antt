@@ -2,7 +2,7 @@
 --
 --   small-clues, asked-lent, run-answers  how that follows from the book
 --   small-runs        all of them
-use Rattle.std.specs.Prelude.{◌≡◌, refl, true, List, [], ◌∷◌, map, ℕ, zero, suc, ℤ, pos, length}
+use Rattle.std.specs.Prelude.{◌≡◌, refl, true, List, [], ◌∷◌, map, ℕ, zero, suc, ℤ, pos, length, Ok}
 use Rattle.std.proofs.Common.{ap, ◌∙◌}
 use Rattle.std.specs.Int.Signed.{le_z}
 use Rattle.lists.specs.Lists.{all, filter, any, or_else, flat_map, first_hit}
@@ -30,7 +30,6 @@ use Rattle.rules.specs.Flat.{flat_reads}
 use Rattle.rules.specs.Book.{Asked, ask, Reply, states, names, without_last, done_book}
 use Rattle.rules.specs.Book.{tally_at, decide_reply, check_reply, reply_to, after, replies_from, tallies_from}
 use Rattle.rules.specs.Book.{replies, tallies}
-use Rattle.board.specs.declared.Outcome.TheVariants.{Done}
 use Rattle.board.specs.Alien.{size_right, colours_right, clues_right}
 use Rattle.board.specs.Board.{puzzle_refusal, fresh_of, SmallClues}
 use Rattle.board.specs.Accepted.{made_board}
@@ -51,7 +50,7 @@ small-clues (k ∷ ks) e (suc i) =
     small-clues ks (and_right (le_z k (pos 2147483647)) (all (λ j. le_z j (pos 2147483647)) ks) e) i
 
 run-answers : {h w : ℕ} {cs : List ℕ} {ks : List ℤ} {calls : List Call} {rs : List Reply}
-    → all (λ k. le_z k (pos 2147483647)) ks ≡ true → (fresh_of h w cs ks).outcome ≡ Done
+    → all (λ k. le_z k (pos 2147483647)) ks ≡ true → (fresh_of h w cs ks).outcome ≡ Ok tt
     → replies (puzzle_in h w cs ks) (map (ask 1984) calls) ≡ rs → RunAnswers h w cs ks calls rs
 run-answers {h} {w} {cs} {ks} {calls} s a e =
     record {
@@ -62,7 +61,7 @@ run-answers {h} {w} {cs} {ks} {calls} s a e =
           ∙ e;
     }
 
-recorded-holds : (fresh_of 1 2 (0 ∷ 1 ∷ []) pair_clues).outcome ≡ Done → (m : List ℕ)
+recorded-holds : (fresh_of 1 2 (0 ∷ 1 ∷ []) pair_clues).outcome ≡ Ok tt → (m : List ℕ)
     → Demand3 (made_board 1 2 (0 ∷ 1 ∷ []) pair_clues) recorded_puzzle (map (lent_with m) recorded)
 unfolding all
 recorded-holds a m =

@@ -28,7 +28,7 @@ unfolding call_of call_memory
 returns-in-Check c =
     let a = c.args in
     let e = c.in-Check.is in
-    let f = c.check-a.ensures in (
+    let f = c.check_lent-answer.ensures in (
       ap (stepped a.board) f.0 ∙ sym (ap (λ k. call_of a.board k a.memory.now) e),
       f.1 ∙ sym (ap (λ k. call_memory a.board k a.memory.now) e),
     )
@@ -38,7 +38,7 @@ unfolding call_of call_memory
 returns-in-Preview c =
     let a = c.args in
     let e = c.in-Preview.is in
-    let f = c.preview-a.ensures in (
+    let f = c.preview_lent-answer.ensures in (
       ap (stepped a.board) f.0 ∙ sym (ap (λ k. call_of a.board k a.memory.now) e),
       f.1 ∙ sym (ap (λ k. call_memory a.board k a.memory.now) e),
     )
