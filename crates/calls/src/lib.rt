@@ -1,4 +1,4 @@
-// `check`, `preview`, `call`, check and preview on a board's lent arrays, and a call with a tally record.
+// `check`, `preview`, `call`, check and preview on a lent board, and a call with a tally record.
 #![tactic(auto)]
 
 ghost use Rattle.std.specs.Prelude.{◌≡◌, ◌≤◌, length};
@@ -74,9 +74,6 @@ pub fn answer_known<'a>(
         × (memory.new ≡ written memory.old
         (found_in h w colours.now clues.now borders.now)) }
 {
-    // as slices, so that the proof knows their lengths
-    let cells: &[u8] = colours;
-    let states: &[u8] = borders;
     match steps::find(h, w, colours, clues, borders, memory) {
         None => Answer::Pass(undecided),
         Some(n) => Answer::Conflict(n),
