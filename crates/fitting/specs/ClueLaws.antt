@@ -43,6 +43,6 @@ module _ (h w : ℕ) (cs : List ℕ) (k : ℕ → Option ℕ) (s : ℕ → State
 
   -- step 3 of a puzzle with clues, by the search that reads none
   pub stuck-clue : (n : ℕ) → first_hit (unit_hit (clued_by h w cs k) s) (range n)
-      ≡ stuck_hit (clued_by h w cs k) s n (first_fail (fits_unit (unclued h w cs) s) n)
+      ≡ stuck_hit (clued_by h w cs k) s (first_fail (fits_unit (unclued h w cs) s) n)
   stuck-clue n = stuck-hit (clued_by h w cs k) s n
-      ∙ ap (λ f. stuck_hit (clued_by h w cs k) s n (first_fail f n)) (fun_ext fits-clue)
+      ∙ ap (λ f. stuck_hit (clued_by h w cs k) s (first_fail f n)) (fun_ext fits-clue)

@@ -8,6 +8,8 @@
 --   soon-turned         what fits there is a listed transform that fits
 use Rattle.std.specs.Prelude.{◌≡◌, Bool, ◌&&◌, List, map, ℕ, ◌+◌, ◌-◌, ◌*◌, ◌/◌, ◌%◌, ◌≤◌, ◌<◌, pos, negsuc}
 use Rattle.std.proofs.Math.Path.{refl, ap, ap₂}
+use Rattle.std.proofs.lemmas.List.{take-take}
+use Rattle.std.proofs.Common.{length, take, drop, take_all, get_or-take, get_or-drop, min}
 use Rattle.std.proofs.Common.{sym, ◌∙◌, ⊎_elim, div-add-mod', arith, lt-ltb, le-ltb}
 use Rattle.std.proofs.Math.Bool.{true, false, cond, and-true}
 use mathlib.Core.List.Memᴰ
@@ -17,7 +19,7 @@ use Rattle.std.proofs.Math.ListN.{get_or}
 use Rattle.lists.specs.Lists.{◌∈◌, all, any, flat_map}
 use Rattle.lists.specs.Parts.{part}
 use Rattle.lists.specs.Appends.{any_append, all_append}
-use Rattle.lists.specs.PartLaws.{part-next, part-split}
+use Rattle.lists.specs.PartLaws.{part-next, part-split, part_count, part_length}
 use Rattle.lists.specs.Arithmetic.{le-or-lt}
 use Rattle.lists.specs.AnyAll.{holds-any, all_same, all_map, all-flat}
 use Rattle.rules.specs.Page.{State, Point, Puzzle, Shape, ◌⊕◌, opposite}
@@ -28,7 +30,7 @@ use Rattle.rules.specs.Codes.{unclued}
 use Rattle.laws.specs.PointLaws.{point-eq, add_assoc, add_comm}
 use Rattle.laws.specs.GroupLaws.{members-lt}
 use Rattle.laws.specs.FlatLaws.{row_of_lem}
-use Rattle.groups.specs.Grouping.{numbers_in, cells_in, starts_in}
+use Rattle.groups.specs.Grouping.{numbers_in, cells_in, starts_in, start_in, group_cells}
 use Rattle.groups.specs.Parts.{part_of}
 use Rattle.reasons.specs.Arrays.{Cells}
 use Rattle.shapes.specs.Raising.{raised}
@@ -232,3 +234,51 @@ module _ (Z : Puzzle) (s : ℕ → State) (cells offs : List ℕ) (t : Shape) wh
   soon-turned {gs} {Q} m l e =
       turned-own Z s cells offs t gs
       (holds-any (λ q. fits_among Z s t (part_of cells offs q)) m (soon-group Q l e))
+
+-- the cells of a group as a list of their own
+module _ {h w : ℕ} {us : List ℕ} {g : ℕ} (z : Sized h w) (u : UnitIn h w us g) where
+  abbrev own : List ℕ
+  own = group_cells us g
+
+  group-read : (i : ℕ) → i < start_in us (g + 1) - start_in us g
+      → get_or own i 0 ≡ get_or (cells_in us) (start_in us g + i) 0
+  group-read i l =
+      get_or-take (start_in us (g + 1) - start_in us g) (drop (start_in us g) (cells_in us)) i 0 l
+      ∙ get_or-drop (start_in us g) (cells_in us) i 0
+
+  pub group-some : 0 < length own
+  group-some =
+      omega (arith, u.some, u.end, u.long, part_count (cells_in us) (start_in us g) (start_in us (g + 1)))
+
+  pub group-one : length own ≡ 1 → start_in us (g + 1) ≡ start_in us g + 1
+  group-one e =
+      let n : length own ≡ start_in us (g + 1) - start_in us g =
+      part_count (cells_in us) (start_in us g) (start_in us (g + 1)) (omega (arith, u.some)) (omega (arith, u.end, u.long)) in
+      omega (arith, u.some)
+
+  pub group-first : get_or own 0 0 ≡ get_or (cells_in us) (start_in us g) 0
+  group-first =
+      let e : start_in us g + 0 ≡ start_in us g = omega arith in
+      rw e at (group-read 0 (omega (arith, u.some)))
+
+  pub group-low : (i : ℕ) → i < length own → get_or own i 0 < h * w
+  group-low i l =
+      let m : i < start_in us (g + 1) - start_in us g =
+      omega (arith, part_length (cells_in us) (start_in us g) (start_in us (g + 1))) in
+      rw (group-read i m) (copy-unit-low z u (start_in us g + i) (omega arith) (omega arith))
+
+-- a list as a part of itself, and its first eight
+pub part-all : (l : List ℕ) → part l 0 (length l) ≡ l
+part-all l = take_all (length l - 0) l (omega arith)
+
+pub part-soon : (cells : List ℕ) (first last : ℕ) → first ≤ last → last ≤ length cells
+    → part cells first (soon_end first last) ≡ take (min (length (part cells first last)) 8) (part cells first last)
+part-soon cells first last a b =
+    let n : length (part cells first last) ≡ last - first = part_count cells first last a b in
+    let e : soon_end first last - first ≡ min (length (part cells first last)) 8 =
+    ⊎_elim
+    (λ (k : first + 8 ≤ last). rw (le-ltb last (first + 8) k) (omega arith))
+    (λ (k : last < first + 8). rw (lt-ltb last (first + 8) k) (omega arith))
+    (le-or-lt (first + 8) last) in
+    let m : min (length (part cells first last)) 8 ≤ last - first = omega arith in
+    rw e (sym (take-take (min (length (part cells first last)) 8) (last - first) (drop first cells) m))

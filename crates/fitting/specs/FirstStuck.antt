@@ -1,24 +1,26 @@
 -- Step 3's search for a unit that does not fit.
 --
---   first_from f i n, first_fail f n  the first number from i on, from 0 on, that fails the test, among n
+--   first_from f i n, first_fail f n  the first number from i on, from 0 on, that fails the test, if one of n does
 --   Passed f n i        the first of n numbers that fails the test is the first from i on
 --   fits_on U xs        a placement of unit U fits; xs are its cells
 --   fits_unit U         the same
---   stuck_hit n U       step 3's hit, where U is the first of n units that does not fit, or n
-use Rattle.std.specs.Prelude.{◌≡◌, Bool, true, cond, List, [], ◌∷◌, ℕ, zero, suc, ◌-◌, ◌≤◌, ltb}
-use Rattle.std.proofs.Math.Option.{Option, some, none}
+--   stuck_hit U         step 3's hit, where U is the first unit that does not fit, if one does not
+use Rattle.std.specs.Prelude.{◌≡◌, Bool, true, cond, List, [], ◌∷◌, ℕ, zero, suc, ◌-◌, ◌≤◌}
+use Rattle.std.specs.Prelude.{Option, Some, None}
+use Rattle.std.proofs.Math.Option as Math
+use Rattle.std.proofs.Math.Option.{some, none}
 use Rattle.lists.specs.Lists.{any}
 use Rattle.rules.specs.Page.{State, Puzzle}
 use Rattle.rules.specs.Groups.{members, unit_of, potential_of}
 use Rattle.rules.specs.Check.{Reason, is_fit, placements, unit_reason}
 use Rattle.groups.specs.Pages.{potential_in}
 
--- the first number from i on that fails the test, among n; i + n if none does
-unfoldable pub first_from : (ℕ → Bool) → ℕ → ℕ → ℕ
-first_from f i zero = i
-first_from f i (suc n) = cond (f i) (first_from f (suc i) n) i
+-- the first number from i on that fails the test, among n
+unfoldable pub first_from : (ℕ → Bool) → ℕ → ℕ → Option ℕ
+first_from f i zero = None
+first_from f i (suc n) = cond (f i) (first_from f (suc i) n) (Some i)
 
-unfoldable pub first_fail : (ℕ → Bool) → ℕ → ℕ
+unfoldable pub first_fail : (ℕ → Bool) → ℕ → Option ℕ
 first_fail f n = first_from f 0 n
 
 pub record Passed (f : ℕ → Bool) (n i : ℕ) : Type 0 where
@@ -34,6 +36,7 @@ module _ (Z : Puzzle) (s : ℕ → State) where
   unfoldable pub fits_unit : ℕ → Bool
   fits_unit U = fits_on U (members Z.page (unit_of Z s) U)
 
-  -- the reason of the unit at which a search among n stopped
-  unfoldable pub stuck_hit : ℕ → ℕ → Option Reason
-  stuck_hit n U = cond (ltb U n) (some (unit_reason Z s U (potential_in Z s U))) none
+  -- the reason of the unit at which a search stopped
+  unfoldable pub stuck_hit : Option ℕ → Math.Option Reason
+  stuck_hit None = none
+  stuck_hit (Some U) = some (unit_reason Z s U (potential_in Z s U))

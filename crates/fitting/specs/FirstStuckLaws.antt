@@ -1,7 +1,7 @@
 -- Laws of the search for a unit that does not fit: what it stops at is step 3's hit.
-use Rattle.std.specs.Prelude.{◌≡◌, Bool, not, cond}
-use Rattle.std.proofs.Math.Path.{refl, sym, ap}
-use Rattle.std.proofs.Common.{◌∙◌, lt-ltb, le-ltb}
+use Rattle.std.specs.Prelude.{◌≡◌, Bool, not, cond, Some, None}
+use Rattle.std.proofs.Math.Path.{refl, sym}
+use Rattle.std.proofs.Common.{◌∙◌}
 use Rattle.std.proofs.Math.Bool.{true, false}
 use mathlib.Core.List.{List, [], ◌∷◌}
 use Prim.Native.Nat.{ℕ, zero, suc, ◌+◌, ◌-◌, ◌<◌, ◌≤◌}
@@ -20,13 +20,11 @@ unfolding first_fail
 passed_start f n = let e : n - 0 ≡ n = omega arith in record { most = omega arith; left = rw e }
 
 module _ {f : ℕ → Bool} {n i : ℕ} (k : Passed f n i) where
-  pub passed-done : n ≤ i → n ≡ first_fail f n
+  pub passed-done : n ≤ i → None ≡ first_fail f n
   unfolding first_from
   passed-done h =
-      let m = k.most in
       let e : n - i ≡ 0 = omega arith in
-      let d : n ≡ i = omega arith in
-      d ∙ sym (k.left ∙ rw e)
+      sym (k.left ∙ rw e)
 
   pub passed-all : n ≤ i → Passed f n n
   passed-all h = let m = k.most in let e : i ≡ n = omega arith in rw e at k
@@ -35,7 +33,7 @@ module _ {f : ℕ → Bool} {n i : ℕ} (k : Passed f n i) where
     next : n - i ≡ suc (n - (i + 1))
     next = omega arith
 
-    pub passed_here : f i ≡ false → i ≡ first_fail f n
+    pub passed_here : f i ≡ false → Some i ≡ first_fail f n
     unfolding first_from
     passed_here e = sym (k.left ∙ rw (next, e))
 
@@ -55,26 +53,36 @@ module _ (Z : Puzzle) (s : ℕ → State) where
   hit-unit U = hit-on U (members Z.page (unit_of Z s) U)
 
   hits-from : (i n : ℕ)
-      → first_hit (unit_hit Z s) (range_from i n) ≡ stuck_hit Z s (i + n) (first_from (fits_unit Z s) i n)
+      → first_hit (unit_hit Z s) (range_from i n) ≡ stuck_hit Z s (first_from (fits_unit Z s) i n)
   unfolding first_hit or_else stuck_hit hit_if first_from
-  hits-from i zero = rw (le-ltb i (i + 0) (omega arith))
+  hits-from i zero = refl
   hits-from i (suc n) =
       rw (hit-unit i) (go (fits_unit Z s i) (hits-from (suc i) n))
     where
       go : (b : Bool)
-          → first_hit (unit_hit Z s) (range_from (suc i) n)
-          ≡ stuck_hit Z s (suc i + n) (first_from (fits_unit Z s) (suc i) n)
+          → first_hit (unit_hit Z s) (range_from (suc i) n) ≡ stuck_hit Z s (first_from (fits_unit Z s) (suc i) n)
           → or_else (hit_if (not b) (unit_reason Z s i (potential_in Z s i)))
           (first_hit (unit_hit Z s) (range_from (suc i) n))
-          ≡ stuck_hit Z s (i + suc n) (cond b (first_from (fits_unit Z s) (suc i) n) i)
-      go true e =
-          let d : suc i + n ≡ i + suc n = omega arith in
-          e ∙ ap (λ k. stuck_hit Z s k (first_from (fits_unit Z s) (suc i) n)) d
-      go false e = rw (lt-ltb i (i + suc n) (omega arith))
+          ≡ stuck_hit Z s (cond b (first_from (fits_unit Z s) (suc i) n) (Some i))
+      go true e = e
+      go false e = refl
 
   -- step 3 is the reason of the first unit that does not fit
-  pub stuck-hit : (n : ℕ) → first_hit (unit_hit Z s) (range n) ≡ stuck_hit Z s n (first_fail (fits_unit Z s) n)
+  pub stuck-hit : (n : ℕ) → first_hit (unit_hit Z s) (range n) ≡ stuck_hit Z s (first_fail (fits_unit Z s) n)
   unfolding first_fail
-  stuck-hit n =
-      let e : 0 + n ≡ n = omega arith in
-      hits-from 0 n ∙ ap (λ k. stuck_hit Z s k (first_from (fits_unit Z s) 0 n)) e
+  stuck-hit n = hits-from 0 n
+
+-- what is found is one of the numbers
+from-low : (f : ℕ → Bool) (i n : ℕ) {u : ℕ} → first_from f i n ≡ Some u → u < i + n
+unfolding first_from
+from-low f i zero e = cc
+from-low f i (suc n) {u} e = go (f i) e (from-low f (suc i) n)
+  where
+    go : (b : Bool) → cond b (first_from f (suc i) n) (Some i) ≡ Some u
+        → (first_from f (suc i) n ≡ Some u → u < suc i + n) → u < i + suc n
+    go true e h = omega (arith, h e)
+    go false e h = let d : i ≡ u = cc in omega arith
+
+pub fail-low : (f : ℕ → Bool) (n : ℕ) {u : ℕ} → first_fail f n ≡ Some u → u < n
+unfolding first_fail
+fail-low f n e = omega (arith, from-low f 0 n e)

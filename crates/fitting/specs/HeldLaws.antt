@@ -16,7 +16,9 @@ use Rattle.rules.specs.Codes.{states_in, unclued}
 use Rattle.rules.specs.Groups.{potential_count}
 use Rattle.groups.specs.Grouping.{cells_in, starts_in}
 use Rattle.reasons.specs.Arrays.{Cells}
-use Rattle.adjacent.specs.Mates.{OneOf, Gathered}
+use Rattle.std.specs.Prelude.{true, Option, Some, None, MatchOption}
+use Rattle.std.specs.Option.{is_some}
+use Rattle.adjacent.specs.Mates.{Gathered}
 use Rattle.adjacent.specs.BesideLaws.{mates-low, beside-gathered}
 use Rattle.adjacent.specs.Homes.{Home}
 use Rattle.planes.specs.DrawLaws.{planes-long}
@@ -66,10 +68,6 @@ module _ {h w : ℕ} {cs bs ps : List ℕ} {p : ℕ} (k : Home h w cs bs ps p) w
   pub mate-cells : {q : ℕ} → q ∈ mates (unclued h w cs) (states_in bs) p
       → Cells h w (cells_in ps) (get_or (starts_in ps) q 0) (get_or (starts_in ps) (q + 1) 0)
   mate-cells {q} m = k.grouped.each q (mates-low k.grouped p q m)
-
-  pub mate-kept : {q : ℕ} → q ∈ mates (unclued h w cs) (states_in bs) p
-      → OneOf (mates (unclued h w cs) (states_in bs) p) q
-  mate-kept m = record { some = λ l. m; none = λ l. absurd (omega (arith, mate-few m)) }
 
   -- some list begins with its adjacent units
   mates-few : length (mates (unclued h w cs) (states_in bs) p) ≤ 1024
@@ -150,3 +148,9 @@ module _ {h w : ℕ} {cs bs ps p m : List ℕ} {q : ℕ} (k : HeldOf h w cs bs p
         let l = mates-gathered a in
         let b = beside-gathered ps a.grouped a.known q l in
         rw (k.planes, ← l.first) (beside-answers b bs a.drawn (rw l.first k.mask))
+
+-- one that is found is adjacent
+pub mate-found : {xs : List ℕ} (o : Option ℕ) → MatchOption o (xs ≡ []) (λ q. q ∈ xs) → is_some o ≡ true
+    → (q : ℕ) × (q ∈ xs)
+mate-found (Some q) m e = (q, m)
+mate-found None m e = cc

@@ -11,9 +11,9 @@ ghost use Rattle.reasons.specs.Arrays.{Cells};
 ghost use Rattle.adjacent.specs.Homes.{UnitIn};
 ghost use Rattle.planes.specs.Placing.{read_raised, reading_of, is_clear, fits_of};
 ghost use Rattle.planes.specs.Laying.{fits_among};
-ghost use Rattle.fitting.specs.Copies.{Shift, soon_end, soon_in, cell_clear};
+ghost use Rattle.fitting.specs.Copies.{Shift, soon_in, cell_clear};
 
-use groups::{Grouping, cell_at, group_of, start_of};
+use groups::{Grouping, cells_of, group_of};
 use planes::connection::{is_clear, read_place};
 
 // Whether the raised doubled place (y, x) is clear, if `on` and cell `to` is of unit `g`: then a connection is there.
@@ -34,12 +34,8 @@ fn joint_clear<'a>(
         (is_clear (reading_of (unclued h w colours.now) (states_in borders.now)
         (read_raised h w y x))) true }
 {
-    if on {
-        if group_of(units, to) == g {
-            return is_clear(read_place(h, w, colours, borders, y, x));
-        }
-    }
-    true
+    let joined = on && group_of(units, to) == g;
+    !joined || is_clear(read_place(h, w, colours, borders, y, x))
 }
 
 // Whether the connections of cell `c` of unit `g`, below then right, are clear where the unit is shifted by (y, x),
@@ -65,7 +61,7 @@ fn cell_clear<'a>(
     let across = 2 * column + x;
     let below = row + 1 < h;
     let right = column + 1 < w;
-    if joint_clear(
+    joint_clear(
         h,
         w,
         colours,
@@ -76,21 +72,18 @@ fn cell_clear<'a>(
         c + w,
         down + 1,
         across,
-    ) {
-        return joint_clear(
-            h,
-            w,
-            colours,
-            borders,
-            units,
-            g,
-            right,
-            c + 1,
-            down,
-            across + 1,
-        );
-    }
-    false
+    ) && joint_clear(
+        h,
+        w,
+        colours,
+        borders,
+        units,
+        g,
+        right,
+        c + 1,
+        down,
+        across + 1,
+    )
 }
 
 // Whether unit `g`, shifted so that its first cell lies on the origin `o`, fits.
@@ -107,32 +100,16 @@ fn copy_fits<'a>(
     ensures { result ≡ fits_of (unclued h w colours.now) (states_in borders.now)
         (shape_of (flat h w) (entry (numbers_in units.now)) g) o }
 {
-    let first = start_of(units, g);
-    let last = start_of(units, g + 1);
-    let f = cell_at(units, first);
-    let y = 2 * (o / w) + (64 - 2 * (f / w));
-    let x = 2 * (o % w) + (64 - 2 * (f % w));
-    let mut i = first;
-    while i < last {
-        let c = cell_at(units, i);
-        if cell_clear(h, w, colours, borders, units, g, c, y, x) {
-            i += 1;
-        } else {
+    let cells = cells_of(units, g);
+    let first = usize::from(cells[0]);
+    let y = 2 * (o / w) + (64 - 2 * (first / w));
+    let x = 2 * (o % w) + (64 - 2 * (first % w));
+    for c in cells {
+        if !cell_clear(h, w, colours, borders, units, g, usize::from(*c), y, x) {
             return false;
         }
     }
     true
-}
-
-// Where the first eight cells of a group end, which stand from `first` to `last`.
-fn soon_end(first: usize, last: usize) -> usize
-    requires { first < 65536 }
-    ensures { result ≡ soon_end first last }
-{
-    if last < first + 8 {
-        return last;
-    }
-    first + 8
 }
 
 // Whether unit `g`, shifted, fits at one of the first eight cells of potential unit `q`.
@@ -153,15 +130,11 @@ pub fn copy_fits_soon<'a>(
         (shape_of (flat h w) (entry (numbers_in units.now)) g)
         (soon_in (cells_in potential.now) (starts_in potential.now) q) }
 {
-    let from = start_of(potential, q);
-    let to = soon_end(from, start_of(potential, q + 1));
-    let mut i = from;
-    while i < to {
-        let o = cell_at(potential, i);
-        if copy_fits(h, w, colours, borders, units, g, o) {
+    let cells = cells_of(potential, q);
+    for o in &cells[..cells.len().min(8)] {
+        if copy_fits(h, w, colours, borders, units, g, usize::from(*o)) {
             return true;
         }
-        i += 1;
     }
     false
 }

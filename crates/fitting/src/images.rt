@@ -52,12 +52,10 @@ fn others_fit<'a>(
         (joint_spots outline.now))))
         × (length turned.new ≡ 4096) }
 {
-    let mut row: usize = 1;
-    while row < 8 {
+    for row in 1..8 {
         if row_fits(h, planes, mask, top, end, row, outline, turned) {
             return true;
         }
-        row += 1;
     }
     false
 }
@@ -81,8 +79,6 @@ pub fn some_row_fits<'a>(
 {
     let top = first_row(mask, h);
     let end = end_row(mask, h);
-    if mask_fits(planes, mask, h, top, end, turned, joint_count(outline)) {
-        return true;
-    }
-    others_fit(h, planes, mask, top, end, outline, turned)
+    mask_fits(planes, mask, h, top, end, turned, joint_count(outline))
+        || others_fit(h, planes, mask, top, end, outline, turned)
 }

@@ -16,8 +16,8 @@ ghost use Rattle.fitting.specs.FirstStuck.{Passed, fits_unit, first_fail};
 
 use crate::copies::copy_fits_soon;
 use crate::singles::after_singles;
-use crate::unit::{near_mate, unit_fits};
-use groups::{Grouping, cell_at, count_of, group_of, start_of};
+use crate::unit::{home_in, near_mate, unit_fits};
+use groups::{Grouping, cells_of, count_of};
 use shapes::Outline;
 use shapes::turned::Turned;
 
@@ -49,26 +49,19 @@ fn fits_at<'a>(
         × Held h w colours.now borders.now potential.now
         planes.new mask.new }
 {
-    let first = start_of(units, u);
-    let last = start_of(units, u + 1);
-    let p = group_of(potential, cell_at(units, first));
-    let q = near_mate(h, w, colours, borders, potential, p, near);
-    let alone = 1024 <= q;
-    if alone {
+    let p = home_in(units, potential, u);
+    let Some(q) = near_mate(h, w, colours, borders, potential, p, near) else {
         return false;
-    }
-    if last == first + 1 {
-        return true;
-    }
-    if copy_fits_soon(h, w, colours, borders, units, u, potential, q) {
-        return true;
-    }
-    unit_fits(
-        h, w, colours, borders, units, u, potential, p, outline, turned, planes, mask,
-    )
+    };
+    let single = cells_of(units, u).len() == 1;
+    single
+        || copy_fits_soon(h, w, colours, borders, units, u, potential, q)
+        || unit_fits(
+            h, w, colours, borders, units, u, potential, p, outline, turned, planes, mask,
+        )
 }
 
-// The first unit for which no placement fits, if none is before `from`; the count if there is none.
+// The first unit for which no placement fits, if there is one and none is before `from`.
 fn stuck_from<'a>(
     h: usize,
     w: usize,
@@ -78,7 +71,7 @@ fn stuck_from<'a>(
     potential: &'a Grouping,
     from: usize,
     near: &mut [u16; 1024],
-) -> usize
+) -> Option<usize>
     requires { Sorted h w colours.now borders.now units.now potential.now
         × Passed (fits_unit (unclued h w colours.now) (states_in borders.now)) (count_in units.now) from
         × Nearby h w colours.now borders.now near.old }
@@ -89,10 +82,8 @@ fn stuck_from<'a>(
     let mut turned = [0u8; 4096];
     let mut planes = [0u64; 192];
     let mut mask = [0u64; 33];
-    let count = count_of(units);
-    let mut u = from;
-    while u < count {
-        if fits_at(
+    for u in from..count_of(units) {
+        if !fits_at(
             h,
             w,
             colours,
@@ -106,16 +97,14 @@ fn stuck_from<'a>(
             &mut planes,
             &mut mask,
         ) {
-            u += 1;
-        } else {
-            return u;
+            return Some(u);
         }
     }
-    count
+    None
 }
 
-// The first unit for which no placement fits; the count if there is none. The memory for a unit of more than one cell
-// is made at the first of them.
+// The first unit for which no placement fits, if there is one. The memory for a unit of more than one cell is made at
+// the first of them.
 pub fn first_stuck<'a>(
     h: usize,
     w: usize,
@@ -123,16 +112,15 @@ pub fn first_stuck<'a>(
     borders: &'a [u8; 1984],
     units: &'a Grouping,
     potential: &'a Grouping,
-) -> usize
+) -> Option<usize>
     requires { Sorted h w colours.now borders.now units.now potential.now }
     ensures { result ≡ first_fail (fits_unit (unclued h w colours.now) (states_in borders.now))
         (count_in units.now) }
 {
     let mut near = [0u16; 1024];
     let u = after_singles(h, w, colours, borders, units, potential, &mut near);
-    let count = count_of(units);
-    if count <= u {
-        return count;
+    if count_of(units) <= u {
+        return None;
     }
     stuck_from(h, w, colours, borders, units, potential, u, &mut near)
 }

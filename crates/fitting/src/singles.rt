@@ -6,8 +6,8 @@ ghost use Rattle.adjacent.specs.Homes.{Sorted};
 ghost use Rattle.fitting.specs.Held.{Nearby, Adjoined};
 ghost use Rattle.fitting.specs.FirstStuck.{Passed, fits_unit};
 
-use crate::unit::{all_near, near_mate};
-use groups::{Grouping, cell_at, count_of, group_of, start_of};
+use crate::unit::{all_near, home_in, near_mate};
+use groups::{Grouping, cells_of, count_of};
 
 // Whether unit `u` has one cell, and its potential unit an adjacent one: then it fits. Where `sure`, every potential
 // unit is known to have one.
@@ -30,17 +30,12 @@ fn single_fits<'a>(
         → fits_unit (unclued h w colours.now) (states_in borders.now) u ≡ true)
         × Nearby h w colours.now borders.now near.new }
 {
-    let first = start_of(units, u);
-    let last = start_of(units, u + 1);
-    if last != first + 1 {
+    let single = cells_of(units, u).len() == 1;
+    if !single {
         return false;
     }
-    if sure {
-        return true;
-    }
-    let c = cell_at(units, first);
-    let p = group_of(potential, c);
-    near_mate(h, w, colours, borders, potential, p, near) < 1024
+    let p = home_in(units, potential, u);
+    sure || near_mate(h, w, colours, borders, potential, p, near).is_some()
 }
 
 // How many of the units are passed at once: they stand before the first that has more than one cell or whose
@@ -62,11 +57,8 @@ pub fn after_singles<'a>(
 {
     let sure = all_near(h, w, colours, borders, potential, near);
     let count = count_of(units);
-    let mut u = 0;
-    while u < count {
-        if single_fits(h, w, colours, borders, units, potential, u, sure, near) {
-            u += 1;
-        } else {
+    for u in 0..count {
+        if !single_fits(h, w, colours, borders, units, potential, u, sure, near) {
             return u;
         }
     }

@@ -1,29 +1,36 @@
 // Whether a unit fits beside its potential unit.
-ghost use Rattle.std.specs.Prelude.{◌≡◌, true, ℕ, ◌<◌, length};
+ghost use Rattle.std.specs.Prelude.{◌≡◌, true, List, [], ℕ, ◌<◌, length, get_or, MatchOption};
+ghost use Rattle.lists.specs.Lists.{◌∈◌};
 ghost use Rattle.rules.specs.Check.{mates};
 ghost use Rattle.rules.specs.Codes.{states_in, unclued};
 ghost use Rattle.rules.specs.Flat.{flat};
 ghost use Rattle.rules.specs.Groups.{entry};
 ghost use Rattle.rules.specs.Shapes.{shape_of};
-ghost use Rattle.groups.specs.Grouping.{numbers_in, cells_in, starts_in, count_in};
+ghost use Rattle.groups.specs.Grouping.{numbers_in, cells_in, starts_in, start_in, count_in};
 ghost use Rattle.shapes.specs.Images.{Jointed};
 ghost use Rattle.shapes.specs.Spots.{cell_spots, joint_spots, Spotted};
-ghost use Rattle.adjacent.specs.Mates.{OneOf};
-ghost use Rattle.adjacent.specs.Homes.{UnitIn, Home};
+ghost use Rattle.adjacent.specs.Homes.{UnitIn, Home, home_in};
 ghost use Rattle.fitting.specs.Fitting.{Scratch, fits_turned, fits_rows};
 ghost use Rattle.fitting.specs.Held.{Nearby, Adjoined, Held, HeldOf};
 
 use crate::images::some_row_fits;
 use adjacent::{mates_of, some_mate};
-use groups::{Grouping, count_of};
+use groups::{Grouping, cell_at, count_of, group_of, start_of};
 use planes::{draw_mask, draw_planes};
-use rules::index;
 use shapes::Outline;
 use shapes::connections::{joints, places};
 use shapes::turned::{Turned, turn_row};
 
-// One of the potential units adjacent to potential unit `p`; 1024 if there is none. `near` keeps it, raised by 1; it is
-// 0 where none was asked for.
+// The potential unit of unit `u`: that of its first cell.
+pub fn home_in(units: &Grouping, potential: &Grouping, u: usize) -> usize
+    requires { (u < 1024) × (start_in units.now u < 1024) × (get_or (cells_in units.now) (start_in units.now u) 0 < 1024) }
+    ensures { result ≡ home_in units.now potential.now u }
+{
+    group_of(potential, cell_at(units, start_of(units, u)))
+}
+
+// One of the potential units adjacent to potential unit `p`, if there is one. `near` keeps it as a number, raised by 1
+// and 0 where none was asked for: so memory that is made 0 at once has none.
 pub fn near_mate<'a>(
     h: usize,
     w: usize,
@@ -32,22 +39,23 @@ pub fn near_mate<'a>(
     potential: &'a Grouping,
     p: usize,
     near: &mut [u16; 1024],
-) -> usize
+) -> Option<usize>
     requires { Home h w colours.now borders.now potential.now p
         × Nearby h w colours.now borders.now near.old }
-    ensures { OneOf (mates (unclued h w colours.now) (states_in borders.now) p) result
+    ensures { MatchOption result (mates (unclued h w colours.now) (states_in borders.now) p ≡ [])
+        (λ q. q ∈ mates (unclued h w colours.now) (states_in borders.now) p)
         × Nearby h w colours.now borders.now near.new }
 {
-    let kept = index(near[p]);
+    let kept = usize::from(near[p]);
     if 0 < kept {
-        return kept - 1;
+        return Some(kept - 1);
     }
     let q = some_mate(h, w, colours, borders, potential, p);
     if 1024 <= q {
-        return q;
+        return None;
     }
     near[p] = (q + 1) as u16;
-    q
+    Some(q)
 }
 
 // Whether each potential unit has an adjacent one. `near` keeps those that were found.
@@ -65,14 +73,10 @@ pub fn all_near<'a>(
         (count_in potential.now))
         × Nearby h w colours.now borders.now near.new }
 {
-    let total = count_of(potential);
-    let mut p = 0;
-    while p < total {
-        let q = near_mate(h, w, colours, borders, potential, p, near);
-        if 1024 <= q {
+    for p in 0..count_of(potential) {
+        if near_mate(h, w, colours, borders, potential, p, near).is_none() {
             return false;
         }
-        p += 1;
     }
     true
 }

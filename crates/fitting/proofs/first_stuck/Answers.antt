@@ -1,5 +1,4 @@
 -- Units of one cell are passed first; the search goes on where they end.
-use mathlib.Core.Path.{◌∙◌}
 use Rattle.fitting.specs.HeldLaws.{nearby-none}
 use Rattle.fitting.specs.FirstStuckLaws.{passed-done}
 use Rattle.fitting.proofs.first_stuck.Goals as goal
@@ -10,10 +9,10 @@ after_singles-u-requires c = (
   nearby-none c.args.h c.args.w c.args.colours.now c.args.borders.now,
 )
 
-pub returns-then-count-u : goal.returns-then-count-u
-returns-then-count-u c =
-    let e = c.count_of-count.ensures in
-    e ∙ passed-done c.after_singles-u.ensures.0 (rw e at c.if-count-u.true)
+pub returns-then-count_of-u : goal.returns-then-count_of-u
+returns-then-count_of-u c =
+    let e = c.count_of.ensures in
+    passed-done c.after_singles-u.ensures.0 (rw e at c.if-count_of-u.true)
 
 pub stuck_from-requires : goal.stuck_from-requires
 stuck_from-requires c = (c.requires, c.after_singles-u.ensures.0, c.after_singles-u.ensures.1)

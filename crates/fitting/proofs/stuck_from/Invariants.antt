@@ -1,5 +1,4 @@
 -- The loop's invariant: the answer is the first from u on that does not fit.
-use Prim.Native.Nat.{◌-◌}
 use Rattle.rules.specs.Codes.{states_in, unclued}
 use Rattle.groups.specs.Grouping.{count_in}
 use Rattle.fitting.specs.Fitting.{Scratch}
@@ -12,6 +11,3 @@ invariant-loop-u l =
     Passed (fits_unit (unclued l.h l.w l.colours) (states_in l.borders)) (count_in l.units) l.u
     × Nearby l.h l.w l.colours l.borders l.near × Scratch l.outline l.turned
     × Held l.h l.w l.colours l.borders l.potential l.planes l.mask
-
-abbrev pub decreases-loop-u : goal.decreases-loop-u
-decreases-loop-u l = l.count - l.u

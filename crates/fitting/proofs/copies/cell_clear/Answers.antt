@@ -1,6 +1,6 @@
 -- The connections below and right of a cell, one after the other; all numbers are small.
 -- the cell's row and column
-use mathlib.Core.Path.{◌≡◌}
+use mathlib.Core.Path.{◌≡◌, ◌∙◌}
 use mathlib.Core.Bool.{true}
 use Prim.Native.Nat.{◌+◌, ◌/◌, ◌%◌, ◌<◌}
 use native.Mathlib.Omega.{arith}
@@ -88,8 +88,9 @@ returns-then-joint_clear c =
     c.args.x (entry (numbers_in c.args.units.now)) c.args.g c.args.c (row_of_lem _ _ _ c.requires.1).column
     c.joint_clear.ensures c.if-joint_clear.true c.joint_clear-then-joint_clear.ensures
 
-pub returns : goal.returns
-returns c =
-    copy-cell-no c.args.h c.args.w c.args.colours.now (states_in c.args.borders.now) c.args.y
+pub returns-else-joint_clear : goal.returns-else-joint_clear
+returns-else-joint_clear c =
+    c.if-joint_clear.false
+    ∙ copy-cell-no c.args.h c.args.w c.args.colours.now (states_in c.args.borders.now) c.args.y
     c.args.x (entry (numbers_in c.args.units.now)) c.args.g c.args.c (row_of_lem _ _ _ c.requires.1).column
     c.joint_clear.ensures c.if-joint_clear.false

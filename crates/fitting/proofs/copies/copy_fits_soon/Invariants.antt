@@ -1,10 +1,11 @@
--- The loop's invariant: the answer is that of the first cells from i on.
+-- The loop's invariant: the answer is that of the first cells from o on.
 -- the unit's shape fits at a cell
 use mathlib.Core.Path.{◌≡◌}
 use mathlib.Core.Bool.{Bool}
 use mathlib.Core.List.{List}
-use Prim.Native.Nat.{ℕ, ◌-◌, ◌≤◌}
+use Prim.Native.Nat.{ℕ}
 use Rattle.lists.specs.Lists.{any}
+use lib.ListN.{length}
 use Rattle.lists.specs.Parts.{part}
 use Rattle.rules.specs.Codes.{states_in, unclued}
 use Rattle.rules.specs.Flat.{flat}
@@ -20,13 +21,9 @@ abbrev pub fit : ℕ → ℕ → List ℕ → List ℕ → List ℕ → ℕ → 
 fit h w colours borders units g =
     fits_of (unclued h w colours) (states_in borders) (shape_of (flat h w) (entry (numbers_in units)) g)
 
-abbrev pub invariant-loop-i : goal.invariant-loop-i
-invariant-loop-i l =
-    (l.from ≤ l.i) × (l.i ≤ l.to)
-    × (fits_among (unclued l.h l.w l.colours) (states_in l.borders)
+abbrev pub invariant-loop-o : goal.invariant-loop-o
+invariant-loop-o l =
+    fits_among (unclued l.h l.w l.colours) (states_in l.borders)
     (shape_of (flat l.h l.w) (entry (numbers_in l.units)) l.g)
     (soon_in (cells_in l.potential) (starts_in l.potential) l.q)
-    ≡ any (fit l.h l.w l.colours l.borders l.units l.g) (part (cells_in l.potential) l.i l.to))
-
-abbrev pub decreases-loop-i : goal.decreases-loop-i
-decreases-loop-i l = l.to - l.i
+    ≡ any (fit l.h l.w l.colours l.borders l.units l.g) (part l.o-items l.o-index (length l.o-items))

@@ -1,32 +1,29 @@
 -- Each return is a case of the definition.
 use mathlib.Core.Path.{◌≡◌, sym, ap, ◌∙◌}
-use borrow.Author.Tests.{eq-eqb, ne_eqb}
-use lib.ListN.{get_or}
+use mathlib.Core.Bool.{◌&&◌, not}
+use lib.Dec.{eqb}
 use Rattle.rules.specs.Groups.{entry}
 use Rattle.groups.specs.Grouping.{numbers_in}
 use Rattle.planes.specs.Placing.{is_clear}
+use Rattle.fitting.proofs.copies.joint_clear.Goals.{then-on, else-on, Then-not-joined, Else-not-joined}
 use Rattle.fitting.proofs.copies.joint_clear.Goals as goal
 
-pub group_of-requires : goal.group_of-requires
-group_of-requires c = c.requires.1 c.if-on.true
-
-pub returns-then-group_of-g : goal.returns-then-group_of-g
+pub returns-then-not-joined : goal.returns-then-not-joined
 unfolding entry
-returns-then-group_of-g c =
-    let e : get_or (numbers_in c.args.units.now) c.args.to 0 ≡ c.args.g =
-    sym c.group_of.ensures ∙ c.if-group_of-g.true in
-    c.is_clear.ensures
-    ∙ (ap is_clear c.read_place.ensures
-    ∙ sym (rw (c.if-on.true, eq-eqb (get_or (numbers_in c.args.units.now) c.args.to 0) c.args.g e)))
+returns-then-not-joined c =
+    let e : c.if-on.joined ≡ c.args.on && eqb (entry (numbers_in c.args.units.now) c.args.to) c.args.g =
+    elim c.if-on.branch [
+      | then-on w ↦ rw w.if-on.true (w.joined-is ∙ ap (λ x. eqb x c.args.g) w.group_of.ensures)
+      | else-on w ↦ rw w.if-on.false (w.joined-is ∙ w.if-on.false)
+    ] in
+    rw (sym e ∙ c.if-not-joined.true) (ap not c.if-not-joined.true)
 
-pub returns-else-group_of-g : goal.returns-else-group_of-g
+pub returns-else-not-joined : goal.returns-else-not-joined
 unfolding entry
-returns-else-group_of-g c =
-    sym (rw (
-      c.if-on.true,
-      ne_eqb (get_or (numbers_in c.args.units.now) c.args.to 0) c.args.g
-          (λ e. c.if-group_of-g.false (c.group_of.ensures ∙ e)),
-    ))
-
-pub returns-else-on : goal.returns-else-on
-returns-else-on c = sym (rw c.if-on.false)
+returns-else-not-joined c =
+    let e : c.if-on.joined ≡ c.args.on && eqb (entry (numbers_in c.args.units.now) c.args.to) c.args.g =
+    elim c.if-on.branch [
+      | then-on w ↦ rw w.if-on.true (w.joined-is ∙ ap (λ x. eqb x c.args.g) w.group_of.ensures)
+      | else-on w ↦ rw w.if-on.false (w.joined-is ∙ w.if-on.false)
+    ] in
+    rw (sym e ∙ c.if-not-joined.false) (c.is_clear.ensures ∙ ap is_clear c.read_place.ensures)

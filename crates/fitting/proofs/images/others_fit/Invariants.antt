@@ -2,7 +2,6 @@
 use mathlib.Core.Path.{◌≡◌}
 use mathlib.Core.Bool.{Bool, false}
 use mathlib.Core.List.{List}
-use Prim.Native.Nat.{◌≤◌, ◌-◌}
 use lib.ListN.{length}
 use Rattle.lists.specs.Tests.{any_below}
 use Rattle.rules.specs.Page.{Point}
@@ -13,10 +12,7 @@ use Rattle.fitting.proofs.images.others_fit.Given as goal
 
 abbrev pub invariant-loop-row : goal.invariant-loop-row
 invariant-loop-row l =
-    (l.row ≤ 8) × (length l.turned ≡ 4096)
+    (length l.turned ≡ 4096)
     × ((F : List Point → Bool) → MaskAnswers l.h l.planes l.mask F
     → F (image_joints 0 (cell_spots l.outline) (joint_spots l.outline)) ≡ false
     → any_below l.row (λ i. F (image_joints i (cell_spots l.outline) (joint_spots l.outline))) ≡ false)
-
-abbrev pub decreases-loop-row : goal.decreases-loop-row
-decreases-loop-row l = 8 - l.row

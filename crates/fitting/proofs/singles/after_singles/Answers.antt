@@ -1,10 +1,9 @@
 -- The loop's invariant: the units before u fit.
 use mathlib.Core.Bool.{Bool}
 use Prim.Native.Nat.{ℕ}
-use native.Mathlib.Omega.{arith}
 use Rattle.rules.specs.Codes.{states_in, unclued}
 use Rattle.groups.specs.Grouping.{count_in}
-use Rattle.adjacent.specs.HomeLaws.{unit-few, home_at}
+use Rattle.adjacent.specs.HomeLaws.{home_at}
 use Rattle.fitting.specs.FirstStuck.{fits_unit}
 use Rattle.fitting.specs.FirstStuckLaws.{passed_start, passed-next, passed-all}
 use Rattle.fitting.proofs.singles.after_singles.Goals.{Start}
@@ -29,22 +28,16 @@ single_fits-requires c = (
   c.loop-u.invariant.1,
 )
 
-pub overflow_add-u : goal.overflow_add-u
-overflow_add-u c = omega (arith, c.loop-u-test.true, c.count_of-count.ensures, unit-few c.requires.0)
-
-pub loop-u-smaller : goal.loop-u-smaller
-loop-u-smaller c = omega (arith, c.loop-u-test.true)
-
 pub loop-u-preserved : goal.loop-u-preserved
 loop-u-preserved c =
     let e = c.single_fits.ensures in (
       passed-next c.loop-u.invariant.0 (rw c.count_of-count.ensures at c.loop-u-test.true)
-          (e.0 c.if-single_fits.true),
+          (e.0 c.if-not-single_fits.false),
       e.1,
     )
 
-pub returns-else-single_fits : goal.returns-else-single_fits
-returns-else-single_fits c = (c.loop-u.invariant.0, c.single_fits.ensures.1)
+pub returns-then-not-single_fits : goal.returns-then-not-single_fits
+returns-then-not-single_fits c = (c.loop-u.invariant.0, c.single_fits.ensures.1)
 
 pub returns : goal.returns
 returns c =

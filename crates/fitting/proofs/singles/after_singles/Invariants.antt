@@ -1,5 +1,4 @@
 -- The loop's invariant: the units before u fit.
-use Prim.Native.Nat.{◌-◌}
 use Rattle.rules.specs.Codes.{states_in, unclued}
 use Rattle.groups.specs.Grouping.{count_in}
 use Rattle.fitting.specs.Held.{Nearby}
@@ -10,6 +9,3 @@ abbrev pub invariant-loop-u : goal.invariant-loop-u
 invariant-loop-u l =
     Passed (fits_unit (unclued l.h l.w l.colours) (states_in l.borders)) (count_in l.units) l.u
     × Nearby l.h l.w l.colours l.borders l.near
-
-abbrev pub decreases-loop-u : goal.decreases-loop-u
-decreases-loop-u l = l.count - l.u

@@ -2,7 +2,7 @@
 use Prim.Native.Nat.{◌-◌}
 use native.Mathlib.Omega.{arith}
 use Rattle.adjacent.specs.HomeLaws.{home-few, home-cells}
-use Rattle.fitting.specs.HeldLaws.{mate-kept, nearby-more}
+use Rattle.fitting.specs.HeldLaws.{nearby-more}
 use Rattle.fitting.proofs.unit.near_mate.Goals as goal
 
 pub offset_bounds-near-p : goal.offset_bounds-near-p
@@ -13,8 +13,8 @@ bounds-near-p c = omega (arith, home-few c.requires.0, c.requires.1.long)
 
 pub returns-then-kept-gt0 : goal.returns-then-kept-gt0
 returns-then-kept-gt0 c =
-    let n = c.index-kept in (
-      mate-kept c.requires.0 (c.requires.1.some c.args.p (n.result - 1) (omega (arith, n.ensures, c.if-kept-gt0.true))),
+    let n = c.from-kept in (
+      c.requires.1.some c.args.p (n.result - 1) (omega (arith, n.ensures, c.if-kept-gt0.true)),
       c.requires.1,
     )
 
@@ -24,7 +24,7 @@ some_mate-q-requires c =
     (k.drawn, k.known, home-few k, home-cells k, k.grouped.group _ k.low)
 
 pub returns-then-q-ge1024 : goal.returns-then-q-ge1024
-returns-then-q-ge1024 c = (c.some_mate-q.ensures, c.requires.1)
+returns-then-q-ge1024 c = (c.some_mate-q.ensures.none c.if-q-ge1024.true, c.requires.1)
 
 pub overflow_add-near : goal.overflow_add-near
 overflow_add-near c = omega (arith, c.if-q-ge1024.false)
@@ -40,5 +40,5 @@ bounds-near-p-2 c = omega (arith, home-few c.requires.0)
 
 pub returns : goal.returns
 returns c =
-    let o = c.some_mate-q.ensures in
-    (o, nearby-more c.requires.1 c.args.p _ (home-few c.requires.0) (o.some c.if-q-ge1024.false))
+    let m = c.some_mate-q.ensures.some c.if-q-ge1024.false in
+    (m, nearby-more c.requires.1 c.args.p _ (home-few c.requires.0) m)
