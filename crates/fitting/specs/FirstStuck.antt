@@ -7,8 +7,7 @@
 --   stuck_hit U         step 3's hit, where U is the first unit that does not fit, if one does not
 use Rattle.std.specs.Prelude.{◌≡◌, Bool, true, cond, List, [], ◌∷◌, ℕ, zero, suc, ◌-◌, ◌≤◌}
 use Rattle.std.specs.Prelude.{Option, Some, None}
-use Rattle.std.proofs.Math.Option as Math
-use Rattle.std.proofs.Math.Option.{some, none}
+use Rattle.std.proofs.Math.Option.{Option as Maybe, some, none}
 use Rattle.lists.specs.Lists.{any}
 use Rattle.rules.specs.Page.{State, Puzzle}
 use Rattle.rules.specs.Groups.{members, unit_of, potential_of}
@@ -37,6 +36,6 @@ module _ (Z : Puzzle) (s : ℕ → State) where
   fits_unit U = fits_on U (members Z.page (unit_of Z s) U)
 
   -- the reason of the unit at which a search stopped
-  unfoldable pub stuck_hit : Option ℕ → Math.Option Reason
+  unfoldable pub stuck_hit : Option ℕ → Maybe Reason
   stuck_hit None = none
   stuck_hit (Some U) = some (unit_reason Z s U (potential_in Z s U))

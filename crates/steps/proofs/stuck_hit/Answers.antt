@@ -9,26 +9,26 @@ use Rattle.groups.specs.Pages.{groups_in}
 use Rattle.reasons.proofs.MemoryLaws.{spare-zeros, front_length, front_fits}
 use Rattle.fitting.specs.FirstStuck.{fits_unit, first_fail}
 use Rattle.steps.specs.HitLaws.{answers-none, answers-some, units-held}
-use Rattle.steps.specs.LateLaws.{units-clear, units-stuck}
-use Rattle.steps.proofs.stuck_hit.Goals.{After-first_stuck-u}
+use Rattle.steps.specs.LateLaws.{units-clear, units-low, units-stuck}
+use Rattle.steps.proofs.stuck_hit.Goals.{After-first_stuck}
 use Rattle.steps.proofs.stuck_hit.Goals as goal
 
-found : (c : After-first_stuck-u) → let a = c.args in
-    c.first_stuck-u.result
+found : (c : After-first_stuck) → let a = c.args in
+    c.first_stuck.result
     ≡ first_fail (fits_unit (unclued a.h a.w a.colours.now) (states_in a.borders.now))
     (groups_in Units a.h a.w a.colours.now a.borders.now).count
-found c = rw c.requires.0.units.count at c.first_stuck-u.ensures
+found c = rw c.requires.0.units.count at c.first_stuck.ensures
 
-pub first_stuck-u-requires : goal.first_stuck-u-requires
-first_stuck-u-requires c = c.requires.0
+pub first_stuck-requires : goal.first_stuck-requires
+first_stuck-requires c = c.requires.0
 
-pub returns-then-count_of-u : goal.returns-then-count_of-u
-returns-then-count_of-u c =
-    let p = c.requires in
+pub returns-in_err-u : goal.returns-in_err-u
+returns-in_err-u c =
     λ ks.
-    answers-none _
-    (units-clear p.0.drawn.sized _ _ _ (found (goal.at.returns-then-count_of-u c).After-first_stuck-u) ks
-    (rw (c.count_of.ensures, p.0.units.count) at c.if-count_of-u.true))
+    rw c.from_residual.ensures
+    (answers-none _
+    (units-clear c.requires.0.drawn.sized _ _ (found (goal.at.returns-in_err-u c).After-first_stuck) ks
+    c.in_err-u.was))
 
 pub write_stuck-n-requires : goal.write_stuck-n-requires
 write_stuck-n-requires c =
@@ -37,7 +37,9 @@ write_stuck-n-requires c =
         ready = p.0;
         colours = p.1.colours;
         borders = p.1.borders;
-        low = rw c.count_of.ensures at c.if-count_of-u.false;
+        low =
+            rw p.0.units.count
+            (units-low p.0.drawn.sized _ _ (found (goal.at.write_stuck-n-requires c).After-first_stuck) c.in_ok-u.was);
       },
       spare-zeros,
     )
@@ -59,6 +61,5 @@ returns c =
     let z = p.0.drawn.sized in
     λ ks.
     answers-some _ p.1.borders (units-held z _ ks _)
-    (units-stuck z _ _ _ (found (goal.at.returns c).After-first_stuck-u) ks
-    (rw (c.count_of.ensures, p.0.units.count) at c.if-count_of-u.false))
+    (units-stuck z _ _ (found (goal.at.returns c).After-first_stuck) ks c.in_ok-u.was)
     (c.write_stuck-n.ensures (clues_in ks)) c.hand_out.ensures
