@@ -1,7 +1,7 @@
 // Step 2 of the check: the first wall between two cells of one block, and the reason of it.
 #![tactic(auto)]
 
-ghost use Rattle.std.specs.Prelude.{◌≡◌, true, ◌&&◌, ◌+◌, ◌*◌, ◌<◌, ◌≤◌, length, eqb, IfSome};
+ghost use Rattle.std.specs.Prelude.{◌≡◌, true, ◌&&◌, ◌+◌, ◌*◌, ◌<◌, ◌≤◌, length, eqb, ℕ, Option, None, IfSome};
 ghost use Rattle.lists.specs.Count.{bit};
 ghost use Rattle.rules.specs.Flat.{Sized, flat};
 ghost use Rattle.rules.specs.Codes.{states_in};
@@ -9,7 +9,8 @@ ghost use Rattle.rules.specs.Groups.{entry};
 ghost use Rattle.groups.specs.Grouping.{numbers_in};
 ghost use Rattle.reasons.specs.Arrays.{Arrays, InArrays, hops_in, hop_of};
 ghost use Rattle.reasons.specs.Memory.{Spare, Wrote};
-ghost use Rattle.walls.specs.Breaches.{no_breach, is_breach, breach_on, breach_from, first_breach};
+ghost use Rattle.walls.specs.declared.Breach.{Breach};
+ghost use Rattle.walls.specs.Breaches.{is_breach, breach_on, breach_from, first_breach};
 ghost use Rattle.walls.specs.WallCases.{breach_at};
 ghost use Rattle.walls.specs.Clean.{Apart};
 ghost use Rattle.walls.specs.Written.{breach_literals};
@@ -17,10 +18,9 @@ ghost use Rattle.walls.specs.Written.{breach_literals};
 use groups::{Grouping, group_of};
 use reasons::{Direction, Neighbour, step};
 
-// A wall between two cells of one block: the cell, the wall and the neighbour over it. Nothing found: all 0.
+// A wall between two cells of one block: the cell, the wall and the neighbour over it.
 #[derive(Clone, Copy)]
 pub struct Breach {
-    pub found: bool,
     pub cell: usize,
     pub border: usize,
     pub to: usize,
@@ -34,41 +34,26 @@ fn is_breach<'a>(borders: &'a [u8; 1984], blocks: &'a Grouping, c: usize, n: Nei
     borders[n.border] == 1 && group_of(blocks, c) == group_of(blocks, n.to)
 }
 
-// Nothing found.
-fn nothing() -> Breach
-    ensures { result ≡ no_breach }
-{
-    Breach {
-        found: false,
-        cell: 0,
-        border: 0,
-        to: 0,
-    }
-}
-
 // The breach over the border to the neighbour of the cell c, if there is one.
 fn hop_breach<'a>(
     borders: &'a [u8; 1984],
     blocks: &'a Grouping,
     c: usize,
     neighbour: Option<Neighbour>,
-) -> Breach
+) -> Option<Breach>
     requires { Arrays borders.now (numbers_in blocks.now) × (c < 1024) × IfSome neighbour InArrays }
     ensures { result ≡ breach_on (states_in borders.now) (entry (numbers_in blocks.now)) c
         (hops_in neighbour) }
 {
-    match neighbour {
-        Some(n) if is_breach(borders, blocks, c, n) => Breach {
-            found: true,
-            cell: c,
-            border: n.border,
-            to: n.to,
-        },
-        _ => nothing(),
-    }
+    let n = neighbour?;
+    is_breach(borders, blocks, c, n).then_some(Breach {
+        cell: c,
+        border: n.border,
+        to: n.to,
+    })
 }
 
-// The first breach at the cell (y,x): below, then right.
+// The first breach at the cell (y,x), if there is one: below, then right.
 fn cell_breach<'a>(
     h: usize,
     w: usize,
@@ -76,41 +61,45 @@ fn cell_breach<'a>(
     blocks: &'a Grouping,
     y: usize,
     x: usize,
-) -> Breach
+) -> Option<Breach>
     requires { Sized h w × Arrays borders.now (numbers_in blocks.now) × (y < h) × (x < w) }
     ensures { result ≡ breach_at h w borders.now (numbers_in blocks.now) (y * w + x) }
 {
     let c = y * w + x;
     let below = step(h, w, y, x, Direction::Below);
-    let breach = hop_breach(borders, blocks, c, below);
-    if breach.found {
-        return breach;
-    }
     let right = step(h, w, y, x, Direction::Right);
-    hop_breach(borders, blocks, c, right)
+    hop_breach(borders, blocks, c, below).or_else(|| hop_breach(borders, blocks, c, right))
 }
 
-// The first breach in the row y.
+// The first breach that `at` gives for the numbers below n, if there is one. A loop, since what the library says of
+// `find_map` does not tell the proof what the closure gave.
+fn first_of<F: Fn(usize) -> Option<Breach>>(n: usize, at: F) -> Option<Breach>
+    requires { (i : ℕ) → i < n → F.pre at i }
+    ensures { (f : ℕ → Option Breach) → ((i : ℕ) (r : Option Breach) → i < n → F.post at i r → r ≡ f i)
+        → result ≡ breach_from f n 0 }
+{
+    for i in 0..n {
+        let found = at(i);
+        if found.is_some() {
+            return found;
+        }
+    }
+    None
+}
+
+// The first breach in the row y, if there is one.
 fn row_breach<'a>(
     h: usize,
     w: usize,
     borders: &'a [u8; 1984],
     blocks: &'a Grouping,
     y: usize,
-) -> Breach
+) -> Option<Breach>
     requires { Sized h w × Arrays borders.now (numbers_in blocks.now) × (y < h) }
     ensures { result ≡ breach_from (breach_at h w borders.now (numbers_in blocks.now)) w
         (y * w) }
 {
-    let mut x = 0;
-    while x < w {
-        let hit = cell_breach(h, w, borders, blocks, y, x);
-        if hit.found {
-            return hit;
-        }
-        x += 1;
-    }
-    nothing()
+    first_of(w, |x| cell_breach(h, w, borders, blocks, y, x))
 }
 
 // 1 for a wall between two cells of one block, else 0.
@@ -152,7 +141,7 @@ fn count_hits<'a>(
 // Whether there is no breach: none over the borders below, and none over those on the right of each row.
 fn is_clean<'a>(h: usize, w: usize, borders: &'a [u8; 1984], blocks: &'a Grouping) -> bool
     requires { Sized h w × Arrays borders.now (numbers_in blocks.now) }
-    ensures { result ≡ true → no_breach ≡ first_breach (flat h w) (states_in borders.now)
+    ensures { result ≡ true → None ≡ first_breach (flat h w) (states_in borders.now)
         (entry (numbers_in blocks.now)) }
 {
     if count_hits(borders, blocks, h * (w - 1), 0, w, (h - 1) * w) != 0 {
@@ -168,24 +157,21 @@ fn is_clean<'a>(h: usize, w: usize, borders: &'a [u8; 1984], blocks: &'a Groupin
     true
 }
 
-// The first breach, row by row.
-pub fn first_breach<'a>(h: usize, w: usize, borders: &'a [u8; 1984], blocks: &'a Grouping) -> Breach
+// The first breach, row by row, if there is one.
+pub fn first_breach<'a>(
+    h: usize,
+    w: usize,
+    borders: &'a [u8; 1984],
+    blocks: &'a Grouping,
+) -> Option<Breach>
     requires { Sized h w × Arrays borders.now (numbers_in blocks.now) }
     ensures { result ≡ first_breach (flat h w) (states_in borders.now)
         (entry (numbers_in blocks.now)) }
 {
     if is_clean(h, w, borders, blocks) {
-        return nothing();
+        return None;
     }
-    let mut y = 0;
-    while y < h {
-        let hit = row_breach(h, w, borders, blocks, y);
-        if hit.found {
-            return hit;
-        }
-        y += 1;
-    }
-    nothing()
+    first_of(h, |y| row_breach(h, w, borders, blocks, y))
 }
 
 // The reason of a breach, from the start of the memory; gives the number of literals.
