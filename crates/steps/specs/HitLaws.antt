@@ -150,16 +150,13 @@ module _ {h w : ℕ} (z : Sized h w) (cs : List ℕ) (ks : List ℤ) (bs : List 
         → GroupAt h w potential (fault_unit r.fault)
     fault-unit f = fault-unit-at z cs ks bs r (sym is ∙ e) f
 
--- step 2: b is what first_breach found
-module _ {h w : ℕ} (z : Sized h w) (cs : List ℕ) (ks : List ℤ) (bs : List ℕ) (b : Breach)
-    (is : b ≡ breach_in z cs ks bs) where
-  pub walls-clear : b.found ≡ false → walls_hit (puzzle_in h w cs ks) (states_in bs) ≡ none
+-- step 2: nothing, or b, is what first_breach found
+module _ {h w : ℕ} (z : Sized h w) (cs : List ℕ) (ks : List ℤ) (bs : List ℕ) where
+  pub walls-clear : None ≡ breach_in z cs ks bs → walls_hit (puzzle_in h w cs ks) (states_in bs) ≡ none
   unfolding walls_hit
-  walls-clear e = two_none z cs ks bs (ap (λ (f : Breach). f.found) (sym is) ∙ e)
+  walls-clear e = two_none z cs ks bs e
 
-  pub walls-breach : b.found ≡ true
+  pub walls-breach : {b : Breach} → Some b ≡ breach_in z cs ks bs
       → walls_hit (puzzle_in h w cs ks) (states_in bs) ≡ some (breach_literals (flat h w) (states_in bs) b)
   unfolding walls_hit
-  walls-breach e =
-      two-hit z cs ks bs (ap (λ (f : Breach). f.found) (sym is) ∙ e)
-      ∙ ap (λ (f : Breach). some (breach_literals (flat h w) (states_in bs) f)) (sym is)
+  walls-breach e = two-hit z cs ks bs e

@@ -1,11 +1,11 @@
 -- Case laws of step 2's definitions: one for each way a function of walls.rt returns.
 --
 --   breach_at h w bs ids c  the first breach at cell c, over arrays
-use Rattle.std.specs.Prelude.{◌≡◌, List, [], ◌∷◌, ◌++◌, ℕ, zero, suc, ◌+◌, ◌-◌, ◌*◌, ◌<◌, ◌≤◌, Option, Some, None, MatchOption, is_some, true, false}
+use Rattle.std.specs.Prelude.{◌≡◌, List, [], ◌∷◌, ◌++◌, ℕ, zero, suc, ◌+◌, ◌-◌, ◌*◌, ◌<◌, Option, Some, None, MatchOption, is_some, true, false}
 use Rattle.lists.specs.Booleans.{false-true}
 use Rattle.std.specs.Bool.{then_some}
 use Rattle.std.specs.Option.{option_or}
-use Rattle.std.proofs.Common.{refl, sym, ◌∙◌, arith, mul-le-mul_right, add-mul}
+use Rattle.std.proofs.Common.{refl, sym, arith}
 use Rattle.rules.specs.Page.{State, Hop}
 use Rattle.rules.specs.Flat.{flat, ahead_at}
 use Rattle.rules.specs.Codes.{states_in}

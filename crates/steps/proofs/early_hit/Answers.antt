@@ -1,25 +1,19 @@
 -- `early_hit` meets its contract: step 1's hit, and where there is none step 2's.
-use mathlib.Core.Path.{◌≡◌, sym}
+use mathlib.Core.Path.{sym}
 use mathlib.Core.List.{List}
 use Prim.Native.Nat.{ℕ, ◌≤◌}
-use borrow.Author.Tests.{not-true, not-false}
 use lib.ListN.{length}
 use lib.Seq.{length-take-le}
 use Rattle.rules.specs.Codes.{states_in, puzzle_in}
 use Rattle.groups.specs.Grouping.{numbers_in}
 use Rattle.reasons.proofs.MemoryLaws.{spare-front}
-use Rattle.walls.specs.WallHits.{breach_in}
 use Rattle.walls.specs.Bounds.{breach-small}
 use Rattle.std.specs.Prelude.{None}
 use Rattle.steps.specs.Found.{blocks_hit, early_hit, Answers}
 use Rattle.steps.specs.HitLaws.{answers-first, answers_next, answers-none, answers-plain}
 use Rattle.steps.specs.HitLaws.{answers-kept, walls-held, walls-plain, walls-clear, walls-breach, arrays-of}
-use Rattle.steps.proofs.early_hit.Goals.{After-first_breach-breach, In_default}
+use Rattle.steps.proofs.early_hit.Goals.{In_default}
 use Rattle.steps.proofs.early_hit.Goals as goal
-
-found : (c : After-first_breach-breach) → c.first_breach-breach.result
-    ≡ breach_in c.requires.0 c.args.colours.now c.args.clues.now c.args.borders.now
-found c = rw c.requires.2.numbers at c.first_breach-breach.ensures
 
 -- the memory that step 1 leaves
 abbrev left : In_default → List ℕ
@@ -39,19 +33,18 @@ pub returns-in-Some : goal.returns-in-Some
 unfolding early_hit
 returns-in-Some c = answers-first _ _ _ c.in-Some.ensures
 
-pub first_breach-breach-requires : goal.first_breach-breach-requires
-first_breach-breach-requires c =
+pub first_breach-requires : goal.first_breach-requires
+first_breach-requires c =
     let p = c.requires in
     (p.0, arrays-of p.0 _ p.2 p.1.borders)
 
-pub returns-then-not-breach : goal.returns-then-not-breach
+pub returns-in_err-breach : goal.returns-in_err-breach
 unfolding early_hit
-returns-then-not-breach c =
+returns-in_err-breach c =
     let p = c.requires in
-    answers_next _ _ (nothing (goal.at.returns-then-not-breach c).In_default)
-    (answers-none _
-    (walls-clear p.0 _ _ _ _ (found (goal.at.returns-then-not-breach c).After-first_breach-breach)
-    (not-true _ c.if-not-breach.true)))
+    answers_next _ _ (nothing (goal.at.returns-in_err-breach c).In_default)
+    (rw c.from_residual.ensures
+    (answers-none _ (walls-clear p.0 _ _ _ (rw p.2.numbers at c.in_err-breach.ensures))))
 
 pub slice_bounds-write_breach-end : goal.slice_bounds-write_breach-end
 slice_bounds-write_breach-end c = room (goal.at.slice_bounds-write_breach-end c).In_default
@@ -67,7 +60,7 @@ write_breach-requires c =
     let small = breach-small p.0 c.args.borders.now (numbers_in c.args.blocks.now) in (
       p.0,
       p.1.borders,
-      rw c.first_breach-breach.ensures small,
+      rw (← c.in_ok-breach.ensures) at small,
       spare-front (left (goal.at.write_breach-requires c).In_default)
           (room (goal.at.write_breach-requires c).In_default),
     )
@@ -78,5 +71,4 @@ returns c =
     let p = c.requires in
     answers_next _ _ (nothing (goal.at.returns c).In_default)
     (answers-plain _ p.1.borders (room (goal.at.returns c).In_default) (walls-held p.0 _ _ _) (walls-plain p.0 _ _ _)
-    (walls-breach p.0 _ _ _ _ (found (goal.at.returns c).After-first_breach-breach)
-    (not-false _ c.if-not-breach.false)) c.write_breach.ensures)
+    (walls-breach p.0 _ _ _ (rw p.2.numbers at c.in_ok-breach.ensures)) c.write_breach.ensures)

@@ -1,6 +1,5 @@
 -- Below, then right: the first that is found.
 use Rattle.std.proofs.Common.{rules, ◌≡◌, ◌∙◌, MatchOption, Some, ◌+◌, ◌*◌}
-use Rattle.std.specs.Option.{option_or}
 use Rattle.rules.specs.Codes.{states_in}
 use Rattle.rules.specs.Groups.{entry}
 use Rattle.groups.specs.Grouping.{numbers_in}

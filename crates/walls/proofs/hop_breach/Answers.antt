@@ -1,5 +1,4 @@
 -- Whether there is a neighbour, and it is a breach, decides.
-use Rattle.std.proofs.Common.{◌∙◌}
 use Rattle.walls.specs.WallCases.{hop-off, hop-some}
 use Rattle.walls.proofs.hop_breach.Goals as goal
 
