@@ -3,7 +3,7 @@ use Rattle.std.specs.Prelude.{◌≡◌, refl, ◌⊎◌, Bool, true, false, not
 use Rattle.std.specs.Prelude.{negsuc, neg_ℤ, ◌+ℤ◌, ◌-ℤ◌, ◌*ℤ◌, T, ltb}
 use Rattle.std.proofs.Common.{sym, ap, ap₂, ◌∙◌, subst, inl, inr, arith, lt-ltb, le-ltb, ltb→lt, nltb→le, SFits, to_z}
 use Rattle.std.proofs.Common.{of_z, to_z-of_z, Less, Equal, Greater}
-use Rattle.std.proofs.Math.IntN.{sub_ℕ, neg_ℤ-+ℤ}
+use Rattle.std.proofs.Math.IntN.{sub_ℕ}
 use Rattle.std.specs.Int.Signed.{mag, lt_z}
 use Rattle.std.specs.Ordering.{is_lt, int_cmp, ordering_then}
 use Rattle.std.specs.Int.{w8, w32}
@@ -115,16 +115,16 @@ module _ (r : ℕ) {s : Signs} (e : s ≡ signs_of (turn_at r)) where
   turns-read y x = ap (λ q. point_of (turn_by q y x)) e ∙ row-turns r y x
 
 -- the order of two places, by the tests of the code
-pub less-test : (a b : ℤ) → lt_z a b ≡ lessℤ a b
+less-test : (a b : ℤ) → lt_z a b ≡ lessℤ a b
 less-test (pos a) (pos b) = refl
 less-test (pos a) (negsuc b) = refl
 less-test (negsuc a) (pos b) = refl
 less-test (negsuc a) (negsuc b) = refl
 
-pub before-yes : (y x b a : ℤ) → lessℤ y b ≡ true → before (point_at y x) (point_at b a) ≡ true
+before-yes : (y x b a : ℤ) → lessℤ y b ≡ true → before (point_at y x) (point_at b a) ≡ true
 before-yes y x b a e = rw e
 
-pub before-no : (y x b a : ℤ) → lessℤ y b ≡ false → lessℤ b y ≡ true → before (point_at y x) (point_at b a) ≡ false
+before-no : (y x b a : ℤ) → lessℤ y b ≡ false → lessℤ b y ≡ true → before (point_at y x) (point_at b a) ≡ false
 before-no y x b a e f = rw (e, different)
   where
     different : sameℤ y b ≡ false
@@ -132,7 +132,7 @@ before-no y x b a e f = rw (e, different)
         (λ t. let c : T (lessℤ b b) = subst (λ (z : ℤ). T (lessℤ b z)) (sameℤ→eq y b t) (rw f tt) in
         rw (less-irrefl b) at c) (λ t. absurd t)
 
-pub before-even : (y x b a : ℤ) → lessℤ y b ≡ false → lessℤ b y ≡ false
+before-even : (y x b a : ℤ) → lessℤ y b ≡ false → lessℤ b y ≡ false
     → before (point_at y x) (point_at b a) ≡ lessℤ x a
 before-even y x b a e f =
     let k : y ≡ b = less-total y b (rw e tt) (rw f tt) in
@@ -142,13 +142,6 @@ before-even y x b a e f =
     same =
         let k : y ≡ b = less-total y b (rw e tt) (rw f tt) in
         same_test (sameℤ y b) true (λ t. tt) (λ t. rw k (sameℤ-refl b))
-
--- a test of the code, on numbers read back from their bits
-pub less-known : {y b : ℤ} {t : Bool} → SFits w32 y → SFits w32 b
-    → lt_z (to_z w32 (of_z w32 y)) (to_z w32 (of_z w32 b)) ≡ t → lessℤ y b ≡ t
-less-known {y} {b} {t} f g e =
-    sym (less-test y b)
-    ∙ (sym (ap₂ lt_z (to_z-of_z {w = w32} {z = y} f) (to_z-of_z {w = w32} {z = b} g)) ∙ e)
 
 pub read_back : {z : ℤ} (n : ℕ) → z ≡ pos n → n < 4096 → to_z w32 (of_z w32 z) ≡ pos n
 read_back {z} n e h = ap (λ k. to_z w32 (of_z w32 k)) e ∙ small-back (pos n) h
@@ -190,48 +183,8 @@ mag_sum (pos a) (negsuc b) = omega (arith, mag-sub a (suc b))
 mag_sum (negsuc a) (pos b) = omega (arith, mag-sub b (suc a))
 mag_sum (negsuc a) (negsuc b) = omega arith
 
-pub sum-small : (a b : ℤ) → Small a → Small b → mag (a +ℤ b) < 8192
-sum-small a b h k = omega (arith, mag_sum a b)
-
 pub difference-small : (a b : ℤ) → Small a → Small b → mag (a -ℤ b) < 8193
 difference-small a b h k = omega (arith, mag_sum a (neg_ℤ b), mag-neg b)
-
-pub sum_fits : (a b : ℤ) → Small a → Small b → SFits w32 (to_z w32 (of_z w32 a) +ℤ to_z w32 (of_z w32 b))
-sum_fits a b h k =
-    rw (small-back a h, small-back b k) (record { sfits = omega (arith, sum-small a b h k) })
-
-pub sum_back : (a b : ℤ) → Small a → Small b
-    → to_z w32 (of_z w32 (to_z w32 (of_z w32 a) +ℤ to_z w32 (of_z w32 b))) ≡ a +ℤ b
-sum_back a b h k =
-    to_z-of_z {w = w32} {z = to_z w32 (of_z w32 a) +ℤ to_z w32 (of_z w32 b)} (sum_fits a b h k)
-    ∙ ap₂ (λ x y. x +ℤ y) (small-back a h) (small-back b k)
-
-pub difference-fits : (a b : ℤ) → Small a → Small b → SFits w32 (to_z w32 (of_z w32 a) -ℤ to_z w32 (of_z w32 b))
-difference-fits a b h k =
-    rw (small-back a h, small-back b k) (record { sfits = omega (arith, difference-small a b h k) })
-
-pub difference-back : (a b : ℤ) → Small a → Small b
-    → to_z w32 (of_z w32 (to_z w32 (of_z w32 a) -ℤ to_z w32 (of_z w32 b))) ≡ a -ℤ b
-difference-back a b h k =
-    to_z-of_z {w = w32} {z = to_z w32 (of_z w32 a) -ℤ to_z w32 (of_z w32 b)} (difference-fits a b h k)
-    ∙ ap₂ (λ x y. x -ℤ y) (small-back a h) (small-back b k)
-
--- a number less twice another
-pub twice-fits : (a b : ℤ) → Small a → Small b
-    → SFits w32 (to_z w32 (of_z w32 a) -ℤ to_z w32 (of_z w32 (to_z w32 (of_z w32 b) +ℤ to_z w32 (of_z w32 b))))
-twice-fits a b h k =
-    rw (small-back a h, sum_back b b k k)
-    (record { sfits = omega (arith, mag_sum a (neg_ℤ (b +ℤ b)), mag-neg (b +ℤ b), sum-small b b k k) })
-
-pub twice-back : (a b : ℤ) → Small a → Small b
-    → to_z w32
-    (of_z w32 (to_z w32 (of_z w32 a) -ℤ to_z w32 (of_z w32 (to_z w32 (of_z w32 b) +ℤ to_z w32 (of_z w32 b)))))
-    ≡ a +ℤ (neg_ℤ b +ℤ neg_ℤ b)
-twice-back a b h k =
-    to_z-of_z {w = w32}
-    {z = to_z w32 (of_z w32 a) -ℤ to_z w32 (of_z w32 (to_z w32 (of_z w32 b) +ℤ to_z w32 (of_z w32 b)))}
-    (twice-fits a b h k)
-    ∙ ap₂ (λ x y. x +ℤ y) (small-back a h) (ap neg_ℤ (sum_back b b k k) ∙ neg_ℤ-+ℤ b b)
 
 -- the differences of places whose coordinates are small
 pub differences-fit : (p m : Pair) → SmallPair p → SmallPair m → DifferenceFits p m
@@ -241,6 +194,10 @@ differences-fit p m a b =
       across = record { sfits = omega (arith, difference-small p.x m.x a.across b.across) };
     }
 
+less-again : (a b : ℤ) → Small a → Small b → SFits w32 ((a -ℤ b) -ℤ b)
+less-again a b h k =
+    record { sfits = omega (arith, mag_sum (a -ℤ b) (neg_ℤ b), mag-neg b, difference-small a b h k) }
+
 pub again-fit : (p q m : Pair) → point_of q ≡ point_of p ⊕ opposite (point_of m) → SmallPair p → SmallPair m
     → DifferenceFits q m
 unfolding ◌⊕◌ opposite
@@ -248,10 +205,6 @@ again-fit p q m e a b =
     let y : q.y ≡ p.y -ℤ m.y = ap (λ z. z.row) e in
     let x : q.x ≡ p.x -ℤ m.x = ap (λ z. z.column) e in
     record {
-      down =
-          rw y
-          (record { sfits = omega (arith, mag_sum (p.y -ℤ m.y) (neg_ℤ m.y), mag-neg m.y, difference-small p.y m.y a.down b.down) });
-      across =
-          rw x
-          (record { sfits = omega (arith, mag_sum (p.x -ℤ m.x) (neg_ℤ m.x), mag-neg m.x, difference-small p.x m.x a.across b.across) });
+      down = rw y (less-again p.y m.y a.down b.down);
+      across = rw x (less-again p.x m.x a.across b.across);
     }

@@ -8,7 +8,6 @@ use mathlib.Core.List.{List, [], ◌∷◌, map}
 use borrow.Author.Tests.{lt-ltb, le-ltb, ltb-true}
 use Rattle.std.proofs.Math.Arith.{digits_lt, digits_div, digits_mod}
 use Rattle.std.proofs.Math.Dec.{T, ltb, ltb→lt}
-use Rattle.std.specs.Int.Signed.{non_neg}
 use Rattle.lists.specs.Lists.{◌∈◌, filter, any, all, range}
 use Rattle.lists.specs.ListLaws.{mem-map, map-find, any-mem, any-find, mem-filter, filter-mem, filter-test}
 use Rattle.lists.specs.Tests.{all_below}
@@ -204,10 +203,6 @@ module _ (h w : ℕ) (number : ℕ → ℕ) (g : ℕ) where
   on-page (pos y) (pos x) d e = refl
   on-page (pos y) (negsuc x) d e = let z : ◌≡◌ {A = Bool} true false = e in absurd (true≢false z)
   on-page (negsuc y) x d e = let z : ◌≡◌ {A = Bool} true false = d in absurd (true≢false z)
-
-pub non-neg : (y : ℤ) → lessℤ y (pos 0) ≡ false → T (non_neg y)
-non-neg (pos y) e = tt
-non-neg (negsuc y) e = absurd (true≢false e)
 
 -- the loop that tests every image
 module _ (h w : ℕ) (ids : List ℕ) (g : ℕ) (o : List ℕ) (r : ℕ) (v : Point) where
