@@ -2,16 +2,8 @@
 use mathlib.Core.Path.{sym, ap, ap₂, ◌∙◌}
 use Rattle.shapes.specs.Pairs.{point_of, turn_by}
 use Rattle.shapes.specs.PairLaws.{small-back, signs-read, turns-read}
-use Rattle.transforms.specs.BoxLaws.{signs-reversed, turn-reversed}
+use Rattle.transforms.specs.BoxLaws.{turn-reversed}
 use Rattle.transforms.proofs.apply_back.Goals as goal
-
-pub turn-requires : goal.turn-requires
-turn-requires c =
-    let b = signs-reversed (signs-read c.args.row c.signs_at.ensures) in (
-      rw c.reversed.ensures b,
-      rw (small-back c.args.y c.requires.1) c.requires.1,
-      rw (small-back c.args.x c.requires.2) c.requires.2,
-    )
 
 pub returns : goal.returns
 returns c =

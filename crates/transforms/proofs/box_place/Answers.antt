@@ -28,12 +28,6 @@ less-back n h = to_z-of_z {w = w32} {z = to_z w32 n -ℤ pos 33} (less-fits n h)
 less-small : (n : ℕ) → n < 66 → Small (to_z w32 (of_z w32 (to_z w32 n -ℤ pos 33)))
 less-small n h = rw (less-back n h) (omega (arith, mag_sum (pos n) (negsuc 32)))
 
-pub overflow_sub-result : goal.overflow_sub-result
-overflow_sub-result c = less-fits (c.args.i / 66) (omega arith)
-
-pub overflow_sub-result-2 : goal.overflow_sub-result-2
-overflow_sub-result-2 c = less-fits (c.args.i % 66) (omega arith)
-
 pub returns : goal.returns
 unfolding box_at flat_place ◌⊕◌
 returns c = (

@@ -1,7 +1,6 @@
 -- `transforms::of_image` meets its contract: the coordinates are small, and are read back as they were.
 use mathlib.Core.Path.{refl, sym, ap, ap₂, ◌∙◌}
-use mir.Syntax.{w32}
-use mir.Facts.{to_z-of_z}
+use borrow.Author.Rules.{rules}
 use Rattle.rules.specs.Groups.{entry}
 use Rattle.rules.specs.Turns.{apply}
 use Rattle.laws.specs.PointLaws.{point-eq}
@@ -18,10 +17,9 @@ pub returns : goal.returns
 unfolding of_image
 returns c =
     let a = c.apply_back-q in
-    let q = c.struct_told-3-1.given in
     c.has_cell.ensures
     ∙ ap (has_cell c.args.h c.args.w (entry (numbers_in c.args.units.now)) c.args.g)
-    (point-eq refl (to_z-of_z {w = w32} (record { sfits = q.0.1 })) (to_z-of_z {w = w32} (record { sfits = q.1.0.1 }))
+    (point-eq refl (search rules) (search rules)
     ∙ (sym (undo-turn c.args.row (point_of a.result))
     ∙ ap (apply (turn_at (undone_by c.args.row)))
     (a.ensures

@@ -14,9 +14,6 @@ use Rattle.transforms.proofs.put_image.Goals as goal
 small : (c : After-least-m) → SmallPair c.least-m.result
 small c = near-small c.least-m.result c.least-m.ensures (near-least _ _ c.requires.1.spotted)
 
-pub least-m-requires : goal.least-m-requires
-least-m-requires c = (c.requires.0, c.requires.1.spotted)
-
 pub put_cells-at-requires : goal.put_cells-at-requires
 put_cells-at-requires c =
     let u = c.requires.1 in (

@@ -44,12 +44,6 @@ joints-requires c =
     let p = c.places.ensures in
     unit-placed c.requires.0 (part-is (goal.at.joints-requires c).Else-count_of-u) p.0 p.1
 
-pub list_rows-listed-requires : goal.list_rows-listed-requires
-list_rows-listed-requires c = c.joints.ensures.0
-
-pub put_listed-requires : goal.put_listed-requires
-put_listed-requires c = (c.joints.ensures.0, c.joints.ensures.1, c.list_rows-listed.ensures, c.requires.1)
-
 pub returns : goal.returns
 returns c =
     let t = sym (unit-transforms c.requires.0 c.args.colours.now c.args.borders.now c.groups_of-units.ensures
