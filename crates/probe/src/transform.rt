@@ -1,9 +1,9 @@
 // For tests alone: the transforms of a board's units. The board is given as an image.
-ghost use Rattle.std.specs.Prelude.{◌≡◌, length, set};
+ghost use Rattle.std.specs.Prelude.{◌≡◌, [], ◌∷◌, length, set};
 ghost use Rattle.std.proofs.lemmas.List.Edits.{sets};
 ghost use Rattle.probe.specs.ProbeTransform.{counts_of, answer_in, memory_in};
 
-use board::Outcome;
+use board::Refusal;
 use transforms::Transformed;
 
 // Stores a count, where there is a place for it.
@@ -15,16 +15,31 @@ fn put_count(counts: &mut [usize], i: usize, n: usize)
     }
 }
 
-// Stores an answer: the outcome's number, how many transforms the unit has, how many cells and how many connections the
-// one asked for has.
-fn put_counts(counts: &mut [usize], a: Transformed)
+// Stores a refusal's number, or 0, and three counts, from the start.
+fn put_four(
+    counts: &mut [usize],
+    number: usize,
+    listed: usize,
+    cells: usize,
+    connections: usize,
+)
+    ensures { counts.new ≡ sets counts.old 0 (number ∷ listed ∷ cells ∷ connections ∷ []) }
+{
+    put_count(counts, 0, number);
+    put_count(counts, 1, listed);
+    put_count(counts, 2, cells);
+    put_count(counts, 3, connections);
+}
+
+// Stores an answer: 0, how many transforms the unit has, how many cells and how many connections the one asked for has;
+// or a refusal's number, and no counts.
+fn put_counts(counts: &mut [usize], a: Result<Transformed, Refusal>)
     ensures { counts.new ≡ sets counts.old 0 (counts_of a) }
 {
-    let outcome = a.outcome;
-    put_count(counts, 0, board::number(outcome) as usize);
-    put_count(counts, 1, a.listed);
-    put_count(counts, 2, a.cells);
-    put_count(counts, 3, a.connections);
+    match a {
+        Ok(t) => put_four(counts, 0, t.listed, t.cells, t.connections),
+        Err(refusal) => put_four(counts, refusal.number() as usize, 0, 0, 0),
+    }
 }
 
 // Transform `k` of unit `u` of the board that the image s spells; an image of another length is alien.
@@ -34,15 +49,7 @@ pub fn probe_transform(s: &[u8], u: usize, k: usize, counts: &mut [usize], memor
         × (memory.new ≡ memory_in s.now u k memory.old) }
 {
     if s.len() != image::LENGTH {
-        put_counts(
-            counts,
-            Transformed {
-                outcome: Outcome::Alien,
-                listed: 0,
-                cells: 0,
-                connections: 0,
-            },
-        );
+        put_counts(counts, Err(Refusal::Alien));
         return;
     }
     let b = image::reading::board(s);
