@@ -9,7 +9,7 @@
 use Rattle.std.specs.Prelude.{◌≡◌, Bool, ◌&&◌, List, map, ℕ, ◌+◌, ◌-◌, ◌*◌, ◌/◌, ◌%◌, ◌≤◌, ◌<◌, pos, negsuc}
 use Rattle.std.proofs.Math.Path.{refl, ap, ap₂}
 use Rattle.std.proofs.lemmas.List.{take-take}
-use Rattle.std.proofs.Common.{length, take, drop, take_all, get_or-take, get_or-drop, min}
+use Rattle.std.proofs.Common.{length, take, drop, get_or-take, get_or-drop, min}
 use Rattle.std.proofs.Common.{sym, ◌∙◌, ⊎_elim, div-add-mod', arith, lt-ltb, le-ltb}
 use Rattle.std.proofs.Math.Bool.{true, false, cond, and-true}
 use mathlib.Core.List.Memᴰ
@@ -267,10 +267,7 @@ module _ {h w : ℕ} {us : List ℕ} {g : ℕ} (z : Sized h w) (u : UnitIn h w u
       omega (arith, part_length (cells_in us) (start_in us g) (start_in us (g + 1))) in
       rw (group-read i m) (copy-unit-low z u (start_in us g + i) (omega arith) (omega arith))
 
--- a list as a part of itself, and its first eight
-pub part-all : (l : List ℕ) → part l 0 (length l) ≡ l
-part-all l = take_all (length l - 0) l (omega arith)
-
+-- the first eight cells of a group
 pub part-soon : (cells : List ℕ) (first last : ℕ) → first ≤ last → last ≤ length cells
     → part cells first (soon_end first last) ≡ take (min (length (part cells first last)) 8) (part cells first last)
 part-soon cells first last a b =

@@ -131,6 +131,10 @@ module _ (w : ℕ) (cells offs mates : List ℕ) (from : ℕ) where
       )
       d
 
+-- a list is the whole of itself
+pub part-all : {A : Type 0} (l : List A) → part l 0 (length l) ≡ l
+part-all l = take_all (length l - 0) l (omega arith)
+
 -- each cell of a part of a list of cells is on the page
 pub part-cells : {h w : ℕ} {cells : List ℕ} {from to : ℕ} → Cells h w cells from to
     → (i : ℕ) → i < length (part cells from to) → get_or (part cells from to) i 0 < h * w

@@ -2,11 +2,9 @@
 // origins of a row at once; there a placement is read from its last connection on, and its first wall is the blocker.
 ghost use Rattle.std.specs.Prelude.{◌≡◌, ℕ, ◌+◌, ◌*◌, ◌/◌, ◌%◌, ◌<◌, get_or, length, replicate};
 ghost use Rattle.lists.specs.Lists.{flat_map};
-ghost use Rattle.lists.specs.Parts.{part};
 ghost use Rattle.rules.specs.Flat.{Sized};
 ghost use Rattle.groups.specs.Grouping.{cells_in, starts_in};
 ghost use Rattle.groups.specs.Parts.{part_of};
-ghost use Rattle.reasons.specs.Arrays.{Cells};
 ghost use Rattle.reasons.specs.Memory.{Spare, Wrote};
 ghost use Rattle.shapes.specs.Raising.{ys_in, xs_in, Raised};
 ghost use Rattle.adjacent.specs.Mates.{mates_in, Beside};
@@ -17,10 +15,10 @@ ghost use Rattle.stuck.specs.Survivors.{On, Survived, Lain, PlacesDrawn, no_wall
 ghost use Rattle.stuck.specs.Survivors.{block_in};
 
 use adjacent::Mates;
-use groups::{Grouping, cell_at, start_of};
+use groups::{Grouping, cells_of};
 use planes::{draw_planes, line_left};
 use reasons::append;
-use rules::{Literal, Placement, Side, index};
+use rules::{Literal, Placement, Side};
 use shapes::turned::Turned;
 
 // Draws the planes of a page's colours into memory that is 0: a border is clear if it joins one colour.
@@ -37,18 +35,15 @@ pub fn draw_places(h: usize, w: usize, places: &mut [u16; 1024])
     requires { Sized h w × (length places.old ≡ 1024) }
     ensures { PlacesDrawn h w places.new }
 {
-    let count = h * w;
     let mut y = 0;
     let mut x = 0;
-    let mut c = 0;
-    while c < count {
+    for c in 0..h * w {
         places[c] = (32 * y + x) as u16;
         x += 1;
         if x == w {
             x = 0;
             y += 1;
         }
-        c += 1;
     }
 }
 
@@ -66,10 +61,8 @@ pub fn survivors<'a>(
     ensures { Survived planes.now mask.now h turned.now n
         rows.new }
 {
-    let mut y = 0;
-    while y < h {
+    for y in 0..h {
         rows[y] = line_left(planes, mask[y], y, turned, n);
-        y += 1;
     }
 }
 
@@ -88,10 +81,12 @@ fn border_at(h: usize, w: usize, y: usize, x: usize) -> usize
 {
     let down = (y - 64) / 2;
     let across = (x - 64) / 2;
-    if (y - 64) % 2 == 1 {
-        return h * (w - 1) + (down * w + across);
+    let below = (y - 64) % 2 == 1;
+    if below {
+        h * (w - 1) + (down * w + across)
+    } else {
+        down * (w - 1) + across
     }
-    down * (w - 1) + across
 }
 
 // The placement with its origin at (y, x), where every connection joins one colour.
@@ -108,14 +103,12 @@ fn laid_back<'a>(
         × ((j : ℕ) → j < n → On h w (2 * y + get_or (ys_in turned.now) j 0) (2 * x + get_or (xs_in turned.now) j 0)) }
     ensures { result ≡ back_of h w borders.now turned.now y x n }
 {
-    let mut j = n;
-    while j > 0 {
-        j -= 1;
+    for j in (0..n).rev() {
         let border = border_at(
             h,
             w,
-            2 * y + turned[j] as usize,
-            2 * x + turned[2048 + j] as usize,
+            2 * y + usize::from(turned[j]),
+            2 * x + usize::from(turned[2048 + j]),
         );
         if borders[border] == 1 {
             return Placement::Blocked(border);
@@ -141,9 +134,10 @@ fn placed<'a>(
         x }
 {
     if has(rows[y], x) {
-        return laid_back(h, w, borders, turned, n, y, x);
+        laid_back(h, w, borders, turned, n, y, x)
+    } else {
+        Placement::Cannot
     }
-    Placement::Cannot
 }
 
 // Writes the blocker of the placement with its origin at the cell o, if it has one; gives the next place.
@@ -165,7 +159,7 @@ fn block_at<'a>(
         (block_in h w borders.now rows.now turned.now n o)
         memory.new result }
 {
-    let place = places[o] as usize;
+    let place = usize::from(places[o]);
     let Placement::Blocked(border) = placed(h, w, borders, rows, turned, n, place / 32, place % 32)
     else {
         return at;
@@ -180,7 +174,7 @@ fn block_at<'a>(
     )
 }
 
-// Writes the blockers of the placements at the cells from the place `from` of the list to the place `to`.
+// Writes the blockers of the placements at the cells of a group; gives the next place.
 fn block_group<'a>(
     memory: &mut [u16],
     start: usize,
@@ -191,20 +185,17 @@ fn block_group<'a>(
     rows: &'a [u64; 32],
     turned: &'a Turned,
     n: usize,
-    potential: &'a Grouping,
-    from: usize,
-    to: usize,
+    cells: &'a [u16],
 ) -> usize
     requires { Sized h w × Raised turned.now n × Lain h w rows.now turned.now n
-        × PlacesDrawn h w places.now × Cells h w (cells_in potential.now) from to
+        × PlacesDrawn h w places.now × ((i : ℕ) → i < length cells.now → get_or cells.now i 0 < h * w)
         × Spare memory.old start }
     ensures { Wrote memory.old start
         (flat_map (block_in h w borders.now rows.now turned.now n)
-        (part (cells_in potential.now) from to)) memory.new result }
+        cells.now) memory.new result }
 {
     let mut at = start;
-    let mut i = from;
-    while i < to {
+    for o in cells {
         at = block_at(
             memory,
             at,
@@ -215,9 +206,8 @@ fn block_group<'a>(
             rows,
             turned,
             n,
-            cell_at(potential, i),
+            usize::from(*o),
         );
-        i += 1;
     }
     at
 }
@@ -244,11 +234,8 @@ pub fn block_mates<'a>(
         (part_of (cells_in potential.now) (starts_in potential.now) Q))
         (mates_in mates.now)) memory.new result }
 {
-    let count = index(mates[1024]);
     let mut at = start;
-    let mut i = 0;
-    while i < count {
-        let q = mates[i] as usize;
+    for mate in &mates[..usize::from(mates[1024])] {
         at = block_group(
             memory,
             at,
@@ -259,11 +246,8 @@ pub fn block_mates<'a>(
             rows,
             turned,
             n,
-            potential,
-            start_of(potential, q),
-            start_of(potential, q + 1),
+            cells_of(potential, usize::from(*mate)),
         );
-        i += 1;
     }
     at
 }

@@ -12,7 +12,6 @@ use board::Board;
 use groups::Grouping;
 use reasons::edge;
 use reasons::scans::scan_walls;
-use rules::index;
 
 // Writes Edge of each of the groups in the list of mates; gives the next place.
 fn edges_of<'a>(
@@ -32,13 +31,10 @@ fn edges_of<'a>(
         (edges_in h w colours.now borders.now (numbers_in potential.now)
         (mates_in mates.now)) memory.new result × (flagged.new ≡ no_flags) }
 {
-    let count = index(mates[1024]);
     let mut at = start;
-    let mut i = 0;
-    while i < count {
-        let q = index(mates[i]);
+    for mate in &mates[..usize::from(mates[1024])] {
+        let q = usize::from(*mate);
         at = edge(memory, at, h, w, colours, borders, potential, q, flagged);
-        i += 1;
     }
     at
 }
@@ -48,12 +44,8 @@ fn flag_mates(mates: &Mates, flagged: &mut [u8; Board::CELL_LIMIT])
     requires { Low mates.now × (flagged.old ≡ no_flags) }
     ensures { flagged.new ≡ flags_of (mates_in mates.now) }
 {
-    let count = index(mates[1024]);
-    let mut i = 0;
-    while i < count {
-        let q = index(mates[i]);
-        flagged[q] = 1;
-        i += 1;
+    for mate in &mates[..usize::from(mates[1024])] {
+        flagged[usize::from(*mate)] = 1;
     }
 }
 

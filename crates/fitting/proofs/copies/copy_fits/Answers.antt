@@ -5,7 +5,8 @@ use lib.ListN.{length}
 use Rattle.lists.specs.PartLaws.{all-ends, all-next, all_done}
 use Rattle.rules.specs.Codes.{states_in}
 use Rattle.laws.specs.FlatLaws.{row_of_lem}
-use Rattle.fitting.specs.CopyLaws.{shift_of, copied-cells, group-some, group-first, group-low, part-all}
+use Rattle.fitting.specs.CopyLaws.{shift_of, copied-cells, group-some, group-first, group-low}
+use Rattle.planes.specs.MaskLaws.{part-all}
 use Rattle.fitting.proofs.copies.copy_fits.Goals.{In-loop-c, After-cell_clear}
 use Rattle.fitting.proofs.copies.copy_fits.Goals as goal
 

@@ -11,7 +11,8 @@ use Rattle.reasons.specs.CellLaws.{cells-reach}
 use Rattle.planes.specs.MaskLaws.{part-cells}
 use Rattle.planes.specs.Laying.{fits_among}
 use Rattle.fitting.specs.Copies.{soon_in}
-use Rattle.fitting.specs.CopyLaws.{part-all, part-soon}
+use Rattle.fitting.specs.CopyLaws.{part-soon}
+use Rattle.planes.specs.MaskLaws.{part-all}
 use Rattle.fitting.proofs.copies.copy_fits_soon.Invariants.{fit}
 use Rattle.fitting.proofs.copies.copy_fits_soon.Goals as goal
 

@@ -33,7 +33,7 @@ slim s = mod-lt s.args.o (omega (arith, s.requires.0.columns))
 is : (c : After-placed) → c.placed.result
     ≡ placed_at c.args.h c.args.w c.args.borders.now c.args.rows.now c.args.turned.now
     c.args.n (c.args.o / c.args.w) (c.args.o % c.args.w)
-is c = c.placed.ensures
+is c = rw c.from-place.ensures at c.placed.ensures
     ∙ ap₂
     (placed_at c.args.h c.args.w c.args.borders.now c.args.rows.now c.args.turned.now
     c.args.n) (row (goal.at.After-placed c).Start) (column (goal.at.After-placed c).Start)
@@ -49,18 +49,6 @@ offset_bounds-places-o c = omega (arith, c.requires.4, (counts c.requires.0).cel
 
 pub bounds-places-o : goal.bounds-places-o
 bounds-places-o c = omega (arith, c.requires.4, (counts c.requires.0).cells)
-
-pub overflow_cast-place : goal.overflow_cast-place
-overflow_cast-place c =
-    omega (
-      arith,
-      row (goal.at.overflow_cast-place c).Start,
-      column (goal.at.overflow_cast-place c).Start,
-      low (goal.at.overflow_cast-place c).Start,
-      slim (goal.at.overflow_cast-place c).Start,
-      c.requires.0.tall,
-      c.requires.0.broad,
-    )
 
 pub placed-requires : goal.placed-requires
 placed-requires c = (

@@ -1,18 +1,20 @@
--- The loop's invariant: the blockers beside the groups before i are written.
-use mathlib.Core.Path.{◌≡◌}
+-- The loop's invariant: the blockers beside the groups before this one are written.
+use mathlib.Core.Path.{◌≡◌, ◌∙◌}
 use mathlib.Core.List.{List}
-use Prim.Native.Nat.{ℕ, ◌<◌}
+use Prim.Native.Nat.{ℕ, ◌+◌, ◌<◌}
 use native.Mathlib.Omega.{arith}
 use lib.ListN.{get_or}
 use Rattle.lists.specs.Lists.{flat_map}
 use Rattle.rules.specs.declared.Literal.{Literal}
-use Rattle.groups.specs.Grouping.{cells_in, starts_in}
+use Rattle.groups.specs.Grouping.{cells_in, starts_in, start_in}
 use Rattle.groups.specs.Parts.{part_of}
 use Rattle.reasons.proofs.MemoryLaws.{write-none, write-more}
 use Rattle.adjacent.specs.Mates.{mate_count}
+use Rattle.reasons.specs.Arrays.{Cells}
 use Rattle.adjacent.specs.BesideLaws.{mates-reach}
+use Rattle.planes.specs.MaskLaws.{mate-listed, mate-read, mates-passed, part-cells}
 use Rattle.stuck.specs.Survivors.{block_in}
-use Rattle.stuck.proofs.survivors.block_mates.Goals.{In-loop-i, Start}
+use Rattle.stuck.proofs.survivors.block_mates.Goals.{In-loop-mate, After-from-in-loop-mate, Start}
 use Rattle.stuck.proofs.survivors.block_mates.Goals as goal
 
 -- the blockers beside a group
@@ -22,65 +24,56 @@ each s q =
     (block_in s.args.h s.args.w s.args.borders.now s.args.rows.now s.args.turned.now s.args.n)
     (part_of (cells_in s.args.potential.now) (starts_in s.args.potential.now) q)
 
-pub loop-i-init : goal.loop-i-init
-loop-i-init c = (omega arith, write-none (each (goal.at.loop-i-init c).Start) c.args.mates.now 0 c.requires.5)
+pub loop-mate-init : goal.loop-mate-init
+loop-mate-init c = write-none (each (goal.at.loop-mate-init c).Start) c.args.mates.now 0 c.requires.5
 
-next : (t : In-loop-i) → t.loop-i.i < mate_count t.args.mates.now
-next t =
-    let e : t.index-count.result ≡ mate_count t.args.mates.now =
-    t.index-count.ensures in
-    omega (arith, t.loop-i-test.true)
+-- the unit that is read is one of the list
+next : (t : In-loop-mate) → t.loop-mate.mate-index < mate_count t.args.mates.now
+next t = mate-listed t.args.mates.now t.loop-mate.mate-index (rw t.from.ensures at t.loop-mate-test.true)
 
-low : (t : In-loop-i) → get_or t.args.mates.now t.loop-i.i 0 < 1024
-low t = t.requires.4.low _ (next t)
+mate : (c : After-from-in-loop-mate)
+    → c.from-in-loop-mate.result ≡ get_or c.args.mates.now c.loop-mate.mate-index 0
+mate c =
+    (rw c.from.ensures at c.from-in-loop-mate.ensures)
+    ∙ mate-read c.args.mates.now c.loop-mate.mate-index (next (goal.at.cells_of-requires c).In-loop-mate)
 
-pub offset_bounds-mates-i : goal.offset_bounds-mates-i
-offset_bounds-mates-i c = omega (arith, next c, c.requires.4.end)
+group : (c : After-from-in-loop-mate) → let q = c.from-in-loop-mate.result in
+    (q < 1024)
+    × Cells c.args.h c.args.w (cells_in c.args.potential.now) (start_in c.args.potential.now q)
+    (start_in c.args.potential.now (q + 1))
+group c =
+    let i = c.loop-mate.mate-index in
+    let l = next (goal.at.cells_of-requires c).In-loop-mate in
+    rw (mate c) (c.requires.4.low i l, c.requires.4.each i l)
 
-pub bounds-mates-i : goal.bounds-mates-i
-bounds-mates-i c = omega (arith, next (goal.at.bounds-mates-i c).In-loop-i, c.requires.4.end)
-
-pub overflow_cast-q : goal.overflow_cast-q
-overflow_cast-q c = omega (arith, low (goal.at.overflow_cast-q c).In-loop-i)
-
-pub start_of-requires : goal.start_of-requires
-start_of-requires c = omega (arith, low (goal.at.start_of-requires c).In-loop-i)
-
-pub overflow_add-q : goal.overflow_add-q
-overflow_add-q c = omega (arith, low (goal.at.overflow_add-q c).In-loop-i)
-
-pub start_of-requires-in-loop-i : goal.start_of-requires-in-loop-i
-start_of-requires-in-loop-i c = omega (arith, low (goal.at.start_of-requires-in-loop-i c).In-loop-i)
+pub cells_of-requires : goal.cells_of-requires
+cells_of-requires c = let g = group c in (g.0, g.1.order, g.1.end)
 
 pub block_group-at-requires : goal.block_group-at-requires
-block_group-at-requires c =
-    rw (c.start_of-in-loop-i.ensures, c.start_of.ensures) (
-      c.requires.0,
-      c.requires.1,
-      c.requires.2,
-      c.requires.3,
-      c.requires.4.each _ (next (goal.at.block_group-at-requires c).In-loop-i),
-      c.loop-i.invariant.1.spare,
-    )
-
-pub overflow_add-i : goal.overflow_add-i
-overflow_add-i c = omega (arith, next (goal.at.overflow_add-i c).In-loop-i, c.requires.4.end)
-
-pub loop-i-preserved : goal.loop-i-preserved
-unfolding part_of
-loop-i-preserved c = (
-  omega (arith, next (goal.at.loop-i-preserved c).In-loop-i),
-  write-more (each (goal.at.loop-i-preserved c).Start) c.args.mates.now _ _ (omega arith) c.loop-i.invariant.1
-      (omega (arith, next (goal.at.loop-i-preserved c).In-loop-i, mates-reach c.requires.4))
-      (rw (c.start_of-in-loop-i.ensures, c.start_of.ensures) at
-      c.block_group-at.ensures),
+block_group-at-requires c = (
+  c.requires.0,
+  c.requires.1,
+  c.requires.2,
+  c.requires.3,
+  rw c.cells_of.ensures (part-cells (group (goal.at.block_group-at-requires c).After-from-in-loop-mate).1),
+  c.loop-mate.invariant.spare,
 )
 
+pub loop-mate-preserved : goal.loop-mate-preserved
+unfolding part_of
+loop-mate-preserved c =
+    write-more (each (goal.at.loop-mate-preserved c).Start) c.args.mates.now 0 c.loop-mate.mate-index (omega arith)
+    c.loop-mate.invariant
+    (omega (arith, next (goal.at.loop-mate-preserved c).In-loop-mate, mates-reach c.requires.4))
+    (rw (← mate (goal.at.loop-mate-preserved c).After-from-in-loop-mate)
+    (rw c.cells_of.ensures at c.block_group-at.ensures))
+
 pub shape_of-memory : goal.shape_of-memory
-shape_of-memory c = c.loop-i.invariant.1.long
+shape_of-memory c = c.loop-mate.invariant.long
 
 pub returns : goal.returns
 returns c =
-    let n : c.index-count.result ≡ mate_count c.args.mates.now = c.index-count.ensures in
-    let e : c.loop-i.i ≡ mate_count c.args.mates.now = omega arith in
-    rw e at c.loop-i.invariant.1
+    let e : c.loop-mate.mate-index ≡ mate_count c.args.mates.now =
+    mates-passed c.args.mates.now c.loop-mate.mate-index (mates-reach c.requires.4)
+    (rw c.from.ensures at c.loop-mate.auto.mate-index-end) (rw c.from.ensures at c.loop-mate-test.false) in
+    rw e at c.loop-mate.invariant

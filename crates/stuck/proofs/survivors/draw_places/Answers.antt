@@ -12,9 +12,6 @@ use Rattle.stuck.proofs.survivors.draw_places.Goals.{In-loop-c}
 use Rattle.stuck.proofs.survivors.draw_places.Goals.{then-x-w, else-x-w}
 use Rattle.stuck.proofs.survivors.draw_places.Goals as goal
 
-pub overflow_mul-count : goal.overflow_mul-count
-overflow_mul-count c = omega (arith, (counts c.requires.0).cells)
-
 pub loop-c-init : goal.loop-c-init
 loop-c-init c =
     (omega arith, c.requires.1, omega arith, omega (arith, c.requires.0.columns), λ i h. absurd (omega arith))
@@ -65,12 +62,6 @@ overflow_add-x c = omega (arith, slim (goal.at.overflow_add-x c).In-loop-c)
 
 pub overflow_add-y : goal.overflow_add-y
 overflow_add-y c = omega (arith, low (goal.at.overflow_add-y c).In-loop-c)
-
-pub overflow_add-c : goal.overflow_add-c
-overflow_add-c c = omega (arith, few (goal.at.overflow_add-c c).In-loop-c)
-
-pub loop-c-smaller : goal.loop-c-smaller
-loop-c-smaller c = omega (arith, c.loop-c-test.true)
 
 pub loop-c-preserved : goal.loop-c-preserved
 loop-c-preserved c =

@@ -34,62 +34,12 @@ across-at : (c : In-loop-j) → let t = c.args.turned.now in
     let j = c.loop-j.j - 1 in get_or t (2048 + j) 0 ≡ get_or (xs_in t) j 0
 across-at c = section-at 2048 2048 _ _ (small c).place
 
-pub overflow_sub-j : goal.overflow_sub-j
-overflow_sub-j c = omega (arith, c.loop-j-test.true)
-
-pub overflow_mul-y : goal.overflow_mul-y
-overflow_mul-y c = omega (arith, c.requires.2)
-
-pub bounds-turned-j : goal.bounds-turned-j
-bounds-turned-j c = omega (arith, (small (goal.at.bounds-turned-j c).In-loop-j).place)
-
-pub overflow_cast-turned : goal.overflow_cast-turned
-overflow_cast-turned c =
-    omega (
-      arith,
-      down-at (goal.at.overflow_cast-turned c).In-loop-j,
-      (small (goal.at.overflow_cast-turned c).In-loop-j).row,
-    )
-
-pub overflow_add-y : goal.overflow_add-y
-overflow_add-y c =
-    omega (
-      arith,
-      down-at (goal.at.overflow_add-y c).In-loop-j,
-      (small (goal.at.overflow_add-y c).In-loop-j).row,
-      c.requires.2,
-    )
-
-pub overflow_mul-x : goal.overflow_mul-x
-overflow_mul-x c = omega (arith, c.requires.3)
-
-pub overflow_add-j : goal.overflow_add-j
-overflow_add-j c = omega (arith, (small (goal.at.overflow_add-j c).In-loop-j).place)
-
-pub bounds-turned-j-in-loop-j : goal.bounds-turned-j-in-loop-j
-bounds-turned-j-in-loop-j c = omega (arith, (small (goal.at.bounds-turned-j-in-loop-j c).In-loop-j).place)
-
-pub overflow_cast-turned-in-loop-j : goal.overflow_cast-turned-in-loop-j
-overflow_cast-turned-in-loop-j c =
-    omega (
-      arith,
-      across-at (goal.at.overflow_cast-turned-in-loop-j c).In-loop-j,
-      (small (goal.at.overflow_cast-turned-in-loop-j c).In-loop-j).column,
-    )
-
-pub overflow_add-x : goal.overflow_add-x
-overflow_add-x c =
-    omega (
-      arith,
-      across-at (goal.at.overflow_add-x c).In-loop-j,
-      (small (goal.at.overflow_add-x c).In-loop-j).column,
-      c.requires.3,
-    )
-
 pub border_at-border-requires : goal.border_at-border-requires
 border_at-border-requires c = (
   c.requires.0,
   rw (
+    c.from.ensures,
+    c.from-in-loop-j.ensures,
     down-at (goal.at.border_at-border-requires c).In-loop-j,
     across-at (goal.at.border_at-border-requires c).In-loop-j,
   ) (on (goal.at.border_at-border-requires c).In-loop-j),
@@ -103,7 +53,8 @@ border-is c =
     rw (
       ← down-at (goal.at.After-border_at-border c).In-loop-j,
       ← across-at (goal.at.After-border_at-border c).In-loop-j,
-    ) c.border_at-border.ensures
+    )
+    (rw (c.from.ensures, c.from-in-loop-j.ensures) at c.border_at-border.ensures)
 
 pub bounds-borders-border : goal.bounds-borders-border
 bounds-borders-border c =
@@ -123,9 +74,6 @@ returns-then-borders-border-eq1 c =
     ∙ back-wall c.args.h c.args.w c.args.borders.now c.args.turned.now c.args.y
     c.args.x l.j c.loop-j-test.true
     (ap (λ (b : ℕ). get_or c.args.borders.now b 0) (sym e) ∙ c.if-borders-border-eq1.true))
-
-pub loop-j-smaller : goal.loop-j-smaller
-loop-j-smaller c = omega (arith, c.loop-j-test.true)
 
 pub loop-j-preserved : goal.loop-j-preserved
 loop-j-preserved c =

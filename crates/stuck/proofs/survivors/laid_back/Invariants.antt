@@ -7,6 +7,3 @@ use Rattle.stuck.proofs.survivors.laid_back.Given as goal
 abbrev pub invariant-loop-j : goal.invariant-loop-j
 invariant-loop-j l =
     (l.j ≤ l.n) × (back_of l.h l.w l.borders l.turned l.y l.x l.n ≡ back_of l.h l.w l.borders l.turned l.y l.x l.j)
-
-abbrev pub decreases-loop-j : goal.decreases-loop-j
-decreases-loop-j l = l.j

@@ -21,8 +21,8 @@ returns-then-has c =
     c.args.n c.args.y c.args.x
     (sym c.has.ensures ∙ c.if-has.true))
 
-pub returns : goal.returns
-returns c =
+pub returns-else-has : goal.returns-else-has
+returns-else-has c =
     sym
     (drawn-places-none c.args.h c.args.w c.args.borders.now c.args.rows.now c.args.turned.now
     c.args.n c.args.y c.args.x (sym c.has.ensures ∙ c.if-has.false))

@@ -30,12 +30,6 @@ offset_bounds-rows-y c = omega (arith, low (goal.at.offset_bounds-rows-y c).In-l
 pub bounds-rows-y : goal.bounds-rows-y
 bounds-rows-y c = omega (arith, low (goal.at.bounds-rows-y c).In-loop-y)
 
-pub overflow_add-y : goal.overflow_add-y
-overflow_add-y c = omega (arith, low (goal.at.overflow_add-y c).In-loop-y)
-
-pub loop-y-smaller : goal.loop-y-smaller
-loop-y-smaller c = omega (arith, c.loop-y-test.true)
-
 pub loop-y-preserved : goal.loop-y-preserved
 loop-y-preserved c =
     let l = c.loop-y in (

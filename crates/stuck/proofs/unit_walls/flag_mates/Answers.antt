@@ -1,46 +1,39 @@
--- The loop's invariant: the groups before i are flagged, and no others.
-use mathlib.Core.Path.{◌≡◌}
+-- The loop's invariant: the groups before this one are flagged, and no others.
+use mathlib.Core.Path.{◌≡◌, ◌∙◌}
 use Prim.Native.Nat.{◌<◌}
 use native.Mathlib.Omega.{arith}
+use lib.ListN.{get_or}
 use Rattle.adjacent.specs.Mates.{mate_count}
+use Rattle.planes.specs.MaskLaws.{mate-listed, mate-read, mates-passed}
 use Rattle.stuck.specs.FlagLaws.{flagged-none, flagged-more, flagged-all}
-use Rattle.stuck.proofs.unit_walls.flag_mates.Goals.{In-loop-i}
+use Rattle.stuck.proofs.unit_walls.flag_mates.Goals.{In-loop-mate, After-from-in-loop-mate}
 use Rattle.stuck.proofs.unit_walls.flag_mates.Goals as goal
 
-pub loop-i-init : goal.loop-i-init
-loop-i-init c = (omega arith, rw c.requires.1 (flagged-none c.args.mates.now 0))
+pub loop-mate-init : goal.loop-mate-init
+loop-mate-init c = rw c.requires.1 (flagged-none c.args.mates.now 0)
 
--- the next group of the list
-next : (t : In-loop-i) → t.loop-i.i < mate_count
-    t.args.mates.now
-next t = omega (arith, t.loop-i-test.true, t.index-count.ensures)
+-- the unit that is read is one of the list
+next : (t : In-loop-mate) → t.loop-mate.mate-index < mate_count t.args.mates.now
+next t = mate-listed t.args.mates.now t.loop-mate.mate-index (rw t.from.ensures at t.loop-mate-test.true)
 
-pub offset_bounds-mates-i : goal.offset_bounds-mates-i
-offset_bounds-mates-i c = omega (arith, next c, c.requires.0.end)
+mate : (c : After-from-in-loop-mate)
+    → c.from-in-loop-mate.result ≡ get_or c.args.mates.now c.loop-mate.mate-index 0
+mate c =
+    (rw c.from.ensures at c.from-in-loop-mate.ensures)
+    ∙ mate-read c.args.mates.now c.loop-mate.mate-index (next (goal.at.After-from-in-loop-mate c).In-loop-mate)
 
-pub bounds-mates-i : goal.bounds-mates-i
-bounds-mates-i c = let p = c.requires.0 in omega (arith, next (goal.at.bounds-mates-i c).In-loop-i, p.end, p.long)
-
-pub bounds-flagged-q : goal.bounds-flagged-q
-bounds-flagged-q c = omega (arith, c.index-q.ensures, c.requires.0.each _ (next (goal.at.bounds-flagged-q c).In-loop-i))
-
-pub overflow_add-i : goal.overflow_add-i
-overflow_add-i c = omega (arith, next (goal.at.overflow_add-i c).In-loop-i, c.requires.0.end)
-
-pub loop-i-smaller : goal.loop-i-smaller
-loop-i-smaller c = omega (arith, c.loop-i-test.true)
-
-pub loop-i-preserved : goal.loop-i-preserved
-loop-i-preserved c = (
-  omega (arith, next (goal.at.loop-i-preserved c).In-loop-i),
-  rw c.index-q.ensures
-      (flagged-more c.args.mates.now 0 _ (omega arith)
-      (omega (arith, next (goal.at.loop-i-preserved c).In-loop-i, c.requires.0.end, c.requires.0.long))
-      (c.requires.0.each _ (next (goal.at.loop-i-preserved c).In-loop-i)) c.loop-i.invariant.1),
-)
+pub loop-mate-preserved : goal.loop-mate-preserved
+loop-mate-preserved c =
+    let i = c.loop-mate.mate-index in
+    let l = next (goal.at.loop-mate-preserved c).In-loop-mate in
+    rw (mate (goal.at.loop-mate-preserved c).After-from-in-loop-mate)
+    (flagged-more c.args.mates.now 0 i (omega arith) (omega (arith, l, c.requires.0.end, c.requires.0.long))
+    (c.requires.0.each i l) c.loop-mate.invariant)
 
 pub returns : goal.returns
 returns c =
-    let e : c.loop-i.i ≡ mate_count c.args.mates.now =
-    omega (arith, c.loop-i.invariant.0, c.loop-i-test.false, c.index-count.ensures) in
-    flagged-all (rw e at c.loop-i.invariant.1)
+    let l = c.requires.0 in
+    let e : c.loop-mate.mate-index ≡ mate_count c.args.mates.now =
+    mates-passed c.args.mates.now c.loop-mate.mate-index (omega (arith, l.end, l.long))
+    (rw c.from.ensures at c.loop-mate.auto.mate-index-end) (rw c.from.ensures at c.loop-mate-test.false) in
+    flagged-all (rw e at c.loop-mate.invariant)
