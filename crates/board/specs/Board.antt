@@ -17,8 +17,6 @@
 --   popped b          the board with the last border taken off the stack and made undecided
 --   decide_refusal m bs n  how a decide of border n ends, where the m borders are bs: refused, or done
 --   decide_of b l     what a decide returns
---   count_after o n   the count of a board after a decide with the outcome o, where it was n
---   tallied_by o t v  its tally after a decide with the outcome o of a border to the code v, where it was t
 --   undo_refusal n    how an undo ends, where the stack has n borders: refused, or done
 --   undo_of b         what an undo returns
 --   SmallClues ks     the clues fit 32 bits
@@ -130,13 +128,6 @@ decide_of b l =
     (returned (Err Alien) b)
     (ended_by b (pushed b l.border (code_of l.side))
     (decide_refusal (border_count_of b) b.borders l.border))
-
--- one more where the decide is done
-abbrev pub count_after : Outcome → ℕ → ℕ
-count_after o n = cond (is_done o) (n + 1) n
-
-abbrev pub tallied_by : Outcome → Tally → ℕ → Tally
-tallied_by o t v = cond (is_done o) (tally_more t (side_in v)) t
 
 -- 8: "undo with an empty stack"; on a board that is not alien
 unfoldable pub undo_refusal : ℕ → Outcome

@@ -1,45 +1,44 @@
 // The conditions that a board's places are tested by.
-ghost use Rattle.std.specs.Prelude.{◌≡◌, false, ℕ, ◌<◌, ◌≤◌, eqb, length, get_or, replicate};
-ghost use Rattle.board.specs.Alien.{colours_right, clue_right, clues_right, entries_right, Flags};
-ghost use Rattle.board.specs.Alien.{border_right, borders_by, zeros_from, clue_zero, zero_clues_from};
+ghost use Rattle.std.specs.Prelude.{◌≡◌, Bool, false, ℕ, ◌<◌, ◌≤◌, length, get_or, replicate};
+ghost use Rattle.lists.specs.Tests.{all_between};
+ghost use Rattle.board.specs.Alien.{colours_right, clues_right, entries_right, Flags, border_right, borders_by};
 
 use crate::Board;
-use rules::index;
 
-// Whether the first n colours are 0 or 1. Here and below there is no exit at the first wrong place: the loop then takes
-// many at a time.
+// Whether the elements from one place to another pass a test. Here and below there is no exit at the first that fails
+// it: the loop then takes many at a time.
+pub fn all_between<T: Copy, F: Fn(T) -> bool>(
+    elements: &[T],
+    from: usize,
+    to: usize,
+    test: F,
+) -> bool
+    requires within { to ≤ length elements.now }
+    requires callable { F.IsAlwaysCallable test }
+    ensures { (passes : T → Bool) (z : T) → ((x : T) (b : Bool) → F.post test x b → b ≡ passes x)
+        → result ≡ all_between from to (λ i. passes (get_or elements.now i z)) }
+{
+    let mut right = true;
+    for i in from..to {
+        right &= test(elements[i]);
+    }
+    right
+}
+
+// Whether the first n colours are 0 or 1.
 pub fn colours_right(colours: &[u8], n: usize) -> bool
     requires { n ≤ length colours.now }
     ensures { result ≡ colours_right colours.now n }
 {
-    let mut right = true;
-    let mut i: usize = 0;
-    while i < n {
-        right = right & (colours[i] <= 1);
-        i += 1;
-    }
-    right
+    all_between(colours, 0, n, |c| c <= 1)
 }
 
-// Whether k is a clue, or -1 for none.
-fn clue_right(k: i32) -> bool
-    ensures { result ≡ clue_right k }
-{
-    -1 <= k
-}
-
-// Whether the first n clues are right.
+// Whether the first n clues are clues, or -1 for none.
 pub fn clues_right(clues: &[i32], n: usize) -> bool
     requires { n ≤ length clues.now }
     ensures { result ≡ clues_right clues.now n }
 {
-    let mut right = true;
-    let mut i: usize = 0;
-    while i < n {
-        right = right & clue_right(clues[i]);
-        i += 1;
-    }
-    right
+    all_between(clues, 0, n, |k| -1 <= k)
 }
 
 // Whether the first count entries are numbers of so many borders. They are compared as numbers of 16 bits, of which the
@@ -49,13 +48,7 @@ pub fn entries_right(stack: &[u16; Board::BORDER_LIMIT], borders: usize, count: 
     ensures { result ≡ entries_right stack.now borders count }
 {
     let end = borders as u16;
-    let mut right = true;
-    let mut i: usize = 0;
-    while i < count {
-        right = right & (stack[i] < end);
-        i += 1;
-    }
-    right
+    all_between(stack, 0, count, |e| e < end)
 }
 
 // Whether none of the first count entries is an earlier one; flags which borders they are.
@@ -69,12 +62,10 @@ pub fn flag_stack(
     ensures { Flags stack.now count result seen.new }
 {
     let mut once = true;
-    let mut i: usize = 0;
-    while i < count {
-        let e = index(stack[i]);
-        once = once & !seen[e];
+    for entry in &stack[..count] {
+        let e = usize::from(*entry);
+        once &= !seen[e];
         seen[e] = true;
-        i += 1;
     }
     once
 }
@@ -83,21 +74,10 @@ pub fn flag_stack(
 fn border_right(v: u8, on: bool) -> bool
     ensures { result ≡ border_right v on }
 {
-    if v == 0 {
-        return !on;
-    }
-    if v <= 2 { on } else { false }
-}
-
-// 1 for a border that is not right, else 0.
-fn fault(v: u8, on: bool) -> u8
-    ensures { eqb result 0 ≡ border_right v on }
-{
-    if border_right(v, on) { 0 } else { 1 }
+    v <= 2 && (v == 0) != on
 }
 
 // Whether the first n borders are right, by the flags of those on the stack.
-// It gathers faults as numbers, so that the loop takes 16 borders at a time.
 pub fn borders_right<'a>(
     borders: &'a [u8; Board::BORDER_LIMIT],
     seen: &'a [bool; Board::BORDER_LIMIT],
@@ -106,57 +86,9 @@ pub fn borders_right<'a>(
     requires { n ≤ 1984 }
     ensures { result ≡ borders_by borders.now seen.now n }
 {
-    let mut wrong: u8 = 0;
-    let mut i: usize = 0;
-    while i < n {
-        wrong = wrong | fault(borders[i], seen[i]);
-        i += 1;
+    let mut right = true;
+    for i in 0..n {
+        right &= border_right(borders[i], seen[i]);
     }
-    wrong == 0
-}
-
-// Whether the bytes from a place on are 0.
-pub fn zeros_from(places: &[u8], from: usize) -> bool
-    ensures { result ≡ zeros_from places.now from }
-{
-    let mut any: u8 = 0;
-    let mut i = from;
-    while i < places.len() {
-        any = any | places[i];
-        i += 1;
-    }
-    any == 0
-}
-
-// Whether the stack entries from a place on are 0.
-pub fn zero_entries_from(places: &[u16], from: usize) -> bool
-    ensures { result ≡ zeros_from places.now from }
-{
-    let mut any: u16 = 0;
-    let mut i = from;
-    while i < places.len() {
-        any = any | places[i];
-        i += 1;
-    }
-    any == 0
-}
-
-// Whether k is 0.
-fn clue_zero(k: i32) -> bool
-    ensures { result ≡ clue_zero k }
-{
-    if 0 <= k { k <= 0 } else { false }
-}
-
-// Whether the clues from a place on are 0.
-pub fn zero_clues_from(places: &[i32], from: usize) -> bool
-    ensures { result ≡ zero_clues_from places.now from }
-{
-    let mut zero = true;
-    let mut i = from;
-    while i < places.len() {
-        zero = zero & clue_zero(places[i]);
-        i += 1;
-    }
-    zero
+    right
 }

@@ -1,13 +1,13 @@
-// A board by value: its limits, fresh, decide, undo and the alien test; decide on a board's lent arrays.
+// A board: its limits, the alien test, decide and undo, in place and by value, and making one.
 #![tactic(auto)]
 
 ghost use Rattle.std.specs.Prelude.{◌≡◌, ◌-◌, ◌<◌, ◌≤◌, get_or};
-ghost use Rattle.rules.specs.Codes.{code_of, side_in};
+ghost use Rattle.rules.specs.Codes.{side_in};
 ghost use Rattle.board.specs.Board.{refusal_number, number_of, zero_board, returned, fresh_of};
-ghost use Rattle.board.specs.Board.{side_count, pushed, popped, decide_of, count_after, tallied_by, undo_of};
-ghost use Rattle.board.specs.Alien.{size_right, cells_of, borders_of, puzzle_right, decided_in, unused_in, board_of};
-ghost use Rattle.board.specs.Alien.{is_alien};
+ghost use Rattle.board.specs.Board.{side_count, pushed, popped, decide_of, undo_of};
+ghost use Rattle.board.specs.Alien.{size_right, cells_of, borders_of, puzzle_right, decided_in, unused_in, is_alien};
 
+use crate::conditions::all_between;
 use rules::{Literal, Tally};
 
 mod conditions; // conditions.rt: the conditions on colours, clues, stack entries, borders and unused places
@@ -78,19 +78,11 @@ pub fn number(outcome: Result<(), Refusal>) -> u32
 }
 
 // Whether height and width are 1 to 32.
+#[tactic(auto, unfolding(crate::specs::Alien::size_right))]
 pub fn size_right(h: usize, w: usize) -> bool
     ensures { result ≡ size_right h w }
 {
-    if h < 1 {
-        return false;
-    }
-    if h > Board::SIDE_LIMIT {
-        return false;
-    }
-    if w < 1 {
-        return false;
-    }
-    w <= Board::SIDE_LIMIT
+    1 <= h && h <= Board::SIDE_LIMIT && 1 <= w && w <= Board::SIDE_LIMIT
 }
 
 // How many cells a page of that size has; 0 where it is no page's.
@@ -122,6 +114,7 @@ fn refused(refusal: Refusal) -> Returned
 }
 
 // Whether so many cells have a right colour and a right clue.
+#[tactic(auto, unfolding(crate::specs::Alien::puzzle_right))]
 fn cells_right<'a>(
     cells: usize,
     colours: &'a [u8; Board::CELL_LIMIT],
@@ -130,11 +123,7 @@ fn cells_right<'a>(
     requires { cells ≤ 1024 }
     ensures { result ≡ puzzle_right cells colours.now clues.now }
 {
-    if conditions::colours_right(colours, cells) {
-        conditions::clues_right(clues, cells)
-    } else {
-        false
-    }
+    conditions::colours_right(colours, cells) && conditions::clues_right(clues, cells)
 }
 
 // Whether the stack has each decided one of so many borders once, and nothing else, and the tally is that of these
@@ -149,18 +138,13 @@ fn decisions_right<'a>(
     requires { total ≤ 1984 }
     ensures { result ≡ decided_in total borders.now stack.now count tally }
 {
-    if total < count {
+    if total < count || !conditions::entries_right(stack, total, count) {
         return false;
     }
-    if conditions::entries_right(stack, total, count) {
-        let mut seen = [false; Board::BORDER_LIMIT];
-        if conditions::flag_stack(stack, count, &mut seen) {
-            if conditions::borders_right(borders, &seen, total) {
-                return tallies::tally_right(total, borders, count, tally);
-            }
-        }
-    }
-    false
+    let mut seen = [false; Board::BORDER_LIMIT];
+    conditions::flag_stack(stack, count, &mut seen)
+        && conditions::borders_right(borders, &seen, total)
+        && tallies::tally_right(total, borders, count, tally)
 }
 
 // Whether every place is 0 that the cells, the borders and the stack do not use.
@@ -176,19 +160,10 @@ fn unused_zero<'a>(
     ensures { result ≡ unused_in cells total colours.now clues.now borders.now
         stack.now count }
 {
-    if conditions::zeros_from(colours, cells) {
-        if conditions::zero_clues_from(clues, cells) {
-            if conditions::zeros_from(borders, total) {
-                conditions::zero_entries_from(stack, count)
-            } else {
-                false
-            }
-        } else {
-            false
-        }
-    } else {
-        false
-    }
+    all_between(colours, cells, Board::CELL_LIMIT, |c| c == 0)
+        && all_between(clues, cells, Board::CELL_LIMIT, |k| k == 0)
+        && all_between(borders, total, Board::BORDER_LIMIT, |v| v == 0)
+        && all_between(stack, count, Board::BORDER_LIMIT, |e| e == 0)
 }
 
 impl Board {
@@ -232,8 +207,8 @@ impl Board {
         let board = Board {
             height,
             width,
-            colours: padding::padded_colours(colours),
-            clues: padding::padded_clues(clues),
+            colours: padding::padded(colours, 0),
+            clues: padding::padded(clues, 0),
             borders: [0u8; Board::BORDER_LIMIT],
             stack: [0u16; Board::BORDER_LIMIT],
             count: 0,

@@ -1,33 +1,13 @@
-// A puzzle's colours and clues as a board's arrays: the unused places are 0.
-ghost use Rattle.std.specs.Prelude.{◌≡◌, ◌≤◌, pos, length};
+// A puzzle's lists as a board's arrays: the unused places are filled up.
+ghost use Rattle.std.specs.Prelude.{◌≡◌, ◌≤◌, length};
 ghost use Rattle.lists.specs.Padded.{padded};
 
-use crate::Board;
-
-// The colours, then 0.
-pub fn padded_colours(colours: &[u8]) -> [u8; Board::CELL_LIMIT]
-    requires { length colours.now ≤ 1024 }
-    ensures { result ≡ padded 1024 0 colours.now }
+// The values, then the filler.
+pub fn padded<T: Copy, const N: usize>(values: &[T], filler: T) -> [T; N]
+    requires { length values.now ≤ N }
+    ensures { result ≡ padded N filler values.now }
 {
-    let mut out = [0u8; Board::CELL_LIMIT];
-    let mut i: usize = 0;
-    while i < colours.len() {
-        out[i] = colours[i];
-        i += 1;
-    }
-    out
-}
-
-// The clues, then 0.
-pub fn padded_clues(clues: &[i32]) -> [i32; Board::CELL_LIMIT]
-    requires { length clues.now ≤ 1024 }
-    ensures { result ≡ padded 1024 (pos 0) clues.now }
-{
-    let mut out = [0i32; Board::CELL_LIMIT];
-    let mut i: usize = 0;
-    while i < clues.len() {
-        out[i] = clues[i];
-        i += 1;
-    }
+    let mut out = [filler; N];
+    out[..values.len()].copy_from_slice(values);
     out
 }

@@ -1,74 +1,39 @@
 // The tally of a board: kept by decides and undos, and tested.
-ghost use Rattle.std.specs.Prelude.{◌≡◌, ◌-◌, ◌<◌, ◌≤◌, eqb};
-ghost use Rattle.lists.specs.Count.{bit};
+ghost use Rattle.std.specs.Prelude.{◌≡◌, ◌-◌, ◌<◌, ◌≤◌};
 ghost use Rattle.rules.specs.Codes.{side_in};
 ghost use Rattle.rules.specs.Book.{tally_of, same_tally};
 ghost use Rattle.board.specs.Alien.{code_count};
 ghost use Rattle.board.specs.Board.{side_count, tally_more, tally_less};
 
 use crate::Board;
-use rules::{Tally, index};
+use rules::Tally;
 
 // The tally with one border more decided, to the code v.
-pub fn more(t: Tally, v: u8) -> Tally
+pub fn more(mut t: Tally, v: u8) -> Tally
     requires { (0 < t.undecided) × (t.walls ≤ 1984) × (t.opens ≤ 1984) }
     ensures { result ≡ tally_more t (side_in v) }
 {
-    let left = t.undecided - 1;
+    t.undecided -= 1;
     if v == 1 {
-        Tally {
-            undecided: left,
-            walls: t.walls + 1,
-            opens: t.opens,
-        }
+        t.walls += 1;
     } else {
-        Tally {
-            undecided: left,
-            walls: t.walls,
-            opens: t.opens + 1,
-        }
+        t.opens += 1;
     }
+    t
 }
 
 // The tally with one border less decided, which had the code v.
-pub fn less(t: Tally, v: u8) -> Tally
+pub fn less(mut t: Tally, v: u8) -> Tally
     requires { (t.undecided ≤ 1984) × (0 < side_count t (side_in v)) }
     ensures { result ≡ tally_less t (side_in v) }
 {
-    let left = t.undecided + 1;
+    t.undecided += 1;
     if v == 1 {
-        Tally {
-            undecided: left,
-            walls: t.walls - 1,
-            opens: t.opens,
-        }
+        t.walls -= 1;
     } else {
-        Tally {
-            undecided: left,
-            walls: t.walls,
-            opens: t.opens - 1,
-        }
+        t.opens -= 1;
     }
-}
-
-// Whether two tallies have the same counts.
-pub fn same(t: Tally, u: Tally) -> bool
-    ensures { result ≡ same_tally t u }
-{
-    if t.undecided != u.undecided {
-        return false;
-    }
-    if t.walls != u.walls {
-        return false;
-    }
-    t.opens == u.opens
-}
-
-// 1 for a wall, else 0.
-fn wall(v: u8) -> u16
-    ensures { result ≡ bit (eqb v 1) }
-{
-    if v == 1 { 1 } else { 0 }
+    t
 }
 
 // How many of the first n borders are walls. They are counted in 16 bits, so that the compiler takes eight borders at a
@@ -78,12 +43,10 @@ fn walls(borders: &[u8; Board::BORDER_LIMIT], n: usize) -> usize
     ensures { result ≡ code_count borders.now n 1 }
 {
     let mut found: u16 = 0;
-    let mut i: usize = 0;
-    while i < n {
-        found += wall(borders[i]);
-        i += 1;
+    for i in 0..n {
+        found += u16::from(borders[i] == 1);
     }
-    index(found)
+    usize::from(found)
 }
 
 // Whether the tally is that of so many borders, of which count are decided: then the walls tell the opens.
@@ -103,5 +66,5 @@ pub fn tally_right(
         walls: found,
         opens: count - found,
     };
-    same(t, right)
+    t == right
 }

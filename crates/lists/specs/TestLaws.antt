@@ -88,6 +88,11 @@ pub between_none : (a n : ℕ) (f : ℕ → Bool) → n ≤ a → all_between a 
 unfolding all_between
 between_none a n f h = all-every n _ (λ i l. rw (lt-ltb i a (omega arith)))
 
+-- every number from 0 on is every number
+pub between_first : (n : ℕ) (f : ℕ → Bool) → all_between 0 n f ≡ all_below n f
+unfolding all_between
+between_first n f = all-cong n _ f (λ i h. rw (le-ltb i 0 (omega arith)))
+
 pub between-at : (a n : ℕ) (f : ℕ → Bool) (i : ℕ) → all_between a n f ≡ true → a ≤ i → i < n → f i ≡ true
 unfolding all_between
 between-at a n f i e h k = rw (le-ltb i a h) at (all-at n (λ j. ltb j a || f j) i e k)

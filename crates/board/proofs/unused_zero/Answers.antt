@@ -1,29 +1,51 @@
--- `unused_zero` meets its contract: each return cites the law of its case.
-use mathlib.Core.Path.{◌∙◌, sym}
-use Rattle.board.specs.Cases.{unused-borders, unused-clues, unused-colours, unused-stack}
+-- `unused_zero` meets its contract: the closures are the definition's tests.
+use Rattle.std.proofs.Common.{◌≡◌, ◌∙◌, sym, ◌&&◌, eqb, pos, rules, arith}
+use Rattle.std.proofs.lemmas.Grind.{common_steps}
+use Rattle.board.specs.Alien.{zeros_from, clue_zero, zero_clues_from, unused_in}
+use Rattle.board.proofs.unused_zero.Goals.{then-all_between, else-all_between, then-all_between-2, else-all_between-2}
+use Rattle.board.proofs.unused_zero.Goals.{Joined-all_between-2}
 use Rattle.board.proofs.unused_zero.Goals as goal
 
-pub returns-then-zeros_from-2 : goal.returns-then-zeros_from-2
-returns-then-zeros_from-2 c =
-    unused-stack _ _ _ _ _ _ _ _
-    (sym c.zeros_from.ensures ∙ c.if-zeros_from.true)
-    (sym c.zero_clues_from.ensures ∙ c.if-zero_clues_from.true)
-    (sym c.zeros_from-then-zero_clues_from.ensures ∙ c.if-zeros_from-2.true)
-    c.zero_entries_from.ensures
+-- what the first test says, the first two and the first three
+colours : (c : Joined-all_between-2) → c.all_between.result ≡ zeros_from c.args.colours.now c.args.cells
+unfolding zeros_from
+colours c = rw c.told-colours (c.all_between.ensures (λ x. eqb x 0) 0 (λ x b p. search rules))
 
-pub returns-else-zeros_from-2 : goal.returns-else-zeros_from-2
-returns-else-zeros_from-2 c =
-    let a = c.args in
-    unused-borders _ _ a.stack.now a.count _ _ _
-    (sym c.zeros_from.ensures ∙ c.if-zeros_from.true)
-    (sym c.zero_clues_from.ensures ∙ c.if-zero_clues_from.true)
-    (sym c.zeros_from-then-zero_clues_from.ensures ∙ c.if-zeros_from-2.false)
+clues : (c : Joined-all_between-2)
+    → let a = c.args in
+    c.if-all_between.value ≡ zeros_from a.colours.now a.cells && zero_clues_from a.clues.now a.cells
+unfolding zero_clues_from
+clues c =
+    elim c.if-all_between.branch [
+      | then-all_between w ↦
+          w.value-is
+          ∙ rw (sym (colours c) ∙ w.if-all_between.true, c.told-clues)
+          (w.all_between-then-all_between.ensures clue_zero (pos 0) (λ x b p. grind (arith, common_steps)))
+      | else-all_between w ↦ w.value-is ∙ w.if-all_between.false ∙ rw (sym (colours c) ∙ w.if-all_between.false)
+    ]
 
-pub returns-else-zero_clues_from : goal.returns-else-zero_clues_from
-returns-else-zero_clues_from c =
-    unused-clues _ _ _ _ _ _ _
-    (sym c.zeros_from.ensures ∙ c.if-zeros_from.true)
-    (sym c.zero_clues_from.ensures ∙ c.if-zero_clues_from.false)
+borders : (c : Joined-all_between-2)
+    → let a = c.args in
+    c.if-all_between-2.value
+    ≡ zeros_from a.colours.now a.cells && zero_clues_from a.clues.now a.cells && zeros_from a.borders.now a.total
+unfolding zeros_from
+borders c =
+    elim c.if-all_between-2.branch [
+      | then-all_between-2 w ↦
+          w.value-is
+          ∙ rw (sym (clues c) ∙ w.if-all_between-2.true, c.told-borders)
+          (w.all_between-then-all_between-2.ensures (λ x. eqb x 0) 0 (λ x b p. search rules))
+      | else-all_between-2 w ↦ w.value-is ∙ w.if-all_between-2.false ∙ rw (sym (clues c) ∙ w.if-all_between-2.false)
+    ]
 
-pub returns-else-zeros_from : goal.returns-else-zeros_from
-returns-else-zeros_from c = unused-colours _ _ _ _ _ _ _ (sym c.zeros_from.ensures ∙ c.if-zeros_from.false)
+pub returns-then-all_between-3 : goal.returns-then-all_between-3
+unfolding unused_in zeros_from
+returns-then-all_between-3 c =
+    rw (sym (borders (goal.at.returns-then-all_between-3 c).Joined-all_between-2) ∙ c.if-all_between-3.true, c.told-stack)
+    (c.all_between-then-all_between-3.ensures (λ x. eqb x 0) 0 (λ x b p. search rules))
+
+pub returns-else-all_between-3 : goal.returns-else-all_between-3
+unfolding unused_in
+returns-else-all_between-3 c =
+    c.if-all_between-3.false
+    ∙ rw (sym (borders (goal.at.returns-else-all_between-3 c).Joined-all_between-2) ∙ c.if-all_between-3.false)

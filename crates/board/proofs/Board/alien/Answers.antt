@@ -1,6 +1,5 @@
 -- `alien` meets its contract: the tests are the definition's, on the page's counts.
-use Rattle.std.proofs.Common.{◌≡◌, ◌∙◌, sym, ◌*◌, ◌&&◌, true, arith}
-use Rattle.rules.specs.Flat.{border_count}
+use Rattle.std.proofs.Common.{◌≡◌, ◌∙◌, sym, ◌&&◌, true, arith}
 use Rattle.board.specs.Alien.{size_right, puzzle_right, decided_in, unused_in}
 use Rattle.board.specs.Cases.{alien-size, alien-tests}
 use Rattle.board.specs.ConditionLaws.{borders-of, borders-of-le, cells-of, cells-of-le, sized}
@@ -28,11 +27,12 @@ returns c =
     let s = size (goal.at.returns c).Else-not-size_right in
     let n = c.cell_count-cells.result in
     let m = c.border_count-total.result in
-    let both : c.if-cells_right.value ≡ puzzle_right n b.colours b.clues && decided_in m b.borders b.stack b.count b.tally =
+    let both : c.if-cells_right.value ≡ puzzle_right n b.colours b.clues
+    && decided_in m b.borders b.stack b.count b.tally =
     elim c.if-cells_right.branch [
       | then-cells_right w ↦
           w.value-is ∙ w.decisions_right.ensures ∙ rw (sym c.cells_right.ensures ∙ w.if-cells_right.true)
-      | else-cells_right w ↦ 
+      | else-cells_right w ↦
           w.value-is ∙ w.if-cells_right.false ∙ rw (sym c.cells_right.ensures ∙ w.if-cells_right.false)
     ] in
     let all : c.if-decisions_right.native ≡ puzzle_right n b.colours b.clues
@@ -41,7 +41,7 @@ returns c =
     elim c.if-decisions_right.branch [
       | then-decisions_right w ↦
           w.native-is ∙ w.unused_zero-native.ensures ∙ rw (sym both ∙ w.if-decisions_right.true)
-      | else-decisions_right w ↦ 
+      | else-decisions_right w ↦
           w.native-is ∙ w.if-decisions_right.false ∙ rw (sym both ∙ w.if-decisions_right.false)
     ] in
     alien-tests b n m _ s (c.cell_count-cells.ensures ∙ cells-of (sized s))

@@ -43,14 +43,14 @@ returns-in-Err c =
     ∙ fresh-refused _ _ _ _ (size (goal.at.returns-in-Err c).Else-not-size_right) _
     (sym c.in-Err.is ∙ ends (goal.at.returns-in-Err c).After-puzzle_refusal-tested)
 
-pub padded_colours-requires : goal.padded_colours-requires
-padded_colours-requires c = let f = fit c in omega (arith, f.0.colours, f.1)
+pub padded-requires : goal.padded-requires
+padded-requires c = let f = fit c in omega (arith, f.0.colours, f.1)
 
-pub padded_clues-requires : goal.padded_clues-requires
-padded_clues-requires c = let f = fit (goal.at.padded_clues-requires c).In_default in omega (arith, f.0.clues, f.1)
+pub padded-requires-2 : goal.padded-requires-2
+padded-requires-2 c = let f = fit (goal.at.padded-requires-2 c).In_default in omega (arith, f.0.clues, f.1)
 
 pub returns : goal.returns
 returns c =
     let s = size (goal.at.returns c).Else-not-size_right in
-    rw (c.padded_colours.ensures, c.padded_clues.ensures, c.border_count.ensures ∙ borders-of (sized s))
+    rw (c.padded.ensures, c.padded-2.ensures, c.border_count.ensures ∙ borders-of (sized s))
     (fresh-free _ _ _ _ s (sym c.in_default.is ∙ ends (goal.at.returns c).After-puzzle_refusal-tested))
