@@ -27,18 +27,18 @@ pub struct Board {
     pub tally: Tally,
 }
 
-// 01's words for unfit calls.
+// 01's words for unfit calls, with their numbers.
 #[derive(Clone, Copy, PartialEq, Eq)]
 pub enum Refusal {
-    Size,
-    Ragged,
-    Colour,
-    Clue,
-    Alien,
-    Border,
-    Taken,
-    Bare,
-    Short,
+    Size = 1,
+    Ragged = 2,
+    Colour = 3,
+    Clue = 4,
+    Alien = 5,
+    Border = 6,
+    Taken = 7,
+    Bare = 8,
+    Short = 9,
 }
 
 // What making a board, a decide or an undo returns.
@@ -53,17 +53,7 @@ impl Refusal {
     pub fn number(self) -> u32
         ensures { result ≡ refusal_number self }
     {
-        match self {
-            Refusal::Size => 1,
-            Refusal::Ragged => 2,
-            Refusal::Colour => 3,
-            Refusal::Clue => 4,
-            Refusal::Alien => 5,
-            Refusal::Border => 6,
-            Refusal::Taken => 7,
-            Refusal::Bare => 8,
-            Refusal::Short => 9,
-        }
+        self as u32
     }
 }
 
