@@ -1,18 +1,18 @@
 -- The calls on an image by cases: another length, refused, done; and the bytes that a done call rewrites.
-use Rattle.std.specs.Prelude.{◌≡◌, refl, Bool, true, false, cond, List, ℕ, ◌+◌, ◌-◌, ◌<◌, ◌≤◌, eqb, ltb, length, get_or}
+use Rattle.std.specs.Prelude.{◌≡◌, refl, Bool, true, false, cond, List, ℕ, ◌+◌, ◌-◌, ◌<◌, ◌≤◌, eqb, ltb, length, get_or, Ok, Err}
 use Rattle.std.proofs.Common.{ap, sym, ◌∙◌, arith}
 use borrow.Author.Tests.{ne_eqb}
 use Rattle.rules.specs.Codes.{code_of, side_in}
 use Rattle.board.specs.declared.Board.{Board}
 use Rattle.rules.specs.declared.Literal.{Literal}
 use Rattle.rules.specs.declared.Tally.{Tally}
-use Rattle.board.specs.declared.Outcome.TheVariants.{Done, Alien, Border, Taken, Bare}
+use Rattle.board.specs.declared.Refusal.TheVariants.{Alien, Border, Taken, Bare}
 use Rattle.board.specs.declared.Returned.{Returned}
 use Rattle.board.specs.Alien.{border_count_of, is_alien}
 use Rattle.board.specs.Board.{number_of, returned, pushed, popped, decide_refusal, ended_by, decide_of, undo_refusal}
 use Rattle.board.specs.Board.{undo_of}
 use Rattle.board.specs.Board.{side_count, tally_more, tally_less, Typed}
-use Rattle.board.specs.Cases.{decide-ends}
+use Rattle.board.specs.Cases.{done-is, decide-ends}
 use Rattle.board.specs.NativeLaws.{native-has, borders-fit, tally-fits, free-places}
 use Rattle.board.proofs.DecideLaws.{Decided, decided-is, done-returned, Undone, undone-is, side-counted}
 use Rattle.image.specs.Image.{spelled_board, image_of, right_length, Bytes, side_of, decide_literal, ImageCall, decide}
@@ -32,7 +32,8 @@ refused-board b (decide n d) h =
 
     of : Bool → Bool → Bool → Returned
     of x y z =
-        cond x (returned Alien b) (ended_by b (pushed b n (code_of l.side)) (cond y (cond z Done Taken) Border))
+        cond x (returned (Err Alien) b)
+        (ended_by b (pushed b n (code_of l.side)) (cond y (cond z (Ok tt) (Err Taken)) (Err Border)))
 
     go : (x y z : Bool) → (number_of (of x y z).outcome ≡ 0 → ⊥) → (of x y z).board ≡ b
     go true y z f = refl
@@ -42,7 +43,7 @@ refused-board b (decide n d) h =
 refused-board b undo h = go (is_alien b) (eqb b.count 0) h
   where
     of : Bool → Bool → Returned
-    of x y = cond x (returned Alien b) (ended_by b (popped b) (cond y Bare Done))
+    of x y = cond x (returned (Err Alien) b) (ended_by b (popped b) (cond y (Err Bare) (Ok tt)))
 
     go : (x y : Bool) → (number_of (of x y).outcome ≡ 0 → ⊥) → (of x y).board ≡ b
     go true y f = refl
@@ -96,7 +97,7 @@ module _ (s : List ℕ) (h : Bytes s) (e : length s ≡ 11082) (b : Board) (q : 
         × (b.tally.opens ≤ 1984)
     decide-fits =
         free-places b (native-has b decided.known) n
-        (ap number_of (decide-ends b (decide_literal n d) decided.known) ∙ call-number-is (decide n d) ∙ z)
+        (done-is _ (ap number_of (decide-ends b (decide_literal n d) decided.known) ∙ call-number-is (decide n d) ∙ z))
 
     -- the image s with the border x decided to the code v
     abbrev with_decided : ℕ → ℕ → List ℕ

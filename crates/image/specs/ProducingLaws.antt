@@ -3,7 +3,7 @@
 --   image-exactly    an image is not alien exactly if it is produced
 --   call-five        a decide or an undo answers 5 exactly if the image is not produced
 --   check-five       so does a check
-use Rattle.std.specs.Prelude.{◌≡◌, refl, Bool, true, false, cond, List, ◌↔◌, ℕ, ◌+◌, ◌<◌, eqb, ltb, length, get_or}
+use Rattle.std.specs.Prelude.{◌≡◌, refl, Bool, true, false, cond, List, ◌↔◌, ℕ, ◌+◌, ◌<◌, eqb, ltb, length, get_or, Ok, Err}
 use Rattle.std.proofs.Common.{ap, sym, ◌∙◌, arith}
 use Rattle.std.proofs.Math.Path.{transport}
 use Rattle.std.proofs.lemmas.Bool.{false≢true, eqb-false}
@@ -13,7 +13,7 @@ use Rattle.board.specs.declared.Board.{Board}
 use Rattle.board.specs.declared.Returned.{Returned}
 use Rattle.board.specs.Alien.{border_count_of, is_alien}
 use Rattle.board.specs.Board.{number_of, decide_refusal, decide_of, undo_refusal, undo_of}
-use Rattle.board.specs.declared.Outcome.TheVariants.{Done, Alien, Border, Taken, Bare, Short}
+use Rattle.board.specs.declared.Refusal.TheVariants.{Alien, Border, Taken, Bare, Short}
 use Rattle.board.specs.View.{puzzle_of, states_of}
 use Rattle.reach.specs.Produced as board
 use Rattle.reach.specs.Produced.{Produced}
@@ -84,13 +84,13 @@ unfolding decide_of decide_refusal undo_of undo_refusal
 call-else b k (decide n d) =
     rw k (go (ltb n (border_count_of b)) (eqb (get_or b.borders n 0) 0))
   where
-    go : (x y : Bool) → number_of (cond x (cond y Done Taken) Border) ≡ 5 → ⊥
+    go : (x y : Bool) → number_of (cond x (cond y (Ok tt) (Err Taken)) (Err Border)) ≡ 5 → ⊥
     go true true e = eqb-false 0 5 refl e
     go true false e = eqb-false 7 5 refl e
     go false y e = eqb-false 6 5 refl e
 call-else b k undo = rw k (go (eqb b.count 0))
   where
-    go : (x : Bool) → number_of (cond x Bare Done) ≡ 5 → ⊥
+    go : (x : Bool) → number_of (cond x (Err Bare) (Ok tt)) ≡ 5 → ⊥
     go true e = eqb-false 8 5 refl e
     go false e = eqb-false 0 5 refl e
 

@@ -4,7 +4,7 @@
 --   number-image, after-image   a decide or an undo on the image of a board
 --   step-number, step-codes, step-image  any call on it: its number, the memory, and the image afterwards
 --   image-demand                demand 3 for a list of calls on images
-use Rattle.std.specs.Prelude.{◌≡◌, Bool, true, false, cond, List, [], ◌∷◌, map, ℕ, ◌/◌, ◌≤◌, ltb, ℤ, length}
+use Rattle.std.specs.Prelude.{◌≡◌, Bool, true, false, cond, List, [], ◌∷◌, map, ℕ, ◌/◌, ◌≤◌, ltb, ℤ, length, Ok, Err}
 use Rattle.std.proofs.Math.Path.{refl, ap, sym}
 use Rattle.std.proofs.Common.{ap₂, ◌∙◌, arith, ltb-false}
 use Rattle.rules.specs.declared.Side.{Side}
@@ -13,10 +13,7 @@ use Rattle.rules.specs.declared.Literal.{Literal}
 use Rattle.rules.specs.Codes.{side_code, puzzle_in}
 use Rattle.rules.specs.Check.{Verdict, pass, conflict, check}
 use Rattle.board.specs.declared.Board.{Board}
-use Rattle.board.specs.declared.Outcome.{Outcome}
-use Rattle.board.specs.declared.Outcome.TheVariants.{Done, Size, Ragged, Colour, Clue}
-use Rattle.board.specs.declared.Outcome.TheVariants.{Alien, Border, Taken, Bare, Short}
-use Rattle.board.specs.Board.{number_of, decide_of, undo_of}
+use Rattle.board.specs.Board.{Outcome, number_of, decide_of, undo_of}
 use Rattle.board.specs.Accepted.{Accepted, made_board}
 use Rattle.board.specs.View.{puzzle_of, states_of}
 use Rattle.board.proofs.StepLaws.{BoardKept, decide-kept, undo-kept}
@@ -94,16 +91,8 @@ module _ (b : Board) (P : Proper b) where
 
 -- ---- any call
 answer-ended : (o : Outcome) → answer_number (ended o) ≡ number_of o
-answer-ended Done = refl
-answer-ended Size = refl
-answer-ended Ragged = refl
-answer-ended Colour = refl
-answer-ended Clue = refl
-answer-ended Alien = refl
-answer-ended Border = refl
-answer-ended Taken = refl
-answer-ended Bare = refl
-answer-ended Short = refl
+answer-ended (Ok u) = refl
+answer-ended (Err e) = refl
 
 -- what the call gives on the board
 abbrev given : Board → Sent → Given

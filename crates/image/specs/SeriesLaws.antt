@@ -1,9 +1,8 @@
 -- Calls on an image that is not alien, by cases from its bytes; and a list of them.
-use Rattle.std.specs.Prelude.{◌≡◌, Bool, true, false, cond, List, [], ◌∷◌, length, take, drop}
+use Rattle.std.specs.Prelude.{◌≡◌, Bool, true, false, cond, List, [], ◌∷◌, length, take, drop, is_err, Ok, Err}
 use Rattle.std.proofs.Math.Path.{refl, sym}
 use Rattle.std.proofs.Common.{ap, ap₂, ◌∙◌, length-drop, drop_of_length-le, drop-cons, length-take-le}
 use Prim.Native.Nat.{ℕ, suc, ◌+◌, ◌-◌, ◌*◌, ◌<◌, ◌≤◌}
-use Rattle.std.proofs.Math.Decide.{ℕ_discrete}
 use native.Mathlib.Omega.{arith}
 use borrow.Author.Tests.{eq-eqb, ne_eqb}
 use Rattle.std.proofs.Math.ListN.{get_or}
@@ -13,18 +12,17 @@ use Rattle.lists.specs.TableLaws.{length-table, get_d-table}
 use Rattle.rules.specs.declared.Literal.{Literal}
 use Rattle.rules.specs.declared.Tally.{Tally}
 use Rattle.rules.specs.Codes.{code_of, side_in}
-use Rattle.board.specs.declared.Outcome.{Outcome}
 use Rattle.board.specs.declared.Returned.{Returned}
 use Rattle.board.specs.Alien.{borders_of, border_count_of, is_alien}
-use Rattle.board.specs.Board.{number_of, side_count, tally_more, tally_less, decide_refusal, undo_refusal}
-use Rattle.board.specs.Cases.{decide-alien, decide-ends, undo-alien, undo-ends}
+use Rattle.board.specs.Board.{Outcome, number_of, side_count, tally_more, tally_less, decide_refusal, undo_refusal}
+use Rattle.board.specs.Cases.{refused-number, decide-alien, decide-ends, undo-alien, undo-ends}
 use Rattle.board.specs.ConditionLaws.{borders-of, borders-of-le}
 use Rattle.board.specs.NativeLaws.{native-has}
 use Rattle.image.specs.Image.{pair, spelled_tally, spelled_board, Bytes, Proper, decide_literal, ImageCall, decide}
 use Rattle.image.specs.Image.{undo, number_by, board_by, right_length, image_alien, image_number, image_after}
 use Rattle.image.specs.Image.{image_written}
 use Rattle.image.specs.RoundLaws.{long-is, known-board, image-known}
-use Rattle.image.specs.CallLaws.{length-after, call-number-is, after-refused, decide-fits, image-decide-after}
+use Rattle.image.specs.CallLaws.{call-number-is, after-refused, decide-fits, image-decide-after}
 use Rattle.image.specs.CallLaws.{undo-fits, image-undo-after}
 use Rattle.image.specs.RunLaws.{proper-after}
 use Rattle.image.specs.Series.{code_call, done_of, image_done, SeriesStepped}
@@ -81,11 +79,12 @@ module _ (s : List ℕ) (h : Bytes s) (k : image_alien s ≡ false) where
   unfolding spelled_board
   entry-is i l = get_d-table 1984 (λ j. pair s (7108 + 2 * j)) i 0 l
 
-  refused : (a : ImageCall) (n : ℕ) → n ≡ image_number s a → (n ≡ 0 → ⊥) → SeriesStepped s a s n
-  refused a n e f =
+  refused : (a : ImageCall) (o : Outcome) → number_of o ≡ image_number s a → (number_of o ≡ 0 → ⊥)
+      → SeriesStepped s a s o
+  refused a o e f =
       record { number = e; after = after-refused s h long (spelled_board s) refl a (λ z. f (e ∙ z)) }
 
-  stepped : {a : ImageCall} {t : List ℕ} → image_number s a ≡ 0 → t ≡ image_after s a → SeriesStepped s a t 0
+  stepped : {a : ImageCall} {t : List ℕ} → image_number s a ≡ 0 → t ≡ image_after s a → SeriesStepped s a t (Ok tt)
   stepped z e = record { number = sym z; after = e }
 
   -- a decide, from what the code has: its literal l, the count m of the page's borders, and how its tests end
@@ -108,8 +107,8 @@ module _ (s : List ℕ) (h : Bytes s) (k : image_alien s ≡ false) where
           ∙ decide-ends b (decide_literal n d) proper.known)
           ∙ by-board (decide n d)
 
-      pub decide-not : (number_of o ≡ 0 → ⊥) → SeriesStepped s (decide n d) s (number_of o)
-      decide-not f = refused (decide n d) (number_of o) decide-number f
+      pub decide-not : (number_of o ≡ 0 → ⊥) → SeriesStepped s (decide n d) s o
+      decide-not f = refused (decide n d) o decide-number f
 
       -- one that is done
       module _ (z : number_of o ≡ 0) (c : ℕ) (e : c ≡ pair s 7106) (t : Tally) (g : t ≡ spelled_tally s) where
@@ -122,7 +121,7 @@ module _ (s : List ℕ) (h : Bytes s) (k : image_alien s ≡ false) where
             rw (named, e ∙ sym count-is, g ∙ sym tally-is) r
 
         pub decide-step : {v : ℕ} {u : Tally} {a : List ℕ} → v ≡ code_of l.side → u ≡ tally_more t (side_in v)
-            → a ≡ image_written s l.border v (c + 1) c l.border u → SeriesStepped s (decide n d) a 0
+            → a ≡ image_written s l.border v (c + 1) c l.border u → SeriesStepped s (decide n d) a (Ok tt)
         decide-step {v} {u} {a} x k w =
             stepped decided
             (image-decide-after s h long (spelled_board s) refl n d decided l v u a y x
@@ -138,8 +137,8 @@ module _ (s : List ℕ) (h : Bytes s) (k : image_alien s ≡ false) where
     undo-number =
         ap number_of (r ∙ ap undo_refusal (sym counted) ∙ undo-ends (spelled_board s) proper.known) ∙ by-board undo
 
-    pub undo-not : (number_of o ≡ 0 → ⊥) → SeriesStepped s undo s (number_of o)
-    undo-not f = refused undo (number_of o) undo-number f
+    pub undo-not : (number_of o ≡ 0 → ⊥) → SeriesStepped s undo s o
+    undo-not f = refused undo o undo-number f
 
     module _ (z : number_of o ≡ 0) where
       undone : image_number s undo ≡ 0
@@ -172,7 +171,7 @@ module _ (s : List ℕ) (h : Bytes s) (k : image_alien s ≡ false) where
               rw (g ∙ sym tally-is, ← border-is n undo-room) (f.3, rw entry f.4)
 
           pub undo-step : {u : Tally} {a : List ℕ} → u ≡ tally_less t (side_in (get_or s (5122 + n) 0))
-              → a ≡ image_written s n 0 (m - 1) (m - 1) 0 u → SeriesStepped s undo a 0
+              → a ≡ image_written s n 0 (m - 1) (m - 1) 0 u → SeriesStepped s undo a (Ok tt)
           undo-step {u} {a} k w =
               stepped undone
               (image-undo-after s h long (spelled_board s) refl undone n u a entry
@@ -232,9 +231,11 @@ module _ {start codes : List ℕ} {i : ℕ} {s : List ℕ} (R : Running start co
   here : drop i codes ≡ get_or codes i 0 ∷ drop (suc i) codes
   here = drop-cons codes i 0 l
 
-  pub running-next : {t : List ℕ} → Bytes t → SeriesStepped s call t 0 → Running start codes (i + 1) t
+  pub running-next : {t : List ℕ} (o : Outcome) → Bytes t → SeriesStepped s call t o → is_err o ≡ false
+      → Running start codes (i + 1) t
   unfolding done_of image_done
-  running-next {t} h S =
+  running-next (Err r) h S f = absurd (let z : ◌≡◌ {A = ℕ} 0 1 = cc in omega arith)
+  running-next {t} (Ok u) h S f =
       let e = eq-eqb (image_number s call) 0 (sym S.number) in
       let o : i + 1 ≡ suc i = omega arith in
       let n : i + suc (done_of t (drop (suc i) codes)) ≡ suc i + done_of t (drop (suc i) codes) = omega arith in
@@ -247,11 +248,12 @@ module _ {start codes : List ℕ} {i : ℕ} {s : List ℕ} (R : Running start co
         image = R.image ∙ rw (here, e, ← S.after);
       })
 
-  pub running-stop : {t : List ℕ} {r : ℕ} → SeriesStepped s call t r → (r ≡ 0 → ⊥) → (i ≡ done_of start codes)
-      × (t ≡ image_done start codes)
+  pub running-stop : {t : List ℕ} (o : Outcome) → SeriesStepped s call t o → is_err o ≡ true
+      → (i ≡ done_of start codes) × (t ≡ image_done start codes)
   unfolding done_of image_done
-  running-stop S g =
-      let n : image_number s call ≡ 0 → ⊥ = λ z. g (S.number ∙ z) in
+  running-stop (Ok u) S g = absurd (let z : ◌≡◌ {A = ℕ} 0 1 = cc in omega arith)
+  running-stop (Err r) S g =
+      let n : image_number s call ≡ 0 → ⊥ = λ z. refused-number r (S.number ∙ z) in
       let e = ne_eqb (image_number s call) 0 n in
       let f = after-refused s R.bytes (long s R.bytes R.known) (spelled_board s) refl call n in
       (sym (R.number ∙ rw (here, e) (omega arith)), S.after ∙ sym f ∙ sym (R.image ∙ rw (here, e)))

@@ -8,7 +8,7 @@ ghost use Rattle.calls.specs.Known.{KnownBoard, found_in};
 ghost use Rattle.image.specs.Image.{image_alien, decide_literal, decide, undo, image_number, image_after};
 ghost use Rattle.image.specs.Image.{is_short, bytes_after, check_number, check_bytes};
 
-use board::Board;
+use board::{Board, Refusal};
 use calls::Answer;
 use rules::{Literal, Side};
 
@@ -32,20 +32,11 @@ pub const TALLY: usize = 11076;
 
 pub const LENGTH: usize = 11082;
 
-// The numbers of an alien image and of short memory.
-const ALIEN: u32 = 5;
-
-const SHORT: u32 = 9;
-
 // Whether decides and undos cannot produce the image.
 pub fn alien(image: &[u8]) -> bool
     ensures { result ≡ image_alien image.now }
 {
-    if image.len() != LENGTH {
-        return true;
-    }
-    let b = reading::board(image);
-    b.alien()
+    image.len() != LENGTH || reading::board(image).alien()
 }
 
 // The literal of a decide on an image; side 0 is open, any other wall.
@@ -63,9 +54,9 @@ pub fn dbchoco_decide(image: &mut [u8], border: u32, side: u32) -> u32
     ensures bytes { image.new ≡ image_after image.old (decide border side) }
 {
     if alien(image) {
-        return ALIEN;
+        return Refusal::Alien.number();
     }
-    series::decided(image, border, side)
+    board::number(series::decided(image, border, side))
 }
 
 // Takes the last decision of the image back. The refusal's number, or 0.
@@ -74,9 +65,9 @@ pub fn dbchoco_undo(image: &mut [u8]) -> u32
     ensures bytes { image.new ≡ image_after image.old undo }
 {
     if alien(image) {
-        return ALIEN;
+        return Refusal::Alien.number();
     }
-    series::undone(image)
+    board::number(series::undone(image))
 }
 
 // The number of a check's answer of a board that is not alien; a reason's literals are written to the codes, and from
@@ -106,7 +97,7 @@ fn answered<'a>(
             writing::put_codes(memory, codes, n);
             65536 + (n as u32)
         }
-        Answer::Refused(o) => board::number(o),
+        Answer::Refused(refusal) => refusal.number(),
     }
 }
 
@@ -117,26 +108,23 @@ pub fn dbchoco_check(image: &[u8], memory: &mut [u8]) -> u32
     ensures bytes { memory.new ≡ check_bytes image.now memory.old }
 {
     if image.len() != LENGTH {
-        return ALIEN;
+        return Refusal::Alien.number();
     }
     let b = reading::board(image);
-    let h = b.height;
-    let w = b.width;
-    let t = b.tally;
-    if board::is_alien(h, w, &b.colours, &b.clues, &b.borders, &b.stack, b.count, t) {
-        return ALIEN;
+    if b.alien() {
+        return Refusal::Alien.number();
     }
     if writing::short(memory) {
-        return SHORT;
+        return Refusal::Short.number();
     }
     let mut codes = [0u16; Board::BORDER_LIMIT];
     answered(
-        h,
-        w,
+        b.height,
+        b.width,
         &b.colours,
         &b.clues,
         &b.borders,
-        t.undecided,
+        b.tally.undecided,
         &mut codes,
         memory,
     )

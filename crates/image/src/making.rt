@@ -8,8 +8,8 @@ ghost use Rattle.image.specs.Image.{clue_bytes, image_of};
 ghost use Rattle.image.specs.Making.{fresh_number, fresh_image};
 
 use crate::writing::put_two;
-use crate::{ALIEN, CLUES, COLOURS, LENGTH, TALLY};
-use board::Board;
+use crate::{CLUES, COLOURS, LENGTH, TALLY};
+use board::{Board, Refusal};
 
 // Stores the clues at their places, each low byte first, two's complement.
 fn put_clues(s: &mut [u8], clues: &[i32])
@@ -51,14 +51,12 @@ pub fn dbchoco_fresh(
         image.old }
 {
     let made = Board::fresh(height as usize, width as usize, colours, clues);
-    let outcome = made.outcome;
-    let number = board::number(outcome);
-    if number != 0 {
-        return number;
+    if let Err(refusal) = made.outcome {
+        return refusal.number();
     }
     let other = image.len() != LENGTH;
     if other {
-        return ALIEN;
+        return Refusal::Alien.number();
     }
     put_fresh(image, height as u8, width as u8, colours, clues);
     0

@@ -8,7 +8,7 @@ ghost use Rattle.image.specs.Series.{SeriesStepped, code_call, done_of, image_do
 use crate::reading::{tally, two};
 use crate::writing::rewrite;
 use crate::{BORDERS, COUNT, STACK, alien, literal};
-use board::tallies;
+use board::{Refusal, refusals, tallies};
 
 // The code of an undo in a list of calls. Any other is that of a literal, which is decided.
 const UNDO: u16 = 65535;
@@ -21,47 +21,38 @@ fn border_count(image: &[u8]) -> usize
     board::border_count(usize::from(image[0]), usize::from(image[1]))
 }
 
-// Decides a border of an image that is not alien. The refusal's number, or 0.
-pub fn decided(image: &mut [u8], border: u32, side: u32) -> u32
+// Decides a border of an image that is not alien.
+pub fn decided(image: &mut [u8], border: u32, side: u32) -> Result<(), Refusal>
     requires { (length image.old ≡ 11082) × (image_alien image.old ≡ false) }
     ensures { SeriesStepped image.old (decide border side) image.new result }
 {
     let l = literal(border as usize, side as usize);
     let n = l.border;
-    let s = l.side;
-    let outcome = board::refusals::decide_refusal(border_count(image), &image[BORDERS..COUNT], n);
-    let number = board::number(outcome);
-    if number != 0 {
-        return number;
-    }
+    refusals::decide_refusal(border_count(image), &image[BORDERS..COUNT], n)?;
     let at = usize::from(two(image, COUNT));
-    let v = board::code(s);
+    let v = u8::from(l.side);
     let t = tally(image);
     rewrite(image, n, v, at + 1, at, n, tallies::more(t, v));
-    0
+    Ok(())
 }
 
-// Takes the last decision of an image that is not alien back. The refusal's number, or 0.
-pub fn undone(image: &mut [u8]) -> u32
+// Takes the last decision of an image that is not alien back.
+pub fn undone(image: &mut [u8]) -> Result<(), Refusal>
     requires { (length image.old ≡ 11082) × (image_alien image.old ≡ false) }
     ensures { SeriesStepped image.old undo image.new result }
 {
     let count = usize::from(two(image, COUNT));
-    let outcome = board::refusals::undo_refusal(count);
-    let number = board::number(outcome);
-    if number != 0 {
-        return number;
-    }
+    refusals::undo_refusal(count)?;
     let at = count - 1;
     let n = usize::from(two(image, STACK + 2 * at));
     let t = tally(image);
     let counted = tallies::less(t, image[BORDERS + n]);
     rewrite(image, n, 0, at, at, 0, counted);
-    0
+    Ok(())
 }
 
-// Makes the call of a code on an image that is not alien. The refusal's number, or 0.
-fn step(image: &mut [u8], code: u16) -> u32
+// Makes the call of a code on an image that is not alien.
+fn step(image: &mut [u8], code: u16) -> Result<(), Refusal>
     requires { (length image.old ≡ 11082) × (image_alien image.old ≡ false) }
     ensures { SeriesStepped image.old (code_call code) image.new result }
 {
@@ -81,7 +72,7 @@ pub fn dbchoco_calls(image: &mut [u8], codes: &[u16]) -> usize
         return 0;
     }
     for (i, code) in codes.iter().enumerate() {
-        if step(image, *code) != 0 {
+        if step(image, *code).is_err() {
             return i;
         }
     }

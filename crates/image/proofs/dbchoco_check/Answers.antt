@@ -30,7 +30,7 @@ image e =
     e.args.image.now
 
 known : (e : Left) → is_alien (board e) ≡ false
-known e = sym e.is_alien.ensures ∙ e.if-is_alien.false
+known e = sym e.alien.ensures ∙ e.if-alien.false
 
 board-known : (e : Left) → let b = board e in
     KnownBoard b.height b.width b.colours b.clues b.borders b.tally.undecided
@@ -52,24 +52,24 @@ told e =
 pub returns-then-image-ne-LENGTH : goal.returns-then-image-ne-LENGTH
 returns-then-image-ne-LENGTH c =
     record {
-      number = other-number _ _ c.if-image-ne-LENGTH.true;
+      number = c.number.ensures ∙ other-number _ _ c.if-image-ne-LENGTH.true;
       bytes = other-bytes _ _ c.if-image-ne-LENGTH.true;
     }
 
-pub returns-then-is_alien : goal.returns-then-is_alien
-returns-then-is_alien c =
+pub returns-then-alien : goal.returns-then-alien
+returns-then-alien c =
     let told =
     alien-checked _ c.args.memory.now c.if-image-ne-LENGTH.false _ c.board-b.ensures
-    (sym c.is_alien.ensures ∙ c.if-is_alien.true) in
-    record { number = told.0; bytes = told.1 }
+    (sym c.alien.ensures ∙ c.if-alien.true) in
+    record { number = c.number-then-alien.ensures ∙ told.0; bytes = told.1 }
 
 pub returns-then-short : goal.returns-then-short
 returns-then-short c =
-    let t = sym c.is_alien.ensures ∙ c.if-is_alien.false in
+    let t = sym c.alien.ensures ∙ c.if-alien.false in
     let told =
     short-checked _ c.args.memory.now c.if-image-ne-LENGTH.false _ c.board-b.ensures t
     (sym c.short.ensures ∙ c.if-short.true) in
-    record { number = told.0; bytes = told.1 }
+    record { number = c.number-then-short.ensures ∙ told.0; bytes = told.1 }
 
 pub answered-requires : goal.answered-requires
 answered-requires c =

@@ -25,7 +25,7 @@ returns-then-alien c =
     let e = sym c.alien.ensures ∙ c.if-alien.true in
     let tested = (goal.at.returns-then-alien c).After-alien in
     record {
-      number = sym (alien-number (image tested) e _);
+      number = c.number.ensures ∙ sym (alien-number (image tested) e _);
       bytes = alien-stays (image tested) (bytes tested) e _;
     }
 
@@ -38,4 +38,4 @@ undone-requires c = (
 
 pub returns : goal.returns
 returns c =
-    let e = c.undone.ensures in record { number = e.number; bytes = e.after }
+    let e = c.undone.ensures in record { number = c.number-2.ensures ∙ e.number; bytes = e.after }

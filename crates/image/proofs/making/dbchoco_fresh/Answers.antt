@@ -1,66 +1,64 @@
 -- `dbchoco_fresh` meets its contract: the refusals are those of making the board, then that of another length.
--- the number that making the board has
-use mathlib.Core.Path.{◌≡◌, ap, sym, ◌∙◌}
-use native.Mathlib.Omega.{arith}
+use Rattle.std.proofs.Common.{◌≡◌, ap, sym, ◌∙◌, arith}
 use Rattle.laws.specs.FlatLaws.{counts}
-use Rattle.board.specs.Board.{fresh_of, number_of}
-use Rattle.board.proofs.FreshLaws.{Made}
 use Rattle.board.specs.declared.Returned.{Returned}
+use Rattle.board.specs.Board.{fresh_of, number_of}
 use Rattle.board.specs.Accepted.{made_board}
+use Rattle.board.specs.Cases.{refused-number}
+use Rattle.board.proofs.FreshLaws.{Made}
 use Rattle.image.specs.Image.{image_of}
 use Rattle.image.proofs.MakingLaws.{number-refused, making-other, number-done, made_of, bytes-refused, bytes-done}
-use Rattle.image.proofs.making.dbchoco_fresh.Goals.{After-number-number}
+use Rattle.image.proofs.making.dbchoco_fresh.Goals.{After-fresh-made, In_default}
 use Rattle.image.proofs.making.dbchoco_fresh.Goals as goal
 
-here : (c : After-number-number)
+-- how making the board ends
+ends : (c : After-fresh-made)
     → let a = c.args in
-    c.number-number.result ≡ number_of (fresh_of a.height a.width a.colours.now a.clues.now).outcome
-here c = c.number-number.ensures ∙ ap (λ (r : Returned). number_of r.outcome) c.fresh-made.ensures
+    (fresh_of a.height a.width a.colours.now a.clues.now).outcome ≡ c.fresh-made.result.outcome
+ends c = sym (ap (λ (r : Returned). r.outcome) c.fresh-made.ensures)
 
--- where it is 0, the puzzle is accepted
-puzzle : (c : After-number-number) → c.number-number.result ≡ 0
+-- where it is done, the puzzle is accepted
+done : (c : In_default)
     → let a = c.args in
-    Made a.height a.width a.colours.now a.clues.now
-    (made_board a.height a.width a.colours.now a.clues.now)
-puzzle c e = let a = c.args in made_of _ _ _ _ a.image.now (sym (here c) ∙ e)
+    number_of (fresh_of a.height a.width a.colours.now a.clues.now).outcome ≡ 0
+done c = ap number_of (ends (goal.at.In_default c).After-fresh-made ∙ c.in_default.is)
 
-pub returns-then-number-ne0 : goal.returns-then-number-ne0
-returns-then-number-ne0 c =
+puzzle : (c : In_default)
+    → let a = c.args in
+    Made a.height a.width a.colours.now a.clues.now (made_board a.height a.width a.colours.now a.clues.now)
+puzzle c = made_of _ _ _ _ c.args.image.now (done c)
+
+pub returns-in-Err : goal.returns-in-Err
+returns-in-Err c =
     let a = c.args in
-    let said = here (goal.at.returns-then-number-ne0 c).After-number-number in
-    let e = number-refused _ _ _ _ a.image.now (λ z. c.if-number-ne0.true (said ∙ z)) in
+    let e = c.in-Err.refusal in
+    let said = ap number_of (ends (goal.at.returns-in-Err c).After-fresh-made ∙ c.in-Err.is) in
+    let f = number-refused _ _ _ _ a.image.now (λ z. refused-number e (sym said ∙ z)) in
     record {
-      number = said ∙ sym e;
-      bytes = sym (bytes-refused _ _ _ _ _ (λ z. c.if-number-ne0.true (said ∙ sym e ∙ z)));
+      number = c.number.ensures ∙ sym said ∙ sym f;
+      bytes = sym (bytes-refused _ _ _ _ _ (λ z. refused-number e (sym said ∙ sym f ∙ z)));
     }
 
 pub returns-then-other : goal.returns-then-other
 returns-then-other c =
     let a = c.args in
-    let said = here (goal.at.returns-then-other c).After-number-number in
-    let e =
-    making-other _ _ _ _ a.image.now (sym said ∙ c.if-number-ne0.false)
-    c.if-other.true in
+    let e = making-other _ _ _ _ a.image.now (done (goal.at.returns-then-other c).In_default) c.if-other.true in
     record {
-      number = sym e;
+      number = c.number-then-other.ensures ∙ sym e;
       bytes = sym (bytes-refused _ _ _ _ _ (λ z. let y : 5 ≡ 0 = sym e ∙ z in omega arith));
     }
 
 pub overflow_cast-height-2 : goal.overflow_cast-height-2
-overflow_cast-height-2 c = let m =
-    (puzzle (goal.at.overflow_cast-height-2 c).After-number-number c.if-number-ne0.false).size in record
-    { fits = omega arith }
+overflow_cast-height-2 c =
+    let m = (puzzle (goal.at.overflow_cast-height-2 c).In_default).size in record { fits = omega arith }
 
 pub overflow_cast-width-2 : goal.overflow_cast-width-2
-overflow_cast-width-2 c = let m =
-    (puzzle (goal.at.overflow_cast-width-2 c).After-number-number c.if-number-ne0.false).size in record {
-      fits =
-          omega arith;
-    }
+overflow_cast-width-2 c =
+    let m = (puzzle (goal.at.overflow_cast-width-2 c).In_default).size in record { fits = omega arith }
 
 pub put_fresh-requires : goal.put_fresh-requires
 put_fresh-requires c =
-    let m = puzzle (goal.at.put_fresh-requires c).After-number-number c.if-number-ne0.false in
+    let m = puzzle (goal.at.put_fresh-requires c).In_default in
     let p = m.fit.colours in
     let q = m.fit.clues in
     let n = (counts m.size).cells in
@@ -68,12 +66,9 @@ put_fresh-requires c =
 
 pub returns : goal.returns
 returns c =
-    let said = here (goal.at.returns c).After-number-number in
-    let m = puzzle (goal.at.returns c).After-number-number c.if-number-ne0.false in
-    let a = c.args in
-    let e =
-    number-done _ _ _ _ a.image.now (sym said ∙ c.if-number-ne0.false)
-    c.if-other.false in
+    let here = (goal.at.returns c).In_default in
+    let m = puzzle here in
+    let e = number-done _ _ _ _ c.args.image.now (done here) c.if-other.false in
     record {
       number = sym e;
       bytes = c.put_fresh.ensures ∙ sym (bytes-done _ _ _ _ _ e ∙ ap image_of m.is);

@@ -1,5 +1,5 @@
 -- `put_clues` meets its contract: each clue's four bytes are stored behind those of the clues before it.
-use Rattle.std.proofs.Common.{◌≡◌, ◌∙◌, ◌+◌, ◌-◌, ◌*◌, ◌≤◌, ap, rules, arith, refl, pos, get_or, length, w32, to_z, of_z, to_z-of_z, FitsSigned}
+use Rattle.std.proofs.Common.{◌≡◌, ◌∙◌, ◌+◌, ◌-◌, ◌*◌, ap, rules, arith, refl, pos, get_or, w32, to_z, of_z, to_z-of_z, FitsSigned}
 use Rattle.std.proofs.lemmas.List.{take_all}
 use Rattle.lists.specs.Lists.{flat_map}
 use Rattle.lists.specs.Stores.{sets-flat-more}

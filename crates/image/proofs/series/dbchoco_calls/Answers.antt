@@ -36,21 +36,21 @@ step-requires c =
 
 pub loop-i-preserved : goal.loop-i-preserved
 loop-i-preserved c =
-    running-next c.loop-i.invariant c.loop-i-test.true
-    (λ i. omega (arith, c.slice_known-in-loop-i-1.given i))
-    (rw c.if-step-ne0.false at c.step.ensures)
+    running-next c.loop-i.invariant c.loop-i-test.true c.step.result
+    (λ i. omega (arith, c.slice_known-in-loop-i-1.given i)) c.step.ensures
+    (sym c.is_err.ensures.value ∙ c.if-is_err.false)
 
-pub shape_of-image-then-step-ne0 : goal.shape_of-image-then-step-ne0
-shape_of-image-then-step-ne0 c =
+pub shape_of-image-then-is_err : goal.shape_of-image-then-is_err
+shape_of-image-then-is_err c =
     c.step.auto.image
-    ∙ running-long (bytes (goal.at.shape_of-image-then-step-ne0 c).Else-alien)
-    (known (goal.at.shape_of-image-then-step-ne0 c).Else-alien) c.loop-i.invariant
+    ∙ running-long (bytes (goal.at.shape_of-image-then-is_err c).Else-alien)
+    (known (goal.at.shape_of-image-then-is_err c).Else-alien) c.loop-i.invariant
 
-pub returns-then-step-ne0 : goal.returns-then-step-ne0
-returns-then-step-ne0 c =
+pub returns-then-is_err : goal.returns-then-is_err
+returns-then-is_err c =
     let told =
-    running-stop c.loop-i.invariant c.loop-i-test.true
-    c.step.ensures c.if-step-ne0.true in
+    running-stop c.loop-i.invariant c.loop-i-test.true c.step.result c.step.ensures
+    (sym c.is_err.ensures.value ∙ c.if-is_err.true) in
     record { number = told.0; bytes = told.1 }
 
 pub shape_of-image : goal.shape_of-image

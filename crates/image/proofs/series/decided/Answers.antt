@@ -1,6 +1,6 @@
 -- `decided` meets its contract: how the tests end, and then what changes.
 -- what the call is given
-use mathlib.Core.Path.{◌≡◌, ◌∙◌, sym}
+use mathlib.Core.Path.{◌≡◌, ◌∙◌, sym, ap}
 use mathlib.Core.Bool.{false}
 use mathlib.Core.List.{List}
 use Prim.Native.Nat.{ℕ, ◌<◌, ◌≤◌}
@@ -9,7 +9,10 @@ use lib.ListN.{length}
 use Rattle.board.specs.Board.{number_of}
 use Rattle.image.specs.Image.{Bytes, image_alien}
 use Rattle.image.specs.SeriesLaws.{series-part-length, few, decide-not, decide-room, decide-step}
-use Rattle.image.proofs.series.decided.Goals.{After-border_count, After-tally-t, Else-number-ne0}
+use Rattle.board.specs.Cases.{refused-number}
+use Rattle.std.specs.Prelude.{Err}
+use Rattle.std.proofs.lemmas.Result.{err_from_is_err_and}
+use Rattle.image.proofs.series.decided.Goals.{After-border_count, After-tally-t, In_ok-decide_refusal}
 use Rattle.image.proofs.series.decided.Goals as goal
 
 abbrev image : After-border_count → List ℕ
@@ -30,36 +33,30 @@ known c = c.requires.1
 bytes : (c : After-border_count) → Bytes (image c)
 bytes c = λ i. omega (arith, c.slice_known-1.given i)
 
-zero : (c : Else-number-ne0) → number_of c.decide_refusal-outcome.result ≡ 0
-zero c = sym c.number-number.ensures ∙ c.if-number-ne0.false
+-- where the tests are passed
+done : (c : In_ok-decide_refusal) → number_of c.decide_refusal.result ≡ 0
+done c = ap number_of c.in_ok-decide_refusal.was
 
-pub decide_refusal-outcome-requires : goal.decide_refusal-outcome-requires
-decide_refusal-outcome-requires c =
+pub decide_refusal-requires : goal.decide_refusal-requires
+decide_refusal-requires c =
     let l = c.literal-l in
+    let here = (goal.at.decide_refusal-requires c).After-border_count in
     omega (
       arith,
-      series-part-length (image (goal.at.decide_refusal-outcome-requires c).After-border_count)
-          (bytes (goal.at.decide_refusal-outcome-requires c).After-border_count)
-          (known (goal.at.decide_refusal-outcome-requires c).After-border_count),
-      few (image (goal.at.decide_refusal-outcome-requires c).After-border_count)
-          (bytes (goal.at.decide_refusal-outcome-requires c).After-border_count)
-          (known (goal.at.decide_refusal-outcome-requires c).After-border_count)
-          (border (goal.at.decide_refusal-outcome-requires c).After-border_count)
-          (side (goal.at.decide_refusal-outcome-requires c).After-border_count) l.result l.ensures c.border_count.result
+      series-part-length (image here) (bytes here) (known here),
+      few (image here) (bytes here) (known here) (border here) (side here) l.result l.ensures c.border_count.result
           c.border_count.ensures,
     )
 
-pub returns-then-number-ne0 : goal.returns-then-number-ne0
-returns-then-number-ne0 c =
+pub returns-in_err-decide_refusal : goal.returns-in_err-decide_refusal
+returns-in_err-decide_refusal c =
     let l = c.literal-l in
-    rw c.number-number.ensures
-    (decide-not (image (goal.at.returns-then-number-ne0 c).After-border_count)
-    (bytes (goal.at.returns-then-number-ne0 c).After-border_count)
-    (known (goal.at.returns-then-number-ne0 c).After-border_count)
-    (border (goal.at.returns-then-number-ne0 c).After-border_count)
-    (side (goal.at.returns-then-number-ne0 c).After-border_count) l.result l.ensures
-    c.border_count.result c.border_count.ensures _ c.decide_refusal-outcome.ensures
-    (λ z. c.if-number-ne0.true (c.number-number.ensures ∙ z)))
+    let here = (goal.at.returns-in_err-decide_refusal c).After-border_count in
+    let p = err_from_is_err_and c.from_residual.result c.from_residual.ensures.1 in
+    rw (p.1, p.2)
+    (decide-not (image here) (bytes here) (known here) (border here) (side here) l.result l.ensures
+    c.border_count.result c.border_count.ensures (Err _)
+    (sym c.in_err-decide_refusal.was ∙ c.decide_refusal.ensures) (refused-number _))
 
 -- the places of a decide that is not refused, and the tally that can count it
 room : (c : After-tally-t)
@@ -68,12 +65,10 @@ room : (c : After-tally-t)
     × (0 < t.undecided) × (t.walls ≤ 1984) × (t.opens ≤ 1984)
 room c =
     let l = c.literal-l in
-    decide-room (image (goal.at.After-tally-t c).After-border_count)
-    (bytes (goal.at.After-tally-t c).After-border_count) (known (goal.at.After-tally-t c).After-border_count)
-    (border (goal.at.After-tally-t c).After-border_count) (side (goal.at.After-tally-t c).After-border_count)
-    l.result l.ensures
-    c.border_count.result c.border_count.ensures _ c.decide_refusal-outcome.ensures
-    (zero (goal.at.After-tally-t c).Else-number-ne0) _
+    let here = (goal.at.After-tally-t c).After-border_count in
+    decide-room (image here) (bytes here) (known here) (border here) (side here) l.result l.ensures
+    c.border_count.result c.border_count.ensures _ c.decide_refusal.ensures
+    (done (goal.at.After-tally-t c).In_ok-decide_refusal) _
     (c.from-at.ensures ∙ c.two.ensures) _ c.tally-t.ensures
 
 pub more-requires : goal.more-requires
@@ -87,10 +82,9 @@ rewrite-requires c =
 pub returns : goal.returns
 returns c =
     let l = c.literal-l in
-    decide-step (image (goal.at.returns c).After-border_count) (bytes (goal.at.returns c).After-border_count)
-    (known (goal.at.returns c).After-border_count) (border (goal.at.returns c).After-border_count)
-    (side (goal.at.returns c).After-border_count) l.result l.ensures
-    c.border_count.result c.border_count.ensures _ c.decide_refusal-outcome.ensures
-    (zero (goal.at.returns c).Else-number-ne0) _
-    (c.from-at.ensures ∙ c.two.ensures) _ c.tally-t.ensures c.code-v.ensures
+    let here = (goal.at.returns c).After-border_count in
+    decide-step (image here) (bytes here) (known here) (border here) (side here) l.result l.ensures
+    c.border_count.result c.border_count.ensures _ c.decide_refusal.ensures
+    (done (goal.at.returns c).In_ok-decide_refusal) _
+    (c.from-at.ensures ∙ c.two.ensures) _ c.tally-t.ensures c.from-v.ensures
     c.more.ensures c.rewrite.ensures

@@ -1,5 +1,5 @@
 -- `put_codes` meets its contract: each code more, and the first n of them are all.
-use Rattle.std.proofs.Common.{◌≡◌, ◌∙◌, arith, take, ap, sym, length, length-take-le}
+use Rattle.std.proofs.Common.{◌∙◌, arith, take, ap}
 use Rattle.std.proofs.lemmas.List.{take_all}
 use Rattle.std.proofs.lemmas.List.Edits.{sets}
 use Rattle.lists.specs.Lists.{flat_map}
