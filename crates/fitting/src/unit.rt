@@ -50,10 +50,7 @@ pub fn near_mate<'a>(
     if 0 < kept {
         return Some(kept - 1);
     }
-    let q = some_mate(h, w, colours, borders, potential, p);
-    if 1024 <= q {
-        return None;
-    }
+    let q = some_mate(h, w, colours, borders, potential, p)?;
     near[p] = (q + 1) as u16;
     Some(q)
 }

@@ -18,19 +18,19 @@ returns-then-kept-gt0 c =
       c.requires.1,
     )
 
-pub some_mate-q-requires : goal.some_mate-q-requires
-some_mate-q-requires c =
+pub some_mate-requires : goal.some_mate-requires
+some_mate-requires c =
     let k = c.requires.0 in
     (k.drawn, k.known, home-few k, home-cells k, k.grouped.group _ k.low)
 
-pub returns-then-q-ge1024 : goal.returns-then-q-ge1024
-returns-then-q-ge1024 c = (c.some_mate-q.ensures.none c.if-q-ge1024.true, c.requires.1)
+pub returns-in_err-q : goal.returns-in_err-q
+returns-in_err-q c = (rw c.from_residual.ensures c.in_err-q.ensures, c.requires.1)
 
 pub overflow_add-near : goal.overflow_add-near
-overflow_add-near c = omega (arith, c.if-q-ge1024.false)
+overflow_add-near c = omega (arith, c.in_ok-q.ensures.0)
 
 pub overflow_cast-near : goal.overflow_cast-near
-overflow_cast-near c = omega (arith, c.if-q-ge1024.false)
+overflow_cast-near c = omega (arith, c.in_ok-q.ensures.0)
 
 pub offset_bounds-near-p-2 : goal.offset_bounds-near-p-2
 offset_bounds-near-p-2 c = omega (arith, home-few c.requires.0)
@@ -40,5 +40,5 @@ bounds-near-p-2 c = omega (arith, home-few c.requires.0)
 
 pub returns : goal.returns
 returns c =
-    let m = c.some_mate-q.ensures.some c.if-q-ge1024.false in
+    let m = c.in_ok-q.ensures.1 in
     (m, nearby-more c.requires.1 c.args.p _ (home-few c.requires.0) m)
