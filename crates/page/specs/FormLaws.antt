@@ -16,15 +16,11 @@ use Rattle.page.specs.declared.Line.TheVariants.{Row, Clue as ClueLine, Call}
 use Rattle.page.specs.Places.{all_from, end_from, after_read, after_line, end_of}
 use Rattle.page.specs.ParserLaws.{rest-past, rest_more}
 use Rattle.page.specs.Printed.{Takes}
-use Rattle.page.specs.Many.{many-none, many_more, many-past, passes}
+use Rattle.page.specs.Many.{many-none, many_more, passes}
 use Rattle.page.specs.PageText.{row-takes, clue-takes, call-takes}
 
 -- what a parser reads from place p on, and what is left
 module _ {A : Type 0} {r : Parser A} (T : Takes 1 r) (s : List ℕ) (p : ℕ) where
-  pub from_past : length s ≤ p → all_from r s p ≡ []
-  unfolding all_from
-  from_past h = ap (λ (m : List A × List ℕ). m.0) (many-past T s p h)
-
   pub from-none : r (rest s p) ≡ none → all_from r s p ≡ []
   unfolding all_from
   from-none e = ap (λ (m : List A × List ℕ). m.0) (many-none T (rest s p) e)
@@ -32,10 +28,6 @@ module _ {A : Type 0} {r : Parser A} (T : Takes 1 r) (s : List ℕ) (p : ℕ) wh
   pub from_more : (a : A) (q : ℕ) → r (rest s p) ≡ some (a, rest s q) → all_from r s p ≡ a ∷ all_from r s q
   unfolding all_from
   from_more a q e = ap (λ (m : List A × List ℕ). m.0) (many_more T (rest s p) a (rest s q) e)
-
-  pub end-past : length s ≤ p → end_from r s p ≡ rest s p
-  unfolding end_from
-  end-past h = ap (λ (m : List A × List ℕ). m.1) (many-past T s p h)
 
   pub end_none : r (rest s p) ≡ none → end_from r s p ≡ rest s p
   unfolding end_from
@@ -69,15 +61,6 @@ module _ {A : Type 0} {r : Parser A} (T : Takes 1 r) (s : List ℕ) (p : ℕ) wh
 
 -- lines of one kind after each other
 module _ (l : Line) (s : List ℕ) (p : ℕ) where
-  pub lines-past : length s ≤ p → end_of l s p ≡ rest s p
-  unfolding end_of
-  lines-past h = go l
-    where
-      go : (k : Line) → end_of k s p ≡ rest s p
-      go Row = end-past row-takes s p h
-      go ClueLine = end-past clue-takes s p h
-      go Call = end-past call-takes s p h
-
   pub lines_none : after_line l (rest s p) ≡ none → end_of l s p ≡ rest s p
   unfolding end_of after_line
   lines_none e = go l e

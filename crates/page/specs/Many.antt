@@ -10,7 +10,7 @@ use Rattle.std.proofs.Math.Option.{Option, none, some}
 use Prim.Native.Nat.{ℕ, zero, suc, ◌+◌, ◌-◌, ◌<◌, ◌≤◌}
 use Rattle.std.proofs.Math.ListN.{length}
 use Rattle.page.specs.Parsers.{Parser, rest, also, and_on, times, many, rep}
-use Rattle.page.specs.ParserLaws.{rest-past, length_rest}
+use Rattle.page.specs.ParserLaws.{length_rest}
 use Rattle.page.specs.Printed.{Prints, Takes}
 
 module _ {A : Type 0} {r : Parser A} (T : Takes 1 r) where
@@ -45,9 +45,6 @@ module _ {A : Type 0} {r : Parser A} (T : Takes 1 r) where
       let d : 1 + length t ≤ length s = T s a t e in
       times-enough (length s) (suc (length s)) s (omega arith) (omega arith) ∙
       rw (e, times-enough (length s) (length t) t (omega arith) (omega arith))
-
-  pub many-past : (s : List ℕ) (p : ℕ) → length s ≤ p → many r (rest s p) ≡ ([], rest s p)
-  many-past s p h = many-none (rest s p) (empty-none (rest s p) (rw (rest-past s p h) (omega arith)))
 
   -- a parser at p that goes on at q has passed p
   pub passes : (s : List ℕ) (p q : ℕ) (a : A) → r (rest s p) ≡ some (a, rest s q) → length s - q < length s - p

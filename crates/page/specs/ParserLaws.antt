@@ -1,13 +1,17 @@
 -- Laws of the parsers at a place of the bytes, one for each return of the code.
 use Rattle.std.proofs.Math.Path.{◌≡◌, refl}
 use Rattle.std.proofs.Common.{sym, ap, ◌∙◌, add-one, arith, length-drop, drop-cons}
-use Rattle.std.specs.Prelude.{Bool, ◌&&◌, ℕ, zero, suc, ◌+◌, ◌-◌, ◌*◌, ◌<◌, ◌≤◌, length, get_or, ltb}
-use Rattle.std.proofs.Math.Bool.{true, false}
+use Rattle.std.specs.Prelude.{Bool, ◌&&◌, ℕ, zero, suc, ◌+◌, ◌-◌, ◌*◌, ◌<◌, ◌≤◌, min, length, take, drop, get_or, ltb}
+use Rattle.std.specs.List.{starts_with}
+use Rattle.std.specs.Char.{is_ascii_digit}
+use Rattle.std.proofs.lemmas.List.{drop_min, take_all, drop-drop, get_or-drop}
+use Rattle.std.proofs.Math.Bool.{true, false, cond}
 use mathlib.Core.List.{List, [], ◌∷◌, ◌++◌, append-nil, append_assoc}
 use Rattle.std.proofs.Math.Option.{Option, none, some}
-use Rattle.std.proofs.Math.Dec.{leb}
+use Rattle.std.proofs.Math.Dec.{leb, eqb}
 use borrow.Author.Tests.{lt-ltb, le-ltb, le-leb, lt-leb, eq-eqb, ne_eqb, leb-true}
 use Rattle.lists.specs.Table.{table}
+use Rattle.lists.specs.Arithmetic.{eqb_swap}
 use Rattle.lists.specs.Booleans.{and_left, and_right}
 use Rattle.page.specs.Parsers.{rest, strip, number, number_on, may_follow, with_digit, digits_on, digits, digit}
 use Rattle.page.specs.Places.{digit_at, digits_in}
@@ -35,6 +39,11 @@ pub rest_more : (s : List ℕ) (p : ℕ) → p < length s → rest s p ≡ get_o
 unfolding rest
 rest_more s p h = rw add-one (drop-cons s p 0 h)
 
+-- the library's test of a digit
+pub digit-told : (b : ℕ) {r x : Bool} → r ≡ is_ascii_digit b → r ≡ x → digit b ≡ x
+unfolding digit
+digit-told b e h = sym e ∙ h
+
 -- a digit's byte lies between 48 and 57
 pub digit_low : (b : ℕ) → digit b ≡ true → 48 ≤ b
 unfolding digit
@@ -44,25 +53,44 @@ pub digit-high : (b : ℕ) → digit b ≡ true → b ≤ 57
 unfolding digit
 digit-high b e = leb-true b 57 (and_right (leb 48 b) (leb b 57) e)
 
--- words: `word` is read up to i, and its rest stands or fails at p
-module _ (word s : List ℕ) (i p : ℕ) where
-  pub strip-end : length word ≤ i → strip (rest word i) (rest s p) ≡ some (rest s p)
-  unfolding strip
-  strip-end h = rw (rest-past word i h)
+-- the bytes from the lesser of p and the length on
+pub rest-cut : (s : List ℕ) (p n : ℕ) → n ≡ min p (length s) → take (length s - n) (drop n s) ≡ rest s p
+unfolding rest
+rest-cut s p n e = rw e (rw drop_min (take_all _ _ (omega (arith, length-drop p s))))
 
-  pub strip-past : i < length word → length s ≤ p → strip (rest word i) (rest s p) ≡ none
-  unfolding strip
-  strip-past h l = rw (rest_more word i h, rest-past s p l)
+-- the bytes from p on, but for the first n
+pub rest-rest : (s : List ℕ) (p n : ℕ) → rest (rest s p) n ≡ rest s (p + n)
+unfolding rest
+rest-rest s p n = drop-drop n p s
 
-  pub strip-not : i < length word → p < length s → (get_or s p 0 ≡ get_or word i 0 → ⊥)
-      → strip (rest word i) (rest s p) ≡ none
-  unfolding strip
-  strip-not h l n = rw (rest_more word i h, rest_more s p l, ne_eqb (get_or s p 0) (get_or word i 0) n)
+-- the bytes t are those of s from p on
+module _ (s t : List ℕ) (p i : ℕ) (e : t ≡ rest s p) where
+  pub rest-next : rest t (i + 1) ≡ rest s (p + i + 1)
+  rest-next = let k : p + (i + 1) ≡ p + i + 1 = omega arith in rw (e, rest-rest s p (i + 1), k)
 
-  pub strip-more : i < length word → p < length s → get_or s p 0 ≡ get_or word i 0
-      → strip (rest word i) (rest s p) ≡ strip (rest word (i + 1)) (rest s (p + 1))
-  unfolding strip
-  strip-more h l e = rw (rest_more word i h, rest_more s p l, eq-eqb (get_or s p 0) (get_or word i 0) e)
+  pub rest-get : get_or t i 0 ≡ get_or s (p + i) 0
+  unfolding rest
+  rest-get = rw e (get_or-drop p s i 0)
+
+  pub rest-in : i < length t → p + i < length s
+  rest-in h = omega (arith, ap length e, length_rest s p)
+
+  pub rest-out : length t ≤ i → length s ≤ p + i
+  rest-out h = omega (arith, ap length e, length_rest s p)
+
+-- a word is read where the bytes start with it
+pub strip-starts : (word s : List ℕ)
+    → strip word s ≡ cond (starts_with eqb s word) (some (rest s (length word))) none
+unfolding strip rest
+strip-starts [] s = refl
+strip-starts (a ∷ word) [] = refl
+strip-starts (a ∷ word) (b ∷ s) = rw (eqb_swap b a) (go (eqb a b) (strip-starts word s))
+  where
+    go : (x : Bool) → strip word s ≡ cond (starts_with eqb s word) (some (rest s (length word))) none
+        → cond x (strip word s) none
+        ≡ cond (x && starts_with eqb s word) (some (rest s (length word))) none
+    go true ih = ih
+    go false ih = refl
 
 -- what may follow a number
 module _ (v b : ℕ) where

@@ -5,7 +5,7 @@ ghost use Rattle.page.specs.Places.{all_from, digits_in};
 ghost use Rattle.page.specs.Judge.{colour_array, placed};
 ghost use Rattle.page.specs.Filling.{Lays};
 
-use crate::{ClueRead, Row, fitness, lines};
+use crate::{Span, fitness, lines};
 use board::Board;
 
 // The colours laid so far, and the next place.
@@ -15,20 +15,17 @@ pub struct Laid {
     pub count: usize,
 }
 
-// The digits from one place up to another, laid after those that were laid.
-fn with_digits(laid: Laid, s: &[u8], from: usize, to: usize) -> Laid
-    ensures { Lays laid (digits_in s.now from to) result }
+// A row's digits, laid after those that were laid.
+fn with_digits(laid: Laid, s: &[u8], digits: Span) -> Laid
+    ensures { Lays laid (digits_in s.now digits.from digits.to) result }
 {
     let mut out = laid;
-    let mut p = from;
-    while p < to {
-        let at = out.count;
-        if Board::CELL_LIMIT <= at {
+    for p in digits.from..digits.to {
+        if Board::CELL_LIMIT <= out.count {
             return out;
         }
-        out.cells[at] = fitness::digit_at(s, p);
-        out.count = at + 1;
-        p += 1;
+        out.cells[out.count] = fitness::digit_at(s, p);
+        out.count += 1;
     }
     out
 }
@@ -38,15 +35,12 @@ pub fn colours(s: &[u8], at: usize) -> [u8; Board::CELL_LIMIT]
     ensures { result ≡ colour_array (all_from row s.now at) }
 {
     let mut laid = Laid {
-        cells: [0u8; Board::CELL_LIMIT],
+        cells: [0; Board::CELL_LIMIT],
         count: 0,
     };
     let mut p = at;
-    while p < s.len() {
-        let Row::Got(from, to, next) = lines::row_at(s, p) else {
-            return laid.cells;
-        };
-        laid = with_digits(laid, s, from, to);
+    while let Some((digits, next)) = lines::row_at(s, p) {
+        laid = with_digits(laid, s, digits);
         p = next;
     }
     laid.cells
@@ -57,12 +51,9 @@ pub fn clues(s: &[u8], at: usize, w: usize) -> [i32; Board::CELL_LIMIT]
     requires { w ≤ 32 }
     ensures { result ≡ placed w (replicate 1024 (negsuc 0)) (all_from clue s.now at) }
 {
-    let mut out = [-1i32; Board::CELL_LIMIT];
+    let mut out = [-1; Board::CELL_LIMIT];
     let mut p = at;
-    while p < s.len() {
-        let ClueRead::Got(c, next) = lines::clue_at(s, p) else {
-            return out;
-        };
+    while let Some((c, next)) = lines::clue_at(s, p) {
         let cell = c.y * w + c.x;
         if cell < Board::CELL_LIMIT {
             out[cell] = c.n as i32;

@@ -1,34 +1,20 @@
 // Whether a well formed page makes a board: its size, its rows, its colours. A clue of any size does.
-ghost use Rattle.std.specs.Prelude.{◌≡◌, ◌-◌};
+ghost use Rattle.std.specs.Prelude.{◌≡◌};
 ghost use Rattle.lists.specs.Lists.{all};
 ghost use Rattle.page.specs.Grammar.{row};
 ghost use Rattle.page.specs.Places.{all_from, digit_at, digits_in, sheet_at, judged_of};
 ghost use Rattle.page.specs.Judge.{rows_fit, low, two_colours, judge_sheet};
 
-use crate::{Judged, Parts, Row, lines};
-
-// How many places there are from one place up to another.
-fn places(from: usize, to: usize) -> usize
-    ensures { result ≡ to - from }
-{
-    if to < from {
-        return 0;
-    }
-    to - from
-}
+use crate::{Parts, Span, Unfit, lines};
 
 // The value of the digit at a place.
 pub fn digit_at(s: &[u8], at: usize) -> u8
     ensures { result ≡ digit_at s.now at }
 {
-    if at < s.len() {
-        let b = s[at];
-        if b < 48 {
-            return 0;
-        }
-        return b - 48;
+    match s.get(at) {
+        Some(b) => b.saturating_sub(b'0'),
+        None => 0,
     }
-    0
 }
 
 // Whether there are h rows from `at` on, each of w digits.
@@ -37,14 +23,8 @@ fn rows_fit(s: &[u8], at: usize, h: usize, w: usize) -> bool
 {
     let mut left = h;
     let mut p = at;
-    while p < s.len() {
-        let Row::Got(from, to, next) = lines::row_at(s, p) else {
-            return left == 0;
-        };
-        if left == 0 {
-            return false;
-        }
-        if places(from, to) != w {
+    while let Some((digits, next)) = lines::row_at(s, p) {
+        if left == 0 || digits.to.saturating_sub(digits.from) != w {
             return false;
         }
         left -= 1;
@@ -54,15 +34,13 @@ fn rows_fit(s: &[u8], at: usize, h: usize, w: usize) -> bool
 }
 
 // Whether the digits from one place up to another are 0 or 1.
-fn digits_low(s: &[u8], from: usize, to: usize) -> bool
-    ensures { result ≡ all low (digits_in s.now from to) }
+fn digits_low(s: &[u8], digits: Span) -> bool
+    ensures { result ≡ all low (digits_in s.now digits.from digits.to) }
 {
-    let mut p = from;
-    while p < to {
+    for p in digits.from..digits.to {
         if 1 < digit_at(s, p) {
             return false;
         }
-        p += 1;
     }
     true
 }
@@ -72,33 +50,27 @@ fn two_colours(s: &[u8], at: usize) -> bool
     ensures { result ≡ two_colours (all_from row s.now at) }
 {
     let mut p = at;
-    while p < s.len() {
-        let Row::Got(from, to, next) = lines::row_at(s, p) else {
-            return true;
-        };
-        if digits_low(s, from, to) {
-            p = next;
-        } else {
+    while let Some((digits, next)) = lines::row_at(s, p) {
+        if !digits_low(s, digits) {
             return false;
         }
+        p = next;
     }
     true
 }
 
-// The judgement of a well formed page: 1, 2, 3, or accepted.
-pub fn judge_parts(s: &[u8], p: Parts) -> Judged
+// The judgement of a well formed page: why it is refused, or accepted.
+pub fn judge_parts(s: &[u8], p: Parts) -> Result<Parts, Unfit>
     ensures { judged_of s.now result ≡ judge_sheet (sheet_at s.now p) }
 {
-    let h = p.height;
-    let w = p.width;
-    if board::size_right(h, w) {
-        if rows_fit(s, p.rows, h, w) {
-            if two_colours(s, p.rows) {
-                return Judged::Accepted(p);
-            }
-            return Judged::Refused(3);
-        }
-        return Judged::Refused(2);
+    if !board::size_right(p.height, p.width) {
+        return Err(Unfit::Size);
     }
-    Judged::Refused(1)
+    if !rows_fit(s, p.rows, p.height, p.width) {
+        return Err(Unfit::Ragged);
+    }
+    if !two_colours(s, p.rows) {
+        return Err(Unfit::Colour);
+    }
+    Ok(p)
 }

@@ -1,12 +1,12 @@
 // A page's bytes: read, judged and turned into a puzzle and calls. Every parser takes the lent bytes and a place, and
-// answers with a value and the place after it; nothing is copied, so that calls are read one by one.
+// answers with a value and the place after it, or with none; nothing is copied, so that calls are read one by one.
 #![tactic(auto)]
 
 ghost use Rattle.std.specs.Prelude.{◌≡◌};
 ghost use Rattle.page.specs.Parsers.{rest};
 ghost use Rattle.page.specs.Grammar.{call};
 ghost use Rattle.page.specs.Judge.{judgement_of, colour_array, clue_array};
-ghost use Rattle.page.specs.Places.{sheet_at, judged_of, got_call};
+ghost use Rattle.page.specs.Places.{sheet_at, judged_of, unfit_number, got};
 
 use board::Board;
 use rules::Call;
@@ -17,32 +17,11 @@ mod whole; // whole.rt: the whole page, judged for form
 mod fitness; // fitness.rt: whether the page makes a board
 mod filling; // filling.rt: its colours and clues as arrays
 
-// The place after what was read.
+// The digits of a row stand from the first place up to the second.
 #[derive(Clone, Copy)]
-pub enum Place {
-    At(usize),
-    No,
-}
-
-// A number and the place after it.
-#[derive(Clone, Copy)]
-pub enum Number {
-    Got(usize, usize),
-    No,
-}
-
-// The digits of a row stand from the first place up to the second; the third is the next line's.
-#[derive(Clone, Copy)]
-pub enum Row {
-    Got(usize, usize, usize),
-    No,
-}
-
-// The height, the width and the next line's place.
-#[derive(Clone, Copy)]
-pub enum Size {
-    Got(usize, usize, usize),
-    No,
+pub struct Span {
+    pub from: usize,
+    pub to: usize,
 }
 
 // A clue's cell and number.
@@ -51,20 +30,6 @@ pub struct Clue {
     pub y: usize,
     pub x: usize,
     pub n: usize,
-}
-
-// A clue and the next line's place.
-#[derive(Clone, Copy)]
-pub enum ClueRead {
-    Got(Clue, usize),
-    No,
-}
-
-// A call and the next line's place.
-#[derive(Clone, Copy)]
-pub enum CallRead {
-    Got(Call, usize),
-    No,
 }
 
 // What the lines of a part of a page are.
@@ -85,27 +50,29 @@ pub struct Parts {
     pub calls: usize,
 }
 
-// Whether a page is well formed, with its parts.
-#[derive(Clone, Copy)]
-pub enum Form {
-    Good(Parts),
-    Bad,
+// Why a page is refused, as 01 numbers it: not well formed, its size, its rows, its colours.
+#[derive(Clone, Copy, PartialEq, Eq)]
+pub enum Unfit {
+    Form = 10,
+    Size = 1,
+    Ragged = 2,
+    Colour = 3,
 }
 
-// The judgement of a page: refused with 01's number, or accepted with its parts.
-#[derive(Clone, Copy)]
-pub enum Judged {
-    Refused(usize),
-    Accepted(Parts),
+impl Unfit {
+    // 01's number of the refusal.
+    pub fn number(self) -> usize
+        ensures { result ≡ unfit_number self }
+    {
+        self as usize
+    }
 }
 
-// The judgement of a page's bytes: 10, 1, 2, 3, in this order, or accepted.
-pub fn judge(s: &[u8]) -> Judged
+// The judgement of a page's bytes: 10, 1, 2, 3, in this order, or accepted with its parts.
+pub fn judge(s: &[u8]) -> Result<Parts, Unfit>
     ensures { judged_of s.now result ≡ judgement_of s.now }
 {
-    let Form::Good(p) = whole::form_of(s) else {
-        return Judged::Refused(10);
-    };
+    let p = whole::form_of(s).ok_or(Unfit::Form)?;
     fitness::judge_parts(s, p)
 }
 
@@ -127,8 +94,8 @@ pub fn clues(s: &[u8], p: Parts) -> [i32; Board::CELL_LIMIT]
 }
 
 // The call at a place, and the place of the next. The calls of a page begin at its parts' place `calls`.
-pub fn call_at(s: &[u8], at: usize) -> CallRead
-    ensures { got_call s.now result ≡ call (rest s.now at) }
+pub fn call_at(s: &[u8], at: usize) -> Option<(Call, usize)>
+    ensures { got s.now result ≡ call (rest s.now at) }
 {
     lines::call_at(s, at)
 }

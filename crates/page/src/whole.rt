@@ -6,31 +6,17 @@ ghost use Rattle.page.specs.Parsers.{rest};
 ghost use Rattle.page.specs.Grammar.{clue, on_page, same_cell, clues_fit, page_of};
 ghost use Rattle.page.specs.Places.{left_from, all_from, after_line, end_of, form_of};
 
-use crate::{CallRead, Clue, ClueRead, Form, Line, Parts, Place, Row, Size, bytes, lines};
+use crate::bytes::word_at;
+use crate::{Clue, Line, Parts, lines};
 
 // The place after the line at `at`, if a line of that kind stands there.
-fn line_end(s: &[u8], at: usize, line: Line) -> Place
+fn line_end(s: &[u8], at: usize, line: Line) -> Option<usize>
     ensures { left_from s.now result ≡ after_line line (rest s.now at) }
 {
     match line {
-        Line::Row => {
-            let Row::Got(_, _, next) = lines::row_at(s, at) else {
-                return Place::No;
-            };
-            Place::At(next)
-        }
-        Line::Clue => {
-            let ClueRead::Got(_, next) = lines::clue_at(s, at) else {
-                return Place::No;
-            };
-            Place::At(next)
-        }
-        Line::Call => {
-            let CallRead::Got(_, next) = lines::call_at(s, at) else {
-                return Place::No;
-            };
-            Place::At(next)
-        }
+        Line::Row => Some(lines::row_at(s, at)?.1),
+        Line::Clue => Some(lines::clue_at(s, at)?.1),
+        Line::Call => Some(lines::call_at(s, at)?.1),
     }
 }
 
@@ -39,10 +25,7 @@ fn lines_end(s: &[u8], at: usize, line: Line) -> usize
     ensures { rest s.now result ≡ end_of line s.now at }
 {
     let mut p = at;
-    while p < s.len() {
-        let Place::At(next) = line_end(s, p, line) else {
-            return p;
-        };
+    while let Some(next) = line_end(s, p, line) {
         p = next;
     }
     p
@@ -52,20 +35,14 @@ fn lines_end(s: &[u8], at: usize, line: Line) -> usize
 fn same_cell(c: Clue, d: Clue) -> bool
     ensures { result ≡ same_cell c d }
 {
-    if c.y == d.y {
-        return c.x == d.x;
-    }
-    false
+    c.y == d.y && c.x == d.x
 }
 
 // Whether a clue is on the page of h rows and w columns.
 fn on_page(c: Clue, h: usize, w: usize) -> bool
     ensures { result ≡ on_page h w c }
 {
-    if c.y < h {
-        return c.x < w;
-    }
-    false
+    c.y < h && c.x < w
 }
 
 // Whether one of the clues from `at` on names the cell of c.
@@ -73,10 +50,7 @@ fn clue_again(s: &[u8], at: usize, c: Clue) -> bool
     ensures { result ≡ any (same_cell c) (all_from clue s.now at) }
 {
     let mut p = at;
-    while p < s.len() {
-        let ClueRead::Got(d, next) = lines::clue_at(s, p) else {
-            return false;
-        };
+    while let Some((d, next)) = lines::clue_at(s, p) {
         if same_cell(c, d) {
             return true;
         }
@@ -90,52 +64,36 @@ fn clues_fit(s: &[u8], at: usize, h: usize, w: usize) -> bool
     ensures { result ≡ clues_fit h w (all_from clue s.now at) }
 {
     let mut p = at;
-    while p < s.len() {
-        let ClueRead::Got(c, next) = lines::clue_at(s, p) else {
-            return true;
-        };
-        if on_page(c, h, w) {
-            if clue_again(s, next, c) {
-                return false;
-            }
-            p = next;
-        } else {
+    while let Some((c, next)) = lines::clue_at(s, p) {
+        if !on_page(c, h, w) || clue_again(s, next, c) {
             return false;
         }
+        p = next;
     }
     true
 }
 
 // The parts of a page, if the bytes are well formed.
-pub fn form_of(s: &[u8]) -> Form
+pub fn form_of(s: &[u8]) -> Option<Parts>
     ensures { form_of s.now result ≡ page_of s.now }
 {
     if 65536 < s.len() {
-        return Form::Bad;
+        return None;
     }
-    let Place::At(a) = bytes::word_at(s, 0, b"(page\n") else {
-        return Form::Bad;
-    };
-    let Size::Got(height, width, rows) = lines::size_at(s, a) else {
-        return Form::Bad;
-    };
+    let a = word_at(s, 0, b"(page\n")?;
+    let ((height, width), rows) = lines::size_at(s, a)?;
     let clues = lines_end(s, rows, Line::Row);
     let calls = lines_end(s, clues, Line::Clue);
     let end = lines_end(s, calls, Line::Call);
-    let Place::At(last) = bytes::word_at(s, end, b")\n") else {
-        return Form::Bad;
-    };
-    if last < s.len() {
-        return Form::Bad;
+    let last = word_at(s, end, b")\n")?;
+    if last < s.len() || !clues_fit(s, clues, height, width) {
+        return None;
     }
-    if clues_fit(s, clues, height, width) {
-        return Form::Good(Parts {
-            height,
-            width,
-            rows,
-            clues,
-            calls,
-        });
-    }
-    Form::Bad
+    Some(Parts {
+        height,
+        width,
+        rows,
+        clues,
+        calls,
+    })
 }

@@ -1,42 +1,53 @@
--- `digits_at` meets its contract: the digits passed stand before those read on from p.
+-- `digits_at` meets its contract: the digits passed stand before those read on from i.
 use Rattle.page.specs.Places.{got_digits}
-use Rattle.page.specs.ParserLaws.{digits-none, digits-not, digits-first}
+use Rattle.page.specs.Parsers.{digit}
+use Rattle.std.proofs.Common.{add-zero}
+use Rattle.page.specs.ParserLaws.{digits-none, digits-not, digits-first, digit-told, rest-get, rest-in, rest-out}
 use Rattle.page.specs.ParserLaws.{digits-past, digits-stop, digits-bad, digits_more}
-use borrow.Author.Rules.{rules}
-use mathlib.Core.Path.{sym, ◌∙◌}
+use Rattle.std.proofs.lemmas.List.{get_or_read}
+use borrow.Author.Tests.{ltb-true, ltb-false}
+use mathlib.Core.Path.{◌≡◌, sym, ap, ◌∙◌}
+use Prim.Native.Nat.{◌+◌}
+use native.Mathlib.Omega.{arith}
 use Rattle.page.proofs.bytes.digits_at.Goals as goal
 
-pub returns-then-s-at : goal.returns-then-s-at
+pub returns-in_err-get : goal.returns-in_err-get
 unfolding got_digits
-returns-then-s-at c = sym (digits-none _ _ _ (search rules))
+returns-in_err-get c =
+    rw c.from_residual.ensures (sym (digits-none _ _ _ (ltb-false _ _ (sym c.in_err-get.ensures.lookup.0))))
 
-pub loop-p-init : goal.loop-p-init
-loop-p-init c = (search rules, digits-first _ _ _ (search rules) (sym c.is_digit.ensures ∙ c.if-is_digit.true))
+pub returns-then-not-is_ascii_digit : goal.returns-then-not-is_ascii_digit
+unfolding got_digits
+returns-then-not-is_ascii_digit c =
+    sym (digits-not c.args.s.now c.args.at _ (ltb-true _ _ (sym c.in_ok-get.ensures.lookup.0))
+    (ap digit (sym (get_or_read c.args.s.now _ _ (ltb-true _ _ (sym c.in_ok-get.ensures.lookup.0)) c.in_ok-get.ensures.lookup.1 0)) ∙ digit-told _ c.is_ascii_digit.ensures.value c.if-not-is_ascii_digit.true))
+
+pub loop-i-init : goal.loop-i-init
+loop-i-init c =
+    rw add-zero (digits-first c.args.s.now c.args.at _ (ltb-true _ _ (sym c.in_ok-get.ensures.lookup.0))
+    (ap digit (sym (get_or_read c.args.s.now _ _ (ltb-true _ _ (sym c.in_ok-get.ensures.lookup.0)) c.in_ok-get.ensures.lookup.1 0)) ∙ digit-told _ c.is_ascii_digit.ensures.value c.if-not-is_ascii_digit.false))
 
 pub returns-then-b-stop : goal.returns-then-b-stop
 unfolding got_digits
-returns-then-b-stop c = sym (c.loop-p.invariant.1 ∙ digits-stop _ _ _ _ (search rules) c.if-b-stop.true)
+returns-then-b-stop c =
+    sym (c.loop-i.invariant ∙ digits-stop _ _ _ _ (rest-in _ _ _ _ c.rest-left.ensures c.loop-i-test.true)
+    (sym (rest-get _ _ _ _ c.rest-left.ensures) ∙ c.if-b-stop.true))
 
-pub loop-p-preserved : goal.loop-p-preserved
-loop-p-preserved c = (
-  search rules,
-  c.loop-p.invariant.1 ∙
-      digits_more _ _ _ _ (search rules) (search rules) c.if-b-stop.false
-      (sym c.is_digit-in-loop-p.ensures ∙ c.if-is_digit-2.true),
-)
-
-pub returns-else-is_digit-2 : goal.returns-else-is_digit-2
+pub returns-then-not-is_ascii_digit-2 : goal.returns-then-not-is_ascii_digit-2
 unfolding got_digits
-returns-else-is_digit-2 c =
-    sym
-    (c.loop-p.invariant.1 ∙
-    digits-bad _ _ _ _ (search rules) c.if-b-stop.false
-    (sym c.is_digit-in-loop-p.ensures ∙ c.if-is_digit-2.false))
+returns-then-not-is_ascii_digit-2 c =
+    sym (c.loop-i.invariant ∙ digits-bad _ _ _ _ (rest-in _ _ _ _ c.rest-left.ensures c.loop-i-test.true)
+    (λ q. c.if-b-stop.false (rest-get _ _ _ _ c.rest-left.ensures ∙ q))
+    (ap digit (sym (rest-get _ _ _ _ c.rest-left.ensures)) ∙ digit-told _ c.is_ascii_digit-in-loop-i.ensures.value c.if-not-is_ascii_digit-2.true))
 
-pub returns-then-is_digit : goal.returns-then-is_digit
-unfolding got_digits
-returns-then-is_digit c = sym (c.loop-p.invariant.1 ∙ digits-past _ _ _ _ (search rules))
+pub loop-i-preserved : goal.loop-i-preserved
+loop-i-preserved c =
+    let k : c.args.at + 1 + (c.loop-i.i + 1) ≡ c.args.at + 1 + c.loop-i.i + 1 = omega arith in
+    rw k
+    (c.loop-i.invariant ∙ digits_more _ _ _ _ (omega arith) (rest-in _ _ _ _ c.rest-left.ensures c.loop-i-test.true)
+    (λ q. c.if-b-stop.false (rest-get _ _ _ _ c.rest-left.ensures ∙ q))
+    (ap digit (sym (rest-get _ _ _ _ c.rest-left.ensures)) ∙ digit-told _ c.is_ascii_digit-in-loop-i.ensures.value c.if-not-is_ascii_digit-2.false))
 
 pub returns : goal.returns
 unfolding got_digits
-returns c = sym (digits-not _ _ _ (search rules) (sym c.is_digit.ensures ∙ c.if-is_digit.false))
+returns c = sym (c.loop-i.invariant ∙ digits-past _ _ _ _ (rest-out _ _ _ _ c.rest-left.ensures c.loop-i-test.false))

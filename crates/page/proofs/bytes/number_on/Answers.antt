@@ -1,70 +1,59 @@
--- `number_on` meets its contract: the number read so far goes on at p as the whole did at `at`.
-use Rattle.page.specs.Places.{got_number}
-use Rattle.page.specs.ParserLaws.{digit_low, digit-high, may-not, may-zero, may-large, may}
+-- `number_on` meets its contract: the number read so far goes on at i as the whole did.
+use Rattle.page.specs.Places.{got}
+use Rattle.page.specs.ParserLaws.{length_rest, rest_all, rest-next, digit-told, may-not, may-zero, may-large, may}
 use Rattle.page.specs.ParserLaws.{on-past, on-stop, on-not, on-more}
 use borrow.Author.Rules.{rules}
-use mathlib.Core.Path.{sym, refl, ◌∙◌}
+use lib.ListN.{length}
+use mathlib.Core.Path.{sym, ap, ◌∙◌}
 use native.Mathlib.Omega.{arith}
 use Rattle.page.proofs.bytes.number_on.Goals as goal
 
-pub loop-p-init : goal.loop-p-init
-loop-p-init c = (refl, search rules)
+pub loop-i-init : goal.loop-i-init
+loop-i-init c = (rw rest_all, search rules)
+
+pub overflow_add-result : goal.overflow_add-result
+overflow_add-result c = omega (arith, ap length c.rest-left.ensures, length_rest c.args.s.now c.args.at)
+
+pub overflow_add-result-then-b-stop : goal.overflow_add-result-then-b-stop
+overflow_add-result-then-b-stop c = omega (arith, ap length c.rest-left.ensures, length_rest c.args.s.now c.args.at)
 
 pub returns-then-b-stop : goal.returns-then-b-stop
-unfolding got_number
-returns-then-b-stop c = sym (c.loop-p.invariant.0 ∙ on-stop _ _ _ _ (search rules) (search rules))
+unfolding got
+returns-then-b-stop c =
+    rw (← rest-next _ _ _ _ c.rest-left.ensures, ← c.rest-left.ensures)
+    (sym (c.loop-i.invariant.0 ∙ on-stop _ _ _ _ c.loop-i-test.true c.if-b-stop.true))
+
+pub returns-then-not-is_ascii_digit : goal.returns-then-not-is_ascii_digit
+unfolding got
+returns-then-not-is_ascii_digit c =
+    rw (← c.rest-left.ensures)
+    (sym (c.loop-i.invariant.0 ∙ on-not _ _ _ _ c.loop-i-test.true c.if-b-stop.false
+    (may-not _ _ (digit-told _ c.is_ascii_digit.ensures.value c.if-not-is_ascii_digit.true))))
 
 pub returns-then-v-eq0 : goal.returns-then-v-eq0
-unfolding got_number
+unfolding got
 returns-then-v-eq0 c =
-    sym
-    (c.loop-p.invariant.0 ∙ on-not _ _ _ _ (search rules) (search rules)
-    (may-zero _ _ (sym c.is_digit.ensures ∙ c.if-is_digit.true) (search rules)))
+    rw (← c.rest-left.ensures)
+    (sym (c.loop-i.invariant.0 ∙ on-not _ _ _ _ c.loop-i-test.true c.if-b-stop.false
+    (may-zero _ _ (digit-told _ c.is_ascii_digit.ensures.value c.if-not-is_ascii_digit.false) c.if-v-eq0.true)))
 
-pub overflow_sub-more : goal.overflow_sub-more
-overflow_sub-more c =
-    omega (
-      arith,
-      digit_low _
-          (sym c.is_digit.ensures ∙ c.if-is_digit.true),
-      c.index_byte.ensures,
-    )
+pub returns-then-v-gt2147483647 : goal.returns-then-v-gt2147483647
+unfolding got
+returns-then-v-gt2147483647 c =
+    rw (← c.rest-left.ensures)
+    (sym (c.loop-i.invariant.0 ∙ on-not _ _ _ _ c.loop-i-test.true c.if-b-stop.false
+    (may-large _ _ (digit-told _ c.is_ascii_digit.ensures.value c.if-not-is_ascii_digit.false)
+    (search rules) (search rules))))
 
-pub overflow_add-more : goal.overflow_add-more
-overflow_add-more c =
-    omega (
-      arith,
-      digit_low _ (sym c.is_digit.ensures ∙ c.if-is_digit.true),
-      digit-high _ (sym c.is_digit.ensures ∙ c.if-is_digit.true),
-      c.index_byte.ensures,
-    )
-
-pub returns-then-more-gt2147483647 : goal.returns-then-more-gt2147483647
-unfolding got_number
-returns-then-more-gt2147483647 c =
-    sym
-    (c.loop-p.invariant.0
-    ∙ on-not _ _ _ _ (search rules) (search rules)
-    (may-large _ _ (sym c.is_digit.ensures ∙ c.if-is_digit.true)
-    (search rules) (search rules)))
-
-pub loop-p-preserved : goal.loop-p-preserved
-loop-p-preserved c = (
-  rw c.index_byte.ensures
-      (c.loop-p.invariant.0
-      ∙ on-more _ _ _ _ (search rules) (search rules)
-      (may _ _ (sym c.is_digit.ensures ∙ c.if-is_digit.true)
+pub loop-i-preserved : goal.loop-i-preserved
+loop-i-preserved c = (
+  rw c.from.ensures
+      (c.loop-i.invariant.0 ∙ on-more _ _ _ _ c.loop-i-test.true c.if-b-stop.false
+      (may _ _ (digit-told _ c.is_ascii_digit.ensures.value c.if-not-is_ascii_digit.false)
       (search rules) (search rules))),
   search rules,
 )
 
-pub returns-else-is_digit : goal.returns-else-is_digit
-unfolding got_number
-returns-else-is_digit c =
-    sym
-    (c.loop-p.invariant.0 ∙ on-not _ _ _ _ (search rules) (search rules)
-    (may-not _ _ (sym c.is_digit.ensures ∙ c.if-is_digit.false)))
-
 pub returns : goal.returns
-unfolding got_number
-returns c = sym (c.loop-p.invariant.0 ∙ on-past _ _ _ _ (search rules))
+unfolding got
+returns c = rw (← c.rest-left.ensures) (sym (c.loop-i.invariant.0 ∙ on-past _ _ _ _ c.loop-i-test.false))

@@ -1,30 +1,16 @@
--- `word_at` meets its contract: what is left of the word stands or fails at p as the whole did at `at`.
+-- `word_at` meets its contract: a word is read where the bytes start with it.
+use Rattle.page.specs.ParserLaws.{strip-starts, rest-rest, length_rest}
 use Rattle.page.specs.Places.{left_from}
-use Rattle.page.specs.ParserLaws.{rest_all, strip-end, strip-past, strip-not, strip-more}
-use borrow.Author.Rules.{rules}
-use mathlib.Core.Path.{sym, ◌∙◌}
+use Rattle.std.proofs.Common.{ap, arith, length}
 use Rattle.page.proofs.bytes.word_at.Goals as goal
 
-pub loop-i-init : goal.loop-i-init
-loop-i-init c = (search rules, rw rest_all)
+pub overflow_add-result : goal.overflow_add-result
+overflow_add-result c = omega (arith, c.starts_with.ensures.bound c.if-starts_with.true, ap length c.rest.ensures, length_rest c.args.s.now c.args.at)
 
-pub returns-then-s-p : goal.returns-then-s-p
+pub returns-then-starts_with : goal.returns-then-starts_with
 unfolding left_from
-returns-then-s-p c = sym (c.loop-i.invariant.1 ∙ strip-past _ _ _ _ (search rules) (search rules))
+returns-then-starts_with c = rw (strip-starts, ← c.rest.ensures, ← c.starts_with.ensures.value, c.if-starts_with.true, c.rest.ensures, rest-rest)
 
-pub returns-then-s-p-2 : goal.returns-then-s-p-2
+pub returns-else-starts_with : goal.returns-else-starts_with
 unfolding left_from
-returns-then-s-p-2 c =
-    sym (c.loop-i.invariant.1
-    ∙ strip-not _ _ _ _ (search rules) (search rules) c.if-s-p-2.true)
-
-pub loop-i-preserved : goal.loop-i-preserved
-loop-i-preserved c = (
-  search rules,
-  c.loop-i.invariant.1
-      ∙ strip-more _ _ _ _ (search rules) (search rules) c.if-s-p-2.false,
-)
-
-pub returns : goal.returns
-unfolding left_from
-returns c = sym (c.loop-i.invariant.1 ∙ strip-end _ _ _ _ (search rules))
+returns-else-starts_with c = rw (strip-starts, ← c.rest.ensures, ← c.starts_with.ensures.value, c.if-starts_with.false)

@@ -1,40 +1,31 @@
 -- `colours` meets its contract: the rows from p on are still to be laid.
 use Rattle.page.specs.Filling.{rows_end, rows_on}
-use Rattle.page.specs.FormLaws.{from_past, from-none, from_more}
+use Rattle.page.specs.FormLaws.{from-none, from_more}
 use Rattle.page.specs.Judge.{colour_array}
 use Rattle.page.specs.Many.{passes}
 use Rattle.page.specs.PageText.{row-takes}
 use Rattle.page.specs.Places.{got_row}
-use Rattle.page.specs.ParserLaws.{told_same}
-use borrow.Author.Rules.{rules}
 use mathlib.Core.Path.{sym, ◌∙◌, refl}
 use Rattle.page.proofs.filling.colours.Goals as goal
 
-pub loop-p-init : goal.loop-p-init
+pub loop-digits-init : goal.loop-digits-init
 unfolding colour_array
-loop-p-init c = refl
+loop-digits-init c = refl
 
-pub returns-in_default : goal.returns-in_default
+pub loop-digits-smaller : goal.loop-digits-smaller
 unfolding got_row
-returns-in_default c =
-    sym
-    (c.loop-p.invariant
-    ∙ rows_end _ _ (from-none row-takes _ _
-    (told_same (got_row _) c.row_at.ensures c.in_default.is)))
-
-pub loop-p-smaller : goal.loop-p-smaller
-unfolding got_row
-loop-p-smaller c =
+loop-digits-smaller c =
     passes row-takes _ _ _ _
-    (told_same (got_row _) c.row_at.ensures c.in-Got.is)
+    (sym c.in-Some.ensures)
 
-pub loop-p-preserved : goal.loop-p-preserved
+pub loop-digits-preserved : goal.loop-digits-preserved
 unfolding got_row
-loop-p-preserved c =
-    c.loop-p.invariant ∙
+loop-digits-preserved c =
+    c.loop-digits.invariant ∙
     rows_on (from_more row-takes _ _ _ _
-    (told_same (got_row _) c.row_at.ensures c.in-Got.is))
+    (sym c.in-Some.ensures))
     c.with_digits-laid.ensures
 
 pub returns : goal.returns
-returns c = sym (c.loop-p.invariant ∙ rows_end _ _ (from_past row-takes _ _ (search rules)))
+unfolding got_row
+returns c = sym (c.loop-digits.invariant ∙ rows_end _ _ (from-none row-takes _ _ (sym c.in_default.ensures)))

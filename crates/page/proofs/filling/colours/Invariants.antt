@@ -9,9 +9,9 @@ use lib.Seq.{sets}
 use mathlib.Core.Path.{◌≡◌}
 use Rattle.page.proofs.filling.colours.Given as goal
 
-abbrev pub invariant-loop-p : goal.invariant-loop-p
-invariant-loop-p l =
+abbrev pub invariant-loop-digits : goal.invariant-loop-digits
+invariant-loop-digits l =
     colour_array (all_from row l.s l.at) ≡ sets l.laid.cells l.laid.count (flat_map (λ ds. ds) (all_from row l.s l.p))
 
-abbrev pub decreases-loop-p : goal.decreases-loop-p
-decreases-loop-p l = length l.s - l.p
+abbrev pub decreases-loop-digits : goal.decreases-loop-digits
+decreases-loop-digits l = length l.s - l.p

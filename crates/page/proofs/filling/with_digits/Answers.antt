@@ -7,8 +7,8 @@ use Rattle.page.proofs.filling.with_digits.Goals as goal
 pub loop-p-init : goal.loop-p-init
 loop-p-init c = (search rules, laying-none _ _)
 
-pub returns-then-at-ge-CELL_LIMIT : goal.returns-then-at-ge-CELL_LIMIT
-returns-then-at-ge-CELL_LIMIT c = laying-full _ _ _ c.loop-p.invariant.1 (search rules)
+pub returns-then-out-ge-CELL_LIMIT : goal.returns-then-out-ge-CELL_LIMIT
+returns-then-out-ge-CELL_LIMIT c = laying-full _ _ _ c.loop-p.invariant.1 (search rules)
 
 pub loop-p-preserved : goal.loop-p-preserved
 loop-p-preserved c = (

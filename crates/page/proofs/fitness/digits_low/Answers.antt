@@ -6,19 +6,14 @@ use native.Mathlib.Omega.{arith}
 use Rattle.page.proofs.fitness.digits_low.Goals as goal
 
 pub loop-p-init : goal.loop-p-init
-loop-p-init c = (search rules, low-none _ _)
+loop-p-init c = low-none _ _
 
 pub returns-then-digit_at-gt1 : goal.returns-then-digit_at-gt1
 returns-then-digit_at-gt1 c =
-    sym (low-fails _ _ _ _ c.loop-p.invariant.0 (search rules)
-    (omega (arith, c.digit_at.ensures)))
+    sym (low-fails c.args.s.now c.args.digits.from c.loop-p.p c.args.digits.to (search rules) (search rules) (omega (arith, c.digit_at.ensures)))
 
 pub loop-p-preserved : goal.loop-p-preserved
-loop-p-preserved c = (
-  search rules,
-  low-more _ _ _ c.loop-p.invariant.0
-      (omega (arith, c.digit_at.ensures)) c.loop-p.invariant.1,
-)
+loop-p-preserved c = low-more _ _ c.loop-p.p (search rules) (omega (arith, c.digit_at.ensures)) c.loop-p.invariant
 
 pub returns : goal.returns
-returns c = sym (low-all _ _ _ _ (search rules) c.loop-p.invariant.1)
+returns c = sym (low-all _ _ _ c.args.digits.to (search rules) c.loop-p.invariant)

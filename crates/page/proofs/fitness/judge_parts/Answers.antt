@@ -4,30 +4,28 @@ use Rattle.page.specs.Places.{judged_of, sheet_at}
 use mathlib.Core.Path.{sym, ◌∙◌}
 use Rattle.page.proofs.fitness.judge_parts.Goals as goal
 
-pub returns-then-two_colours : goal.returns-then-two_colours
+pub returns-then-not-size_right : goal.returns-then-not-size_right
 unfolding judged_of sheet_at
-returns-then-two_colours c =
-    sym
-    (right _ (sym c.size_right.ensures
-    ∙ c.if-size_right.true)
-    (sym c.rows_fit.ensures ∙ c.if-rows_fit.true)
-    (sym c.two_colours.ensures ∙ c.if-two_colours.true))
+returns-then-not-size_right c = sym (not-sized _ (sym c.size_right.ensures ∙ c.if-not-size_right.true))
 
-pub returns-then-rows_fit : goal.returns-then-rows_fit
+pub returns-then-not-rows_fit : goal.returns-then-not-rows_fit
 unfolding judged_of sheet_at
-returns-then-rows_fit c =
-    sym
-    (discoloured _ (sym c.size_right.ensures
-    ∙ c.if-size_right.true)
-    (sym c.rows_fit.ensures ∙ c.if-rows_fit.true)
-    (sym c.two_colours.ensures ∙ c.if-two_colours.false))
+returns-then-not-rows_fit c =
+    sym (ragged _ (sym c.size_right.ensures ∙ c.if-not-size_right.false)
+    (sym c.rows_fit.ensures ∙ c.if-not-rows_fit.true))
 
-pub returns-then-size_right : goal.returns-then-size_right
+pub returns-then-not-two_colours : goal.returns-then-not-two_colours
 unfolding judged_of sheet_at
-returns-then-size_right c =
-    sym (ragged _ (sym c.size_right.ensures ∙ c.if-size_right.true)
-    (sym c.rows_fit.ensures ∙ c.if-rows_fit.false))
+returns-then-not-two_colours c =
+    sym
+    (discoloured _ (sym c.size_right.ensures ∙ c.if-not-size_right.false)
+    (sym c.rows_fit.ensures ∙ c.if-not-rows_fit.false)
+    (sym c.two_colours.ensures ∙ c.if-not-two_colours.true))
 
 pub returns : goal.returns
 unfolding judged_of sheet_at
-returns c = sym (not-sized _ (sym c.size_right.ensures ∙ c.if-size_right.false))
+returns c =
+    sym
+    (right _ (sym c.size_right.ensures ∙ c.if-not-size_right.false)
+    (sym c.rows_fit.ensures ∙ c.if-not-rows_fit.false)
+    (sym c.two_colours.ensures ∙ c.if-not-two_colours.false))

@@ -7,8 +7,8 @@ use lib.ListN.{length}
 use mathlib.Core.Path.{◌≡◌}
 use Rattle.page.proofs.fitness.rows_fit.Given as goal
 
-abbrev pub invariant-loop-p : goal.invariant-loop-p
-invariant-loop-p l = rows_fit l.h l.w (all_from row l.s l.at) ≡ rows_fit l.left l.w (all_from row l.s l.p)
+abbrev pub invariant-loop-digits : goal.invariant-loop-digits
+invariant-loop-digits l = rows_fit l.h l.w (all_from row l.s l.at) ≡ rows_fit l.left l.w (all_from row l.s l.p)
 
-abbrev pub decreases-loop-p : goal.decreases-loop-p
-decreases-loop-p l = length l.s - l.p
+abbrev pub decreases-loop-digits : goal.decreases-loop-digits
+decreases-loop-digits l = length l.s - l.p

@@ -7,8 +7,8 @@ use lib.ListN.{length}
 use mathlib.Core.Path.{◌≡◌}
 use Rattle.page.proofs.fitness.two_colours.Given as goal
 
-abbrev pub invariant-loop-p : goal.invariant-loop-p
-invariant-loop-p l = two_colours (all_from row l.s l.at) ≡ two_colours (all_from row l.s l.p)
+abbrev pub invariant-loop-digits : goal.invariant-loop-digits
+invariant-loop-digits l = two_colours (all_from row l.s l.at) ≡ two_colours (all_from row l.s l.p)
 
-abbrev pub decreases-loop-p : goal.decreases-loop-p
-decreases-loop-p l = length l.s - l.p
+abbrev pub decreases-loop-digits : goal.decreases-loop-digits
+decreases-loop-digits l = length l.s - l.p

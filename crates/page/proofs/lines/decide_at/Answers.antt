@@ -1,56 +1,21 @@
--- `decide_at` meets its contract: each word and number read is what the parser reads there.
-use Rattle.lists.specs.Lists.{or_else}
-use Rattle.page.specs.Grammar.{decide_call, side}
-use Rattle.page.specs.Places.{got_call, left_from, got_number}
-use Rattle.page.specs.ParserLaws.{told_same}
-use Rattle.page.specs.Parsers.{map_r, either, lead, onto, both, also, give}
+-- `decide_at` meets its contract: the word, the number and the side read are what the parsers read there.
+use Rattle.page.specs.Grammar.{decide_call}
+use Rattle.page.specs.Places.{got, left_from}
+use Rattle.page.specs.Parsers.{map_r, lead, onto, both, also, give}
 use Rattle.page.proofs.lines.decide_at.Goals as goal
 
-pub returns-in_default : goal.returns-in_default
-unfolding decide_call side map_r either or_else lead onto both also give got_call left_from got_number
-returns-in_default c = rw (told_same (left_from _) c.word_at.ensures c.in_default.is)
+pub returns-in_err-a : goal.returns-in_err-a
+unfolding decide_call map_r lead onto both also give got left_from
+returns-in_err-a c = rw (c.from_residual.ensures, ← c.in_err-a.ensures)
 
-pub returns-in_default-number_at : goal.returns-in_default-number_at
-unfolding decide_call side map_r either or_else lead onto both also give got_call left_from got_number
-returns-in_default-number_at c =
-    rw (
-      told_same (left_from _) c.word_at.ensures
-          c.in-At.is,
-      told_same (got_number _) c.number_at.ensures c.in_default-number_at.is,
-    )
+pub returns-in_err-border : goal.returns-in_err-border
+unfolding decide_call map_r lead onto both also give got left_from
+returns-in_err-border c = rw (c.from_residual-in_err-border.ensures, ← c.in_ok-a.ensures, ← c.in_err-border.ensures)
 
-pub returns-in_default-word_at-2 : goal.returns-in_default-word_at-2
-unfolding decide_call side map_r either or_else lead onto both also give got_call left_from got_number
-returns-in_default-word_at-2 c =
-    rw (
-      told_same (left_from _)
-          c.word_at.ensures c.in-At.is,
-      told_same (got_number _) c.number_at.ensures c.in-Got.is,
-      told_same (left_from _) c.word_at-2.ensures
-          c.in_default-word_at.is,
-      told_same (left_from _) c.word_at-in_default-word_at.ensures c.in_default-word_at-2.is,
-    )
-
-pub returns-in_default-word_at : goal.returns-in_default-word_at
-unfolding decide_call side map_r either or_else lead onto both also give got_call left_from got_number
-returns-in_default-word_at c =
-    rw (
-      told_same (left_from _)
-          c.word_at.ensures
-          c.in-At.is,
-      told_same (got_number _) c.number_at.ensures c.in-Got.is,
-      told_same (left_from _) c.word_at-2.ensures
-          c.in_default-word_at.is,
-      told_same (left_from _) c.word_at-in_default-word_at.ensures c.in-At-word_at-2.is,
-    )
+pub returns-in_err-side : goal.returns-in_err-side
+unfolding decide_call map_r lead onto both also give got left_from
+returns-in_err-side c = rw (c.from_residual-in_err-side.ensures, ← c.in_ok-a.ensures, ← c.in_ok-border.ensures, ← c.in_err-side.ensures)
 
 pub returns : goal.returns
-unfolding decide_call side map_r either or_else lead onto both also give got_call left_from got_number
-returns c =
-    rw (
-      told_same (left_from _)
-          c.word_at.ensures c.in-At.is,
-      told_same (got_number _) c.number_at.ensures
-          c.in-Got.is,
-      told_same (left_from _) c.word_at-2.ensures c.in-At-word_at.is,
-    )
+unfolding decide_call map_r lead onto both also give got left_from
+returns c = rw (← c.in_ok-a.ensures, ← c.in_ok-border.ensures, ← c.in_ok-side.ensures)

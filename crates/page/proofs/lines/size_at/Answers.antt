@@ -1,56 +1,25 @@
 -- `size_at` meets its contract: each word and number read is what the parser reads there.
 use Rattle.page.specs.Grammar.{size}
-use Rattle.page.specs.Places.{got_size, left_from, got_number}
-use Rattle.page.specs.ParserLaws.{told_same}
+use Rattle.page.specs.Places.{got, left_from}
 use Rattle.page.specs.Parsers.{lead, both, followed, give, onto, also}
 use Rattle.page.proofs.lines.size_at.Goals as goal
 
-pub returns-in_default : goal.returns-in_default
-unfolding size lead both followed give onto also got_size left_from got_number
-returns-in_default c = rw (told_same (left_from _) c.word_at.ensures c.in_default.is)
+pub returns-in_err-a : goal.returns-in_err-a
+unfolding size lead both followed give onto also got left_from
+returns-in_err-a c = rw (c.from_residual.ensures, ← c.in_err-a.ensures)
 
-pub returns-in_default-number_at : goal.returns-in_default-number_at
-unfolding size lead both followed give onto also got_size left_from got_number
-returns-in_default-number_at c =
-    rw (
-      told_same (left_from _) c.word_at.ensures
-          c.in-At.is,
-      told_same (got_number _) c.number_at.ensures c.in_default-number_at.is,
-    )
+pub returns-in_err-h : goal.returns-in_err-h
+unfolding size lead both followed give onto also got left_from
+returns-in_err-h c = rw (c.from_residual-in_err-h.ensures, ← c.in_ok-a.ensures, ← c.in_err-h.ensures)
 
-pub returns-in_default-number_at-2 : goal.returns-in_default-number_at-2
-unfolding size lead both followed give onto also got_size left_from got_number
-returns-in_default-number_at-2 c =
-    rw (
-      told_same (left_from _)
-          c.word_at.ensures
-          c.in-At.is,
-      told_same (got_number _) c.number_at.ensures
-          c.in-Got.is,
-      told_same (got_number _) c.number_at-2.ensures c.in_default-number_at-2.is,
-    )
+pub returns-in_err-w : goal.returns-in_err-w
+unfolding size lead both followed give onto also got left_from
+returns-in_err-w c = rw (c.from_residual-in_err-w.ensures, ← c.in_ok-a.ensures, ← c.in_ok-h.ensures, ← c.in_err-w.ensures)
 
-pub returns-in_default-word_at : goal.returns-in_default-word_at
-unfolding size lead both followed give onto also got_size left_from got_number
-returns-in_default-word_at c =
-    rw (
-      told_same (left_from _)
-          c.word_at.ensures c.in-At.is,
-      told_same (got_number _) c.number_at.ensures c.in-Got.is,
-      told_same (got_number _) c.number_at-2.ensures
-          c.in-Got-number_at.is,
-      told_same (left_from _) c.word_at-2.ensures c.in_default-word_at.is,
-    )
+pub returns-in_err-next : goal.returns-in_err-next
+unfolding size lead both followed give onto also got left_from
+returns-in_err-next c = rw (c.from_residual-in_err-next.ensures, ← c.in_ok-a.ensures, ← c.in_ok-h.ensures, ← c.in_ok-w.ensures, ← c.in_err-next.ensures)
 
 pub returns : goal.returns
-unfolding size lead both followed give onto also got_size left_from got_number
-returns c =
-    rw (
-      told_same (left_from _)
-          c.word_at.ensures
-          c.in-At.is,
-      told_same (got_number _) c.number_at.ensures c.in-Got.is,
-      told_same (got_number _) c.number_at-2.ensures
-          c.in-Got-number_at.is,
-      told_same (left_from _) c.word_at-2.ensures c.in-At-word_at.is,
-    )
+unfolding size lead both followed give onto also got left_from
+returns c = rw (← c.in_ok-a.ensures, ← c.in_ok-h.ensures, ← c.in_ok-w.ensures, ← c.in_ok-next.ensures)

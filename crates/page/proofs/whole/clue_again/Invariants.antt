@@ -7,8 +7,8 @@ use lib.ListN.{length}
 use mathlib.Core.Path.{◌≡◌}
 use Rattle.page.proofs.whole.clue_again.Given as goal
 
-abbrev pub invariant-loop-p : goal.invariant-loop-p
-invariant-loop-p l = any (same_cell l.c) (all_from clue l.s l.at) ≡ any (same_cell l.c) (all_from clue l.s l.p)
+abbrev pub invariant-loop-d : goal.invariant-loop-d
+invariant-loop-d l = any (same_cell l.c) (all_from clue l.s l.at) ≡ any (same_cell l.c) (all_from clue l.s l.p)
 
-abbrev pub decreases-loop-p : goal.decreases-loop-p
-decreases-loop-p l = length l.s - l.p
+abbrev pub decreases-loop-d : goal.decreases-loop-d
+decreases-loop-d l = length l.s - l.p

@@ -1,58 +1,42 @@
 -- `clues_fit` meets its contract: the clues from p on fit if those from `at` on do.
-use Rattle.page.specs.FormLaws.{from_past, from-none, from_more, fit_none, fit-off, fit-twice, fit-more}
+use Rattle.page.specs.FormLaws.{from-none, from_more, fit_none, fit-off, fit-twice, fit-more}
 use Rattle.page.specs.Many.{passes}
 use Rattle.page.specs.PageText.{clue-takes}
-use Rattle.page.specs.Places.{got_clue}
-use Rattle.page.specs.ParserLaws.{told_same}
-use borrow.Author.Rules.{rules}
+use Rattle.page.specs.Places.{got}
 use mathlib.Core.Path.{sym, ◌∙◌}
+use Rattle.page.proofs.whole.clues_fit.Goals.{then-not-on_page-via-then-not-on_page}
+use Rattle.page.proofs.whole.clues_fit.Goals.{then-not-on_page-via-else-not-on_page+then-clue_again}
 use Rattle.page.proofs.whole.clues_fit.Goals as goal
 
-pub returns-in_default : goal.returns-in_default
-unfolding got_clue
-returns-in_default c =
+pub returns-then-not-on_page : goal.returns-then-not-on_page
+unfolding got
+returns-then-not-on_page c =
+    let more = from_more clue-takes _ _ _ _ (sym c.in-Some.ensures) in
     sym
-    (c.loop-p.invariant ∙
-    fit_none _ _ (from-none clue-takes _ _
-    (told_same (got_clue _) c.clue_at.ensures c.in_default.is)))
+    (c.loop-c.invariant ∙
+    elim c.then-not-on_page.branch [
+      | then-not-on_page-via-then-not-on_page w ↦
+          fit-off _ _ _ _ more (sym c.on_page.ensures ∙ w.if-not-on_page.true)
+      | then-not-on_page-via-else-not-on_page+then-clue_again w ↦
+          fit-twice _ _ _ _ more (sym c.on_page.ensures ∙ w.if-not-on_page.false)
+          (sym w.clue_again.ensures ∙ w.if-clue_again.true)
+    ])
 
-pub returns-then-clue_again : goal.returns-then-clue_again
-unfolding got_clue
-returns-then-clue_again c =
-    sym
-    (c.loop-p.invariant ∙
-    fit-twice _ _ _ _ (from_more clue-takes _ _ _ _
-    (told_same (got_clue _) c.clue_at.ensures
-    c.in-Got.is))
-    (sym c.on_page.ensures ∙ c.if-on_page.true)
-    (sym c.clue_again.ensures ∙ c.if-clue_again.true))
-
-pub loop-p-smaller : goal.loop-p-smaller
-unfolding got_clue
-loop-p-smaller c =
+pub loop-c-smaller : goal.loop-c-smaller
+unfolding got
+loop-c-smaller c =
     passes clue-takes _ _ _ _
-    (told_same (got_clue _) c.clue_at.ensures
-    c.in-Got.is)
+    (sym c.in-Some.ensures)
 
-pub loop-p-preserved : goal.loop-p-preserved
-unfolding got_clue
-loop-p-preserved c =
-    c.loop-p.invariant ∙
+pub loop-c-preserved : goal.loop-c-preserved
+unfolding got
+loop-c-preserved c =
+    c.loop-c.invariant ∙
     fit-more _ _ _ _ (from_more clue-takes _ _ _ _
-    (told_same (got_clue _) c.clue_at.ensures
-    c.in-Got.is))
-    (sym c.on_page.ensures ∙ c.if-on_page.true)
+    (sym c.in-Some.ensures))
+    (sym c.on_page.ensures ∙ c.if-not-on_page.false)
     (sym c.clue_again.ensures ∙ c.if-clue_again.false)
 
-pub returns-else-on_page : goal.returns-else-on_page
-unfolding got_clue
-returns-else-on_page c =
-    sym
-    (c.loop-p.invariant ∙
-    fit-off _ _ _ _ (from_more clue-takes _ _ _ _
-    (told_same (got_clue _) c.clue_at.ensures
-    c.in-Got.is))
-    (sym c.on_page.ensures ∙ c.if-on_page.false))
-
 pub returns : goal.returns
-returns c = sym (c.loop-p.invariant ∙ fit_none _ _ (from_past clue-takes _ _ (search rules)))
+unfolding got
+returns c = sym (c.loop-c.invariant ∙ fit_none _ _ (from-none clue-takes _ _ (sym c.in_default.ensures)))

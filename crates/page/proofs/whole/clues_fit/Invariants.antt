@@ -6,8 +6,8 @@ use lib.ListN.{length}
 use mathlib.Core.Path.{◌≡◌}
 use Rattle.page.proofs.whole.clues_fit.Given as goal
 
-abbrev pub invariant-loop-p : goal.invariant-loop-p
-invariant-loop-p l = clues_fit l.h l.w (all_from clue l.s l.at) ≡ clues_fit l.h l.w (all_from clue l.s l.p)
+abbrev pub invariant-loop-c : goal.invariant-loop-c
+invariant-loop-c l = clues_fit l.h l.w (all_from clue l.s l.at) ≡ clues_fit l.h l.w (all_from clue l.s l.p)
 
-abbrev pub decreases-loop-p : goal.decreases-loop-p
-decreases-loop-p l = length l.s - l.p
+abbrev pub decreases-loop-c : goal.decreases-loop-c
+decreases-loop-c l = length l.s - l.p

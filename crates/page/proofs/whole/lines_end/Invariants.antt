@@ -5,8 +5,8 @@ use lib.ListN.{length}
 use mathlib.Core.Path.{◌≡◌}
 use Rattle.page.proofs.whole.lines_end.Given as goal
 
-abbrev pub invariant-loop-p : goal.invariant-loop-p
-invariant-loop-p l = end_of l.line l.s l.at ≡ end_of l.line l.s l.p
+abbrev pub invariant-loop-next : goal.invariant-loop-next
+invariant-loop-next l = end_of l.line l.s l.at ≡ end_of l.line l.s l.p
 
-abbrev pub decreases-loop-p : goal.decreases-loop-p
-decreases-loop-p l = length l.s - l.p
+abbrev pub decreases-loop-next : goal.decreases-loop-next
+decreases-loop-next l = length l.s - l.p

@@ -7,6 +7,6 @@ pub returns-then-c-h : goal.returns-then-c-h
 unfolding on_page
 returns-then-c-h c = simp (lt-ltb _ _ c.if-c-h.true)
 
-pub returns : goal.returns
+pub returns-else-c-h : goal.returns-else-c-h
 unfolding on_page
-returns c = simp (le-ltb _ _ c.if-c-h.false)
+returns-else-c-h c = simp (le-ltb _ _ c.if-c-h.false)

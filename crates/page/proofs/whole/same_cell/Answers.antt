@@ -7,6 +7,6 @@ pub returns-then-c-d : goal.returns-then-c-d
 unfolding same_cell
 returns-then-c-d c = simp (eq-eqb _ _ c.if-c-d.true)
 
-pub returns : goal.returns
+pub returns-else-c-d : goal.returns-else-c-d
 unfolding same_cell
-returns c = simp (ne_eqb _ _ c.if-c-d.false)
+returns-else-c-d c = simp (ne_eqb _ _ c.if-c-d.false)
