@@ -6,20 +6,21 @@
 --   start                                      the line of no bytes
 --   LineHolds l ds                             the line l holds the bytes ds and is 0 beyond them
 --   written_none, written_byte, written-more   no byte, one, and one text after another
---   written-word, written-end                  a text, byte by byte
+--   written-copied                             a text, copied as a whole
 --   written-length                             the length stays
 --   written-front, written-rest                the bytes from the start on, and those beyond them
 --   holds_as, holds_more, holds_text, holds-short  what a line holds, by parts, and that it has at most 32 bytes
---   line-none, line-more, line-written         a line's bytes written: none, one more, all
 --   decimal-last, decimal-long                 a number's last digit
 --   tens k, decimal-short, decimal-64, decimal-16  the k-th power of ten, and how many digits a number has
 --   numbered-text                              a word, a number, a bracket and a newline
 use Rattle.std.specs.Prelude.{◌≡◌, refl, Bool, true, false, List, [], ◌∷◌, ◌++◌, ℕ, zero, suc, ◌+◌, ◌*◌, ◌/◌, ◌%◌, ◌<◌}
-use Rattle.std.specs.Prelude.{◌≤◌, ltb, length, take, drop, set, get_or, replicate}
-use Rattle.std.proofs.Common.{sym, ap, ap₂, ◌∙◌, append_assoc, add-one, arith, ltb-true, ltb-false, length-append}
-use Rattle.std.proofs.Common.{take-suc, take_at, drop_at}
+use Rattle.std.specs.Prelude.{◌≤◌, ltb, length, take, drop, set, replicate}
+use Rattle.std.proofs.Common.{sym, ap, ap₂, ◌∙◌, append_assoc, arith, ltb-true, ltb-false, length-append}
+use Rattle.std.proofs.Common.{take_at, drop_at}
 use Rattle.std.proofs.lemmas.List.Edits.{sets, sets-eq}
-use Rattle.std.proofs.Math.Seq.{length-sets, take-length}
+use Rattle.std.proofs.lemmas.List.{drop-drop}
+use borrow.Rule.Slice.PartMut.{put_mid}
+use Rattle.std.proofs.Math.Seq.{length-sets}
 use Rattle.lists.specs.Stores.{sets-append}
 use Rattle.page.specs.Decimal.{decimal}
 use Rattle.page.specs.NumberText.{decimal-one, decimal-more}
@@ -47,6 +48,18 @@ written_none m at = record { memory = refl; next = omega arith }
 pub written_byte : (m : List ℕ) (at b : ℕ) → Written m at (b ∷ []) (set m at b) (at + 1)
 written_byte m at b = record { memory = refl; next = refl }
 
+-- a text, copied as a whole
+pub written-copied : (m part : List ℕ) (at k r : ℕ) (ds : List ℕ) → part ≡ ds → k ≡ length ds
+    → at + length ds ≤ length m → r ≡ at + length ds → Written m at ds (put_mid at k m part) r
+written-copied m part at k r ds e q h n =
+    record {
+      memory =
+          rw (e, q)
+          (sym (sets-eq ds m at h ∙ append_assoc (take at m) ds (drop (at + length ds) m)
+          ∙ ap (λ l. take at m ++ (ds ++ l)) (sym (drop-drop (length ds) at m))));
+      next = n;
+    }
+
 pub written-length : {m ds e : List ℕ} {at r : ℕ} → Written m at ds e r → length e ≡ length m
 written-length {m} {ds} {at = at} w = ap length w.memory ∙ length-sets m at ds
 
@@ -58,14 +71,6 @@ written-more {m} {ds} {es = es} {at = at} p w =
           w.memory ∙ ap₂ (λ (l : List ℕ) (n : ℕ). sets l n es) p.memory p.next ∙ sym (sets-append m at ds es);
       next = omega (arith, p.next, w.next, length-append ds es);
     }
-
-pub written-word : {m e f : List ℕ} {at r q : ℕ} (w : List ℕ) (i : ℕ) → i < length w → Written m at (take i w) e r
-    → Written e r (get_or w i 0 ∷ []) f q → Written m at (take (i + 1) w) f q
-written-word w i h p d = rw (add-one i, take-suc w i 0 h) (written-more p d)
-
-pub written-end : {m e : List ℕ} {at r : ℕ} (w : List ℕ) (i : ℕ) → i ≤ length w → length w ≤ i
-    → Written m at (take i w) e r → Written m at w e r
-written-end w i h l p = let e : i ≡ length w = omega arith in rw (e, take-length w) at p
 
 -- ---- from the start on, within the memory
 module _ {m ds e : List ℕ} {r : ℕ} (w : Written m 0 ds e r) (h : r ≤ length m) where
@@ -96,21 +101,6 @@ holds_text h = written-front h.written h.small
 
 pub holds-short : {l : Line} {ds : List ℕ} → LineHolds l ds → length (text_of l) ≤ 32
 holds-short h = omega (arith, ap length (holds_text h), h.written.next, h.small)
-
--- a line's bytes, up to its count
-pub line-none : (m : List ℕ) (at : ℕ) → Written m at [] m (at + 0)
-line-none m at = let k : at + 0 ≡ at = omega arith in rw k (written_none m at)
-
-pub line-more : {m e : List ℕ} {at : ℕ} (w : List ℕ) (i : ℕ) → Written m at (take i w) e (at + i) → i < length w
-    → Written m at (take (i + 1) w) (set e (at + i) (get_or w i 0)) (at + (i + 1))
-line-more {e = e} {at} w i p h =
-    let k : at + (i + 1) ≡ at + i + 1 = omega arith in
-    rw k (written-word w i h p (written_byte e (at + i) (get_or w i 0)))
-
-pub line-written : {m e : List ℕ} {at : ℕ} (l : Line) (i : ℕ) → i ≡ l.count
-    → Written m at (take i l.bytes) e (at + i) → Written m at (text_of l) e (at + l.count)
-unfolding text_of
-line-written l i q w = rw q at w
 
 -- a number, digit by digit
 pub decimal-last : (n : ℕ) → 10 ≤ n → decimal n ≡ decimal (n / 10) ++ ((48 + n % 10) ∷ [])

@@ -9,7 +9,7 @@ ghost use Rattle.page.specs.Decimal.{decimal};
 ghost use Rattle.page.specs.Grammar.{bracket, newline, end_word};
 ghost use Rattle.page.specs.PageText.{counted};
 ghost use Rattle.print.specs.Answers.{answers_word, conflict_word, show_reply, code_text, text_of};
-ghost use Rattle.print.specs.Lines.{Longer, LineHolds, Written};
+ghost use Rattle.print.specs.Lines.{start, Longer, LineHolds, Written};
 ghost use Rattle.print.specs.Chunks.{Put};
 
 // The bytes of a line, or of a part of one, and how many they are.
@@ -19,42 +19,49 @@ pub struct Line {
     pub count: usize,
 }
 
-// The line with one byte more.
-fn with_byte(line: Line, b: u8) -> Line
-    requires { line.count < 32 }
-    ensures { Longer line (b ∷ []) result }
-{
-    let mut out = line;
-    let at = out.count;
-    out.bytes[at] = b;
-    out.count = at + 1;
-    out
-}
-
-// The line with a word more.
-fn with_word(line: Line, word: &[u8]) -> Line
-    requires { line.count + length word.now ≤ 32 }
-    ensures { Longer line word.now result }
-{
-    let mut out = line;
-    let mut i = 0;
-    while i < word.len() {
-        out = with_byte(out, word[i]);
-        i += 1;
+impl Line {
+    // The line of no bytes.
+    pub fn empty() -> Line
+        ensures { result ≡ start }
+    {
+        Line {
+            bytes: [0; 32],
+            count: 0,
+        }
     }
-    out
-}
 
-// The line with a number more, in decimal.
-fn with_number(line: Line, n: usize) -> Line
-    requires { line.count + length (decimal n) ≤ 32 }
-    ensures { Longer line (decimal n) result }
-{
-    if n < 10 {
-        return with_byte(line, 48 + (n as u8));
+    // The line with one byte more.
+    fn with_byte(mut self, b: u8) -> Line
+        requires { self.count < 32 }
+        ensures { Longer self (b ∷ []) result }
+    {
+        self.bytes[self.count] = b;
+        self.count += 1;
+        self
     }
-    let front = with_number(line, n / 10);
-    with_byte(front, 48 + ((n % 10) as u8))
+
+    // The line with a word more.
+    fn with_word(mut self, word: &[u8]) -> Line
+        requires { self.count + length word.now ≤ 32 }
+        ensures { Longer self word.now result }
+    {
+        let at = self.count;
+        let end = at + word.len();
+        self.bytes[at..end].copy_from_slice(word);
+        self.count = end;
+        self
+    }
+
+    // The line with a number more, in decimal.
+    fn with_number(self, n: usize) -> Line
+        requires { self.count + length (decimal n) ≤ 32 }
+        ensures { Longer self (decimal n) result }
+    {
+        if n < 10 {
+            return self.with_byte(b'0' + n as u8);
+        }
+        self.with_number(n / 10).with_byte(b'0' + (n % 10) as u8)
+    }
 }
 
 // The word, the number, a bracket and a newline.
@@ -62,13 +69,10 @@ fn numbered(word: &[u8], n: usize) -> Line
     requires { length word.now ≤ 9 }
     ensures { LineHolds result (word.now ++ (counted n bracket ++ newline)) }
 {
-    let start = Line {
-        bytes: [0u8; 32],
-        count: 0,
-    };
-    let a = with_word(start, word);
-    let b = with_number(a, n);
-    with_word(b, b")\n")
+    Line::empty()
+        .with_word(word)
+        .with_number(n)
+        .with_word(b")\n")
 }
 
 // `(pass n)` and its newline.
@@ -90,11 +94,7 @@ fn word_line(word: &[u8]) -> Line
     requires { length word.now ≤ 32 }
     ensures { LineHolds result word.now }
 {
-    let start = Line {
-        bytes: [0u8; 32],
-        count: 0,
-    };
-    with_word(start, word)
+    Line::empty().with_word(word)
 }
 
 // `(answers` and its newline: the output's first line.
@@ -122,24 +122,18 @@ pub fn end_line() -> Line
 fn side_letter(code: usize) -> u8
     ensures { result ≡ cond (eqb (code % 2) 1) 119 111 }
 {
-    if code % 2 == 1 {
-        return 119;
-    }
-    111
+    if code % 2 == 1 { b'w' } else { b'o' }
 }
 
 // A space and the literal that reason memory holds as `code`.
 pub fn literal_text(code: u16) -> Line
     ensures { LineHolds result (code_text code) }
 {
-    let start = Line {
-        bytes: [0u8; 32],
-        count: 0,
-    };
-    let a = with_byte(start, 32);
-    let k = code as usize;
-    let b = with_number(a, k / 2);
-    with_byte(b, side_letter(k))
+    let k = usize::from(code);
+    Line::empty()
+        .with_byte(b' ')
+        .with_number(k / 2)
+        .with_byte(side_letter(k))
 }
 
 // The line's bytes, written into `out` from `at` on: the place after them. No other byte changes.
@@ -148,11 +142,7 @@ pub fn put_line(out: &mut [u8], at: usize, line: Line) -> usize
     ensures { Written out.old at (text_of line) out.new result }
 {
     let n = line.count;
-    let mut i = 0;
-    while i < n {
-        out[at + i] = line.bytes[i];
-        i += 1;
-    }
+    out[at..at + n].copy_from_slice(&line.bytes[..n]);
     at + n
 }
 
@@ -168,18 +158,20 @@ pub struct Chunk {
 pub fn put_literals(out: &mut [u8], codes: &[u16], from: usize, to: usize) -> Chunk
     ensures { Put codes.now from to out.old out.new result }
 {
-    let mut next = from;
-    let mut count = 0;
-    while next < to {
-        if codes.len() <= next {
-            return Chunk { next, count };
+    let end = to.min(codes.len());
+    let mut chunk = Chunk {
+        next: from,
+        count: 0,
+    };
+    for next in from..end {
+        if out.len() - chunk.count < 32 {
+            return chunk;
         }
-        if out.len() - count < 32 {
-            return Chunk { next, count };
-        }
-        let line = literal_text(codes[next]);
-        count = put_line(out, count, line);
-        next += 1;
+        let count = put_line(out, chunk.count, literal_text(codes[next]));
+        chunk = Chunk {
+            next: next + 1,
+            count,
+        };
     }
-    Chunk { next, count }
+    chunk
 }

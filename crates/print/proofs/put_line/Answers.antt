@@ -1,26 +1,13 @@
--- `put_line` meets its contract, byte by byte.
+-- `put_line` meets its contract: the bytes up to the count are copied.
 use native.Mathlib.Omega.{arith}
+use lib.Seq.{length-take-le}
 use borrow.Author.Rules.{rules}
-use Rattle.print.specs.Lines.{written-length, line-none, line-more, line-written}
+use Rattle.print.specs.Answers.{text_of}
+use Rattle.print.specs.Lines.{written-copied}
 use Rattle.print.proofs.put_line.Goals as goal
 
-pub loop-i-init : goal.loop-i-init
-loop-i-init c = (search rules, (search rules, line-none _ _))
-
-pub bounds-out-at : goal.bounds-out-at
-bounds-out-at c = omega (arith, written-length c.loop-i.invariant.1.1)
-
-pub loop-i-preserved : goal.loop-i-preserved
-loop-i-preserved c = (
-  search rules,
-  (
-    c.loop-i.invariant.1.0,
-    line-more _ _ c.loop-i.invariant.1.1 (omega (arith, c.loop-i.invariant.1.0)),
-  ),
-)
-
-pub shape_of-out : goal.shape_of-out
-shape_of-out c = written-length c.loop-i.invariant.1.1
-
 pub returns : goal.returns
-returns c = line-written _ _ (omega arith) c.loop-i.invariant.1.1
+unfolding text_of
+returns c =
+    let n = length-take-le c.args.line.count c.args.line.bytes (search rules) in
+    written-copied _ _ _ _ _ _ c.copy_from_slice.ensures.after (omega arith) (omega arith) (omega arith)

@@ -1,10 +1,8 @@
 -- `put_literals` meets its contract, literal by literal.
-use Prim.Native.Nat.{◌-◌}
+use mathlib.Core.Path.{◌≡◌}
 use Rattle.print.specs.Chunks.{Putting}
 use Rattle.print.proofs.put_literals.Given as goal
 
 abbrev pub invariant-loop-next : goal.invariant-loop-next
-invariant-loop-next l = Putting l.codes l.from l.to l.initial.out l.out l.next l.count
-
-abbrev pub decreases-loop-next : goal.decreases-loop-next
-decreases-loop-next l = l.to - l.next
+invariant-loop-next l =
+    (l.chunk.next ≡ l.next) × Putting l.codes l.from l.to l.initial.out l.out l.chunk.next l.chunk.count

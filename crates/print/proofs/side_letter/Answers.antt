@@ -5,5 +5,5 @@ use Rattle.print.proofs.side_letter.Goals as goal
 pub returns-then-code-eq1 : goal.returns-then-code-eq1
 returns-then-code-eq1 c = rw (eq-eqb _ _ c.if-code-eq1.true)
 
-pub returns : goal.returns
-returns c = rw (ne_eqb _ _ c.if-code-eq1.false)
+pub returns-else-code-eq1 : goal.returns-else-code-eq1
+returns-else-code-eq1 c = rw (ne_eqb _ _ c.if-code-eq1.false)

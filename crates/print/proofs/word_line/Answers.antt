@@ -3,4 +3,6 @@ use native.Mathlib.Omega.{arith}
 use Rattle.print.proofs.word_line.Goals as goal
 
 pub returns : goal.returns
-returns c = record { written = c.with_word.ensures; small = omega (arith, c.with_word.ensures.next) }
+returns c =
+    let w = rw c.empty.ensures at c.with_word.ensures in
+    record { written = w; small = omega (arith, w.next) }

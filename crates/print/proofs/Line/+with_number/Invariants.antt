@@ -1,5 +1,5 @@
 -- The number falls.
-use Rattle.print.proofs.+with_number.Given as goal
+use Rattle.print.proofs.Line.+with_number.Given as goal
 
 abbrev pub decreases-with_number : goal.decreases-with_number
 decreases-with_number l = l.n

@@ -2,7 +2,7 @@
 use Rattle.std.proofs.Common.{ap, arith}
 use Rattle.page.specs.NumberText.{decimal-one}
 use Rattle.print.specs.Lines.{decimal-last, decimal-long, written-more}
-use Rattle.print.proofs.+with_number.Goals as goal
+use Rattle.print.proofs.Line.+with_number.Goals as goal
 use lib.ListN.{length}
 
 pub with_byte-requires : goal.with_byte-requires
@@ -11,15 +11,15 @@ with_byte-requires t c = omega (arith, ap length (decimal-one _ c.if-n-lt10.true
 pub returns-then-n-lt10 : goal.returns-then-n-lt10
 returns-then-n-lt10 t c = rw (decimal-one _ c.if-n-lt10.true) c.with_byte.ensures
 
-pub with_number-front-requires : goal.with_number-front-requires
-with_number-front-requires t c =
+pub with_number-requires : goal.with_number-requires
+with_number-requires t c =
     (omega arith, omega (arith, decimal-long _ c.if-n-lt10.false, c.requires))
 
 pub with_byte-requires-2 : goal.with_byte-requires-2
 with_byte-requires-2 t c =
-    omega (arith, c.with_number-front.ensures.next, decimal-long _ c.if-n-lt10.false, c.requires)
+    omega (arith, c.with_number.ensures.next, decimal-long _ c.if-n-lt10.false, c.requires)
 
 pub returns : goal.returns
 returns t c =
     rw (decimal-last _ c.if-n-lt10.false)
-    (written-more c.with_number-front.ensures c.with_byte-2.ensures)
+    (written-more c.with_number.ensures c.with_byte-2.ensures)
