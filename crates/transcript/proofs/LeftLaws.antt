@@ -275,12 +275,12 @@ module _ (s : List ℕ) (q : Run) (m before : List ℕ) where
       }
 
   pub next-over : q.stage ≡ Over → 32 ≤ length before
-      → Next s q m before (record { board = q.board; at = q.at; stage = Over; count = 0 }) m before
+      → Next s q m before (record { board = q.board; at = q.at; stage = q.stage; count = 0 }) m before
   unfolding memory_at
   next-over e l =
       record {
         fits = omega arith;
-        prints = ap (λ (k : Stage). left_at s k q.board q.at m) (sym e);
+        prints = refl;
         kept = refl;
         memory = memory-stage Over e l refl;
         less =

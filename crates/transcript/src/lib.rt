@@ -16,7 +16,7 @@ ghost use Rattle.transcript.specs.Left.{stage_of, left_at, steps_at, first_memor
 
 use board::{Board, Outcome};
 use calls::Answer;
-use page::{CallRead, Judged, Parts};
+use page::{Parts, Unfit};
 use print::Line;
 
 // What is printed next: the first line; the refusal of the page; the line of the next call; the literals of the memory
@@ -24,7 +24,7 @@ use print::Line;
 #[derive(Clone, Copy)]
 pub enum Stage {
     Begin,
-    Refused(usize),
+    Refused(Unfit),
     Calls,
     Reason(usize, usize),
     Last,
@@ -56,15 +56,7 @@ pub fn first() -> Run
 pub fn goes_on(run: Run) -> bool
     ensures { result ≡ goes_on run.stage }
 {
-    let stage = run.stage;
-    match stage {
-        Stage::Over => false,
-        Stage::Begin => true,
-        Stage::Refused(_) => true,
-        Stage::Calls => true,
-        Stage::Reason(_, _) => true,
-        Stage::Last => true,
-    }
+    !matches!(run.stage, Stage::Over)
 }
 
 // The board of a page whose parts are p.
@@ -74,8 +66,7 @@ fn board_of(s: &[u8], p: Parts) -> Board
     let n = board::cell_count(p.height, p.width);
     let colours = page::colours(s, p);
     let clues = page::clues(s, p);
-    let made = Board::fresh(p.height, p.width, &colours[..n], &clues[..n]);
-    made.board
+    Board::fresh(p.height, p.width, &colours[..n], &clues[..n]).board
 }
 
 // The first line; then the page is judged.
@@ -85,24 +76,18 @@ fn begin(s: &[u8], out: &mut [u8]) -> Run
         (length s.now * 2000 + 3) out.old result m out.new }
 {
     let count = print::put_line(out, 0, print::answers_line());
-    let judged = page::judge(s);
-    match judged {
-        Judged::Refused(n) => Run {
-            board: Board::zero(),
-            at: 0,
-            stage: Stage::Refused(n),
+    match page::judge(s) {
+        Ok(p) => Run {
+            board: board_of(s, p),
+            at: p.calls,
+            stage: Stage::Calls,
             count,
         },
-        Judged::Accepted(p) => {
-            let board = board_of(s, p);
-            let at = p.calls;
-            Run {
-                board,
-                at,
-                stage: Stage::Calls,
-                count,
-            }
-        }
+        Err(unfit) => Run {
+            stage: Stage::Refused(unfit),
+            count,
+            ..first()
+        },
     }
 }
 
@@ -119,10 +104,7 @@ fn line_of(a: Answer) -> Line
     ensures { LineHolds result (line_of a) }
 {
     match a {
-        Answer::Done => Line {
-            bytes: [0u8; 32],
-            count: 0,
-        },
+        Answer::Done => Line::empty(),
         Answer::Pass(n) => print::pass_line(n),
         Answer::Conflict(_) => print::conflict_start(),
         Answer::Refused(o) => refusal(o),
@@ -134,81 +116,67 @@ fn stage_of(a: Answer) -> Stage
     ensures { result ≡ stage_of a }
 {
     match a {
-        Answer::Done => Stage::Calls,
-        Answer::Pass(_) => Stage::Calls,
         Answer::Conflict(n) => Stage::Reason(0, n),
-        Answer::Refused(_) => Stage::Calls,
+        Answer::Done | Answer::Pass(_) | Answer::Refused(_) => Stage::Calls,
     }
 }
 
 // The next call is read and made, and its line begins; where there is none, the last line is next.
-fn turn(s: &[u8], board: Board, at: usize, memory: &mut [u16], out: &mut [u8]) -> Run
+fn turn(s: &[u8], run: Run, memory: &mut [u16], out: &mut [u8]) -> Run
     requires { 32 ≤ length out.old }
-    ensures { Goes s.now (lines_from s.now board at memory.old)
-        ((length s.now - at) * 2000 + 2) out.old result memory.new out.new
-        × (memory.new ≡ first_memory board memory.old (all_from call s.now at)) }
+    ensures { Goes s.now (lines_from s.now run.board run.at memory.old)
+        ((length s.now - run.at) * 2000 + 2) out.old result memory.new out.new
+        × (memory.new ≡ first_memory run.board memory.old (all_from call s.now run.at)) }
 {
-    let CallRead::Got(call, next) = page::call_at(s, at) else {
+    let Some((call, next)) = page::call_at(s, run.at) else {
         return Run {
-            board,
-            at,
             stage: Stage::Last,
             count: 0,
+            ..run
         };
     };
-    let stepped = calls::call(board, call, memory);
-    let b = stepped.board;
-    let a = stepped.answer;
-    let after = stage_of(a);
-    let count = print::put_line(out, 0, line_of(a));
+    let stepped = calls::call(run.board, call, memory);
     Run {
-        board: b,
+        board: stepped.board,
         at: next,
-        stage: after,
-        count,
+        stage: stage_of(stepped.answer),
+        count: print::put_line(out, 0, line_of(stepped.answer)),
     }
 }
 
 // More literals of a reason; where none is left, the end of its line.
-fn reason(board: Board, at: usize, memory: &[u16], out: &mut [u8], from: usize, to: usize) -> Run
+fn reason(run: Run, memory: &[u16], out: &mut [u8], from: usize, to: usize) -> Run
     requires { 32 ≤ length out.old }
     ensures { (s : List ℕ) → Goes s (literals_text memory.now from to
-        ++ (end_word ++ lines_from s board at memory.now))
-        ((length s - at) * 2000 + 3 + (to - from)) out.old result memory.now
+        ++ (end_word ++ lines_from s run.board run.at memory.now))
+        ((length s - run.at) * 2000 + 3 + (to - from)) out.old result memory.now
         out.new }
 {
     let chunk = print::put_literals(out, memory, from, to);
-    let next = chunk.next;
-    if from < next {
-        let count = chunk.count;
+    if from < chunk.next {
         return Run {
-            board,
-            at,
-            stage: Stage::Reason(next, to),
-            count,
+            stage: Stage::Reason(chunk.next, to),
+            count: chunk.count,
+            ..run
         };
     }
-    let count = print::put_line(out, 0, print::end_line());
     Run {
-        board,
-        at,
         stage: Stage::Calls,
-        count,
+        count: print::put_line(out, 0, print::end_line()),
+        ..run
     }
 }
 
 // Puts a line; the run then goes on at the stage after it.
-fn put(out: &mut [u8], line: Line, board: Board, at: usize, stage: Stage) -> Run
+fn put(out: &mut [u8], line: Line, run: Run, stage: Stage) -> Run
     requires { (32 ≤ length out.old) × (line.count ≤ 32) }
-    ensures { (s m text : List ℕ) → LineHolds line text → Goes s (text ++ left_at s stage board at m)
-        (steps_at s stage at + 1) out.old result m out.new }
+    ensures { (s m text : List ℕ) → LineHolds line text → Goes s (text ++ left_at s stage run.board run.at m)
+        (steps_at s stage run.at + 1) out.old result m out.new }
 {
-    let count = print::put_line(out, 0, line);
     Run {
-        board,
-        at,
         stage,
-        count,
+        count: print::put_line(out, 0, line),
+        ..run
     }
 }
 
@@ -218,28 +186,15 @@ pub fn next(s: &[u8], run: Run, memory: &mut [u16], out: &mut [u8]) -> Run
     ensures { Next s.now run memory.old out.old result memory.new
         out.new }
 {
-    let board = run.board;
-    let at = run.at;
-    let stage = run.stage;
     if out.len() < 32 {
-        return Run {
-            board,
-            at,
-            stage,
-            count: 0,
-        };
+        return Run { count: 0, ..run };
     }
-    match stage {
+    match run.stage {
         Stage::Begin => begin(s, out),
-        Stage::Refused(n) => put(out, print::refused_line(n), board, at, Stage::Last),
-        Stage::Calls => turn(s, board, at, memory, out),
-        Stage::Reason(from, to) => reason(board, at, memory, out, from, to),
-        Stage::Last => put(out, print::end_line(), board, at, Stage::Over),
-        Stage::Over => Run {
-            board,
-            at,
-            stage: Stage::Over,
-            count: 0,
-        },
+        Stage::Refused(unfit) => put(out, print::refused_line(unfit.number()), run, Stage::Last),
+        Stage::Calls => turn(s, run, memory, out),
+        Stage::Reason(from, to) => reason(run, memory, out, from, to),
+        Stage::Last => put(out, print::end_line(), run, Stage::Over),
+        Stage::Over => Run { count: 0, ..run },
     }
 }

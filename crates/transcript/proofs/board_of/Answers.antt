@@ -31,7 +31,7 @@ slice_bounds-fresh-end-2 c =
 pub returns : goal.returns
 unfolding board_at sheet_at
 returns c =
-    ap (λ (r : Returned). r.board) c.fresh-made.ensures
+    ap (λ (r : Returned). r.board) c.fresh.ensures
     ∙ rw (
       c.cell_count-n.ensures,
       c.colours-colours.ensures,

@@ -10,7 +10,7 @@ pub returns-in-Done : goal.returns-in-Done
 unfolding line_of
 returns-in-Done c =
     let h : LineHolds start [] = record { written = written_none _ _; small = omega arith } in
-    holds_as h (sym (ap line_of c.in-Done.is))
+    rw c.empty.ensures (holds_as h (sym (ap line_of c.in-Done.is)))
 
 pub returns-in-Pass : goal.returns-in-Pass
 unfolding line_of

@@ -8,4 +8,4 @@ use Rattle.transcript.proofs.put.Goals as goal
 pub returns : goal.returns
 returns c =
     λ s m text h.
-    put-goes s _ h c.put_line-count.ensures (search rules) refl (omega arith)
+    put-goes s _ h c.put_line.ensures (search rules) refl (omega arith)

@@ -1,20 +1,17 @@
 -- `stage_of` meets its contract, answer by answer.
 use mathlib.Core.Path.{sym, ap}
+use mathlib.Core.Logic.{inl, inr}
 use Rattle.transcript.specs.Left.{stage_of}
 use Rattle.transcript.proofs.stage_of.Goals as goal
-
-pub returns-in-Done : goal.returns-in-Done
-unfolding stage_of
-returns-in-Done c = sym (ap stage_of c.in-Done.is)
-
-pub returns-in-Pass : goal.returns-in-Pass
-unfolding stage_of
-returns-in-Pass c = sym (ap stage_of c.in-Pass.is)
 
 pub returns-in-Conflict : goal.returns-in-Conflict
 unfolding stage_of
 returns-in-Conflict c = sym (ap stage_of c.in-Conflict.is)
 
-pub returns-in-Refused : goal.returns-in-Refused
+pub returns-in-Done : goal.returns-in-Done
 unfolding stage_of
-returns-in-Refused c = sym (ap stage_of c.in-Refused.is)
+returns-in-Done c =
+    elim c.in-Done.is [
+      | inl e ↦ sym (ap stage_of e)
+      | inr f ↦ elim f [ inl p ↦ sym (ap stage_of p.1) | inr p ↦ sym (ap stage_of p.1) ]
+    ]
