@@ -16,10 +16,6 @@ use Rattle.lists.specs.Booleans.{and_left, and_right}
 use Rattle.page.specs.Parsers.{rest, strip, number, number_on, may_follow, with_digit, digits_on, digits, digit}
 use Rattle.page.specs.Places.{digit_at, digits_in}
 
--- what was answered says what the parser gives
-pub told_same : {R O : Type 0} (f : R → O) {r k : R} {o : O} → f r ≡ o → r ≡ k → o ≡ f k
-told_same f e h = sym e ∙ ap f h
-
 pub length_rest : (s : List ℕ) (p : ℕ) → length (rest s p) ≡ length s - p
 unfolding rest
 length_rest s p = length-drop p s

@@ -5,7 +5,7 @@
 --   Longer a ds b                              the line b is the line a with the bytes ds more
 --   start                                      the line of no bytes
 --   LineHolds l ds                             the line l holds the bytes ds and is 0 beyond them
---   written_none, written_byte, written-more   no byte, one, and one text after another
+--   written_none, written-more                 no byte, and one text after another
 --   written-copied                             a text, copied as a whole
 --   written-length                             the length stays
 --   written-front, written-rest                the bytes from the start on, and those beyond them
@@ -14,7 +14,7 @@
 --   tens k, decimal-short, decimal-64, decimal-16  the k-th power of ten, and how many digits a number has
 --   numbered-text                              a word, a number, a bracket and a newline
 use Rattle.std.specs.Prelude.{◌≡◌, refl, Bool, true, false, List, [], ◌∷◌, ◌++◌, ℕ, zero, suc, ◌+◌, ◌*◌, ◌/◌, ◌%◌, ◌<◌}
-use Rattle.std.specs.Prelude.{◌≤◌, ltb, length, take, drop, set, replicate}
+use Rattle.std.specs.Prelude.{◌≤◌, ltb, length, take, drop, replicate}
 use Rattle.std.proofs.Common.{sym, ap, ap₂, ◌∙◌, append_assoc, arith, ltb-true, ltb-false, length-append}
 use Rattle.std.proofs.Common.{take_at, drop_at}
 use Rattle.std.proofs.lemmas.List.Edits.{sets, sets-eq}
@@ -44,9 +44,6 @@ pub record LineHolds (l : Line) (ds : List ℕ) : Type 0 where
 -- ---- texts, one after another
 pub written_none : (m : List ℕ) (at : ℕ) → Written m at [] m at
 written_none m at = record { memory = refl; next = omega arith }
-
-pub written_byte : (m : List ℕ) (at b : ℕ) → Written m at (b ∷ []) (set m at b) (at + 1)
-written_byte m at b = record { memory = refl; next = refl }
 
 -- a text, copied as a whole
 pub written-copied : (m part : List ℕ) (at k r : ℕ) (ds : List ℕ) → part ≡ ds → k ≡ length ds

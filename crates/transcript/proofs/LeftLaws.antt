@@ -140,7 +140,7 @@ module _ (s : List ℕ) (b : Board) (at : ℕ) (m : List ℕ) where
   unfolding line_of stage_of left_at show_reply literals_text reason_in
   line-left answer.Done = refl
   line-left (answer.Pass n) = refl
-  line-left (answer.Refused o) = refl
+  line-left (answer.Refused r) = refl
   line-left (answer.Conflict n) =
       rw (codes-literals (take n m))
       (ap (λ (t : List ℕ). conflict_word ++ t)
@@ -153,7 +153,7 @@ unfolding stage_of steps_at
 few-less s answer.Done at next f h = omega arith
 few-less s (answer.Pass n) at next f h = omega arith
 few-less s (answer.Conflict n) at next f h = omega arith
-few-less s (answer.Refused o) at next f h = omega arith
+few-less s (answer.Refused r) at next f h = omega arith
 
 pub turn-less : (s : List ℕ) (b : Board) (c : Call) (m : List ℕ) (at next : ℕ) → length s - next < length s - at
     → steps_at s (stage_of (call_of b c m).answer) next < (length s - at) * 2000 + 2

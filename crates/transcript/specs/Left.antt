@@ -27,7 +27,7 @@ use Rattle.rules.specs.Check.{pass}
 use Rattle.rules.specs.Book.{refused, answered}
 use Rattle.board.specs.declared.Board.{Board}
 use Rattle.board.specs.Alien.{cells_of}
-use Rattle.board.specs.Board.{number_of, zero_board}
+use Rattle.board.specs.Board.{refusal_number, zero_board}
 use Rattle.board.specs.Accepted.{made_board}
 use Rattle.calls.specs.declared.Answer.{Answer}
 use Rattle.calls.specs.Answers.{told, call_of, call_memory}
@@ -75,13 +75,13 @@ unfoldable pub line_of : Answer → List ℕ
 line_of answer.Done = []
 line_of (answer.Pass n) = show_reply (answered (pass n))
 line_of (answer.Conflict n) = conflict_word
-line_of (answer.Refused o) = show_reply (refused (number_of o))
+line_of (answer.Refused r) = show_reply (refused (refusal_number r))
 
 unfoldable pub stage_of : Answer → Stage
 stage_of answer.Done = Calls
 stage_of (answer.Pass n) = Calls
 stage_of (answer.Conflict n) = Reason 0 n
-stage_of (answer.Refused o) = Calls
+stage_of (answer.Refused r) = Calls
 
 abbrev pub first_run : Run
 first_run = record { board = zero_board; at = 0; stage = Begin; count = 0 }

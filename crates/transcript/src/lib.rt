@@ -5,7 +5,7 @@
 
 ghost use Rattle.std.specs.Prelude.{◌≡◌, List, ◌++◌, ℕ, ◌+◌, ◌-◌, ◌*◌, ◌≤◌, length};
 ghost use Rattle.rules.specs.Book.{refused};
-ghost use Rattle.board.specs.Board.{number_of};
+ghost use Rattle.board.specs.Board.{refusal_number};
 ghost use Rattle.page.specs.Grammar.{end_word, call};
 ghost use Rattle.page.specs.Judge.{judgement_of};
 ghost use Rattle.page.specs.Places.{sheet_at, all_from};
@@ -14,7 +14,7 @@ ghost use Rattle.print.specs.Lines.{LineHolds};
 ghost use Rattle.transcript.specs.Left.{first_run, goes_on, board_at, judged_text, lines_from, literals_text, line_of};
 ghost use Rattle.transcript.specs.Left.{stage_of, left_at, steps_at, first_memory, Goes, Next};
 
-use board::{Board, Outcome};
+use board::{Board, Refusal};
 use calls::Answer;
 use page::{Parts, Unfit};
 use print::Line;
@@ -92,11 +92,10 @@ fn begin(s: &[u8], out: &mut [u8]) -> Run
 }
 
 // `(refused n)` and its newline, for a refused call.
-fn refusal(o: Outcome) -> Line
-    ensures { LineHolds result (show_reply (refused (number_of o))) }
+fn refusal(refusal: Refusal) -> Line
+    ensures { LineHolds result (show_reply (refused (refusal_number refusal))) }
 {
-    let n = board::number(o);
-    print::refused_line(n as usize)
+    print::refused_line(refusal.number() as usize)
 }
 
 // The line of an answer, or its part before the literals; none for a call that is done.
@@ -107,7 +106,7 @@ fn line_of(a: Answer) -> Line
         Answer::Done => Line::empty(),
         Answer::Pass(n) => print::pass_line(n),
         Answer::Conflict(_) => print::conflict_start(),
-        Answer::Refused(o) => refusal(o),
+        Answer::Refused(r) => refusal(r),
     }
 }
 
