@@ -1,17 +1,19 @@
 -- One look at a list of cells, over the arrays of a board.
 --
+--   kept_of u           the potential unit u that is kept of a colour; none for 1,024
 --   Shows l f g         what a look l promises of cells with the fault f, of which the scan finds g
 --   CellsLooked         what was seen of the first i cells
+--   OwnPut u own j after  the potential unit u stands at j in own, or is put there where there was none
 --   look_none, look-more  of no cell, and of one cell more
 --   looked-stray, looked-clash  the fault of the whole list, where the look ends at a cell
 --   looked-scan         no cell that was seen has a fault
 --   looked-clear        nothing is wrong, where both colours have room
 use Rattle.std.specs.Prelude.{◌≡◌, refl, Bool, false, List, [], ◌∷◌, ◌++◌, ℕ, ◌+◌, ◌-◌, ◌<◌, ◌≤◌, eqb, ℤ, get_or}
-use Rattle.std.specs.Prelude.{Option, None, Some, MatchOption, set, take, drop}
+use Rattle.std.specs.Prelude.{Option, None, Some, MatchOption, ◌⊎◌, cond, map, set, take, drop}
 use Rattle.std.proofs.lemmas.Option.{none-some, same_Some}
 use Rattle.std.proofs.Math.Option.{Option as Maybe, some, none}
-use Rattle.std.proofs.Common.{sym, ◌∙◌, arith, add-one, length-take, drop-cons, take_all}
-use Rattle.std.proofs.lemmas.List.{take_more, take-append-drop, length-set}
+use Rattle.std.proofs.Common.{inl, inr, ne_eqb, sym, ◌∙◌, arith, add-one, length-take, drop-cons, take_all}
+use Rattle.std.proofs.lemmas.List.{take_more, take-append-drop, length-set, set-get_or, get_or-map, map-set, length-map}
 use Rattle.std.proofs.Math.Path.{ap}
 use Rattle.std.proofs.Math.Bool.{true}
 use Rattle.std.proofs.Math.Nat.{le_trans}
@@ -27,18 +29,21 @@ use Rattle.blocks.specs.declared.Fault.TheVariants.{InsideEdge, Inside}
 use Rattle.blocks.specs.declared.Look.{Look}
 use Rattle.blocks.specs.declared.Look.TheVariants.{Settled, Unsure}
 use Rattle.blocks.specs.Arrays.{Parted, size_in}
+use Rattle.blocks.specs.Scan.{clash-self}
 use Rattle.blocks.specs.Censuses.{option_of, clue_in, of_colour}
 use Rattle.blocks.specs.Faults.{scan_on, fault_on}
 use Rattle.blocks.specs.FaultCases.{own-parted}
 use Rattle.blocks.specs.Looks.{ClueKept, same_kept, Roomy, Owned, Seen, seen_none, owned-more, own-found, own-none}
 use Rattle.blocks.specs.Looks.{seen_more, seen-stray, seen-clash, seen-scan, zeros-are, seen-clear}
 
+abbrev pub kept_of : ℕ → Option ℕ
+kept_of u = cond (eqb u 1024) None (Some u)
+
 abbrev pub Shows : Look → Option Fault → Option Fault → Type 0
 Shows (Settled f) g scan = f ≡ g
 Shows Unsure g scan = scan ≡ None
 
-pub record CellsLooked (cs : List ℕ) (ks : List ℤ) (ids cells : List ℕ) (i : ℕ) (own : List (Option ℕ))
-    (k : Option ℕ) (n : ℕ)
+pub record CellsLooked (cs : List ℕ) (ks : List ℤ) (ids cells : List ℕ) (i : ℕ) (own : List (Option ℕ)) (k : Option ℕ) (n : ℕ)
     : Type 0 where
   pub two : length own ≡ 2
   pub seen : Seen (colours_in cs) (clues_in ks) (entry ids) (take i cells) own k n
@@ -50,6 +55,35 @@ look_none cs ks ids cells = record { two = refl; seen = seen_none (colours_in cs
 pub byte-bit : (b : Bool) → bool_byte b ≡ bit b
 byte-bit true = refl
 byte-bit false = refl
+
+pub kept-long : (own : List ℕ) → length (map kept_of own) ≡ 2 → length own ≡ 2
+kept-long own e = sym (length-map own kept_of) ∙ e
+
+-- the potential unit that own, with 1,024 for none, has at j
+abbrev pub OwnPut : ℕ → List ℕ → ℕ → List ℕ → Type 0
+OwnPut u own j after = ((after ≡ own) × (get_or own j 0 ≡ u)) ⊎ ((after ≡ set own j u) × (get_or own j 0 ≡ 1024))
+
+module _ (own : List ℕ) (j : ℕ) (l : j < length own) where
+  pub kept-at : get_or (map kept_of own) j None ≡ kept_of (get_or own j 0)
+  kept-at = get_or-map kept_of own j 0 None l
+
+  module _ (u : ℕ) (few : u < 1024) where
+    kept-unit : kept_of u ≡ Some u
+    kept-unit = rw (ne_eqb u 1024 (λ e. omega arith))
+
+    pub other-kept : (get_or own j 0 ≡ u → ⊥) → (get_or own j 0 ≡ 1024 → ⊥)
+        → clash (option_of (get_or (map kept_of own) j None)) (option_of (Some u)) ≡ true
+    other-kept a b = rw (kept-at, ne_eqb (get_or own j 0) 1024 b, ne_eqb (get_or own j 0) u a)
+
+    pub same-kept : (after : List ℕ) → OwnPut u own j after
+        → clash (option_of (get_or (map kept_of own) j None)) (option_of (Some u)) ≡ false
+    same-kept after (inl p) = rw (kept-at, p.1, kept-unit) (clash-self (some u))
+    same-kept after (inr p) = rw (kept-at, p.1)
+
+    pub own-set : (after : List ℕ) → OwnPut u own j after → map kept_of after ≡ set (map kept_of own) j (Some u)
+    own-set after (inl p) =
+        rw p.0 (sym (set-get_or (map kept_of own) j None) ∙ ap (set (map kept_of own) j) (kept-at ∙ rw p.1 kept-unit))
+    own-set after (inr p) = rw p.0 (map-set kept_of own j u ∙ ap (set (map kept_of own) j) kept-unit)
 
 -- the clue that is kept where the next cell has one, and where it has none
 pub kept-clue : (o : Maybe ℕ) (k : Option ℕ) (n : ℕ) → Some n ≡ clue_in o
