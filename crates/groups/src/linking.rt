@@ -54,7 +54,7 @@ fn join(p: &mut [u16; Board::CELL_LIMIT], a: usize, b: usize)
 }
 
 // Whether each border joins its two cells: a flag for each, from the colours of its first and of its second cell.
-fn tie<'a>(kind: Kind, borders: &'a [u8], firsts: &'a [u8], seconds: &'a [u8], flags: &mut [bool])
+fn tie(kind: Kind, borders: &[u8], firsts: &[u8], seconds: &[u8], flags: &mut [bool])
     requires { (length borders.now ≡ length flags.old) × (length firsts.now ≡ length flags.old)
         × (length seconds.now ≡ length flags.old) }
     ensures { (length flags.new ≡ length flags.old)
@@ -68,12 +68,12 @@ fn tie<'a>(kind: Kind, borders: &'a [u8], firsts: &'a [u8], seconds: &'a [u8], f
 
 // Whether each cell of row y is joined to the cell left of it; the first never is. It takes the row's borders, or one
 // more: the flag past the row's end is written over later. `tie` takes 32 borders at a time, but not 31.
-fn row<'a>(
+fn row(
     kind: Kind,
     h: usize,
     w: usize,
-    colours: &'a [u8; Board::CELL_LIMIT],
-    borders: &'a [u8; Board::BORDER_LIMIT],
+    colours: &[u8; Board::CELL_LIMIT],
+    borders: &[u8; Board::BORDER_LIMIT],
     y: usize,
     count: usize,
     lefts: &mut [bool; Board::CELL_LIMIT],
@@ -97,12 +97,12 @@ fn row<'a>(
 }
 
 // Whether each cell is joined to the cell left of it, row by row.
-fn across<'a>(
+fn across(
     kind: Kind,
     h: usize,
     w: usize,
-    colours: &'a [u8; Board::CELL_LIMIT],
-    borders: &'a [u8; Board::BORDER_LIMIT],
+    colours: &[u8; Board::CELL_LIMIT],
+    borders: &[u8; Board::BORDER_LIMIT],
     lefts: &mut [bool; Board::CELL_LIMIT],
 )
     requires { Sized h w × (length lefts.old ≡ 1024) }
@@ -116,12 +116,12 @@ fn across<'a>(
 }
 
 // Whether each cell is joined to the cell above it; those of the first row never are.
-fn down<'a>(
+fn down(
     kind: Kind,
     h: usize,
     w: usize,
-    colours: &'a [u8; Board::CELL_LIMIT],
-    borders: &'a [u8; Board::BORDER_LIMIT],
+    colours: &[u8; Board::CELL_LIMIT],
+    borders: &[u8; Board::BORDER_LIMIT],
     aboves: &mut [bool; Board::CELL_LIMIT],
 )
     requires { Sized h w × (aboves.old ≡ replicate 1024 false) }
@@ -155,12 +155,12 @@ fn first_row(p: &mut [u16; Board::CELL_LIMIT], w: usize, lefts: &[bool; Board::C
 
 // The parents of the later rows: a cell that is joined to the one above it has that one's; otherwise as in the first
 // row. Where a cell is joined to both, and their parents differ, it goes to the list. Gives the length of the list.
-fn later_rows<'a>(
+fn later_rows(
     p: &mut [u16; Board::CELL_LIMIT],
     w: usize,
     n: usize,
-    lefts: &'a [bool; Board::CELL_LIMIT],
-    aboves: &'a [bool; Board::CELL_LIMIT],
+    lefts: &[bool; Board::CELL_LIMIT],
+    aboves: &[bool; Board::CELL_LIMIT],
     grouping: &mut Grouping,
 ) -> usize
     requires { (1 ≤ w) × (w ≤ n) × (n ≤ 1024) × Forest p.old × Vacant n grouping.old
@@ -201,11 +201,11 @@ fn settle(p: &mut [u16; Board::CELL_LIMIT], grouping: &Grouping, k: usize)
 
 // Each cell's parent, so that cells have one root where they are of one group; the cells of `grouping` are working
 // memory.
-pub fn link<'a>(
+pub fn link(
     h: usize,
     w: usize,
-    colours: &'a [u8; Board::CELL_LIMIT],
-    borders: &'a [u8; Board::BORDER_LIMIT],
+    colours: &[u8; Board::CELL_LIMIT],
+    borders: &[u8; Board::BORDER_LIMIT],
     kind: Kind,
     p: &mut [u16; Board::CELL_LIMIT],
     grouping: &mut Grouping,
