@@ -14,7 +14,7 @@ ghost use Rattle.shapes.specs.Pairs.{point_of, SmallPair};
 ghost use Rattle.shapes.specs.Spots.{joint_spot, UnitAt};
 
 use crate::{Outline, Pair, apply, cell_count};
-use groups::{Grouping, group_of, start_of};
+use groups::{Grouping, cells_of, group_of};
 
 // Writes the rows and columns of the cells of unit `g` into an outline, and how many there are.
 pub fn places(units: &Grouping, g: usize, w: usize, outline: &mut Outline)
@@ -23,14 +23,12 @@ pub fn places(units: &Grouping, g: usize, w: usize, outline: &mut Outline)
         × (cell_count outline.new ≡ start_in units.now (g + 1) - start_in units.now g) }
 {
     let width = w as u16;
-    let from = start_of(units, g);
-    let n = start_of(units, g + 1) - from;
-    for i in 0..n {
-        let c = units[1024 + (from + i)];
-        outline[i] = c / width;
-        outline[1024 + i] = c % width;
+    let cells = cells_of(units, g);
+    for (i, c) in cells.iter().enumerate() {
+        outline[i] = *c / width;
+        outline[1024 + i] = *c % width;
     }
-    outline[6144] = n as u16;
+    outline[6144] = cells.len() as u16;
 }
 
 // Writes the doubled place (y,x) as connection `k` of the outline, if `on` and cell `to` is of unit `g`. Gives the next
