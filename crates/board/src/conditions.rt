@@ -70,11 +70,12 @@ pub fn flag_stack(
     once
 }
 
-// Whether v is undecided, wall or open, and decided exactly if on the stack.
+// Whether v is undecided, wall or open, and decided exactly if on the stack. With `&&` the loop below would take one
+// border at a time.
 fn border_right(v: u8, on: bool) -> bool
     ensures { result ≡ border_right v on }
 {
-    v <= 2 && (v == 0) != on
+    (v <= 2) & ((v == 0) != on)
 }
 
 // Whether the first n borders are right, by the flags of those on the stack.
