@@ -9,7 +9,7 @@ ghost use Rattle.reasons.specs.Memory.{named_in, naming, Spare, Wrote, WordsWrit
 ghost use Rattle.reasons.specs.Arrays.{GroupAt, Stepped, no_flags, inside_in, edge_in};
 
 use crate::scans::{open_cell, scan_walls};
-use groups::{Grouping, cell_at, start_of};
+use groups::{Grouping, cells_of};
 use rules::{Literal, Side};
 
 pub mod paths; // paths.rt: Path, by a search over open borders, and the reason of a wall
@@ -51,8 +51,7 @@ fn code(literal: Literal) -> u16
     ensures { result ≡ literal_code literal }
 {
     let twice = (2 * literal.border) as u16;
-    let side = literal.side;
-    match side {
+    match literal.side {
         Side::Wall => twice + 1,
         Side::Open => twice,
     }
@@ -98,12 +97,8 @@ pub fn hand_out(memory: &mut [u16], words: &[u16]) -> usize
     requires { length words.now ≤ length memory.old }
     ensures { WordsWritten memory.old words.now memory.new result }
 {
-    let mut i = 0;
-    while i < words.len() {
-        memory[i] = words[i];
-        i += 1;
-    }
-    i
+    memory[..words.len()].copy_from_slice(words);
+    words.len()
 }
 
 // The neighbour of the cell c, which is (y,x), in a direction.
@@ -190,14 +185,11 @@ pub fn inside<'a>(
     ensures { Wrote memory.old start (inside_in h w borders.now
         (numbers_in grouping.now) g) memory.new result }
 {
-    let from = start_of(grouping, g);
-    let count = start_of(grouping, g + 1) - from;
+    let cells = cells_of(grouping, g);
     let mut at = start;
-    let mut i = 0;
-    while i < count {
-        let c = cell_at(grouping, from + i);
+    for cell in cells {
+        let c = usize::from(*cell);
         at = open_cell(memory, at, h, w, borders, grouping, g, c);
-        i += 1;
     }
     at
 }

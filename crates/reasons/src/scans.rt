@@ -1,18 +1,19 @@
 // What Inside lists for a cell, and the walls of a group that a scan keeps: to groups that are not flagged.
-ghost use Rattle.std.specs.Prelude.{◌≡◌, ◌*◌, ◌<◌, length, IfSome};
+ghost use Rattle.std.specs.Prelude.{◌≡◌, Bool, ◌*◌, ◌<◌, length, IfSome};
 ghost use Rattle.std.specs.Bool.{beq};
 ghost use Rattle.rules.specs.Flat.{Sized, flat};
+ghost use Rattle.rules.specs.Page.{Hop};
 ghost use Rattle.rules.specs.Codes.{states_in, colours_in};
 ghost use Rattle.rules.specs.Groups.{entry};
 ghost use Rattle.rules.specs.Reasons.{gather, inside_at};
-ghost use Rattle.rules.specs.declared.Side.TheVariants.{Wall, Open};
 ghost use Rattle.groups.specs.Grouping.{numbers_in, group_cells};
+ghost use Rattle.reasons.specs.declared.Neighbour.{Neighbour};
 ghost use Rattle.reasons.specs.Memory.{Spare, Wrote};
 ghost use Rattle.reasons.specs.Arrays.{Arrays, GroupAt, InArrays, hop_of, hops_in, is_flagged};
 ghost use Rattle.reasons.specs.Arrays.{open_kept, wall_kept, scan_at, scan_of};
 
 use crate::{Direction, Neighbour, append, beside};
-use groups::{Grouping, cell_at, group_of, start_of};
+use groups::{Grouping, cells_of, group_of};
 use rules::{Literal, Side};
 
 // The cells c and to have one colour.
@@ -60,63 +61,31 @@ fn wall_kept<'a>(
     wall && one_colour(colours, c, n.to) == same && !is_flagged(flagged, group_of(grouping, n.to))
 }
 
-// Writes the border to the neighbour, if there is one, the border is open, and the neighbour is in the group g.
-fn open_hop<'a>(
+// Writes the border to the neighbour, if there is one and it is kept. Gives the next place.
+fn append_kept<K: Fn(Neighbour) -> bool>(
     memory: &mut [u16],
-    from: usize,
-    borders: &'a [u8; 1984],
-    grouping: &'a Grouping,
-    g: usize,
+    at: usize,
+    side: Side,
     neighbour: Option<Neighbour>,
+    keeps: K,
 ) -> usize
-    requires { Arrays borders.now (numbers_in grouping.now) × IfSome neighbour InArrays
-        × Spare memory.old from }
-    ensures { Wrote memory.old from (gather Open (open_kept (states_in borders.now)
-        (entry (numbers_in grouping.now)) g) (hops_in neighbour)) memory.new result }
+    requires spare { Spare memory.old at }
+    requires near { IfSome neighbour InArrays }
+    requires callable { IfSome neighbour (λ n. K.pre keeps n) }
+    ensures { (test : Hop → Bool)
+        → ((n : Neighbour) (kept : Bool) → K.post keeps n kept → kept ≡ test (hop_of n))
+        → Wrote memory.old at (gather side test (hops_in neighbour)) memory.new result }
 {
     match neighbour {
-        Some(n) if open_kept(borders, grouping, g, n) => append(
+        Some(n) if keeps(n) => append(
             memory,
-            from,
+            at,
             Literal {
                 border: n.border,
-                side: Side::Open,
+                side,
             },
         ),
-        _ => from,
-    }
-}
-
-// Writes the border to the neighbour of the cell c, if there is one and the border is a wall that the scan keeps.
-fn wall_hop<'a>(
-    memory: &mut [u16],
-    from: usize,
-    colours: &'a [u8; 1024],
-    borders: &'a [u8; 1984],
-    grouping: &'a Grouping,
-    same: bool,
-    flagged: &'a [u8; 1024],
-    c: usize,
-    neighbour: Option<Neighbour>,
-) -> usize
-    requires { Arrays borders.now (numbers_in grouping.now) × (length colours.now ≡ 1024)
-        × (length flagged.now ≡ 1024)
-        × (c < 1024) × IfSome neighbour InArrays × Spare memory.old from }
-    ensures { Wrote memory.old from (gather Wall (wall_kept (colours_in colours.now)
-        (states_in borders.now) (entry (numbers_in grouping.now)) same
-        (is_flagged flagged.now) c)
-        (hops_in neighbour)) memory.new result }
-{
-    match neighbour {
-        Some(n) if wall_kept(colours, borders, grouping, same, flagged, c, n) => append(
-            memory,
-            from,
-            Literal {
-                border: n.border,
-                side: Side::Wall,
-            },
-        ),
-        _ => from,
+        _ => at,
     }
 }
 
@@ -140,8 +109,9 @@ pub fn open_cell<'a>(
     let x = c % w;
     let below = beside(h, w, c, y, x, Direction::Below);
     let right = beside(h, w, c, y, x, Direction::Right);
-    let at = open_hop(memory, from, borders, grouping, g, below);
-    open_hop(memory, at, borders, grouping, g, right)
+    let keeps = |n: Neighbour| open_kept(borders, grouping, g, n);
+    let at = append_kept(memory, from, Side::Open, below, &keeps);
+    append_kept(memory, at, Side::Open, right, &keeps)
 }
 
 // Writes the walls of the cell c that the scan keeps: above, below, left, right.
@@ -167,7 +137,9 @@ fn wall_cell<'a>(
     let mut at = from;
     for direction in Direction::ALL {
         let n = beside(h, w, c, y, x, direction);
-        at = wall_hop(memory, at, colours, borders, grouping, same, flagged, c, n);
+        at = append_kept(memory, at, Side::Wall, n, |n| {
+            wall_kept(colours, borders, grouping, same, flagged, c, n)
+        });
     }
     at
 }
@@ -193,16 +165,13 @@ pub fn scan_walls<'a>(
         (numbers_in grouping.now) same flagged.now (group_cells grouping.now g))
         memory.new result }
 {
-    let from = start_of(grouping, g);
-    let count = start_of(grouping, g + 1) - from;
+    let cells = cells_of(grouping, g);
     let mut at = start;
-    let mut i = 0;
-    while i < count {
-        let c = cell_at(grouping, from + i);
+    for cell in cells {
+        let c = usize::from(*cell);
         at = wall_cell(
             memory, at, h, w, colours, borders, grouping, same, flagged, c,
         );
-        i += 1;
     }
     at
 }
