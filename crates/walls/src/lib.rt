@@ -106,13 +106,7 @@ fn row_breach<'a>(
 fn hit(state: u8, a: u16, b: u16) -> u16
     ensures { result ≡ bit (eqb state 1 && eqb a b) }
 {
-    if state != 1 {
-        return 0;
-    }
-    if a != b {
-        return 0;
-    }
-    1
+    u16::from(state == 1 && a == b)
 }
 
 // How many of the n borders from `at` on are walls between two cells of one block; the cells from c on stand before
@@ -129,11 +123,9 @@ fn count_hits<'a>(
     ensures { result ≡ 0 → Apart (states_in borders.now)
         (entry (numbers_in blocks.now)) at c d n }
 {
-    let mut hits: u16 = 0;
-    let mut i = 0;
-    while i < n {
+    let mut hits = 0;
+    for i in 0..n {
         hits += hit(borders[at + i], blocks[c + i], blocks[d + i]);
-        i += 1;
     }
     hits
 }
@@ -147,12 +139,10 @@ fn is_clean<'a>(h: usize, w: usize, borders: &'a [u8; 1984], blocks: &'a Groupin
     if count_hits(borders, blocks, h * (w - 1), 0, w, (h - 1) * w) != 0 {
         return false;
     }
-    let mut y = 0;
-    while y < h {
+    for y in 0..h {
         if count_hits(borders, blocks, y * (w - 1), y * w, y * w + 1, w - 1) != 0 {
             return false;
         }
-        y += 1;
     }
     true
 }
