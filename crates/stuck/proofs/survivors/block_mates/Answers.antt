@@ -67,13 +67,3 @@ loop-mate-preserved c =
     (omega (arith, next (goal.at.loop-mate-preserved c).In-loop-mate, mates-reach c.requires.4))
     (rw (← mate (goal.at.loop-mate-preserved c).After-from-in-loop-mate)
     (rw c.cells_of.ensures at c.block_group-at.ensures))
-
-pub shape_of-memory : goal.shape_of-memory
-shape_of-memory c = c.loop-mate.invariant.long
-
-pub returns : goal.returns
-returns c =
-    let e : c.loop-mate.mate-index ≡ mate_count c.args.mates.now =
-    mates-passed c.args.mates.now c.loop-mate.mate-index (mates-reach c.requires.4)
-    (rw c.from.ensures at c.loop-mate.auto.mate-index-end) (rw c.from.ensures at c.loop-mate-test.false) in
-    rw e at c.loop-mate.invariant

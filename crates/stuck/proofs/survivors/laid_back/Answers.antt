@@ -11,9 +11,6 @@ use Rattle.stuck.specs.Survivors.{On, border_at}
 use Rattle.stuck.proofs.survivors.laid_back.Goals.{After-border_at-border, In-loop-j}
 use Rattle.stuck.proofs.survivors.laid_back.Goals as goal
 
-pub loop-j-init : goal.loop-j-init
-loop-j-init c = (omega arith, refl)
-
 -- the next connection is small, and on the page
 small : (c : In-loop-j)
     → RaisedAt c.args.turned.now (c.loop-j.j - 1)
