@@ -1,5 +1,5 @@
 -- The loop's invariant: the blockers of the images by the listed rows passed are written.
-use mathlib.Core.Path.{◌≡◌, refl, ap, ◌∙◌}
+use mathlib.Core.Path.{◌≡◌, ap, ◌∙◌}
 use mathlib.Core.List.{List}
 use Prim.Native.Nat.{ℕ, zero}
 use native.Mathlib.Omega.{arith}
@@ -13,8 +13,6 @@ use Rattle.shapes.specs.Raising.{Raised, spelled}
 use Rattle.shapes.specs.Images.{image_joints}
 use Rattle.shapes.specs.Spots.{cell_spots, joint_spots}
 use Rattle.adjacent.specs.Mates.{mates_in}
-use Rattle.planes.specs.DrawLaws.{planes-long}
-use Rattle.stuck.specs.Survivors.{no_walls}
 use Rattle.stuck.specs.BlockLaws.{lain-rows, blocks-row}
 use Rattle.stuck.specs.Writing.{blocks_by, blocks_listed}
 use Rattle.stuck.proofs.block_rows.Goals.{After-turn_row, Start}

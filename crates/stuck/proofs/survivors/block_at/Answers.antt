@@ -10,7 +10,6 @@ use lib.ListN.{get_or}
 use Rattle.rules.specs.declared.Placement.{Placement}
 use Rattle.rules.specs.declared.Placement.TheVariants.{Fits, Blocked, Cannot}
 use Rattle.rules.specs.Page.{wall_at}
-use Rattle.laws.specs.FlatLaws.{counts}
 use Rattle.reasons.proofs.MemoryLaws.{naming-none}
 use Rattle.stuck.specs.Survivors.{placed_at, block_in}
 use Rattle.stuck.specs.PlacedLaws.{place-row, place-column, placed-within, block_one, block_none}

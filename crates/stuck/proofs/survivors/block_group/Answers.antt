@@ -1,12 +1,9 @@
 -- The loop's invariant: the blockers at the cells before o are written.
-use mathlib.Core.Path.{◌≡◌}
 use mathlib.Core.List.{List}
 use Prim.Native.Nat.{ℕ}
 use native.Mathlib.Omega.{arith}
-use lib.ListN.{length}
 use Rattle.rules.specs.declared.Literal.{Literal}
 use Rattle.reasons.proofs.MemoryLaws.{write-none, write-more}
-use Rattle.planes.specs.MaskLaws.{part-all}
 use Rattle.stuck.specs.Survivors.{block_in}
 use Rattle.stuck.proofs.survivors.block_group.Goals.{Start}
 use Rattle.stuck.proofs.survivors.block_group.Goals as goal

@@ -12,7 +12,7 @@ use Rattle.reasons.proofs.MemoryLaws.{write-none, write-more}
 use Rattle.adjacent.specs.Mates.{mate_count}
 use Rattle.reasons.specs.Arrays.{Cells}
 use Rattle.adjacent.specs.BesideLaws.{mates-reach}
-use Rattle.planes.specs.MaskLaws.{mate-listed, mate-read, mates-passed, part-cells}
+use Rattle.planes.specs.MaskLaws.{mate-listed, mate-read, part-cells}
 use Rattle.stuck.specs.Survivors.{block_in}
 use Rattle.stuck.proofs.survivors.block_mates.Goals.{In-loop-mate, After-from-in-loop-mate, Start}
 use Rattle.stuck.proofs.survivors.block_mates.Goals as goal

@@ -1,6 +1,5 @@
 -- A scan with the mates flagged.
 use Rattle.stuck.specs.Writing.{far_in}
-use Rattle.stuck.specs.FlagLaws.{flags_long}
 use Rattle.stuck.proofs.unit_walls.far_walls.Goals as goal
 
 pub returns : goal.returns

@@ -1,5 +1,4 @@
 -- Three lists, one after another.
-use mathlib.Core.Path.{refl}
 use Rattle.reasons.proofs.MemoryLaws.{naming-more}
 use Rattle.stuck.specs.Writing.{walls_in}
 use Rattle.stuck.proofs.unit_walls.walls_of.Goals as goal
