@@ -24,9 +24,9 @@ pub fn places(units: &Grouping, g: usize, w: usize, outline: &mut Outline)
 {
     let width = w as u16;
     let cells = cells_of(units, g);
-    for (i, c) in cells.iter().enumerate() {
-        outline[i] = *c / width;
-        outline[1024 + i] = *c % width;
+    for (i, &c) in cells.iter().enumerate() {
+        outline[i] = c / width;
+        outline[1024 + i] = c % width;
     }
     outline[6144] = cells.len() as u16;
 }
