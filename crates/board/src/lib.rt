@@ -7,7 +7,7 @@ ghost use Rattle.board.specs.Board.{refusal_number, number_of, zero_board, retur
 ghost use Rattle.board.specs.Board.{side_count, pushed, popped, decide_of, undo_of};
 ghost use Rattle.board.specs.Alien.{size_right, cells_of, borders_of, puzzle_right, decided_in, unused_in, is_alien};
 
-use crate::conditions::all_between;
+use crate::conditions::gathered;
 use rules::{Literal, Tally};
 
 mod conditions; // conditions.rt: the conditions on colours, clues, stack entries, borders and unused places
@@ -191,10 +191,28 @@ impl Board {
         ensures { result ≡ unused_in cells total self.now.colours self.now.clues self.now.borders
             self.now.stack self.now.count }
     {
-        all_between(&self.colours, cells, Board::CELL_LIMIT, |c| c == 0)
-            && all_between(&self.clues, cells, Board::CELL_LIMIT, |k| k == 0)
-            && all_between(&self.borders, total, Board::BORDER_LIMIT, |v| v == 0)
-            && all_between(&self.stack, self.count, Board::BORDER_LIMIT, |e| e == 0)
+        gathered(&self.colours, cells, Board::CELL_LIMIT, 0, |any, c| any | c) == 0
+            && gathered(
+                &self.clues,
+                cells,
+                Board::CELL_LIMIT,
+                true,
+                |zero, k| zero & (k == 0),
+            )
+            && gathered(
+                &self.borders,
+                total,
+                Board::BORDER_LIMIT,
+                0,
+                |any, v| any | v,
+            ) == 0
+            && gathered(
+                &self.stack,
+                self.count,
+                Board::BORDER_LIMIT,
+                0,
+                |any, e| any | e,
+            ) == 0
     }
 
     // Whether decides and undos cannot produce the board from a fresh one.

@@ -1,58 +1,68 @@
--- `unused_zero` meets its contract: the closures are the definition's tests.
-use Rattle.std.proofs.Common.{◌∙◌, sym, ◌&&◌, eqb, pos, length, ◌≡◌, rules, arith}
+-- `unused_zero` meets its contract: what each run gathers is 0, or true, exactly where the definition's places are 0.
+use Rattle.std.proofs.Common.{◌≡◌, ◌∙◌, refl, sym, ap, ◌&&◌, eqb, eq-eqb, ne_eqb, bit_or, pos, length, rules, arith}
 use Rattle.std.proofs.lemmas.Grind.{common_steps}
+use Rattle.lists.specs.Arithmetic.{or-none}
 use Rattle.board.specs.Alien.{zeros_from, clue_zero, zero_clues_from, unused_in}
-use Rattle.board.proofs.Board.unused_zero.Goals.{then-all_between, else-all_between, then-all_between-2, else-all_between-2}
-use Rattle.board.proofs.Board.unused_zero.Goals.{Joined-all_between-2}
+use Rattle.board.proofs.Board.unused_zero.Goals.{then-gathered-eq0, else-gathered-eq0, then-gathered, else-gathered}
+use Rattle.board.proofs.Board.unused_zero.Goals.{Joined-gathered}
 use Rattle.board.proofs.Board.unused_zero.Goals as goal
 
 -- the lengths of the arrays
-long : (c : Joined-all_between-2)
+long : (c : Joined-gathered)
     → let b = c.args.self.now in
     (length b.colours ≡ 1024) × (length b.clues ≡ 1024) × (length b.borders ≡ 1984) × (length b.stack ≡ 1984)
 long c = (search rules, search rules, search rules, search rules)
 
 -- what the first test says, the first two and the first three
-colours : (c : Joined-all_between-2) → c.all_between.result ≡ zeros_from c.args.self.now.colours c.args.cells
+colours : (c : Joined-gathered) → eqb c.gathered.result 0 ≡ zeros_from c.args.self.now.colours c.args.cells
 unfolding zeros_from
-colours c = rw (long c).0 (c.all_between.ensures (λ x. eqb x 0) 0 (λ x b p. search rules))
+colours c =
+    rw (long c).0
+    (c.gathered.ensures (λ a. eqb a 0) (λ x. eqb x 0) 0 refl
+    (λ a x b p. let q : b ≡ bit_or a x = search rules in ap (λ y. eqb y 0) q ∙ or-none a x))
 
-clues : (c : Joined-all_between-2)
+clues : (c : Joined-gathered)
     → let a = c.args in
-    c.if-all_between.value ≡ zeros_from a.self.now.colours a.cells && zero_clues_from a.self.now.clues a.cells
+    c.if-gathered-eq0.value ≡ zeros_from a.self.now.colours a.cells && zero_clues_from a.self.now.clues a.cells
 unfolding zero_clues_from
 clues c =
-    elim c.if-all_between.branch [
-      | then-all_between w ↦
+    elim c.if-gathered-eq0.branch [
+      | then-gathered-eq0 w ↦
           w.value-is
-          ∙ rw (sym (colours c) ∙ w.if-all_between.true, (long c).1)
-          (w.all_between-then-all_between.ensures clue_zero (pos 0) (λ x b p. grind (arith, common_steps)))
-      | else-all_between w ↦ w.value-is ∙ w.if-all_between.false ∙ rw (sym (colours c) ∙ w.if-all_between.false)
+          ∙ rw (sym (colours c) ∙ eq-eqb c.gathered.result 0 w.if-gathered-eq0.true, (long c).1)
+          (w.gathered-then-gathered-eq0.ensures (λ a. a) clue_zero (pos 0) refl
+          (λ a x b p. grind (arith, common_steps)))
+      | else-gathered-eq0 w ↦
+          let e = ne_eqb c.gathered.result 0 w.if-gathered-eq0.false in
+          w.value-is ∙ e ∙ rw (sym (colours c) ∙ e)
     ]
 
-borders : (c : Joined-all_between-2)
+borders : (c : Joined-gathered)
     → let a = c.args in
-    c.if-all_between-2.value
-    ≡ zeros_from a.self.now.colours a.cells && zero_clues_from a.self.now.clues a.cells && zeros_from a.self.now.borders a.total
+    c.if-gathered.value
+    ≡ zeros_from a.self.now.colours a.cells && zero_clues_from a.self.now.clues a.cells
+    && zeros_from a.self.now.borders a.total
 unfolding zeros_from
 borders c =
-    elim c.if-all_between-2.branch [
-      | then-all_between-2 w ↦
+    elim c.if-gathered.branch [
+      | then-gathered w ↦
           w.value-is
-          ∙ rw (sym (clues c) ∙ w.if-all_between-2.true, (long c).2)
-          (w.all_between-then-all_between-2.ensures (λ x. eqb x 0) 0 (λ x b p. search rules))
-      | else-all_between-2 w ↦ w.value-is ∙ w.if-all_between-2.false ∙ rw (sym (clues c) ∙ w.if-all_between-2.false)
+          ∙ rw (sym (clues c) ∙ w.if-gathered.true, (long c).2)
+          (w.gathered-then-gathered.ensures (λ a. eqb a 0) (λ x. eqb x 0) 0 refl
+          (λ a x b p. let q : b ≡ bit_or a x = search rules in ap (λ y. eqb y 0) q ∙ or-none a x))
+      | else-gathered w ↦ w.value-is ∙ w.if-gathered.false ∙ rw (sym (clues c) ∙ w.if-gathered.false)
     ]
 
-pub returns-then-all_between-3 : goal.returns-then-all_between-3
+pub returns-then-gathered-eq0-2 : goal.returns-then-gathered-eq0-2
 unfolding unused_in zeros_from
-returns-then-all_between-3 c =
-    let d = (goal.at.returns-then-all_between-3 c).Joined-all_between-2 in
-    rw (sym (borders d) ∙ c.if-all_between-3.true, (long d).3)
-    (c.all_between-then-all_between-3.ensures (λ x. eqb x 0) 0 (λ x b p. search rules))
+returns-then-gathered-eq0-2 c =
+    let d = (goal.at.returns-then-gathered-eq0-2 c).Joined-gathered in
+    rw (sym (borders d) ∙ c.if-gathered-eq0-2.true, (long d).3)
+    (c.gathered-then-gathered-eq0-2.ensures (λ a. eqb a 0) (λ x. eqb x 0) 0 refl
+    (λ a x b p. let q : b ≡ bit_or a x = search rules in ap (λ y. eqb y 0) q ∙ or-none a x))
 
-pub returns-else-all_between-3 : goal.returns-else-all_between-3
+pub returns-else-gathered-eq0-2 : goal.returns-else-gathered-eq0-2
 unfolding unused_in
-returns-else-all_between-3 c =
-    c.if-all_between-3.false
-    ∙ rw (sym (borders (goal.at.returns-else-all_between-3 c).Joined-all_between-2) ∙ c.if-all_between-3.false)
+returns-else-gathered-eq0-2 c =
+    c.if-gathered-eq0-2.false
+    ∙ rw (sym (borders (goal.at.returns-else-gathered-eq0-2 c).Joined-gathered) ∙ c.if-gathered-eq0-2.false)
