@@ -146,14 +146,14 @@ pub fn step(h: usize, w: usize, y: usize, x: usize, direction: Direction) -> Opt
 
 // Edge of the group g, from the place `start`; gives the next place. The flags are lent: all are 0, and so they are
 // again afterwards.
-pub fn edge<'a>(
+pub fn edge(
     memory: &mut [u16],
     start: usize,
     h: usize,
     w: usize,
-    colours: &'a [u8; 1024],
-    borders: &'a [u8; 1984],
-    grouping: &'a Grouping,
+    colours: &[u8; 1024],
+    borders: &[u8; 1984],
+    grouping: &Grouping,
     g: usize,
     flagged: &mut [u8; 1024],
 ) -> usize
@@ -171,13 +171,13 @@ pub fn edge<'a>(
 }
 
 // Inside of the group g, from the place `start`; gives the next place.
-pub fn inside<'a>(
+pub fn inside(
     memory: &mut [u16],
     start: usize,
     h: usize,
     w: usize,
-    borders: &'a [u8; 1984],
-    grouping: &'a Grouping,
+    borders: &[u8; 1984],
+    grouping: &Grouping,
     g: usize,
 ) -> usize
     requires { Sized h w × (length borders.now ≡ 1984) × GroupAt h w grouping.now g

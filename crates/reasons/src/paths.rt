@@ -161,13 +161,13 @@ fn hunt(
 }
 
 // The way back from b to a, written from the place `from`; nothing if b is not found. Gives the next place.
-fn trace_back<'a>(
+fn trace_back(
     memory: &mut [u16],
     from: usize,
-    parent: &'a [u16; 1024],
-    over: &'a [u16; 1024],
-    found: &'a [u8; 1024],
-    borders: &'a [u8; 1984],
+    parent: &[u16; 1024],
+    over: &[u16; 1024],
+    found: &[u8; 1024],
+    borders: &[u8; 1984],
     h: usize,
     w: usize,
     a: usize,

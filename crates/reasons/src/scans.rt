@@ -33,7 +33,7 @@ fn is_flagged(flagged: &[u8; 1024], group: usize) -> bool
 }
 
 // The border to the neighbour n is open, and n is in the group g.
-fn open_kept<'a>(borders: &'a [u8; 1984], grouping: &'a Grouping, g: usize, n: Neighbour) -> bool
+fn open_kept(borders: &[u8; 1984], grouping: &Grouping, g: usize, n: Neighbour) -> bool
     requires { Arrays borders.now (numbers_in grouping.now) × InArrays n }
     ensures { result ≡ open_kept (states_in borders.now) (entry (numbers_in grouping.now)) g (hop_of n) }
 {
@@ -43,12 +43,12 @@ fn open_kept<'a>(borders: &'a [u8; 1984], grouping: &'a Grouping, g: usize, n: N
 
 // The border to the neighbour n of the cell c is wall, n has the colour of c (or, if `same` is false, the other one),
 // and its group is not flagged.
-fn wall_kept<'a>(
-    colours: &'a [u8; 1024],
-    borders: &'a [u8; 1984],
-    grouping: &'a Grouping,
+fn wall_kept(
+    colours: &[u8; 1024],
+    borders: &[u8; 1984],
+    grouping: &Grouping,
     same: bool,
-    flagged: &'a [u8; 1024],
+    flagged: &[u8; 1024],
     c: usize,
     n: Neighbour,
 ) -> bool
@@ -90,13 +90,13 @@ fn append_kept<K: Fn(Neighbour) -> bool>(
 }
 
 // Writes the open borders of the cell c into the group g: below, right.
-pub fn open_cell<'a>(
+pub fn open_cell(
     memory: &mut [u16],
     from: usize,
     h: usize,
     w: usize,
-    borders: &'a [u8; 1984],
-    grouping: &'a Grouping,
+    borders: &[u8; 1984],
+    grouping: &Grouping,
     g: usize,
     c: usize,
 ) -> usize
@@ -115,16 +115,16 @@ pub fn open_cell<'a>(
 }
 
 // Writes the walls of the cell c that the scan keeps: above, below, left, right.
-fn wall_cell<'a>(
+fn wall_cell(
     memory: &mut [u16],
     from: usize,
     h: usize,
     w: usize,
-    colours: &'a [u8; 1024],
-    borders: &'a [u8; 1984],
-    grouping: &'a Grouping,
+    colours: &[u8; 1024],
+    borders: &[u8; 1984],
+    grouping: &Grouping,
     same: bool,
-    flagged: &'a [u8; 1024],
+    flagged: &[u8; 1024],
     c: usize,
 ) -> usize
     requires { Sized h w × Arrays borders.now (numbers_in grouping.now) × (length colours.now ≡ 1024)
@@ -147,17 +147,17 @@ fn wall_cell<'a>(
 // Writes the walls of the cells of the group g to cells of the same colour (of the other, if `same` is false) in groups
 // that are not flagged, from the place `start`; gives the next place. Step 3's last walls are those to the other
 // colour, with the potential units adjacent to P flagged.
-pub fn scan_walls<'a>(
+pub fn scan_walls(
     memory: &mut [u16],
     start: usize,
     h: usize,
     w: usize,
-    colours: &'a [u8; 1024],
-    borders: &'a [u8; 1984],
-    grouping: &'a Grouping,
+    colours: &[u8; 1024],
+    borders: &[u8; 1984],
+    grouping: &Grouping,
     g: usize,
     same: bool,
-    flagged: &'a [u8; 1024],
+    flagged: &[u8; 1024],
 ) -> usize
     requires { Sized h w × (length borders.now ≡ 1984) × (length colours.now ≡ 1024)
         × (length flagged.now ≡ 1024) × GroupAt h w grouping.now g × Spare memory.old start }
