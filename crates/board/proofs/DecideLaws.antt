@@ -19,7 +19,8 @@ use Rattle.rules.specs.Codes.{code_of, side_in}
 use Rattle.board.specs.declared.Board.{Board}
 use Rattle.board.specs.declared.Returned.{Returned}
 use Rattle.board.specs.Alien.{stacked, tally_in, border_count_of, board_with, is_alien}
-use Rattle.board.specs.Board.{Outcome, number_of, returned, side_count, tally_more, tally_less, pushed, popped, decide_refusal}
+use Rattle.board.specs.Board.{Outcome, number_of, returned, side_count, tally_more, tally_less}
+use Rattle.board.specs.Board.{pushed, popped, decide_refusal}
 use Rattle.board.specs.Board.{decide_of, undo_of, Typed}
 use Rattle.board.specs.ConditionLaws.{stacked-more}
 use Rattle.board.specs.Cases.{refused-number, done-is, refusal-free, decide-alien, decide-refused, decide-done}

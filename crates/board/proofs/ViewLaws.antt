@@ -55,7 +55,8 @@ fresh-puzzle h w cs ks =
     }
 
 -- decide and undo keep it
-pub decided-puzzle : (b : Board) (l : Literal) {d : Board} → decide_of b l ≡ returned (Ok tt) d → puzzle_of d ≡ puzzle_of b
+pub decided-puzzle : (b : Board) (l : Literal) {d : Board} → decide_of b l ≡ returned (Ok tt) d
+    → puzzle_of d ≡ puzzle_of b
 unfolding puzzle_of
 decided-puzzle b l e = ap puzzle_of (decided-is e).is
 

@@ -245,7 +245,8 @@ impl Board {
 
     // The last border of the stack taken off, and made undecided.
     fn pop(&mut self)
-        requires { (0 < self.old.count) × (self.old.count ≤ 1984) × (get_or self.old.stack (self.old.count - 1) 0 < 1984)
+        requires { (0 < self.old.count) × (self.old.count ≤ 1984)
+            × (get_or self.old.stack (self.old.count - 1) 0 < 1984)
             × (self.old.tally.undecided ≤ 1984) × (0 < side_count self.old.tally
             (side_in (get_or self.old.borders (get_or self.old.stack (self.old.count - 1) 0) 0))) }
         ensures { self.new ≡ popped self.old }

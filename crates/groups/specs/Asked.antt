@@ -12,8 +12,8 @@ use Rattle.groups.specs.Grouping.{array_of}
 use Rattle.groups.specs.Kinds.{link_of}
 use Rattle.groups.specs.Parts.{groups_of}
 
--- "Groups or transforms asked of an alien board give 5 and none": the error is both, since its number is 5 and no groups
--- come with it
+-- "Groups or transforms asked of an alien board give 5 and none": the error is both, since its number is 5 and no
+-- groups come with it
 unfoldable pub asked_of : Board → Kind → Result (List ℕ) Refusal
 asked_of b kind =
     cond (is_alien b)

@@ -27,7 +27,8 @@ move_of b undo = undo_of b
 
 pub data Leads : Board → List Move → Board → Type 0 where
   stop : {b : Board} → Leads b [] b
-  next : {b c d : Board} {m : Move} {ms : List Move} → move_of b m ≡ returned (Ok tt) c → Leads c ms d → Leads b (m ∷ ms) d
+  next : {b c d : Board} {m : Move} {ms : List Move} → move_of b m ≡ returned (Ok tt) c → Leads c ms d
+      → Leads b (m ∷ ms) d
 
 -- "A puzzle is accepted if making its board is not refused"
 pub record Reached (b : Board) : Type 0 where

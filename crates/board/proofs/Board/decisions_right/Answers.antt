@@ -1,5 +1,5 @@
--- `decisions_right` meets its contract: the tests are the definition's; flags stand for the stack, and the walls for the
--- tally.
+-- `decisions_right` meets its contract: the tests are the definition's; flags stand for the stack, and the walls for
+-- the tally.
 use Rattle.std.proofs.Common.{◌≡◌, ◌∙◌, refl, sym, ap, arith, le-leb, true}
 use Rattle.std.proofs.lemmas.Bool.{lt-leb}
 use Rattle.rules.specs.Book.{same_tally}
@@ -9,7 +9,8 @@ use Rattle.board.specs.ConditionLaws.{entries-low}
 use Rattle.board.specs.NativeLaws.{has-decisions, walls-few, walls-tell}
 use Rattle.board.proofs.Board.decisions_right.Goals.{then-total-self-via-then-total-self}
 use Rattle.board.proofs.Board.decisions_right.Goals.{then-total-self-via-else-total-self+then-not-entries_right}
-use Rattle.board.proofs.Board.decisions_right.Goals.{Joined-flag_stack, then-flag_stack, else-flag_stack, Then-borders_right}
+use Rattle.board.proofs.Board.decisions_right.Goals.{Joined-flag_stack, then-flag_stack, else-flag_stack}
+use Rattle.board.proofs.Board.decisions_right.Goals.{Then-borders_right}
 use Rattle.board.proofs.Board.decisions_right.Goals as goal
 
 pub returns-then-total-self : goal.returns-then-total-self
@@ -30,7 +31,8 @@ flag_stack-requires c = (
 
 -- what the first two tests say
 judged : (c : Joined-flag_stack)
-    → c.if-flag_stack.value ≡ decisions_in c.args.total c.args.self.now.borders c.args.self.now.stack c.args.self.now.count
+    → let b = c.args.self.now in
+    c.if-flag_stack.value ≡ decisions_in c.args.total b.borders b.stack b.count
 judged c =
     let t = c.flag_stack.ensures in
     let e =

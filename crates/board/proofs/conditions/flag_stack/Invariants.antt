@@ -1,5 +1,5 @@
--- The loop's invariant: `once` says whether none of the entries before the index is an earlier one, and exactly they are
--- flagged.
+-- The loop's invariant: `once` says whether none of the entries before the index is an earlier one, and exactly they
+-- are flagged.
 use Rattle.std.proofs.Common.{◌≡◌, ℕ, ◌<◌, false, length, get_or}
 use Rattle.board.specs.Alien.{stacked, once_each}
 use Rattle.board.proofs.conditions.flag_stack.Given as goal

@@ -1,4 +1,5 @@
--- The loop's invariant: what is found holds exactly if the elements before i pass, for each test that the closure keeps.
+-- The loop's invariant: what is found holds exactly if the elements before i pass, for each test that the closure
+-- keeps.
 use Rattle.std.proofs.Common.{◌≡◌, Bool, true, ◌&&◌, get_or, ◌-◌, ◌≤◌}
 use Rattle.lists.specs.Tests.{all_between}
 use Rattle.board.proofs.conditions.gathered.Given as goal
