@@ -1,12 +1,11 @@
--- Case laws of step 1's definitions: one for each way that clue_at and a turn of census end.
-use Rattle.std.specs.Prelude.{◌≡◌, refl, true, false, ℕ, eqb, ℤ, pos, negsuc, nat_abs, Option, None, Some}
+-- A clue that was read, and one cell more in a census.
+use Rattle.std.specs.Prelude.{◌≡◌, ℕ, eqb, ℤ, pos, Option}
 use Rattle.std.specs.Option.{is_some, option_or}
 use Rattle.std.specs.Prelude.{List, get_or, FitsSigned}
-use Rattle.std.proofs.Common.{◌∙◌, ap, arith, to_z, of_z}
+use Rattle.std.proofs.Common.{◌∙◌, ap, to_z, of_z}
 use Rattle.std.proofs.lemmas.Int.{to_z-of_z}
 use mir.Syntax.{w32}
-use borrow.Author.Tests.{eq-eqb, ne_eqb, le-leb}
-use Rattle.std.specs.Int.Signed.{le_z}
+use borrow.Author.Tests.{eq-eqb, ne_eqb}
 use Rattle.rules.specs.Codes.{clue_of, clues_in}
 use Rattle.blocks.specs.declared.Part.{Part}
 use Rattle.blocks.specs.declared.Census.{Census}
@@ -17,16 +16,6 @@ pub clue-read : (ks : List ℤ) (c : ℕ) {r : Option ℕ} → FitsSigned w32 (g
     → r ≡ clue_in (clue_of (to_z w32 (of_z w32 (get_or ks c (pos 0))))) → r ≡ clue_in (clues_in ks c)
 unfolding clues_in
 clue-read ks c fits e = e ∙ ap (λ z. clue_in (clue_of z)) (to_z-of_z w32 (get_or ks c (pos 0)) fits)
-
-pub clue-is : (z : ℤ) → le_z (pos 0) z ≡ true → Some (nat_abs z) ≡ clue_in (clue_of z)
-clue-is (pos n) e = refl
-clue-is (negsuc n) e = let z : ◌≡◌ {A = ℕ} 0 1 = cc in absurd (omega arith)
-
-pub clue-free : (z : ℤ) → le_z (pos 0) z ≡ false → None ≡ clue_in (clue_of z)
-clue-free (pos n) e =
-    let t : le_z (pos 0) (pos n) ≡ true = le-leb 0 n (omega arith) in
-    let z : ◌≡◌ {A = ℕ} 0 1 = cc in absurd (omega arith)
-clue-free (negsuc n) e = refl
 
 module _ (t : Census) (c u : ℕ) (k : Option ℕ) where
   pub census-one : (p : Part) (f : Option ℕ) → c ≡ 1 → p ≡ next_part t.one u (is_some k)

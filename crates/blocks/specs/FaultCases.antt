@@ -5,20 +5,17 @@ use mathlib.Core.List.{List, [], ◌∷◌}
 use Rattle.std.proofs.Math.Option.{Option as Maybe}
 use native.Mathlib.Omega.{arith}
 use Rattle.std.proofs.Math.Bool.{and-false}
-use borrow.Author.Tests.{eq-eqb, ne_eqb, lt-ltb, le-ltb}
+use borrow.Author.Tests.{eq-eqb, ne_eqb, le-ltb}
 use Rattle.std.proofs.Math.ListN.{get_or}
 use Rattle.rules.specs.Check.{clash}
 use Rattle.rules.specs.Groups.{entry}
 use Rattle.blocks.specs.declared.Part.{Part}
 use Rattle.blocks.specs.declared.Census.{Census}
-use Rattle.blocks.specs.declared.Fault.TheVariants.{InsideEdge, Inside, Edge, EdgeInside}
+use Rattle.blocks.specs.declared.Fault.TheVariants.{InsideEdge, Inside}
 use Rattle.blocks.specs.Arrays.{Parted}
 use Rattle.blocks.specs.Censuses.{first_in, of_colour, colour_unit, colour_part, census_of}
 use Rattle.blocks.specs.Faults.{scan_fault, small_fault, big_fault, clue_fault, census_fault}
 use Rattle.blocks.specs.Faults.{scan_on, fault_on}
-
-some_size : (n : ℕ) → (n ≡ 0 → ⊥) → ltb 0 n ≡ true
-some_size n h = lt-ltb 0 n (omega arith)
 
 no_size : (n : ℕ) → n ≡ 0 → ltb 0 n ≡ false
 no_size n e = le-ltb 0 n (omega arith)
@@ -27,10 +24,6 @@ module _ (mine other : Part) (size : ℕ) where
   pub small-none : mine.size ≡ 0 → None ≡ small_fault mine other size
   unfolding small_fault
   small-none e = rw (no_size mine.size e)
-
-  pub small-hit : (mine.size ≡ 0 → ⊥) → size < other.size → Some (InsideEdge mine.unit) ≡ small_fault mine other size
-  unfolding small_fault
-  small-hit h k = rw (some_size mine.size h, lt-ltb size other.size k)
 
   pub small-fits : other.size ≤ size → None ≡ small_fault mine other size
   unfolding small_fault
@@ -45,26 +38,10 @@ module _ (n : ℕ) (p : Part) (size : ℕ) where
   unfolding big_fault
   big-fits k = rw (le-ltb size n k, and-false)
 
-  pub big-clued : (p.size ≡ 0 → ⊥) → size < n → p.clued ≡ true → Some (Edge p.unit) ≡ big_fault n p size
-  unfolding big_fault
-  big-clued h k e = rw (some_size p.size h, lt-ltb size n k, e)
-
-  pub big-bare : (p.size ≡ 0 → ⊥) → size < n → p.clued ≡ false → Some (EdgeInside p.unit) ≡ big_fault n p size
-  unfolding big_fault
-  big-bare h k e = rw (some_size p.size h, lt-ltb size n k, e)
-
 module _ (k : Option ℕ) (p q : Part) (a b : ℕ) where
   pub clue-none : k ≡ None → None ≡ clue_fault k p q a b
   unfolding clue_fault
   clue-none e = rw e
-
-  pub clue-first : (n : ℕ) → k ≡ Some n → n < p.size → Some Inside ≡ clue_fault k p q a b
-  unfolding clue_fault
-  clue-first n e h = rw (e, lt-ltb n p.size h)
-
-  pub clue-second : (n : ℕ) → k ≡ Some n → p.size ≤ n → n < q.size → Some Inside ≡ clue_fault k p q a b
-  unfolding clue_fault
-  clue-second n e g h = rw (e, le-ltb n p.size g, lt-ltb n q.size h)
 
   pub clue-big : (n : ℕ) → k ≡ Some n → p.size ≤ n → q.size ≤ n
       → option_or (big_fault n p a) (big_fault n q b) ≡ clue_fault k p q a b

@@ -71,6 +71,7 @@ fn census_fault(t: Census, a: usize, b: usize) -> Option<Fault>
 }
 
 // How many cells a group has, from the places where the groups start.
+#[tactic(auto, unfolding(crate::specs::Arrays::size_in))]
 fn size_of(potential: &Grouping, g: usize) -> usize
     requires { (g < 1024) × (get_or (starts_in potential.now) g 0 ≤ get_or (starts_in potential.now) (g + 1) 0) }
     ensures { result ≡ size_in (starts_in potential.now) g }

@@ -13,12 +13,6 @@ loop-block-init c =
     let e : n - 0 ≡ n = omega arith in
     rw e
 
-pub cells_of-requires : goal.cells_of-requires
-cells_of-requires c =
-    let l : c.loop-block.block < count_in c.args.blocks.now = omega arith in
-    let p = c.requires.0.parts c.loop-block.block l in
-    (omega (arith, c.requires.0.few), p.order, p.within)
-
 pub block_fault-requires : goal.block_fault-requires
 unfolding part_of
 block_fault-requires c =

@@ -39,30 +39,6 @@ edge-inside : (s : Start) {p : ℕ} → s.args.faulty.fault ≡ EdgeInside p →
 unfolding faulty_literals fault_literals
 edge-inside s e = rw e
 
-pub inside-at-requires : goal.inside-at-requires
-inside-at-requires c = (c.requires.0, c.requires.1, c.requires.3, c.requires.5)
-
-pub edge_of-requires : goal.edge_of-requires
-edge_of-requires c =
-    let f = c.in-InsideEdge.is in
-    (c.requires.0, c.requires.1, c.requires.2, rw f at c.requires.4, c.inside-at.ensures.spare)
-
-pub inside-requires : goal.inside-requires
-inside-requires c = (c.requires.0, c.requires.1, c.requires.3, c.requires.5)
-
-pub edge_of-requires-in-Edge : goal.edge_of-requires-in-Edge
-edge_of-requires-in-Edge c =
-    let f = c.in-Edge.is in
-    (c.requires.0, c.requires.1, c.requires.2, rw f at c.requires.4, c.requires.5)
-
-pub edge_of-at-requires : goal.edge_of-at-requires
-edge_of-at-requires c =
-    let f = c.in-EdgeInside.is in
-    (c.requires.0, c.requires.1, c.requires.2, rw f at c.requires.4, c.requires.5)
-
-pub inside-requires-in-EdgeInside : goal.inside-requires-in-EdgeInside
-inside-requires-in-EdgeInside c = (c.requires.0, c.requires.1, c.requires.3, c.edge_of-at.ensures.spare)
-
 pub returns-in-InsideEdge : goal.returns-in-InsideEdge
 returns-in-InsideEdge c =
     rw (inside-edge (goal.at.returns-in-InsideEdge c).Start c.in-InsideEdge.is)
