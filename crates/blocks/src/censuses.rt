@@ -43,11 +43,11 @@ impl Part {
 }
 
 // What step 1 asks of some cells.
-pub fn census<'a>(
-    colours: &'a [u8; 1024],
-    clues: &'a [i32; 1024],
-    potential: &'a Grouping,
-    cells: &'a [u16],
+pub fn census(
+    colours: &[u8; 1024],
+    clues: &[i32; 1024],
+    potential: &Grouping,
+    cells: &[u16],
 ) -> Census
     requires { CellsListed cells.now }
     ensures { result ≡ census_of (colours_in colours.now) (clues_in clues.now)

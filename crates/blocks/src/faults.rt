@@ -80,7 +80,7 @@ fn size_of(potential: &Grouping, g: usize) -> usize
 }
 
 // What is wrong with a block of the one cell c.
-fn lone_fault<'a>(clues: &'a [i32; 1024], potential: &'a Grouping, c: usize) -> Option<Fault>
+fn lone_fault(clues: &[i32; 1024], potential: &Grouping, c: usize) -> Option<Fault>
     requires { (c < 1024) × Parted (numbers_in potential.now) (starts_in potential.now) }
     ensures { result ≡ lone_fault (clues_in clues.now) (entry (numbers_in potential.now))
         (size_in (starts_in potential.now)) c }
@@ -134,12 +134,7 @@ fn has_room(
 // if both colours have room; else a census is to tell. The first potential unit of a colour is kept at the colour's
 // place, where 1,024 stands for none: an array of Option is slower, measured 0.60 s against 0.40 s for 200,000 looks
 // at a block of 1,024 cells.
-fn look<'a>(
-    colours: &'a [u8; 1024],
-    clues: &'a [i32; 1024],
-    potential: &'a Grouping,
-    cells: &'a [u16],
-) -> Look
+fn look(colours: &[u8; 1024], clues: &[i32; 1024], potential: &Grouping, cells: &[u16]) -> Look
     requires { CellsListed cells.now × Parted (numbers_in potential.now) (starts_in potential.now) }
     ensures { Shows result (fault_on (colours_in colours.now) (clues_in clues.now) (entry (numbers_in potential.now))
         (size_in (starts_in potential.now)) cells.now) (scan_on (colours_in colours.now) (clues_in clues.now)
@@ -177,11 +172,11 @@ fn look<'a>(
 }
 
 // What is wrong with the block of these cells.
-pub fn block_fault<'a>(
-    colours: &'a [u8; 1024],
-    clues: &'a [i32; 1024],
-    potential: &'a Grouping,
-    cells: &'a [u16],
+pub fn block_fault(
+    colours: &[u8; 1024],
+    clues: &[i32; 1024],
+    potential: &Grouping,
+    cells: &[u16],
 ) -> Option<Fault>
     requires { CellsListed cells.now × Parted (numbers_in potential.now) (starts_in potential.now) }
     ensures { result ≡ fault_on (colours_in colours.now) (clues_in clues.now)
@@ -205,11 +200,11 @@ pub fn block_fault<'a>(
 }
 
 // The first of the blocks with which something is wrong.
-pub fn first_faulty<'a>(
-    colours: &'a [u8; 1024],
-    clues: &'a [i32; 1024],
-    potential: &'a Grouping,
-    blocks: &'a Grouping,
+pub fn first_faulty(
+    colours: &[u8; 1024],
+    clues: &[i32; 1024],
+    potential: &Grouping,
+    blocks: &Grouping,
 ) -> Option<Faulty>
     requires { GroupLists (cells_in blocks.now) (starts_in blocks.now) (count_in blocks.now)
         × Parted (numbers_in potential.now) (starts_in potential.now) }

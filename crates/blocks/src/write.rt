@@ -11,14 +11,14 @@ use groups::Grouping;
 use reasons::{edge, inside};
 
 // Edge of a potential unit, from the place `start`, with flags of its own; gives the next place.
-fn edge_of<'a>(
+fn edge_of(
     memory: &mut [u16],
     start: usize,
     h: usize,
     w: usize,
-    colours: &'a [u8; 1024],
-    borders: &'a [u8; 1984],
-    potential: &'a Grouping,
+    colours: &[u8; 1024],
+    borders: &[u8; 1984],
+    potential: &Grouping,
     p: usize,
 ) -> usize
     requires { Sized h w × (length borders.now ≡ 1984) × (length colours.now ≡ 1024)
@@ -41,14 +41,14 @@ fn edge_of<'a>(
 }
 
 // The reason of a faulty block, from the start of the memory; gives the number of literals.
-pub fn write_fault<'a>(
+pub fn write_fault(
     memory: &mut [u16],
     h: usize,
     w: usize,
-    colours: &'a [u8; 1024],
-    borders: &'a [u8; 1984],
-    blocks: &'a Grouping,
-    potential: &'a Grouping,
+    colours: &[u8; 1024],
+    borders: &[u8; 1984],
+    blocks: &Grouping,
+    potential: &Grouping,
     faulty: Faulty,
 ) -> usize
     requires { Sized h w × (length borders.now ≡ 1984) × (length colours.now ≡ 1024)

@@ -1,8 +1,7 @@
 -- `block_hit` meets its contract: what first_faulty finds is the first faulty block, and its reason is written.
-use mathlib.Core.Path.{◌≡◌, sym}
+use mathlib.Core.Path.{◌≡◌}
 use Rattle.groups.specs.declared.Kind.TheVariants.{Blocks, Potential}
 use Rattle.groups.specs.Kinds.{joins_in}
-use lib.Seq.{length-take-le}
 use Rattle.reasons.proofs.MemoryLaws.{spare-front}
 use Rattle.blocks.specs.Bridges.{lists_of, parted-of}
 use Rattle.blocks.specs.BlockHits.{faulty_in}
@@ -28,12 +27,6 @@ returns-in_err-faulty c =
     let p = c.requires in
     rw c.from_residual.ensures
     (answers-none _ (blocks-clear p.0 _ _ _ _ (found (goal.at.returns-in_err-faulty c).After-first_faulty) c.in_err-faulty.was))
-
-pub slice_bounds-write_fault-end : goal.slice_bounds-write_fault-end
-slice_bounds-write_fault-end c = c.requires.1.memory
-
-pub slice_bounds-write_fault-end-2 : goal.slice_bounds-write_fault-end-2
-slice_bounds-write_fault-end-2 c = sym (length-take-le 1984 c.args.memory.now c.requires.1.memory)
 
 pub write_fault-requires : goal.write_fault-requires
 write_fault-requires c =
