@@ -46,9 +46,6 @@ returns-in_err-breach c =
     (rw c.from_residual.ensures
     (answers-none _ (walls-clear p.0 _ _ _ (rw p.2.numbers at c.in_err-breach.ensures))))
 
-pub slice_bounds-write_breach-end : goal.slice_bounds-write_breach-end
-slice_bounds-write_breach-end c = room (goal.at.slice_bounds-write_breach-end c).In_default
-
 pub slice_bounds-write_breach-end-2 : goal.slice_bounds-write_breach-end-2
 slice_bounds-write_breach-end-2 c =
     sym (length-take-le 1984 (left (goal.at.slice_bounds-write_breach-end-2 c).In_default)
