@@ -17,12 +17,12 @@ use groups::{Grouping, cells_of, group_of};
 use planes::connection::{is_clear, read_place};
 
 // Whether the raised doubled place (y, x) is clear, if `on` and cell `to` is of unit `g`: then a connection is there.
-fn joint_clear<'a>(
+fn joint_clear(
     h: usize,
     w: usize,
-    colours: &'a [u8; 1024],
-    borders: &'a [u8; 1984],
-    units: &'a Grouping,
+    colours: &[u8; 1024],
+    borders: &[u8; 1984],
+    units: &Grouping,
     g: usize,
     on: bool,
     to: usize,
@@ -40,12 +40,12 @@ fn joint_clear<'a>(
 
 // Whether the connections of cell `c` of unit `g`, below then right, are clear where the unit is shifted by (y, x),
 // which is doubled and raised.
-fn cell_clear<'a>(
+fn cell_clear(
     h: usize,
     w: usize,
-    colours: &'a [u8; 1024],
-    borders: &'a [u8; 1984],
-    units: &'a Grouping,
+    colours: &[u8; 1024],
+    borders: &[u8; 1984],
+    units: &Grouping,
     g: usize,
     c: usize,
     y: usize,
@@ -87,12 +87,12 @@ fn cell_clear<'a>(
 }
 
 // Whether unit `g`, shifted so that its first cell lies on the origin `o`, fits.
-fn copy_fits<'a>(
+fn copy_fits(
     h: usize,
     w: usize,
-    colours: &'a [u8; 1024],
-    borders: &'a [u8; 1984],
-    units: &'a Grouping,
+    colours: &[u8; 1024],
+    borders: &[u8; 1984],
+    units: &Grouping,
     g: usize,
     o: usize,
 ) -> bool
@@ -113,14 +113,14 @@ fn copy_fits<'a>(
 }
 
 // Whether unit `g`, shifted, fits at one of the first eight cells of potential unit `q`.
-pub fn copy_fits_soon<'a>(
+pub fn copy_fits_soon(
     h: usize,
     w: usize,
-    colours: &'a [u8; 1024],
-    borders: &'a [u8; 1984],
-    units: &'a Grouping,
+    colours: &[u8; 1024],
+    borders: &[u8; 1984],
+    units: &Grouping,
     g: usize,
-    potential: &'a Grouping,
+    potential: &Grouping,
     q: usize,
 ) -> bool
     requires { Drawn h w colours.now × UnitIn h w units.now g × (q < 1024)

@@ -14,14 +14,14 @@ use shapes::{Outline, joint_count};
 
 // Whether the unit's image by a row of the table fits at an origin of the mask; they lie from the row `top` to before
 // the row `end`.
-fn row_fits<'a>(
+fn row_fits(
     h: usize,
-    planes: &'a [u64; 192],
-    mask: &'a [u64; 33],
+    planes: &[u64; 192],
+    mask: &[u64; 33],
     top: usize,
     end: usize,
     row: usize,
-    outline: &'a Outline,
+    outline: &Outline,
     turned: &mut Turned,
 ) -> bool
     requires { (row < 8) × Sizes h planes.now mask.now × Span h mask.now top end
@@ -34,13 +34,13 @@ fn row_fits<'a>(
 }
 
 // Whether one of the eight images fits there, where the image by row 0 does not: the other rows are tried.
-fn others_fit<'a>(
+fn others_fit(
     h: usize,
-    planes: &'a [u64; 192],
-    mask: &'a [u64; 33],
+    planes: &[u64; 192],
+    mask: &[u64; 33],
     top: usize,
     end: usize,
-    outline: &'a Outline,
+    outline: &Outline,
     turned: &mut Turned,
 ) -> bool
     requires { Sizes h planes.now mask.now × Span h mask.now top end × Spotted outline.now
@@ -59,11 +59,11 @@ fn others_fit<'a>(
 }
 
 // Whether one of the unit's eight images fits there; `turned` has the image by row 0.
-pub fn some_row_fits<'a>(
+pub fn some_row_fits(
     h: usize,
-    planes: &'a [u64; 192],
-    mask: &'a [u64; 33],
-    outline: &'a Outline,
+    planes: &[u64; 192],
+    mask: &[u64; 33],
+    outline: &Outline,
     turned: &mut Turned,
 ) -> bool
     requires { Sizes h planes.now mask.now × Spotted outline.now × Jointed outline.now

@@ -21,13 +21,13 @@ use groups::{Grouping, cells_of, count_of};
 // Whether a placement of unit `u` fits: none does where its potential unit has no adjacent one; with one, a unit of one
 // cell fits, which has no connections. On most boards the unit itself, shifted, fits at one of the first cells of that
 // one. `near` is kept from unit to unit too.
-fn fits_at<'a>(
+fn fits_at(
     h: usize,
     w: usize,
-    colours: &'a [u8; 1024],
-    borders: &'a [u8; 1984],
-    units: &'a Grouping,
-    potential: &'a Grouping,
+    colours: &[u8; 1024],
+    borders: &[u8; 1984],
+    units: &Grouping,
+    potential: &Grouping,
     u: usize,
     near: &mut [u16; 1024],
     scratch: &mut Scratch,
@@ -51,13 +51,13 @@ fn fits_at<'a>(
 }
 
 // The first unit for which no placement fits, if there is one and none is before `from`.
-fn stuck_from<'a>(
+fn stuck_from(
     h: usize,
     w: usize,
-    colours: &'a [u8; 1024],
-    borders: &'a [u8; 1984],
-    units: &'a Grouping,
-    potential: &'a Grouping,
+    colours: &[u8; 1024],
+    borders: &[u8; 1984],
+    units: &Grouping,
+    potential: &Grouping,
     from: usize,
     near: &mut [u16; 1024],
 ) -> Option<usize>
@@ -93,13 +93,13 @@ fn stuck_from<'a>(
 
 // The first unit for which no placement fits, if there is one. The memory for a unit of more than one cell is made at
 // the first of them.
-pub fn first_stuck<'a>(
+pub fn first_stuck(
     h: usize,
     w: usize,
-    colours: &'a [u8; 1024],
-    borders: &'a [u8; 1984],
-    units: &'a Grouping,
-    potential: &'a Grouping,
+    colours: &[u8; 1024],
+    borders: &[u8; 1984],
+    units: &Grouping,
+    potential: &Grouping,
 ) -> Option<usize>
     requires { Sorted h w colours.now borders.now units.now potential.now }
     ensures { result ≡ first_fail (fits_unit (unclued h w colours.now) (states_in borders.now))

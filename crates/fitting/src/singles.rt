@@ -11,13 +11,13 @@ use groups::{Grouping, cells_of, count_of};
 
 // Whether unit `u` has one cell, and its potential unit an adjacent one: then it fits. Where `sure`, every potential
 // unit is known to have one.
-fn single_fits<'a>(
+fn single_fits(
     h: usize,
     w: usize,
-    colours: &'a [u8; 1024],
-    borders: &'a [u8; 1984],
-    units: &'a Grouping,
-    potential: &'a Grouping,
+    colours: &[u8; 1024],
+    borders: &[u8; 1984],
+    units: &Grouping,
+    potential: &Grouping,
     u: usize,
     sure: bool,
     near: &mut [u16; 1024],
@@ -47,13 +47,13 @@ fn single_fits<'a>(
 
 // How many of the units are passed at once: they stand before the first that has more than one cell or whose
 // potential unit has no adjacent one. If each potential unit has one, a unit's size alone is looked at.
-pub fn after_singles<'a>(
+pub fn after_singles(
     h: usize,
     w: usize,
-    colours: &'a [u8; 1024],
-    borders: &'a [u8; 1984],
-    units: &'a Grouping,
-    potential: &'a Grouping,
+    colours: &[u8; 1024],
+    borders: &[u8; 1984],
+    units: &Grouping,
+    potential: &Grouping,
     near: &mut [u16; 1024],
 ) -> usize
     requires { Sorted h w colours.now borders.now units.now potential.now

@@ -31,12 +31,12 @@ pub fn home_in(units: &Grouping, potential: &Grouping, u: usize) -> usize
 
 // One of the potential units adjacent to potential unit `p`, if there is one. `near` keeps it as a number, raised by 1
 // and 0 where none was asked for: so memory that is made 0 at once has none.
-pub fn near_mate<'a>(
+pub fn near_mate(
     h: usize,
     w: usize,
-    colours: &'a [u8; 1024],
-    borders: &'a [u8; 1984],
-    potential: &'a Grouping,
+    colours: &[u8; 1024],
+    borders: &[u8; 1984],
+    potential: &Grouping,
     p: usize,
     near: &mut [u16; 1024],
 ) -> Option<usize>
@@ -56,12 +56,12 @@ pub fn near_mate<'a>(
 }
 
 // Whether each potential unit has an adjacent one. `near` keeps those that were found.
-pub fn all_near<'a>(
+pub fn all_near(
     h: usize,
     w: usize,
-    colours: &'a [u8; 1024],
-    borders: &'a [u8; 1984],
-    potential: &'a Grouping,
+    colours: &[u8; 1024],
+    borders: &[u8; 1984],
+    potential: &Grouping,
     near: &mut [u16; 1024],
 ) -> bool
     requires { ((p : ℕ) → p < count_in potential.now → Home h w colours.now borders.now potential.now p)
@@ -79,12 +79,12 @@ pub fn all_near<'a>(
 }
 
 // Makes planes and mask those of the page and of the potential unit `p`.
-fn prepare<'a>(
+fn prepare(
     h: usize,
     w: usize,
-    colours: &'a [u8; 1024],
-    borders: &'a [u8; 1984],
-    potential: &'a Grouping,
+    colours: &[u8; 1024],
+    borders: &[u8; 1984],
+    potential: &Grouping,
     p: usize,
     planes: &mut [u64; 192],
     mask: &mut [u64; 33],
@@ -119,13 +119,13 @@ pub struct Scratch {
 impl Scratch {
     // Whether one of the eight images of the unit of the outline fits at a cell of one of the potential units adjacent
     // to potential unit `p`.
-    fn written_fits<'a>(
+    fn written_fits(
         &mut self,
         h: usize,
         w: usize,
-        colours: &'a [u8; 1024],
-        borders: &'a [u8; 1984],
-        potential: &'a Grouping,
+        colours: &[u8; 1024],
+        borders: &[u8; 1984],
+        potential: &Grouping,
         p: usize,
     ) -> bool
         requires { Home h w colours.now borders.now potential.now p
@@ -153,15 +153,15 @@ impl Scratch {
 
     // Whether a listed transform of unit `g` fits at a cell of one of the potential units adjacent to potential unit
     // `p`. All eight rows of the table are tried: one that is not listed gives the cells and connections of one that is.
-    pub fn unit_fits<'a>(
+    pub fn unit_fits(
         &mut self,
         h: usize,
         w: usize,
-        colours: &'a [u8; 1024],
-        borders: &'a [u8; 1984],
-        units: &'a Grouping,
+        colours: &[u8; 1024],
+        borders: &[u8; 1984],
+        units: &Grouping,
         g: usize,
-        potential: &'a Grouping,
+        potential: &Grouping,
         p: usize,
     ) -> bool
         requires { Home h w colours.now borders.now potential.now p × UnitIn h w units.now g

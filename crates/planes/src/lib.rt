@@ -27,13 +27,7 @@ pub enum Reading {
 }
 
 // 1 if the border joins two cells of one colour and is not wall, otherwise 0.
-fn clear<'a>(
-    colours: &'a [u8; 1024],
-    borders: &'a [u8; 1984],
-    from: usize,
-    to: usize,
-    border: usize,
-) -> u64
+fn clear(colours: &[u8; 1024], borders: &[u8; 1984], from: usize, to: usize, border: usize) -> u64
     requires { (from < 1024) × (to < 1024) × (border < 1984) }
     ensures { result ≡ bit (clear_at colours.now borders.now from to border) }
 {
@@ -44,9 +38,9 @@ fn clear<'a>(
 
 // Which of n borders are clear, from the number `border` up: they lie between the cells from `cell` up and those
 // `ahead` further on.
-fn clear_row<'a>(
-    colours: &'a [u8; 1024],
-    borders: &'a [u8; 1984],
+fn clear_row(
+    colours: &[u8; 1024],
+    borders: &[u8; 1984],
     cell: usize,
     ahead: usize,
     border: usize,
@@ -63,7 +57,7 @@ fn clear_row<'a>(
 }
 
 // The doubled row r of the page: odd, the borders below a row's cells; even, those right of them.
-fn line<'a>(h: usize, w: usize, colours: &'a [u8; 1024], borders: &'a [u8; 1984], r: usize) -> u64
+fn line(h: usize, w: usize, colours: &[u8; 1024], borders: &[u8; 1984], r: usize) -> u64
     requires { Sized h w × (r < 2 * h - 1) }
     ensures { result ≡ line_word h w colours.now borders.now r }
 {
@@ -75,11 +69,11 @@ fn line<'a>(h: usize, w: usize, colours: &'a [u8; 1024], borders: &'a [u8; 1984]
 }
 
 // Draws the planes of a page into memory that is 0: the doubled row r stands at 64 + r, its columns from bit 32 on.
-pub fn draw_planes<'a>(
+pub fn draw_planes(
     h: usize,
     w: usize,
-    colours: &'a [u8; 1024],
-    borders: &'a [u8; 1984],
+    colours: &[u8; 1024],
+    borders: &[u8; 1984],
     planes: &mut [u64; 192],
 )
     requires { Sized h w × (planes.old ≡ replicate 192 0) }
@@ -111,11 +105,11 @@ fn flag_group(h: usize, w: usize, cells: &[u16], mask: &mut [u64; 33])
 
 // Draws the mask of the origins: the cells of the groups in the list of mates. The rows are followed by the number
 // `name`.
-pub fn draw_mask<'a>(
+pub fn draw_mask(
     h: usize,
     w: usize,
-    potential: &'a Grouping,
-    mates: &'a Mates,
+    potential: &Grouping,
+    mates: &Mates,
     name: u64,
     mask: &mut [u64; 33],
 )
@@ -140,13 +134,7 @@ fn step(planes: &[u64; 192], acc: u64, y: usize, down: u8, across: u8) -> u64
 
 // The origins `word` of row y at which all n connections of a transform are clear. They stand in `turned`, raised
 // by 64.
-pub fn line_left<'a>(
-    planes: &'a [u64; 192],
-    word: u64,
-    y: usize,
-    turned: &'a Turned,
-    n: usize,
-) -> u64
+pub fn line_left(planes: &[u64; 192], word: u64, y: usize, turned: &Turned, n: usize) -> u64
     requires { (y < 32) × Raised turned.now n }
     ensures { result ≡ clear_word planes.now y turned.now word n }
 {
@@ -161,7 +149,7 @@ pub fn line_left<'a>(
 }
 
 // Whether a transform fits at one of the origins `word` of row y.
-fn line_fits<'a>(planes: &'a [u64; 192], word: u64, y: usize, turned: &'a Turned, n: usize) -> bool
+fn line_fits(planes: &[u64; 192], word: u64, y: usize, turned: &Turned, n: usize) -> bool
     requires { (y < 32) × Raised turned.now n }
     ensures { result ≡ line_fits planes.now y turned.now n word }
 {
@@ -188,13 +176,13 @@ pub fn end_row(mask: &[u64; 33], h: usize) -> usize
 }
 
 // Whether it fits at one of the origins of the mask's h rows, which lie from the row `top` to before the row `end`.
-pub fn mask_fits<'a>(
-    planes: &'a [u64; 192],
-    mask: &'a [u64; 33],
+pub fn mask_fits(
+    planes: &[u64; 192],
+    mask: &[u64; 33],
     h: usize,
     top: usize,
     end: usize,
-    turned: &'a Turned,
+    turned: &Turned,
     n: usize,
 ) -> bool
     requires { Sizes h planes.now mask.now × Span h mask.now top end × Raised turned.now n }

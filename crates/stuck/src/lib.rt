@@ -31,16 +31,16 @@ pub mod unit_walls; // unit_walls.rt: the walls of a potential unit, of those ad
 // Writes the blockers of the placements of the unit's images by the listed rows, with their origins at the cells of the
 // groups in the list of mates, from the start of the memory; gives the next place. The planes of the colours, the mask
 // of those origins and the places of the cells are drawn once; then each row's survivors are asked.
-fn block_rows<'a>(
+fn block_rows(
     memory: &mut [u16],
     h: usize,
     w: usize,
-    colours: &'a [u8; Board::CELL_LIMIT],
-    borders: &'a [u8; Board::BORDER_LIMIT],
-    listed: &'a [u8],
-    outline: &'a Outline,
-    potential: &'a Grouping,
-    mates: &'a Mates,
+    colours: &[u8; Board::CELL_LIMIT],
+    borders: &[u8; Board::BORDER_LIMIT],
+    listed: &[u8],
+    outline: &Outline,
+    potential: &Grouping,
+    mates: &Mates,
 ) -> usize
     requires { Rows listed.now × Drawn h w colours.now × Spotted outline.now × Jointed outline.now
         × Beside h w potential.now mates.now
@@ -73,17 +73,17 @@ fn block_rows<'a>(
 // Writes the reason of the unit u in the potential unit p from the start of the memory: the blockers of its placements,
 // its Inside, and the walls of p. Gives the number of literals. The list of mates has the potential units adjacent to
 // p, the outline is the unit's, and `listed` has the rows of its transforms.
-fn write_unit<'a>(
+fn write_unit(
     memory: &mut [u16],
     h: usize,
     w: usize,
-    colours: &'a [u8; Board::CELL_LIMIT],
-    borders: &'a [u8; Board::BORDER_LIMIT],
-    units: &'a Grouping,
-    potential: &'a Grouping,
-    mates: &'a Mates,
-    listed: &'a [u8],
-    outline: &'a Outline,
+    colours: &[u8; Board::CELL_LIMIT],
+    borders: &[u8; Board::BORDER_LIMIT],
+    units: &Grouping,
+    potential: &Grouping,
+    mates: &Mates,
+    listed: &[u8],
+    outline: &Outline,
     u: usize,
     p: usize,
 ) -> usize
@@ -102,14 +102,14 @@ fn write_unit<'a>(
 }
 
 // Writes the reason of the unit u in its potential unit from the start of the memory; gives the number of literals.
-pub fn write_stuck<'a>(
+pub fn write_stuck(
     memory: &mut [u16],
     h: usize,
     w: usize,
-    colours: &'a [u8; Board::CELL_LIMIT],
-    borders: &'a [u8; Board::BORDER_LIMIT],
-    units: &'a Grouping,
-    potential: &'a Grouping,
+    colours: &[u8; Board::CELL_LIMIT],
+    borders: &[u8; Board::BORDER_LIMIT],
+    units: &Grouping,
+    potential: &Grouping,
     u: usize,
 ) -> usize
     requires { StuckAt h w colours.now borders.now units.now potential.now u

@@ -49,11 +49,11 @@ pub fn draw_places(h: usize, w: usize, places: &mut [u16; 1024])
 
 // Writes for each of the page's rows the origins of the mask at which all n connections are clear. They stand in
 // `turned`, raised by 64.
-pub fn survivors<'a>(
-    planes: &'a [u64; 192],
-    mask: &'a [u64; 33],
+pub fn survivors(
+    planes: &[u64; 192],
+    mask: &[u64; 33],
     h: usize,
-    turned: &'a Turned,
+    turned: &Turned,
     n: usize,
     rows: &mut [u64; 32],
 )
@@ -90,11 +90,11 @@ fn border_at(h: usize, w: usize, y: usize, x: usize) -> usize
 }
 
 // The placement with its origin at (y, x), where every connection joins one colour.
-fn laid_back<'a>(
+fn laid_back(
     h: usize,
     w: usize,
-    borders: &'a [u8; 1984],
-    turned: &'a Turned,
+    borders: &[u8; 1984],
+    turned: &Turned,
     n: usize,
     y: usize,
     x: usize,
@@ -118,12 +118,12 @@ fn laid_back<'a>(
 }
 
 // The placement with its origin at (y, x): it cannot lie there unless `rows` has that origin.
-fn placed<'a>(
+fn placed(
     h: usize,
     w: usize,
-    borders: &'a [u8; 1984],
-    rows: &'a [u64; 32],
-    turned: &'a Turned,
+    borders: &[u8; 1984],
+    rows: &[u64; 32],
+    turned: &Turned,
     n: usize,
     y: usize,
     x: usize,
@@ -141,15 +141,15 @@ fn placed<'a>(
 }
 
 // Writes the blocker of the placement with its origin at the cell o, if it has one; gives the next place.
-fn block_at<'a>(
+fn block_at(
     memory: &mut [u16],
     at: usize,
     h: usize,
     w: usize,
-    borders: &'a [u8; 1984],
-    places: &'a [u16; 1024],
-    rows: &'a [u64; 32],
-    turned: &'a Turned,
+    borders: &[u8; 1984],
+    places: &[u16; 1024],
+    rows: &[u64; 32],
+    turned: &Turned,
     n: usize,
     o: usize,
 ) -> usize
@@ -175,17 +175,17 @@ fn block_at<'a>(
 }
 
 // Writes the blockers of the placements at the cells of a group; gives the next place.
-fn block_group<'a>(
+fn block_group(
     memory: &mut [u16],
     start: usize,
     h: usize,
     w: usize,
-    borders: &'a [u8; 1984],
-    places: &'a [u16; 1024],
-    rows: &'a [u64; 32],
-    turned: &'a Turned,
+    borders: &[u8; 1984],
+    places: &[u16; 1024],
+    rows: &[u64; 32],
+    turned: &Turned,
     n: usize,
-    cells: &'a [u16],
+    cells: &[u16],
 ) -> usize
     requires { Sized h w × Raised turned.now n × Lain h w rows.now turned.now n
         × PlacesDrawn h w places.now × ((i : ℕ) → i < length cells.now → get_or cells.now i 0 < h * w)
@@ -214,18 +214,18 @@ fn block_group<'a>(
 
 // Writes the blockers of the placements at the cells of the groups in the list of mates; gives the next place. `places`
 // says where the page's cells are, and `rows` has the survivors.
-pub fn block_mates<'a>(
+pub fn block_mates(
     memory: &mut [u16],
     start: usize,
     h: usize,
     w: usize,
-    borders: &'a [u8; 1984],
-    places: &'a [u16; 1024],
-    rows: &'a [u64; 32],
-    turned: &'a Turned,
+    borders: &[u8; 1984],
+    places: &[u16; 1024],
+    rows: &[u64; 32],
+    turned: &Turned,
     n: usize,
-    potential: &'a Grouping,
-    mates: &'a Mates,
+    potential: &Grouping,
+    mates: &Mates,
 ) -> usize
     requires { Sized h w × Raised turned.now n × Lain h w rows.now turned.now n × PlacesDrawn h w places.now
         × Beside h w potential.now mates.now × Spare memory.old start }

@@ -14,15 +14,15 @@ use reasons::edge;
 use reasons::scans::scan_walls;
 
 // Writes Edge of each of the groups in the list of mates; gives the next place.
-fn edges_of<'a>(
+fn edges_of(
     memory: &mut [u16],
     start: usize,
     h: usize,
     w: usize,
-    colours: &'a [u8; Board::CELL_LIMIT],
-    borders: &'a [u8; Board::BORDER_LIMIT],
-    potential: &'a Grouping,
-    mates: &'a Mates,
+    colours: &[u8; Board::CELL_LIMIT],
+    borders: &[u8; Board::BORDER_LIMIT],
+    potential: &Grouping,
+    mates: &Mates,
     flagged: &mut [u8; Board::CELL_LIMIT],
 ) -> usize
     requires { Sized h w × (length borders.now ≡ 1984) × (length colours.now ≡ 1024)
@@ -51,16 +51,16 @@ fn flag_mates(mates: &Mates, flagged: &mut [u8; Board::CELL_LIMIT])
 
 // Writes the walls from the cells of the potential unit p to cells of the other colour in groups that are not in the
 // list of mates; gives the next place.
-fn far_walls<'a>(
+fn far_walls(
     memory: &mut [u16],
     start: usize,
     h: usize,
     w: usize,
-    colours: &'a [u8; Board::CELL_LIMIT],
-    borders: &'a [u8; Board::BORDER_LIMIT],
-    potential: &'a Grouping,
+    colours: &[u8; Board::CELL_LIMIT],
+    borders: &[u8; Board::BORDER_LIMIT],
+    potential: &Grouping,
     p: usize,
-    mates: &'a Mates,
+    mates: &Mates,
     flagged: &mut [u8; Board::CELL_LIMIT],
 ) -> usize
     requires { Sized h w × (length borders.now ≡ 1984) × (length colours.now ≡ 1024)
@@ -77,16 +77,16 @@ fn far_walls<'a>(
 
 // Writes the walls of the potential unit p: its Edge, Edge of each potential unit adjacent to it, and its walls to
 // cells of the other colour in units that are not adjacent to it. Gives the next place.
-pub fn walls_of<'a>(
+pub fn walls_of(
     memory: &mut [u16],
     start: usize,
     h: usize,
     w: usize,
-    colours: &'a [u8; Board::CELL_LIMIT],
-    borders: &'a [u8; Board::BORDER_LIMIT],
-    potential: &'a Grouping,
+    colours: &[u8; Board::CELL_LIMIT],
+    borders: &[u8; Board::BORDER_LIMIT],
+    potential: &Grouping,
     p: usize,
-    mates: &'a Mates,
+    mates: &Mates,
 ) -> usize
     requires { Sized h w × (length borders.now ≡ 1984) × (length colours.now ≡ 1024)
         × Mated h w potential.now mates.now × GroupAt h w potential.now p
