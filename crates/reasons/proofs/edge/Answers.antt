@@ -17,16 +17,6 @@ whole : (s : Start) → let a = s.args in
     (set a.flagged.now a.g 1) (group_cells a.grouping.now a.g)
 whole s = let a = s.args in edge-scan a.colours.now a.borders.now s.requires.3.is (flag s)
 
-pub scan_walls-at-requires : goal.scan_walls-at-requires
-scan_walls-at-requires c = (
-  c.requires.0,
-  c.requires.1,
-  c.requires.2,
-  (flag (goal.at.scan_walls-at-requires c).Start).long,
-  c.requires.3,
-  c.requires.4,
-)
-
 pub returns : goal.returns
 returns c = (
   rw (whole (goal.at.returns c).Start) c.scan_walls-at.ensures,

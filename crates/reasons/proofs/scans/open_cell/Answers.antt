@@ -12,18 +12,13 @@ use Rattle.rules.specs.Flat.{flat}
 use Rattle.rules.specs.Codes.{states_in}
 use Rattle.rules.specs.Groups.{entry}
 use Rattle.rules.specs.Reasons.{gather, inside_at}
-use Rattle.laws.specs.FlatLaws.{OnPage, row_of_lem}
 use Rattle.groups.specs.Grouping.{numbers_in}
 use Rattle.reasons.specs.Memory.{Wrote}
 use Rattle.reasons.specs.Arrays.{hop_at, direction_at, open_kept}
 use Rattle.reasons.proofs.MemoryLaws.{turns-none, turns_more}
-use Rattle.reasons.specs.StepLaws.{near-fits}
 use Rattle.reasons.specs.ScanLaws.{inside-hops}
 use Rattle.reasons.proofs.scans.open_cell.Goals.{Start, After-append_kept-at}
 use Rattle.reasons.proofs.scans.open_cell.Goals as goal
-
-row : (s : Start) → OnPage s.args.h s.args.w s.args.c
-row s = row_of_lem _ _ _ s.requires.2
 
 abbrev number : Start → ℕ → ℕ
 number s = entry (numbers_in s.args.grouping.now)
@@ -44,28 +39,6 @@ whole s =
 
 start : (s : Start) → let a = s.args in Wrote a.memory.now a.from (up_to (at s) 0) a.memory.now a.from
 start s = turns-none (at s) s.requires.3
-
-pub beside-below-requires : goal.beside-below-requires
-beside-below-requires c = (
-  c.requires.0,
-  (row (goal.at.beside-below-requires c).Start).row,
-  (row (goal.at.beside-below-requires c).Start).column,
-  (row (goal.at.beside-below-requires c).Start).same,
-)
-
-pub beside-right-requires : goal.beside-right-requires
-beside-right-requires c = (
-  c.requires.0,
-  (row (goal.at.beside-right-requires c).Start).row,
-  (row (goal.at.beside-right-requires c).Start).column,
-  (row (goal.at.beside-right-requires c).Start).same,
-)
-
-pub append_kept-at-requires-clause-near : goal.append_kept-at-requires-clause-near
-append_kept-at-requires-clause-near c = near-fits c.beside-below.ensures
-
-pub append_kept-requires-clause-near : goal.append_kept-requires-clause-near
-append_kept-requires-clause-near c = near-fits c.beside-right.ensures
 
 -- the first direction
 one : (c : After-append_kept-at) → let s = (goal.at.After-append_kept-at c).Start in

@@ -6,17 +6,12 @@ use Prim.Native.Nat.{ℕ}
 use native.Mathlib.Omega.{arith}
 use Rattle.lists.specs.UpTo.{up_to}
 use Rattle.rules.specs.declared.Literal.{Literal}
-use Rattle.laws.specs.FlatLaws.{OnPage, row_of_lem}
 use Rattle.groups.specs.Grouping.{numbers_in}
 use Rattle.reasons.specs.Arrays.{direction_at, scan_test, scan_to, scan_at}
 use Rattle.reasons.proofs.MemoryLaws.{turns-none, turns_more}
-use Rattle.reasons.specs.StepLaws.{near-fits}
 use Rattle.reasons.specs.ScanLaws.{scan-hops}
 use Rattle.reasons.proofs.scans.wall_cell.Goals.{Start}
 use Rattle.reasons.proofs.scans.wall_cell.Goals as goal
-
-row : (s : Start) → OnPage s.args.h s.args.w s.args.c
-row s = row_of_lem _ _ _ s.requires.4
 
 abbrev at : Start → ℕ → List Literal
 at s i =
@@ -37,12 +32,6 @@ whole s =
 pub loop-direction-init : goal.loop-direction-init
 loop-direction-init c = turns-none _ c.requires.5
 
-pub append_kept-at-requires-clause-near : goal.append_kept-at-requires-clause-near
-append_kept-at-requires-clause-near c = near-fits c.beside-n.ensures
-
-pub append_kept-at-requires-clause-spare : goal.append_kept-at-requires-clause-spare
-append_kept-at-requires-clause-spare c = c.loop-direction.invariant.spare
-
 pub loop-direction-preserved : goal.loop-direction-preserved
 unfolding direction_at
 loop-direction-preserved c =
@@ -51,9 +40,6 @@ loop-direction-preserved c =
     c.loop-direction.invariant
     (rw c.beside-n.ensures.is at c.append_kept-at.ensures
     (scan_test a.colours.now a.borders.now (numbers_in a.grouping.now) a.same a.flagged.now a.c) (λ n k p. search rules))
-
-pub shape_of-memory : goal.shape_of-memory
-shape_of-memory c = c.loop-direction.invariant.long
 
 pub returns : goal.returns
 returns c =
