@@ -15,19 +15,20 @@ pub struct Laid {
     pub count: usize,
 }
 
-// A row's digits, laid after those that were laid.
-fn with_digits(laid: Laid, s: &[u8], digits: Span) -> Laid
-    ensures { Lays laid (digits_in s.now digits.from digits.to) result }
-{
-    let mut out = laid;
-    for p in digits.from..digits.to {
-        if Board::CELL_LIMIT <= out.count {
-            return out;
+impl Laid {
+    // A row's digits, laid after those that were laid.
+    fn with_digits(mut self, s: &[u8], digits: Span) -> Laid
+        ensures { Lays self (digits_in s.now digits.from digits.to) result }
+    {
+        for p in digits.from..digits.to {
+            if Board::CELL_LIMIT <= self.count {
+                return self;
+            }
+            self.cells[self.count] = fitness::digit_at(s, p);
+            self.count += 1;
         }
-        out.cells[out.count] = fitness::digit_at(s, p);
-        out.count += 1;
+        self
     }
-    out
 }
 
 // The digits of the rows from `at` on, one row after the other, then 0.
@@ -40,7 +41,7 @@ pub fn colours(s: &[u8], at: usize) -> [u8; Board::CELL_LIMIT]
     };
     let mut p = at;
     while let Some((digits, next)) = lines::row_at(s, p) {
-        laid = with_digits(laid, s, digits);
+        laid = laid.with_digits(s, digits);
         p = next;
     }
     laid.cells

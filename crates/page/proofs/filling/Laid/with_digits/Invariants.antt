@@ -3,9 +3,9 @@ use Rattle.page.specs.Filling.{Laying}
 use Rattle.page.specs.Places.{digits_in}
 use lib.ListN.{length}
 use mathlib.Core.Path.{◌≡◌}
-use Rattle.page.proofs.filling.with_digits.Given as goal
+use Rattle.page.proofs.filling.Laid.with_digits.Given as goal
 
 abbrev pub invariant-loop-p : goal.invariant-loop-p
 invariant-loop-p l =
-    (length l.out.cells ≡ 1024)
-    × Laying l.initial.out (digits_in l.s l.fn.digits.from l.p-end) l.out (digits_in l.s l.p l.p-end)
+    (length l.self.cells ≡ 1024)
+    × Laying l.initial.self (digits_in l.s l.fn.digits.from l.p-end) l.self (digits_in l.s l.p l.p-end)
