@@ -3,7 +3,8 @@
 --   only_fault k u n    the fault of a cell with clue k, potential unit u and its size n
 --   lone_fault x        that of the cell x
 --   lone-fault          it is the fault of the list of the one cell x
-use Rattle.std.specs.Prelude.{◌≡◌, Bool, false, ◌||◌, cond, List, [], ◌∷◌, length, get_or, ℕ, ◌<◌, ◌≤◌, ltb, Option, None, Some}
+use Rattle.std.specs.Prelude.{◌≡◌, Bool, false, ◌||◌, cond, List, [], ◌∷◌, length, get_or, ℕ, ◌<◌, ◌≤◌, ltb}
+use Rattle.std.specs.Prelude.{Option, None, Some}
 use Rattle.std.specs.Option.{option_or}
 use Rattle.std.proofs.Math.Path.{refl}
 use Rattle.std.proofs.Math.Bool.{true}
@@ -46,7 +47,8 @@ module _ (clue_at : ℕ → Maybe ℕ) (unit_at size_at : ℕ → ℕ) where
   unfolding lone_fault only_fault
   lone-fits x n e h k = rw (← e, le-ltb n 1 (omega arith), le-ltb (size_at (unit_at x)) n k)
 
-  pub lone-big : (x n : ℕ) → Some n ≡ clue_in (clue_at x) → (n ≡ 0 → ⊥) → size_at (unit_at x) < n → Some (Edge (unit_at x))
+  pub lone-big : (x n : ℕ) → Some n ≡ clue_in (clue_at x) → (n ≡ 0 → ⊥) → size_at (unit_at x) < n
+      → Some (Edge (unit_at x))
       ≡ lone_fault x
   unfolding lone_fault only_fault
   lone-big x n e h k = rw (← e, le-ltb n 1 (omega arith), lt-ltb (size_at (unit_at x)) n k)
@@ -73,13 +75,15 @@ module _ (clue_at : ℕ → Maybe ℕ) (unit_at size_at : ℕ → ℕ) where
       ends false false = refl
 
       one : (k : Maybe ℕ)
-          → only_fault (clue_in k) (unit_at x) (size_at (unit_at x)) ≡ fault_on (λ _. true) (λ _. k) unit_at size_at (x ∷ [])
+          → only_fault (clue_in k) (unit_at x) (size_at (unit_at x))
+          ≡ fault_on (λ _. true) (λ _. k) unit_at size_at (x ∷ [])
       one none = rw (same, census_fault, none-less (size_at (unit_at x)))
       one (some n) =
           rw (same, eq-eqb n n refl, census_fault, none-less (size_at (unit_at x)), none-less n, big_fault)
 
       zero : (k : Maybe ℕ)
-          → only_fault (clue_in k) (unit_at x) (size_at (unit_at x)) ≡ fault_on (λ _. false) (λ _. k) unit_at size_at (x ∷ [])
+          → only_fault (clue_in k) (unit_at x) (size_at (unit_at x))
+          ≡ fault_on (λ _. false) (λ _. k) unit_at size_at (x ∷ [])
       zero none = rw (same, census_fault, none-less (size_at (unit_at x)))
       zero (some n) =
           rw (same, eq-eqb n n refl, census_fault, none-less (size_at (unit_at x)), none-less n, big_fault)

@@ -43,8 +43,8 @@ abbrev pub Shows : Look → Option Fault → Option Fault → Type 0
 Shows (Settled f) g scan = f ≡ g
 Shows Unsure g scan = scan ≡ None
 
-pub record CellsLooked (cs : List ℕ) (ks : List ℤ) (ids cells : List ℕ) (i : ℕ) (own : List (Option ℕ)) (k : Option ℕ) (n : ℕ)
-    : Type 0 where
+pub record CellsLooked (cs : List ℕ) (ks : List ℤ) (ids cells : List ℕ) (i : ℕ) (own : List (Option ℕ))
+    (k : Option ℕ) (n : ℕ) : Type 0 where
   pub two : length own ≡ 2
   pub seen : Seen (colours_in cs) (clues_in ks) (entry ids) (take i cells) own k n
 

@@ -61,7 +61,9 @@ Roomy m o k q f = MatchOption q (m ≡ 0) (λ u. ColourRoom m o k (f u))
 
 -- a number that does not differ from the one that is kept is that one
 pub same_kept : (u v : ℕ) → clash (some u) (some v) ≡ false → u ≡ v
-same_kept u v e = ⊎_elim (λ o. absurd (some_none o)) (λ o. maybe-same o) (clash-cases (some u) (some v) e (λ f. absurd (some_none f)))
+same_kept u v e =
+    ⊎_elim (λ o. absurd (some_none o)) (λ o. maybe-same o)
+    (clash-cases (some u) (some v) e (λ f. absurd (some_none f)))
   where
     some_none : {n : ℕ} → some n ≡ none → ⊥
     some_none f = let z : ◌≡◌ {A = ℕ} 0 1 = cc in omega arith
@@ -194,7 +196,8 @@ module _ (colour_at : ℕ → Bool) (clue_at : ℕ → Maybe ℕ) (unit_at : ℕ
             let f = rw (← d) at (o.units y p) in
             let s = same_kept (unit_at y) (unit_at x) (rw f at e) in
             rw (← d) (here ∙ ap Some (sym s)))
-            (λ d. get_or-set_other own _ _ (Some (unit_at x)) None d ∙ o.units y p) (bit-cases (colour_at x) (colour_at y))
+            (λ d. get_or-set_other own _ _ (Some (unit_at x)) None d ∙ o.units y p)
+            (bit-cases (colour_at x) (colour_at y))
 
     -- the unit of the first cell of a colour, whatever cells ys follow
     own_is : (ys : List ℕ) (c : Bool) → (length (those c xs) ≡ 0 → ⊥)

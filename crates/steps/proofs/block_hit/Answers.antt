@@ -26,7 +26,8 @@ pub returns-in_err-faulty : goal.returns-in_err-faulty
 returns-in_err-faulty c =
     let p = c.requires in
     rw c.from_residual.ensures
-    (answers-none _ (blocks-clear p.0 _ _ _ _ (found (goal.at.returns-in_err-faulty c).After-first_faulty) c.in_err-faulty.was))
+    (answers-none _
+    (blocks-clear p.0 _ _ _ _ (found (goal.at.returns-in_err-faulty c).After-first_faulty) c.in_err-faulty.was))
 
 pub write_fault-requires : goal.write_fault-requires
 write_fault-requires c =

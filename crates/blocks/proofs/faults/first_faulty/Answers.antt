@@ -23,7 +23,8 @@ pub returns-in-Some : goal.returns-in-Some
 unfolding part_of
 returns-in-Some c =
     let l : c.loop-block.block < count_in c.args.blocks.now = omega arith in
-    faulty-found _ _ c.loop-block.block c.in-Some.fault l (rw c.cells_of.ensures at (sym c.block_fault.ensures ∙ c.in-Some.is))
+    faulty-found _ _ c.loop-block.block c.in-Some.fault l
+    (rw c.cells_of.ensures at (sym c.block_fault.ensures ∙ c.in-Some.is))
     ∙ sym c.loop-block.invariant
 
 pub loop-block-preserved : goal.loop-block-preserved

@@ -1,6 +1,7 @@
 -- `look` meets its contract: after each turn the cells passed were seen to agree, so that the first fault of the whole
 -- list is that of the cell where the look stops.
-use Rattle.std.proofs.Common.{◌≡◌, sym, ap, ◌∙◌, arith, rules, eqb, length, get_or, Option, ℕ, None, Some, map, inl, inr, false, ◌<◌}
+use Rattle.std.proofs.Common.{◌≡◌, sym, ap, ◌∙◌, arith, rules, eqb, length, get_or, Option, ℕ, None, Some}
+use Rattle.std.proofs.Common.{map, inl, inr, false, ◌<◌}
 use Rattle.groups.specs.Grouping.{numbers_in}
 use Rattle.lists.specs.Count.{bit}
 use Rattle.lists.specs.CountLaws.{bit-under}
@@ -8,8 +9,8 @@ use Rattle.rules.specs.Codes.{clues_in}
 use Rattle.blocks.specs.declared.Fault.TheVariants.{InsideEdge}
 use Rattle.blocks.specs.BlockCases.{clue-read}
 use Rattle.blocks.specs.Looks.{ClueKept}
-use Rattle.blocks.specs.Looked.{byte-bit, look_none, look-more, looked-few, zero-parted, one-parted, kept-clue, kept-none}
-use Rattle.blocks.specs.Looked.{kept-clash, looked-stray, looked-clash, looked-scan, looked-clear, CellsLooked}
+use Rattle.blocks.specs.Looked.{byte-bit, look_none, look-more, looked-few, zero-parted, one-parted, kept-clue}
+use Rattle.blocks.specs.Looked.{kept-none, kept-clash, looked-stray, looked-clash, looked-scan, looked-clear, CellsLooked}
 use Rattle.blocks.specs.Looked.{kept_of, kept-long, OwnPut, kept-at, other-kept, same-kept, own-set}
 use Rattle.blocks.specs.Censuses.{option_of}
 use Rattle.rules.specs.Check.{clash}
