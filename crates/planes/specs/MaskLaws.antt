@@ -98,17 +98,18 @@ module _ (w : ℕ) where
   masked-here c l i k = k.each (c / w) (c % w) l ∙ holds-any (cell_is w (c / w) (c % w)) i (cell-here c)
 
 -- the cells of a group, one after the other
+module _ (w : ℕ) (cells : List ℕ) (from : ℕ) (xs : List ℕ) where
+  pub group-none : {m : List ℕ} → Masked w xs m → Masked w (xs ++ part cells from from) m
+  group-none {m} d = rw (part_none cells from from (omega arith), append-nil xs) d
+
+  pub group-more : {m : List ℕ} (i : ℕ) → from ≤ i → i < length cells
+      → Masked w ((xs ++ part cells from i) ++ (get_or cells i 0 ∷ [])) m
+      → Masked w (xs ++ part cells from (i + 1)) m
+  group-more {m} i l k d =
+      rw (part-split cells from i (i + 1) l (omega arith), part-one cells i k)
+      (subst (λ (l : List ℕ). Masked w l m) (append_assoc xs (part cells from i) (get_or cells i 0 ∷ [])) d)
+
 module _ (w : ℕ) (cells xs : List ℕ) where
-  pub group-none : {m : List ℕ} → Masked w xs m → Masked w (xs ++ part cells 0 0) m
-  group-none {m} d = rw (part_none cells 0 0 (omega arith), append-nil xs) d
-
-  pub group-more : {m : List ℕ} (i : ℕ) → i < length cells
-      → Masked w ((xs ++ part cells 0 i) ++ (get_or cells i 0 ∷ [])) m
-      → Masked w (xs ++ part cells 0 (i + 1)) m
-  group-more {m} i k d =
-      rw (part-split cells 0 i (i + 1) (omega arith) (omega arith), part-one cells i k)
-      (subst (λ (l : List ℕ). Masked w l m) (append_assoc xs (part cells 0 i) (get_or cells i 0 ∷ [])) d)
-
   pub group-all : {m : List ℕ} (i : ℕ) → length cells ≤ i → Masked w (xs ++ part cells 0 i) m → Masked w (xs ++ cells) m
   group-all {m} i l d = subst (λ (ys : List ℕ). Masked w (xs ++ ys) m) (take_all (i - 0) cells (omega arith)) d
 

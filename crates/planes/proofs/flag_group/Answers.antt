@@ -1,10 +1,11 @@
 -- The loop's invariant: the cells before c are flagged.
+use native.Mathlib.Omega.{arith}
 use Rattle.planes.specs.MaskLaws.{group-more, group-all}
 use Rattle.planes.proofs.flag_group.Goals as goal
 
 pub loop-c-preserved : goal.loop-c-preserved
 loop-c-preserved c =
-    λ xs m. group-more c.args.w c.args.cells.now xs c.loop-c.c-index c.loop-c-test.true
+    λ xs m. group-more c.args.w c.args.cells.now 0 xs c.loop-c.c-index (omega arith) c.loop-c-test.true
     ((rw c.from.ensures at c.flag.ensures) _ (c.loop-c.invariant xs m))
 
 pub returns : goal.returns
