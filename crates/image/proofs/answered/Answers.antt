@@ -20,9 +20,6 @@ facts k =
     let r = k.answer_known-answer.ensures in
     checks p.0 k.args.memory.now _ p.1 _ _ r.0 r.1
 
-pub answer_known-answer-requires : goal.answer_known-answer-requires
-answer_known-answer-requires c = let p = c.requires in (p.0, omega (arith, p.1))
-
 pub overflow_cast-result : goal.overflow_cast-result
 overflow_cast-result c =
     let f = facts (goal.at.overflow_cast-result c).After-slice_known-3-1 in
@@ -54,26 +51,7 @@ overflow_add-result-in-Conflict c =
     let r = f.range _ c.in-Conflict.is in
     omega arith
 
-pub returns-in-Done : goal.returns-in-Done
-returns-in-Done c =
-    let f = facts (goal.at.returns-in-Done c).After-slice_known-3-1 in
-    let e = c.in-Done.is in
-    record { number = f.number _ e; bytes = f.quiet _ e tt }
-
-pub returns-in-Pass : goal.returns-in-Pass
-returns-in-Pass c =
-    let f = facts (goal.at.returns-in-Pass c).After-slice_known-3-1 in
-    let e = c.in-Pass.is in
-    record { number = f.number _ e; bytes = f.quiet _ e tt }
-
-pub returns-in-Conflict : goal.returns-in-Conflict
-returns-in-Conflict c =
-    let f = facts (goal.at.returns-in-Conflict c).After-slice_known-3-1 in
-    let e = c.in-Conflict.is in
-    record { number = f.number _ e; bytes = c.put_codes.ensures ∙ f.reason _ e }
-
-pub returns-in-Refused : goal.returns-in-Refused
-returns-in-Refused c =
-    let f = facts (goal.at.returns-in-Refused c).After-slice_known-3-1 in
-    let e = c.in-Refused.is in
-    record { number = c.number.ensures ∙ f.number _ e; bytes = f.quiet _ e tt }
+pub returns-in-Conflict-clause-bytes : goal.returns-in-Conflict-clause-bytes
+returns-in-Conflict-clause-bytes c =
+    let f = facts (goal.at.returns-in-Conflict-clause-bytes c).After-slice_known-3-1 in
+    c.put_codes.ensures ∙ f.reason _ c.in-Conflict.is

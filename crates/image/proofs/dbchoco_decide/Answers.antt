@@ -35,7 +35,3 @@ decided-requires c = (
       (known (goal.at.decided-requires c).Else-alien),
   known (goal.at.decided-requires c).Else-alien,
 )
-
-pub returns : goal.returns
-returns c =
-    let e = c.decided.ensures in record { number = c.number-2.ensures ∙ e.number; bytes = e.after }

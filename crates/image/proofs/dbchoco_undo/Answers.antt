@@ -35,7 +35,3 @@ undone-requires c = (
       (known (goal.at.undone-requires c).Else-alien),
   known (goal.at.undone-requires c).Else-alien,
 )
-
-pub returns : goal.returns
-returns c =
-    let e = c.undone.ensures in record { number = c.number-2.ensures ∙ e.number; bytes = e.after }

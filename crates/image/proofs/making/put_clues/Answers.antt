@@ -1,6 +1,5 @@
 -- `put_clues` meets its contract: each clue's four bytes are stored behind those of the clues before it.
 use Rattle.std.proofs.Common.{◌≡◌, ◌∙◌, ◌+◌, ◌-◌, ◌*◌, ap, rules, arith, refl, pos, get_or, w32, to_z, of_z, to_z-of_z, FitsSigned}
-use Rattle.std.proofs.lemmas.List.{take_all}
 use Rattle.lists.specs.Lists.{flat_map}
 use Rattle.lists.specs.Stores.{sets-flat-more}
 use Rattle.image.specs.Image.{bits_of, clue_bytes}
@@ -24,8 +23,3 @@ loop-i-preserved c =
     (four-long (bits_of z) ∙ four) (omega (arith, c.requires))
     ∙ rw r.invariant
     (sets-flat-more clue_bytes 4 (λ y. four-long (bits_of y)) a.s.now 1026 a.clues.now r.i (pos 0) (omega arith))
-
-pub returns : goal.returns
-returns c =
-    let a = c.args in
-    c.loop-i.invariant ∙ rw (take_all c.loop-i.i a.clues.now (omega arith))

@@ -5,7 +5,7 @@ use mathlib.Core.List.{List}
 use Prim.Native.Nat.{ℕ}
 use native.Mathlib.Omega.{arith}
 use Rattle.image.specs.Image.{Bytes, image_alien}
-use Rattle.image.specs.SeriesLaws.{long, alien-none, running-first, running-long}
+use Rattle.image.specs.SeriesLaws.{long, alien-none}
 use Rattle.image.specs.SeriesLaws.{running-next, running-stop, running-end}
 use Rattle.image.proofs.series.dbchoco_calls.Goals.{Else-alien}
 use Rattle.image.proofs.series.dbchoco_calls.Goals as goal
@@ -26,9 +26,6 @@ returns-then-alien c =
     let told = alien-none _ codes (sym c.alien.ensures ∙ c.if-alien.true) in
     record { number = told.0; bytes = told.1 }
 
-pub loop-i-init : goal.loop-i-init
-loop-i-init c = running-first _ _ (bytes c) (known c)
-
 pub step-requires : goal.step-requires
 step-requires c =
     let R = c.loop-i.invariant in
@@ -40,23 +37,12 @@ loop-i-preserved c =
     (λ i. omega (arith, c.slice_known-in-loop-i-1.given i)) c.step.ensures
     (sym c.is_err.ensures.value ∙ c.if-is_err.false)
 
-pub shape_of-image-then-is_err : goal.shape_of-image-then-is_err
-shape_of-image-then-is_err c =
-    c.step.auto.image
-    ∙ running-long (bytes (goal.at.shape_of-image-then-is_err c).Else-alien)
-    (known (goal.at.shape_of-image-then-is_err c).Else-alien) c.loop-i.invariant
-
 pub returns-then-is_err : goal.returns-then-is_err
 returns-then-is_err c =
     let told =
     running-stop c.loop-i.invariant c.loop-i-test.true c.step.result c.step.ensures
     (sym c.is_err.ensures.value ∙ c.if-is_err.true) in
     record { number = told.0; bytes = told.1 }
-
-pub shape_of-image : goal.shape_of-image
-shape_of-image c =
-    running-long (bytes (goal.at.shape_of-image c).Else-alien) (known (goal.at.shape_of-image c).Else-alien)
-    c.loop-i.invariant
 
 pub returns : goal.returns
 returns c =
