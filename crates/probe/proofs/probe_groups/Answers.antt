@@ -2,7 +2,7 @@
 use mathlib.Core.Path.{sym, ◌∙◌}
 use native.Mathlib.Omega.{arith}
 use Rattle.groups.specs.GroupingLaws.{filled-array}
-use Rattle.probe.specs.ProbeLaws.{probe-fit, unfit, done}
+use Rattle.probe.specs.ProbeLaws.{probe-fit, done}
 use Rattle.probe.proofs.probe_groups.Goals as goal
 
 pub grouped-grouping-requires : goal.grouped-grouping-requires
@@ -17,6 +17,3 @@ pub returns-then-fits : goal.returns-then-fits
 returns-then-fits c =
     done (sym c.fits.ensures ∙ c.if-fits.true)
     (rw (filled-array _ c.grouped-grouping.ensures) at c.hand_out.ensures)
-
-pub returns : goal.returns
-returns c = unfit (sym c.fits.ensures ∙ c.if-fits.false)

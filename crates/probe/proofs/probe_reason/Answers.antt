@@ -1,17 +1,9 @@
 -- An unfit call is refused; any other is answered.
 use mathlib.Core.Path.{sym, ◌∙◌}
-use Rattle.probe.specs.ProbeLaws.{probe-fit, unfit, done}
+use Rattle.probe.specs.ProbeLaws.{probe-fit}
 use Rattle.probe.proofs.probe_reason.Goals as goal
 
 pub put_reason-requires : goal.put_reason-requires
 put_reason-requires c =
     let f = probe-fit (sym c.fits.ensures ∙ c.if-fits.true) in
     (f.size, f.large)
-
-pub returns-then-fits : goal.returns-then-fits
-returns-then-fits c =
-    done (sym c.fits.ensures
-    ∙ c.if-fits.true) c.put_reason.ensures
-
-pub returns : goal.returns
-returns c = unfit (sym c.fits.ensures ∙ c.if-fits.false)
