@@ -253,7 +253,8 @@ module _ {h w : ℕ} {us : List ℕ} {g : ℕ} (z : Sized h w) (u : UnitIn h w u
   pub group-one : length own ≡ 1 → start_in us (g + 1) ≡ start_in us g + 1
   group-one e =
       let n : length own ≡ start_in us (g + 1) - start_in us g =
-      part_count (cells_in us) (start_in us g) (start_in us (g + 1)) (omega (arith, u.some)) (omega (arith, u.end, u.long)) in
+      part_count (cells_in us) (start_in us g) (start_in us (g + 1)) (omega (arith, u.some))
+      (omega (arith, u.end, u.long)) in
       omega (arith, u.some)
 
   pub group-first : get_or own 0 0 ≡ get_or (cells_in us) (start_in us g) 0

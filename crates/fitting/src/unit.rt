@@ -23,7 +23,8 @@ use shapes::turned::{Turned, turn_row};
 
 // The potential unit of unit `u`: that of its first cell.
 pub fn home_in(units: &Grouping, potential: &Grouping, u: usize) -> usize
-    requires { (u < 1024) × (start_in units.now u < 1024) × (get_or (cells_in units.now) (start_in units.now u) 0 < 1024) }
+    requires { (u < 1024) × (start_in units.now u < 1024)
+        × (get_or (cells_in units.now) (start_in units.now u) 0 < 1024) }
     ensures { result ≡ home_in units.now potential.now u }
 {
     group_of(potential, cell_at(units, start_of(units, u)))
@@ -152,7 +153,8 @@ impl Scratch {
     }
 
     // Whether a listed transform of unit `g` fits at a cell of one of the potential units adjacent to potential unit
-    // `p`. All eight rows of the table are tried: one that is not listed gives the cells and connections of one that is.
+    // `p`. All eight rows of the table are tried: one that is not listed gives the cells and connections of one that
+    // is.
     pub fn unit_fits(
         &mut self,
         h: usize,

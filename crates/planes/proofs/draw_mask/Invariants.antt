@@ -5,4 +5,5 @@ use Rattle.planes.specs.Masks.{Masked, origins_in}
 use Rattle.planes.proofs.draw_mask.Given as goal
 
 abbrev pub invariant-loop-mate : goal.invariant-loop-mate
-invariant-loop-mate l = Masked l.w (origins_in (cells_in l.potential) (starts_in l.potential) (part l.mates 0 l.mate-index)) l.mask
+invariant-loop-mate l =
+    Masked l.w (origins_in (cells_in l.potential) (starts_in l.potential) (part l.mates 0 l.mate-index)) l.mask

@@ -17,4 +17,5 @@ abbrev pub invariant-loop-c : goal.invariant-loop-c
 invariant-loop-c l =
     let number : ℕ → ℕ = entry (numbers_in l.units) in
     fits_of (unclued l.h l.w l.colours) (states_in l.borders) (shape_of (flat l.h l.w) number l.g) l.o
-    ≡ all (cell_clear l.h l.w l.colours (states_in l.borders) number l.g l.y l.x) (part l.cells l.c-index (length l.cells))
+    ≡ all (cell_clear l.h l.w l.colours (states_in l.borders) number l.g l.y l.x)
+    (part l.cells l.c-index (length l.cells))

@@ -23,8 +23,11 @@ cells_of-requires c =
 
 pub home_in-requires : goal.home_in-requires
 home_in-requires c =
-    let u = unit-in c.requires.0 c.args.u c.requires.1 in
-    (u.low, omega (arith, u.some, u.end), omega (arith, head-low c.requires.0 c.args.u c.requires.1, (counts c.requires.0.drawn.sized).cells))
+    let u = unit-in c.requires.0 c.args.u c.requires.1 in (
+      u.low,
+      omega (arith, u.some, u.end),
+      omega (arith, head-low c.requires.0 c.args.u c.requires.1, (counts c.requires.0.drawn.sized).cells),
+    )
 
 -- what is adjacent to one potential unit is so to the same one under another name
 moved : (f : ℕ → List ℕ) {p r : ℕ} → p ≡ r → (q : ℕ) × (q ∈ f p) → (q : ℕ) × (q ∈ f r)

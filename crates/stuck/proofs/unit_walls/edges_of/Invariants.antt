@@ -10,5 +10,6 @@ use Rattle.stuck.proofs.unit_walls.edges_of.Given as goal
 abbrev pub invariant-loop-mate : goal.invariant-loop-mate
 invariant-loop-mate l =
     Wrote l.initial.memory l.start
-    (flat_map (edge_in l.h l.w l.colours l.borders (numbers_in l.potential)) (part l.mates 0 l.mate-index)) l.memory l.at
+    (flat_map (edge_in l.h l.w l.colours l.borders (numbers_in l.potential))
+    (part l.mates 0 l.mate-index)) l.memory l.at
     × (l.flagged ≡ no_flags)
