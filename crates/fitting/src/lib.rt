@@ -17,7 +17,7 @@ ghost use Rattle.fitting.specs.FirstStuck.{Passed, fits_unit, first_fail};
 use crate::copies::copy_fits_soon;
 use crate::singles::after_singles;
 use crate::unit::{home_in, near_mate, unit_fits};
-use groups::{Grouping, cells_of, count_of};
+use groups::Grouping;
 use shapes::Outline;
 use shapes::turned::Turned;
 
@@ -53,7 +53,7 @@ fn fits_at<'a>(
     let Some(q) = near_mate(h, w, colours, borders, potential, p, near) else {
         return false;
     };
-    let single = cells_of(units, u).len() == 1;
+    let single = units.cells_of(u).len() == 1;
     single
         || copy_fits_soon(h, w, colours, borders, units, u, potential, q)
         || unit_fits(
@@ -82,7 +82,7 @@ fn stuck_from<'a>(
     let mut turned = [0u8; 4096];
     let mut planes = [0u64; 192];
     let mut mask = [0u64; 33];
-    for u in from..count_of(units) {
+    for u in from..units.count_of() {
         if !fits_at(
             h,
             w,
@@ -119,7 +119,7 @@ pub fn first_stuck<'a>(
 {
     let mut near = [0u16; 1024];
     let u = after_singles(h, w, colours, borders, units, potential, &mut near);
-    if count_of(units) <= u {
+    if units.count_of() <= u {
         return None;
     }
     stuck_from(h, w, colours, borders, units, potential, u, &mut near)

@@ -14,7 +14,7 @@ ghost use Rattle.probe.specs.Probe.{reason_words, path_words, ProbeAnswered};
 ghost use Rattle.reasons.specs.Memory.{WordsWritten};
 
 use board::Board;
-use groups::{Grouping, Kind, count_of};
+use groups::{Grouping, Kind};
 use reasons::{WORK_LENGTH, hand_out};
 
 pub mod asked; // asked.rt: the groups asked of a board, and their parts
@@ -92,7 +92,7 @@ fn put_reason(
         (side_of side) group) memory.new result }
 {
     let grouping = grouped(h, w, colours, borders, kind);
-    if count_of(&grouping) <= group {
+    if grouping.count_of() <= group {
         return 0;
     }
     let b = places(borders);

@@ -9,7 +9,7 @@ ghost use Rattle.reasons.specs.Memory.{named_in, naming, Spare, Wrote, WordsWrit
 ghost use Rattle.reasons.specs.Arrays.{GroupAt, Stepped, no_flags, inside_in, edge_in};
 
 use crate::scans::{open_cell, scan_walls};
-use groups::{Grouping, cell_at, start_of};
+use groups::Grouping;
 use rules::{Literal, Side};
 
 pub mod paths; // paths.rt: Path, by a search over open borders, and the reason of a wall
@@ -190,12 +190,12 @@ pub fn inside<'a>(
     ensures { Wrote memory.old start (inside_in h w borders.now
         (numbers_in grouping.now) g) memory.new result }
 {
-    let from = start_of(grouping, g);
-    let count = start_of(grouping, g + 1) - from;
+    let from = grouping.start_of(g);
+    let count = grouping.start_of(g + 1) - from;
     let mut at = start;
     let mut i = 0;
     while i < count {
-        let c = cell_at(grouping, from + i);
+        let c = grouping.cell_at(from + i);
         at = open_cell(memory, at, h, w, borders, grouping, g, c);
         i += 1;
     }

@@ -12,7 +12,7 @@ ghost use Rattle.reasons.specs.Arrays.{Arrays, GroupAt, InArrays, hop_of, hops_i
 ghost use Rattle.reasons.specs.Arrays.{open_kept, wall_kept, scan_at, scan_of};
 
 use crate::{Direction, Neighbour, append, beside};
-use groups::{Grouping, cell_at, group_of, start_of};
+use groups::Grouping;
 use rules::{Literal, Side};
 
 // The cells c and to have one colour.
@@ -37,7 +37,7 @@ fn open_kept<'a>(borders: &'a [u8; 1984], grouping: &'a Grouping, g: usize, n: N
     ensures { result ≡ open_kept (states_in borders.now) (entry (numbers_in grouping.now)) g (hop_of n) }
 {
     let open = borders[n.border] == 2;
-    open && group_of(grouping, n.to) == g
+    open && grouping.group_of(n.to) == g
 }
 
 // The border to the neighbour n of the cell c is wall, n has the colour of c (or, if `same` is false, the other one),
@@ -57,7 +57,7 @@ fn wall_kept<'a>(
         (entry (numbers_in grouping.now)) same (is_flagged flagged.now) c (hop_of n) }
 {
     let wall = borders[n.border] == 1;
-    wall && one_colour(colours, c, n.to) == same && !is_flagged(flagged, group_of(grouping, n.to))
+    wall && one_colour(colours, c, n.to) == same && !is_flagged(flagged, grouping.group_of(n.to))
 }
 
 // Writes the border to the neighbour, if there is one, the border is open, and the neighbour is in the group g.
@@ -193,12 +193,12 @@ pub fn scan_walls<'a>(
         (numbers_in grouping.now) same flagged.now (group_cells grouping.now g))
         memory.new result }
 {
-    let from = start_of(grouping, g);
-    let count = start_of(grouping, g + 1) - from;
+    let from = grouping.start_of(g);
+    let count = grouping.start_of(g + 1) - from;
     let mut at = start;
     let mut i = 0;
     while i < count {
-        let c = cell_at(grouping, from + i);
+        let c = grouping.cell_at(from + i);
         at = wall_cell(
             memory, at, h, w, colours, borders, grouping, same, flagged, c,
         );

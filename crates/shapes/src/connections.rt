@@ -14,7 +14,7 @@ ghost use Rattle.shapes.specs.Pairs.{point_of, SmallPair};
 ghost use Rattle.shapes.specs.Spots.{joint_spot, UnitAt};
 
 use crate::{Outline, Pair, apply, cell_count};
-use groups::{Grouping, group_of, start_of};
+use groups::Grouping;
 
 // Writes the rows and columns of the cells of unit `g` into an outline, and how many there are.
 pub fn places(units: &Grouping, g: usize, w: usize, outline: &mut Outline)
@@ -23,10 +23,10 @@ pub fn places(units: &Grouping, g: usize, w: usize, outline: &mut Outline)
         × (cell_count outline.new ≡ start_in units.now (g + 1) - start_in units.now g) }
 {
     let width = w as u16;
-    let from = start_of(units, g);
-    let n = start_of(units, g + 1) - from;
+    let from = units.start_of(g);
+    let n = units.start_of(g + 1) - from;
     for i in 0..n {
-        let c = units[1024 + (from + i)];
+        let c = units.cells[from + i];
         outline[i] = c / width;
         outline[1024 + i] = c % width;
     }
@@ -49,7 +49,7 @@ fn join(
     ensures { Grown outline.old k
         (joint_if (on && eqb (entry (numbers_in units.now) to) g) y x) outline.new result }
 {
-    if on && group_of(units, to) == g {
+    if on && units.group_of(to) == g {
         outline[2048 + k] = y;
         outline[4096 + k] = x;
         k + 1

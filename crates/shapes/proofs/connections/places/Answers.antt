@@ -1,10 +1,10 @@
 -- `shapes::places` meets its contract. The loop's invariant: the entries passed are the rows and columns of their
 -- cells.
-use mathlib.Core.Path.{◌≡◌, ap₂}
+use mathlib.Core.Path.{◌≡◌, refl, ap₂}
 use Prim.Native.Nat.{ℕ, ◌+◌, ◌-◌, ◌/◌, ◌%◌, ◌≤◌, ◌<◌}
 use native.Mathlib.Omega.{arith}
 use lib.ListN.{get_or, length-set}
-use Rattle.lists.specs.SectionLaws.{section-at, section-length}
+use Rattle.lists.specs.SectionLaws.{section-length}
 use Rattle.lists.specs.TableLaws.{stored_more}
 use Rattle.groups.specs.Grouping.{cells_in, start_in}
 use Rattle.shapes.specs.Outlines.{rows_in, columns_in}
@@ -28,18 +28,16 @@ loop-i-preserved c =
     let i = c.loop-i.i in
     let o = c.loop-i.outline in
     let low : i < 1024 = omega (arith, (reach (goal.at.loop-i-preserved c).After-start_of).1) in
-    let e = section-at 1024 1024 units (from + i)
-    (omega (arith, (reach (goal.at.loop-i-preserved c).After-start_of).1)) in
-    let y = get_or units (1024 + (from + i)) 0 / w in
-    let x = get_or units (1024 + (from + i)) 0 % w in (
+    let y = get_or (cells_in units) (from + i) 0 / w in
+    let x = get_or (cells_in units) (from + i) 0 % w in (
       omega arith,
       simp length-set v.1,
       rw (row-stored o i y x low)
           (stored_more (λ j. get_or (cells_in units) (from + j) 0 / w) 0 y (rows_in o) i
-          (omega (arith, v.1, section-length 0 1024 o (omega (arith, v.1)))) (rw e) v.2),
+          (omega (arith, v.1, section-length 0 1024 o (omega (arith, v.1)))) refl v.2),
       rw (column-stored o i y x low)
           (stored_more (λ j. get_or (cells_in units) (from + j) 0 % w) 0 x (columns_in o) i
-          (omega (arith, v.1, section-length 1024 1024 o (omega (arith, v.1)))) (rw e) v.3),
+          (omega (arith, v.1, section-length 1024 1024 o (omega (arith, v.1)))) refl v.3),
     )
 
 pub returns : goal.returns
