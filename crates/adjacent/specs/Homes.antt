@@ -26,7 +26,7 @@ pub record UnitIn (h w : ℕ) (us : Grouping) (g : ℕ) : Type 0 where
   pub group : part (cells_in us) (get_or (starts_in us) g 0) (get_or (starts_in us) (g + 1) 0)
       ≡ members (flat h w) (entry (numbers_in us)) g
 
-abbrev pub home_in : List ℕ → List ℕ → ℕ → ℕ
+abbrev pub home_in : Grouping → Grouping → ℕ → ℕ
 home_in us ps u = get_or (numbers_in ps) (get_or (cells_in us) (get_or (starts_in us) u 0) 0) 0
 
 pub record Home (h w : ℕ) (cs bs : List ℕ) (ps : Grouping) (p : ℕ) : Type 0 where
