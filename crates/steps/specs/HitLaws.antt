@@ -109,7 +109,8 @@ answers-kept none a = a.memory
 answers-kept (some r) a = absurd (none-some _ a.found)
 
 -- a grouping that holds the groups of a page: the length of its numbers, and it may be lent again
-module _ {h w : ℕ} (z : Sized h w) (link : ℕ → Bool) {g : List ℕ} (f : Filled (groups_of (flat h w) link) g) where
+module _ {h w : ℕ} (z : Sized h w) (link : ℕ → Bool) {g : Grouping}
+    (f : Filled (groups_of (flat h w) link) g) where
   one : 1 ≤ (flat h w).cells
   unfolding flat
   one = (counts z).some
@@ -124,7 +125,6 @@ module _ {h w : ℕ} (z : Sized h w) (link : ℕ → Bool) {g : List ℕ} (f : F
   pub vacant-of : Vacant (h * w) g
   unfolding flat
   vacant-of = record {
-    long = f.long;
     numbers = rw f.numbers (filled-ids (flat h w) link one few);
     cells = rw f.cells (filled-cells (flat h w) link one few);
     starts = rw f.starts (filled-offs (flat h w) link one few);
