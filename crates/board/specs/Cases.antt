@@ -5,18 +5,20 @@ use Rattle.std.proofs.Math.Path.{refl, ap}
 use Rattle.std.proofs.Common.{◌∙◌, arith}
 use Rattle.std.proofs.Math.Bool.{true, false}
 use Rattle.std.proofs.Math.Decide.{ℕ_discrete}
-use borrow.Author.Tests.{lt-ltb, le-ltb, ltb-true, le-leb, eq-eqb, ne_eqb, eqb-true}
+use borrow.Author.Tests.{lt-ltb, le-ltb, ltb-true, le-leb, lt-leb, eq-eqb, ne_eqb, eqb-true}
 use Rattle.std.proofs.Math.Dec.{ltb, eqb}
 use Rattle.lists.specs.TestLaws.{all-cong}
 use Rattle.rules.specs.declared.Literal.{Literal}
+use Rattle.rules.specs.declared.Tally.{Tally}
 use Rattle.rules.specs.Codes.{code_of}
+use Rattle.rules.specs.Book.{same_tally}
 use Rattle.board.specs.declared.Board.{Board}
 use Rattle.board.specs.declared.Refusal.{Refusal}
 use Rattle.board.specs.declared.Refusal.TheVariants.{Size, Ragged, Colour, Clue}
 use Rattle.board.specs.declared.Refusal.TheVariants.{Alien, Border, Taken, Bare, Short}
 use Rattle.board.specs.Alien.{size_right, colours_right, clues_right, entries_right, once_each, border_right}
-use Rattle.board.specs.Alien.{borders_right, borders_by, Flags, puzzle_right}
-use Rattle.board.specs.Alien.{decisions_in, decided_in, unused_in, cell_count_of, border_count_of, is_alien}
+use Rattle.board.specs.Alien.{borders_right, borders_by, Flags, zeros_from, zero_clues_from, puzzle_right}
+use Rattle.board.specs.Alien.{decisions_in, tally_in, decided_in, unused_in, cell_count_of, border_count_of, is_alien}
 use Rattle.board.specs.Board.{Outcome, refusal_number, number_of, zero_board, fresh_board, returned}
 use Rattle.board.specs.Board.{puzzle_refusal, fresh_of, pushed, popped}
 use Rattle.board.specs.Board.{decide_refusal, decide_of, undo_refusal, undo_of}
@@ -29,6 +31,15 @@ pub record PuzzleFit (n : ℕ) (cs : List ℕ) (ks : List ℤ) : Type 0 where
   pub clue : clues_right ks n ≡ true
 
 -- ---- the alien test
+module _ (n : ℕ) (cs : List ℕ) (ks : List ℤ) where
+  pub cells-colours : colours_right cs n ≡ false → false ≡ puzzle_right n cs ks
+  unfolding puzzle_right
+  cells-colours r = rw r
+
+  pub cells-clues : (a : Bool) → colours_right cs n ≡ true → a ≡ clues_right ks n → a ≡ puzzle_right n cs ks
+  unfolding puzzle_right
+  cells-clues a r s = rw r s
+
 module _ (m : ℕ) (bs st : List ℕ) (count : ℕ) where
   -- flags that a run over the stack found stand for the stack
   pub flagged-borders : (vs : List Bool) (once : Bool) → m ≤ 1984 → Flags st count once vs
@@ -43,6 +54,56 @@ module _ (m : ℕ) (bs st : List ℕ) (count : ℕ) where
   unfolding decisions_in
   decisions-are t r = rw (le-leb count m t, r)
 
+  module _ (n : ℕ) (cs : List ℕ) (ks : List ℤ) where
+    pub unused-colours : zeros_from cs n ≡ false → false ≡ unused_in n m cs ks bs st count
+    unfolding unused_in
+    unused-colours r = rw r
+
+    pub unused-clues : zeros_from cs n ≡ true → zero_clues_from ks n ≡ false → false ≡ unused_in n m cs ks bs st count
+    unfolding unused_in
+    unused-clues r s = rw (r, s)
+
+    pub unused-borders : zeros_from cs n ≡ true → zero_clues_from ks n ≡ true → zeros_from bs m ≡ false
+        → false ≡ unused_in n m cs ks bs st count
+    unfolding unused_in
+    unused-borders r s t = rw (r, s, t)
+
+    pub unused-stack : (a : Bool) → zeros_from cs n ≡ true → zero_clues_from ks n ≡ true → zeros_from bs m ≡ true
+        → a ≡ zeros_from st count → a ≡ unused_in n m cs ks bs st count
+    unfolding unused_in
+    unused-stack a r s t u = rw (r, s, t) u
+
+  module _ (y : Tally) where
+    pub decisions-many : m < count → false ≡ decided_in m bs st count y
+    unfolding decided_in decisions_in
+    decisions-many t = rw (lt-leb count m t)
+
+    pub decisions-entries : count ≤ m → entries_right st m count ≡ false → false ≡ decided_in m bs st count y
+    unfolding decided_in decisions_in
+    decisions-entries t u = rw (le-leb count m t, u)
+
+    pub decisions-twice : count ≤ m → entries_right st m count ≡ true → once_each st count ≡ false
+        → false ≡ decided_in m bs st count y
+    unfolding decided_in decisions_in
+    decisions-twice t u v = rw (le-leb count m t, u, v)
+
+    pub decisions-wrong : decisions_in m bs st count ≡ false → false ≡ decided_in m bs st count y
+    unfolding decided_in
+    decisions-wrong e = rw e
+
+    pub decisions-tally : (a : Bool) → decisions_in m bs st count ≡ true → a ≡ same_tally y (tally_in bs m)
+        → a ≡ decided_in m bs st count y
+    unfolding decided_in
+    decisions-tally a e f = rw e f
+
+  pub decisions-borders : (vs : List Bool) (a : Bool) → count ≤ m → m ≤ 1984 → entries_right st m count ≡ true
+      → Flags st count true vs → a ≡ borders_by bs vs m → a ≡ decisions_in m bs st count
+  unfolding decisions_in borders_by borders_right
+  decisions-borders vs a t l r u e =
+      e
+      ∙ all-cong m _ _ (λ x k. ap (λ (v : Bool). border_right (get_or bs x 0) v) (u.flagged x (omega arith)))
+      ∙ rw (le-leb count m t, r, ← u.tells)
+
 module _ (b : Board) where
   pub alien-size : size_right b.height b.width ≡ false → true ≡ is_alien b
   unfolding is_alien
@@ -56,6 +117,23 @@ module _ (b : Board) where
       → not a ≡ is_alien b
   unfolding is_alien
   alien-tests n m a p q r e = rw (p, ← q, ← r, e)
+
+  -- the same, test by test
+  module _ (p : size_right b.height b.width ≡ true) (n m : ℕ) (q : n ≡ cell_count_of b)
+      (r : m ≡ border_count_of b) where
+    pub alien-cells : puzzle_right n b.colours b.clues ≡ false → true ≡ is_alien b
+    unfolding is_alien
+    alien-cells s = rw (p, ← q, s)
+
+    module _ (s : puzzle_right n b.colours b.clues ≡ true) where
+      pub alien-decisions : decided_in m b.borders b.stack b.count b.tally ≡ false → true ≡ is_alien b
+      unfolding is_alien
+      alien-decisions t = rw (p, ← q, s, ← r, t)
+
+      pub alien-unused : (a : Bool) → decided_in m b.borders b.stack b.count b.tally ≡ true
+          → a ≡ unused_in n m b.colours b.clues b.borders b.stack b.count → not a ≡ is_alien b
+      unfolding is_alien
+      alien-unused a t u = rw (p, ← q, s, ← r, t, u)
 
 -- ---- how a call ended
 pub refused-number : (e : Refusal) → refusal_number e ≡ 0 → ⊥

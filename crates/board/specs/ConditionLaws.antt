@@ -1,15 +1,16 @@
 -- Laws of the conditions: a page's size and its counts, and what a run over the stack finds.
-use Rattle.std.specs.Prelude.{◌≡◌, refl, Bool, true, false, cond, ◌&&◌, ◌||◌, List, ℕ, ◌+◌, ◌*◌, ◌<◌, ◌≤◌, leb}
+use Rattle.std.specs.Prelude.{◌≡◌, refl, Bool, true, false, cond, not, ◌&&◌, ◌||◌, List, ℕ, ◌+◌, ◌*◌, ◌<◌, ◌≤◌, leb}
 use Rattle.std.specs.Prelude.{ltb, eqb, length, get_or, set}
 use Rattle.std.proofs.Common.{ap, sym, ◌∙◌, arith, leb-true, le-leb, ltb-true, eq-eqb, ne_eqb, get_or-set_same}
 use Rattle.std.proofs.Common.{get_or-set_other}
 use Rattle.std.proofs.Math.Bool.{or-true, or-false}
 use Rattle.std.proofs.Math.Decide.{ℕ_discrete}
+use Rattle.std.proofs.lemmas.Bool.{lt-leb}
 use Rattle.lists.specs.Booleans.{and_left, and_right}
 use Rattle.lists.specs.TestLaws.{any_none, any-more, all-at}
 use Rattle.rules.specs.Flat.{Sized, border_count}
 use Rattle.laws.specs.FlatLaws.{counts, borders-le}
-use Rattle.board.specs.Alien.{size_right, cells_of, borders_of, stacked, entries_right}
+use Rattle.board.specs.Alien.{size_right, cells_of, borders_of, stacked, entries_right, border_right}
 
 pub sized : {h w : ℕ} → size_right h w ≡ true → Sized h w
 unfolding size_right
@@ -82,3 +83,15 @@ flags-more s vs i e p k l v x h = go (ℕ_discrete x e) ∙ sym (stacked-more s 
 pub entries-low : (s : List ℕ) (m n : ℕ) → entries_right s m n ≡ true → m ≤ 1984 → (i : ℕ) → i < n → get_or s i 0 < 1984
 unfolding entries_right
 entries-low s m n e h i l = omega (arith, ltb-true (get_or s i 0) m (all-at n (λ j. ltb (get_or s j 0) m) i e l))
+
+-- ---- a border place
+pub border-undecided : (v : ℕ) (on : Bool) → v ≡ 0 → not on ≡ border_right v on
+border-undecided v true p = rw p
+border-undecided v false p = rw p
+
+pub border-decided : (v : ℕ) (on : Bool) → (v ≡ 0 → ⊥) → v ≤ 2 → on ≡ border_right v on
+border-decided v true p q = rw (ne_eqb v 0 p, le-leb v 2 q)
+border-decided v false p q = rw (ne_eqb v 0 p, le-leb v 2 q)
+
+pub border-far : (v : ℕ) (on : Bool) → 2 < v → false ≡ border_right v on
+border-far v on p = rw (lt-leb v 2 p)

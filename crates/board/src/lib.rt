@@ -7,7 +7,7 @@ ghost use Rattle.board.specs.Board.{refusal_number, number_of, zero_board, retur
 ghost use Rattle.board.specs.Board.{side_count, pushed, popped, decide_of, undo_of};
 ghost use Rattle.board.specs.Alien.{size_right, cells_of, borders_of, puzzle_right, decided_in, unused_in, is_alien};
 
-use crate::conditions::all_between;
+use crate::conditions::gathered;
 use rules::{Literal, Tally};
 
 mod conditions; // conditions.rt: the conditions on colours, clues, stack entries, borders and unused places
@@ -103,59 +103,6 @@ fn refused(refusal: Refusal) -> Returned
     }
 }
 
-// Whether so many cells have a right colour and a right clue.
-#[tactic(auto, unfolding(crate::specs::Alien::puzzle_right))]
-fn cells_right<'a>(
-    cells: usize,
-    colours: &'a [u8; Board::CELL_LIMIT],
-    clues: &'a [i32; Board::CELL_LIMIT],
-) -> bool
-    requires { cells ≤ 1024 }
-    ensures { result ≡ puzzle_right cells colours.now clues.now }
-{
-    conditions::colours_right(colours, cells) && conditions::clues_right(clues, cells)
-}
-
-// Whether the stack has each decided one of so many borders once, and nothing else, and the tally is that of these
-// borders.
-fn decisions_right<'a>(
-    total: usize,
-    borders: &'a [u8; Board::BORDER_LIMIT],
-    stack: &'a [u16; Board::BORDER_LIMIT],
-    count: usize,
-    tally: Tally,
-) -> bool
-    requires { total ≤ 1984 }
-    ensures { result ≡ decided_in total borders.now stack.now count tally }
-{
-    if total < count || !conditions::entries_right(stack, total, count) {
-        return false;
-    }
-    let mut seen = [false; Board::BORDER_LIMIT];
-    conditions::flag_stack(stack, count, &mut seen)
-        && conditions::borders_right(borders, &seen, total)
-        && tallies::tally_right(total, borders, count, tally)
-}
-
-// Whether every place is 0 that the cells, the borders and the stack do not use.
-fn unused_zero<'a>(
-    cells: usize,
-    total: usize,
-    colours: &'a [u8; Board::CELL_LIMIT],
-    clues: &'a [i32; Board::CELL_LIMIT],
-    borders: &'a [u8; Board::BORDER_LIMIT],
-    stack: &'a [u16; Board::BORDER_LIMIT],
-    count: usize,
-) -> bool
-    ensures { result ≡ unused_in cells total colours.now clues.now borders.now
-        stack.now count }
-{
-    all_between(colours, cells, Board::CELL_LIMIT, |c| c == 0)
-        && all_between(clues, cells, Board::CELL_LIMIT, |k| k == 0)
-        && all_between(borders, total, Board::BORDER_LIMIT, |v| v == 0)
-        && all_between(stack, count, Board::BORDER_LIMIT, |e| e == 0)
-}
-
 impl Board {
     pub const SIDE_LIMIT: usize = 32;
 
@@ -190,8 +137,8 @@ impl Board {
         if !size_right(height, width) {
             return refused(Refusal::Size);
         }
-        let tested = refusals::puzzle_refusal(cell_count(height, width), colours, clues);
-        if let Err(refusal) = tested {
+        let cells = cell_count(height, width);
+        if let Err(refusal) = refusals::puzzle_refusal(cells, colours, clues) {
             return refused(refusal);
         }
         let board = Board {
@@ -214,6 +161,60 @@ impl Board {
         }
     }
 
+    // Whether so many cells have a right colour and a right clue.
+    #[tactic(auto, unfolding(crate::specs::Alien::puzzle_right))]
+    fn cells_right(&self, cells: usize) -> bool
+        requires { cells ≤ 1024 }
+        ensures { result ≡ puzzle_right cells self.now.colours self.now.clues }
+    {
+        conditions::colours_right(&self.colours, cells)
+            && conditions::clues_right(&self.clues, cells)
+    }
+
+    // Whether the stack has each decided one of so many borders once, and nothing else, and the tally is that of these
+    // borders.
+    fn decisions_right(&self, total: usize) -> bool
+        requires { total ≤ 1984 }
+        ensures { result ≡ decided_in total self.now.borders self.now.stack self.now.count self.now.tally }
+    {
+        if total < self.count || !conditions::entries_right(&self.stack, total, self.count) {
+            return false;
+        }
+        let mut seen = [false; Board::BORDER_LIMIT];
+        conditions::flag_stack(&self.stack, self.count, &mut seen)
+            && conditions::borders_right(&self.borders, &seen, total)
+            && tallies::tally_right(total, &self.borders, self.count, self.tally)
+    }
+
+    // Whether every place is 0 that so many cells, so many borders and the stack do not use.
+    fn unused_zero(&self, cells: usize, total: usize) -> bool
+        ensures { result ≡ unused_in cells total self.now.colours self.now.clues self.now.borders
+            self.now.stack self.now.count }
+    {
+        gathered(&self.colours, cells, Board::CELL_LIMIT, 0, |any, c| any | c) == 0
+            && gathered(
+                &self.clues,
+                cells,
+                Board::CELL_LIMIT,
+                true,
+                |zero, k| zero & (k == 0),
+            )
+            && gathered(
+                &self.borders,
+                total,
+                Board::BORDER_LIMIT,
+                0,
+                |any, v| any | v,
+            ) == 0
+            && gathered(
+                &self.stack,
+                self.count,
+                Board::BORDER_LIMIT,
+                0,
+                |any, e| any | e,
+            ) == 0
+    }
+
     // Whether decides and undos cannot produce the board from a fresh one.
     pub fn alien(&self) -> bool
         ensures { result ≡ is_alien self.now }
@@ -223,17 +224,9 @@ impl Board {
         }
         let cells = cell_count(self.height, self.width);
         let total = border_count(self.height, self.width);
-        let native = cells_right(cells, &self.colours, &self.clues)
-            && decisions_right(total, &self.borders, &self.stack, self.count, self.tally)
-            && unused_zero(
-                cells,
-                total,
-                &self.colours,
-                &self.clues,
-                &self.borders,
-                &self.stack,
-                self.count,
-            );
+        let native = self.cells_right(cells)
+            && self.decisions_right(total)
+            && self.unused_zero(cells, total);
         !native
     }
 

@@ -40,8 +40,7 @@ fn answer<W: Write>(s: &[u8], memory: &mut [u16], out: &mut [u8], output: &mut W
     let mut run = transcript::first();
     while transcript::goes_on(run) {
         run = transcript::next(s, run, memory, out);
-        let n = run.count;
-        output.write_all(&out[..n])?;
+        output.write_all(&out[..run.count])?;
     }
     Ok(())
 }

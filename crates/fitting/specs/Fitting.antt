@@ -1,9 +1,8 @@
 -- Whether a unit fits beside its potential unit.
 --
---   Scratch o t         the lengths of the memory that is lent for an outline and for the connections of an image
 --   fits_turned         one of the shape's listed transforms fits at a cell of one of the groups
 --   fits_rows           the image by one of the eight rows does, of the connections js of the cells ps
-use Rattle.std.specs.Prelude.{◌≡◌, Bool, List, ℕ, length}
+use Rattle.std.specs.Prelude.{Bool, List, ℕ}
 use Rattle.lists.specs.Lists.{any}
 use Rattle.lists.specs.Tests.{any_below}
 use Rattle.rules.specs.Page.{State, Point, Puzzle, Shape}
@@ -11,10 +10,6 @@ use Rattle.rules.specs.Shapes.{flat_transforms}
 use Rattle.shapes.specs.Images.{image_joints}
 use Rattle.planes.specs.Placing.{bare}
 use Rattle.planes.specs.Laying.{fits_beside}
-
-pub record Scratch (o t : List ℕ) : Type 0 where
-  pub outline : length o ≡ 6146
-  pub turned : length t ≡ 4096
 
 unfoldable pub fits_turned : Puzzle → (ℕ → State) → List ℕ → List ℕ → List ℕ → Shape → Bool
 fits_turned Z s cells offs mates t = any (λ u. fits_beside Z s u cells offs mates) (flat_transforms t)

@@ -1,5 +1,5 @@
 // Whether one of a unit's eight images, by the rows of the table, fits at one of the origins of a mask.
-ghost use Rattle.std.specs.Prelude.{◌≡◌, Bool, false, List, ◌<◌, length};
+ghost use Rattle.std.specs.Prelude.{◌≡◌, Bool, false, List, ◌<◌};
 ghost use Rattle.lists.specs.Tests.{any_below};
 ghost use Rattle.rules.specs.Page.{Point};
 ghost use Rattle.shapes.specs.Images.{image_joints, Jointed};
@@ -25,10 +25,9 @@ fn row_fits<'a>(
     turned: &mut Turned,
 ) -> bool
     requires { (row < 8) × Sizes h planes.now mask.now × Span h mask.now top end
-        × Spotted outline.now × Jointed outline.now × (length turned.old ≡ 4096) }
+        × Spotted outline.now × Jointed outline.now }
     ensures { ((F : List Point → Bool) → MaskAnswers h planes.now mask.now F
-        → result ≡ F (image_joints row (cell_spots outline.now) (joint_spots outline.now)))
-        × (length turned.new ≡ 4096) }
+        → result ≡ F (image_joints row (cell_spots outline.now) (joint_spots outline.now))) }
 {
     turn_row(row, outline, turned);
     mask_fits(planes, mask, h, top, end, turned, joint_count(outline))
@@ -45,12 +44,11 @@ fn others_fit<'a>(
     turned: &mut Turned,
 ) -> bool
     requires { Sizes h planes.now mask.now × Span h mask.now top end × Spotted outline.now
-        × Jointed outline.now × (length turned.old ≡ 4096) }
+        × Jointed outline.now }
     ensures { ((F : List Point → Bool) → MaskAnswers h planes.now mask.now F
         → F (image_joints 0 (cell_spots outline.now) (joint_spots outline.now)) ≡ false
         → result ≡ any_below 8 (λ i. F (image_joints i (cell_spots outline.now)
-        (joint_spots outline.now))))
-        × (length turned.new ≡ 4096) }
+        (joint_spots outline.now)))) }
 {
     for row in 1..8 {
         if row_fits(h, planes, mask, top, end, row, outline, turned) {
@@ -71,11 +69,10 @@ pub fn some_row_fits<'a>(
     requires { Sizes h planes.now mask.now × Spotted outline.now × Jointed outline.now
         × Raised turned.old (joint_count outline.now)
         × (spelled turned.old (joint_count outline.now) ≡ image_joints 0 (cell_spots outline.now)
-        (joint_spots outline.now)) × (length turned.old ≡ 4096) }
+        (joint_spots outline.now)) }
     ensures { ((F : List Point → Bool) → MaskAnswers h planes.now mask.now F
         → result ≡ any_below 8 (λ i. F (image_joints i (cell_spots outline.now)
-        (joint_spots outline.now))))
-        × (length turned.new ≡ 4096) }
+        (joint_spots outline.now)))) }
 {
     let top = first_row(mask, h);
     let end = end_row(mask, h);

@@ -10,20 +10,17 @@ ghost use Rattle.std.specs.Prelude.{◌≡◌, true, ◌<◌};
 ghost use Rattle.rules.specs.Codes.{states_in, unclued};
 ghost use Rattle.groups.specs.Grouping.{count_in};
 ghost use Rattle.adjacent.specs.Homes.{Sorted};
-ghost use Rattle.fitting.specs.Fitting.{Scratch};
 ghost use Rattle.fitting.specs.Held.{Nearby, Held};
 ghost use Rattle.fitting.specs.FirstStuck.{Passed, fits_unit, first_fail};
 
 use crate::copies::copy_fits_soon;
 use crate::singles::after_singles;
-use crate::unit::{home_in, near_mate, unit_fits};
+use crate::unit::{Scratch, home_in, near_mate};
 use groups::Grouping;
-use shapes::Outline;
-use shapes::turned::Turned;
 
 // Whether a placement of unit `u` fits: none does where its potential unit has no adjacent one; with one, a unit of one
 // cell fits, which has no connections. On most boards the unit itself, shifted, fits at one of the first cells of that
-// one. `near`, planes and mask are memory that is kept from unit to unit.
+// one. `near` is kept from unit to unit too.
 fn fits_at<'a>(
     h: usize,
     w: usize,
@@ -33,21 +30,15 @@ fn fits_at<'a>(
     potential: &'a Grouping,
     u: usize,
     near: &mut [u16; 1024],
-    outline: &mut Outline,
-    turned: &mut Turned,
-    planes: &mut [u64; 192],
-    mask: &mut [u64; 33],
+    scratch: &mut Scratch,
 ) -> bool
     requires { Sorted h w colours.now borders.now units.now potential.now
         × (u < count_in units.now)
         × Nearby h w colours.now borders.now near.old
-        × Scratch outline.old turned.old
-        × Held h w colours.now borders.now potential.now planes.old mask.old }
+        × Held h w colours.now borders.now potential.now scratch.old.planes scratch.old.mask }
     ensures { (result ≡ fits_unit (unclued h w colours.now) (states_in borders.now) u)
         × Nearby h w colours.now borders.now near.new
-        × Scratch outline.new turned.new
-        × Held h w colours.now borders.now potential.now
-        planes.new mask.new }
+        × Held h w colours.now borders.now potential.now scratch.new.planes scratch.new.mask }
 {
     let p = home_in(units, potential, u);
     let Some(q) = near_mate(h, w, colours, borders, potential, p, near) else {
@@ -56,9 +47,7 @@ fn fits_at<'a>(
     let single = units.cells_of(u).len() == 1;
     single
         || copy_fits_soon(h, w, colours, borders, units, u, potential, q)
-        || unit_fits(
-            h, w, colours, borders, units, u, potential, p, outline, turned, planes, mask,
-        )
+        || scratch.unit_fits(h, w, colours, borders, units, u, potential, p)
 }
 
 // The first unit for which no placement fits, if there is one and none is before `from`.
@@ -78,10 +67,12 @@ fn stuck_from<'a>(
     ensures { result ≡ first_fail (fits_unit (unclued h w colours.now) (states_in borders.now))
         (count_in units.now) }
 {
-    let mut outline = [0u16; 6146];
-    let mut turned = [0u8; 4096];
-    let mut planes = [0u64; 192];
-    let mut mask = [0u64; 33];
+    let mut scratch = Scratch {
+        outline: [0; 6146],
+        turned: [0; 4096],
+        planes: [0; 192],
+        mask: [0; 33],
+    };
     for u in from..units.count_of() {
         if !fits_at(
             h,
@@ -92,10 +83,7 @@ fn stuck_from<'a>(
             potential,
             u,
             near,
-            &mut outline,
-            &mut turned,
-            &mut planes,
-            &mut mask,
+            &mut scratch,
         ) {
             return Some(u);
         }

@@ -31,11 +31,18 @@ fn single_fits<'a>(
         × Nearby h w colours.now borders.now near.new }
 {
     let single = units.cells_of(u).len() == 1;
-    if !single {
-        return false;
-    }
-    let p = home_in(units, potential, u);
-    sure || near_mate(h, w, colours, borders, potential, p, near).is_some()
+    single
+        && (sure
+            || near_mate(
+                h,
+                w,
+                colours,
+                borders,
+                potential,
+                home_in(units, potential, u),
+                near,
+            )
+            .is_some())
 }
 
 // How many of the units are passed at once: they stand before the first that has more than one cell or whose

@@ -10,7 +10,7 @@ ghost use Rattle.groups.specs.Grouping.{numbers_in, cells_in, starts_in, start_i
 ghost use Rattle.shapes.specs.Images.{Jointed};
 ghost use Rattle.shapes.specs.Spots.{cell_spots, joint_spots, Spotted};
 ghost use Rattle.adjacent.specs.Homes.{UnitIn, Home, home_in};
-ghost use Rattle.fitting.specs.Fitting.{Scratch, fits_turned, fits_rows};
+ghost use Rattle.fitting.specs.Fitting.{fits_turned, fits_rows};
 ghost use Rattle.fitting.specs.Held.{Nearby, Adjoined, Held, HeldOf};
 
 use crate::images::some_row_fits;
@@ -106,66 +106,74 @@ fn prepare<'a>(
     draw_mask(h, w, potential, &list, p as u64 + 1, mask);
 }
 
-// Whether one of a unit's eight images fits at a cell of one of the potential units adjacent to potential unit `p`.
-fn written_fits<'a>(
-    h: usize,
-    w: usize,
-    colours: &'a [u8; 1024],
-    borders: &'a [u8; 1984],
-    potential: &'a Grouping,
-    p: usize,
-    outline: &'a Outline,
-    turned: &mut Turned,
-    planes: &mut [u64; 192],
-    mask: &mut [u64; 33],
-) -> bool
-    requires { Home h w colours.now borders.now potential.now p
-        × Spotted outline.now × Jointed outline.now
-        × Held h w colours.now borders.now potential.now planes.old mask.old
-        × (length turned.old ≡ 4096) }
-    ensures { (result ≡ fits_rows (unclued h w colours.now) (states_in borders.now)
-        (cells_in potential.now) (starts_in potential.now)
-        (mates (unclued h w colours.now) (states_in borders.now) p)
-        (cell_spots outline.now) (joint_spots outline.now))
-        × Held h w colours.now borders.now potential.now
-        planes.new mask.new
-        × (length turned.new ≡ 4096) }
-{
-    turn_row(0, outline, turned);
-    prepare(h, w, colours, borders, potential, p, planes, mask);
-    some_row_fits(h, planes, mask, outline, turned)
+// Memory that is kept from unit to unit: a unit's outline, the connections of one of its images, the planes of the page
+// and a mask of origins.
+#[derive(Drop)]
+pub struct Scratch {
+    pub outline: Outline,
+    pub turned: Turned,
+    pub planes: [u64; 192],
+    pub mask: [u64; 33],
 }
 
-// Whether a listed transform of unit `g` fits at a cell of one of the potential units adjacent to potential unit `p`.
-// All eight rows of the table are tried: one that is not listed gives the cells and connections of one that is.
-pub fn unit_fits<'a>(
-    h: usize,
-    w: usize,
-    colours: &'a [u8; 1024],
-    borders: &'a [u8; 1984],
-    units: &'a Grouping,
-    g: usize,
-    potential: &'a Grouping,
-    p: usize,
-    outline: &mut Outline,
-    turned: &mut Turned,
-    planes: &mut [u64; 192],
-    mask: &mut [u64; 33],
-) -> bool
-    requires { Home h w colours.now borders.now potential.now p
-        × UnitIn h w units.now g × Scratch outline.old turned.old
-        × Held h w colours.now borders.now potential.now planes.old mask.old }
-    ensures { (result ≡ fits_turned (unclued h w colours.now) (states_in borders.now)
-        (cells_in potential.now) (starts_in potential.now)
-        (mates (unclued h w colours.now) (states_in borders.now) p)
-        (shape_of (flat h w) (entry (numbers_in units.now)) g))
-        × Scratch outline.new turned.new
-        × Held h w colours.now borders.now potential.now
-        planes.new mask.new }
-{
-    places(units, g, w, outline);
-    joints(units, h, w, g, outline);
-    written_fits(
-        h, w, colours, borders, potential, p, outline, turned, planes, mask,
-    )
+impl Scratch {
+    // Whether one of the eight images of the unit of the outline fits at a cell of one of the potential units adjacent
+    // to potential unit `p`.
+    fn written_fits<'a>(
+        &mut self,
+        h: usize,
+        w: usize,
+        colours: &'a [u8; 1024],
+        borders: &'a [u8; 1984],
+        potential: &'a Grouping,
+        p: usize,
+    ) -> bool
+        requires { Home h w colours.now borders.now potential.now p
+            × Spotted self.old.outline × Jointed self.old.outline
+            × Held h w colours.now borders.now potential.now self.old.planes self.old.mask }
+        ensures { (result ≡ fits_rows (unclued h w colours.now) (states_in borders.now)
+            (cells_in potential.now) (starts_in potential.now)
+            (mates (unclued h w colours.now) (states_in borders.now) p)
+            (cell_spots self.old.outline) (joint_spots self.old.outline))
+            × Held h w colours.now borders.now potential.now self.new.planes self.new.mask }
+    {
+        turn_row(0, &self.outline, &mut self.turned);
+        prepare(
+            h,
+            w,
+            colours,
+            borders,
+            potential,
+            p,
+            &mut self.planes,
+            &mut self.mask,
+        );
+        some_row_fits(h, &self.planes, &self.mask, &self.outline, &mut self.turned)
+    }
+
+    // Whether a listed transform of unit `g` fits at a cell of one of the potential units adjacent to potential unit
+    // `p`. All eight rows of the table are tried: one that is not listed gives the cells and connections of one that is.
+    pub fn unit_fits<'a>(
+        &mut self,
+        h: usize,
+        w: usize,
+        colours: &'a [u8; 1024],
+        borders: &'a [u8; 1984],
+        units: &'a Grouping,
+        g: usize,
+        potential: &'a Grouping,
+        p: usize,
+    ) -> bool
+        requires { Home h w colours.now borders.now potential.now p × UnitIn h w units.now g
+            × Held h w colours.now borders.now potential.now self.old.planes self.old.mask }
+        ensures { (result ≡ fits_turned (unclued h w colours.now) (states_in borders.now)
+            (cells_in potential.now) (starts_in potential.now)
+            (mates (unclued h w colours.now) (states_in borders.now) p)
+            (shape_of (flat h w) (entry (numbers_in units.now)) g))
+            × Held h w colours.now borders.now potential.now self.new.planes self.new.mask }
+    {
+        places(units, g, w, &mut self.outline);
+        joints(units, h, w, g, &mut self.outline);
+        self.written_fits(h, w, colours, borders, potential, p)
+    }
 }

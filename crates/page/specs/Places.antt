@@ -4,7 +4,7 @@
 --   digits_in s a e     the values of the digits from place a up to place e
 --   left_from s r       what is left at the place r
 --   got s r             the value that was read, and what is left
---   got_digits, got_row  the digits that were read, and what is left
+--   got_digits s r      the digits that were read, and what is left
 --   all_from r s p      what r reads, one value after the other, from place p on
 --   end_from r s p      what is left then
 --   after_read o        what is left after what was read
@@ -41,14 +41,9 @@ unfoldable pub got : {A : Type 0} → List ℕ → Read (A × ℕ) → Option (A
 got s (Some p) = some (p.0, rest s p.1)
 got s None = none
 
--- the digits from `at` on end where the number says
-unfoldable pub got_digits : List ℕ → ℕ → Read (ℕ × ℕ) → Option (List ℕ × List ℕ)
-got_digits s at (Some p) = some (digits_in s at p.0, rest s p.1)
-got_digits s at None = none
-
-unfoldable pub got_row : List ℕ → Read (Span × ℕ) → Option (List ℕ × List ℕ)
-got_row s (Some p) = some (digits_in s p.0.from p.0.to, rest s p.1)
-got_row s None = none
+unfoldable pub got_digits : List ℕ → Read (Span × ℕ) → Option (List ℕ × List ℕ)
+got_digits s (Some p) = some (digits_in s p.0.from p.0.to, rest s p.1)
+got_digits s None = none
 
 module _ {A : Type 0} where
   unfoldable pub all_from : Parser A → List ℕ → ℕ → List A

@@ -3,6 +3,8 @@ ghost use Rattle.std.specs.Prelude.{◌≡◌, ◌≤◌};
 ghost use Rattle.page.specs.Parsers.{rest, strip, number, number_on, digits};
 ghost use Rattle.page.specs.Places.{left_from, got, got_digits};
 
+use crate::Span;
+
 // The bytes from `at` on.
 fn rest(s: &[u8], at: usize) -> &[u8]
     ensures { result.now ≡ rest s.now at }
@@ -58,9 +60,9 @@ pub fn number_at(s: &[u8], at: usize, stop: u8) -> Option<(usize, usize)>
     }
 }
 
-// The place of the byte `stop` after one digit or more, and the place after it.
-pub fn digits_at(s: &[u8], at: usize, stop: u8) -> Option<(usize, usize)>
-    ensures { got_digits s.now at result ≡ digits stop (rest s.now at) }
+// One digit or more, and the place after the byte `stop` that follows them.
+pub fn digits_at(s: &[u8], at: usize, stop: u8) -> Option<(Span, usize)>
+    ensures { got_digits s.now result ≡ digits stop (rest s.now at) }
 {
     if !s.get(at)?.is_ascii_digit() {
         return None;
@@ -69,7 +71,7 @@ pub fn digits_at(s: &[u8], at: usize, stop: u8) -> Option<(usize, usize)>
     for (i, b) in left.iter().enumerate() {
         let p = at + 1 + i;
         if *b == stop {
-            return Some((p, p + 1));
+            return Some((Span { from: at, to: p }, p + 1));
         }
         if !b.is_ascii_digit() {
             return None;

@@ -3,19 +3,19 @@
 #![tactic(auto)]
 
 ghost use Rattle.std.specs.Prelude.{◌≡◌};
-ghost use Rattle.page.specs.Parsers.{rest};
-ghost use Rattle.page.specs.Grammar.{call};
 ghost use Rattle.page.specs.Judge.{judgement_of, colour_array, clue_array};
-ghost use Rattle.page.specs.Places.{sheet_at, judged_of, unfit_number, got};
+ghost use Rattle.page.specs.Places.{sheet_at, judged_of, unfit_number};
 
 use board::Board;
-use rules::Call;
 
 mod bytes; // bytes.rt: words, numbers and digits
 mod lines; // lines.rt: one line of a page
 mod whole; // whole.rt: the whole page, judged for form
 mod fitness; // fitness.rt: whether the page makes a board
 mod filling; // filling.rt: its colours and clues as arrays
+
+// The call at a place, and the place of the next. The calls of a page begin at its parts' place `calls`.
+pub use lines::call_at;
 
 // The digits of a row stand from the first place up to the second.
 #[derive(Clone, Copy)]
@@ -32,7 +32,8 @@ pub struct Clue {
     pub n: usize,
 }
 
-// What the lines of a part of a page are.
+// What the lines of a part of a page are. A closure that reads a line would need its parser as a ghost value, and the
+// three parsers give values of three types.
 #[derive(Clone, Copy)]
 pub enum Line {
     Row,
@@ -88,14 +89,8 @@ pub fn clues(s: &[u8], p: Parts) -> [i32; Board::CELL_LIMIT]
     ensures { result ≡ clue_array p.width (sheet_at s.now p).clues }
 {
     if p.width <= Board::SIDE_LIMIT {
-        return filling::clues(s, p.clues, p.width);
+        filling::clues(s, p.clues, p.width)
+    } else {
+        [-1; Board::CELL_LIMIT]
     }
-    [-1i32; Board::CELL_LIMIT]
-}
-
-// The call at a place, and the place of the next. The calls of a page begin at its parts' place `calls`.
-pub fn call_at(s: &[u8], at: usize) -> Option<(Call, usize)>
-    ensures { got s.now result ≡ call (rest s.now at) }
-{
-    lines::call_at(s, at)
 }

@@ -2,7 +2,7 @@
 ghost use Rattle.std.specs.Prelude.{◌≡◌};
 ghost use Rattle.page.specs.Parsers.{rest};
 ghost use Rattle.page.specs.Grammar.{size, row, clue, side, decide_call, call};
-ghost use Rattle.page.specs.Places.{got, got_row};
+ghost use Rattle.page.specs.Places.{got, got_digits};
 
 use crate::bytes::{digits_at, number_at, word_at};
 use crate::{Clue, Span};
@@ -21,12 +21,12 @@ pub fn size_at(s: &[u8], at: usize) -> Option<((usize, usize), usize)>
 
 // `(row digits)`
 pub fn row_at(s: &[u8], at: usize) -> Option<(Span, usize)>
-    ensures { got_row s.now result ≡ row (rest s.now at) }
+    ensures { got_digits s.now result ≡ row (rest s.now at) }
 {
-    let from = word_at(s, at, b"(row ")?;
-    let (to, end) = digits_at(s, from, b')')?;
-    let next = word_at(s, end, b"\n")?;
-    Some((Span { from, to }, next))
+    let a = word_at(s, at, b"(row ")?;
+    let (digits, b) = digits_at(s, a, b')')?;
+    let next = word_at(s, b, b"\n")?;
+    Some((digits, next))
 }
 
 // `(clue y x n)`

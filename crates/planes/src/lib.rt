@@ -92,9 +92,8 @@ pub fn draw_planes<'a>(
 
 // Flags the cell c.
 fn flag(h: usize, w: usize, c: usize, mask: &mut [u64; 33])
-    requires { Sized h w × (c < h * w) × (length mask.old ≡ 33) }
-    ensures { (length mask.new ≡ 33)
-        × ((xs : List ℕ) → Masked w xs mask.old → Masked w (xs ++ (c ∷ [])) mask.new) }
+    requires { Sized h w × (c < h * w) }
+    ensures { (xs : List ℕ) → Masked w xs mask.old → Masked w (xs ++ (c ∷ [])) mask.new }
 {
     let y = c / w;
     mask[y] |= 1 << (c % w);
@@ -102,9 +101,8 @@ fn flag(h: usize, w: usize, c: usize, mask: &mut [u64; 33])
 
 // Flags the cells of a group.
 fn flag_group(h: usize, w: usize, cells: &[u16], mask: &mut [u64; 33])
-    requires { Sized h w × ((i : ℕ) → i < length cells.now → get_or cells.now i 0 < h * w) × (length mask.old ≡ 33) }
-    ensures { (length mask.new ≡ 33)
-        × ((xs : List ℕ) → Masked w xs mask.old → Masked w (xs ++ cells.now) mask.new) }
+    requires { Sized h w × ((i : ℕ) → i < length cells.now → get_or cells.now i 0 < h * w) }
+    ensures { (xs : List ℕ) → Masked w xs mask.old → Masked w (xs ++ cells.now) mask.new }
 {
     for c in cells {
         flag(h, w, usize::from(*c), mask);
@@ -121,7 +119,7 @@ pub fn draw_mask<'a>(
     name: u64,
     mask: &mut [u64; 33],
 )
-    requires { Sized h w × Beside h w potential.now mates.now × (length mask.old ≡ 33) }
+    requires { Sized h w × Beside h w potential.now mates.now }
     ensures { Masked w (origins_in (cells_in potential.now) (starts_in potential.now)
         (mates_in mates.now)) mask.new × (get_or mask.new 32 0 ≡ name) }
 {
@@ -134,7 +132,7 @@ pub fn draw_mask<'a>(
 
 // The origins `acc` of row y at which a connection is clear too; it is (down, across), raised by 64.
 fn step(planes: &[u64; 192], acc: u64, y: usize, down: u8, across: u8) -> u64
-    requires { (length planes.now ≡ 192) × (y < 32) × (down < 128) × (across < 128) }
+    requires { (y < 32) × (down < 128) × (across < 128) }
     ensures { result ≡ bit_and acc (get_or planes.now (2 * y + down) 0 / 2 ^ (across / 2)) }
 {
     acc & (planes[2 * y + usize::from(down)] >> (across / 2))
@@ -149,7 +147,7 @@ pub fn line_left<'a>(
     turned: &'a Turned,
     n: usize,
 ) -> u64
-    requires { (length planes.now ≡ 192) × (y < 32) × Raised turned.now n }
+    requires { (y < 32) × Raised turned.now n }
     ensures { result ≡ clear_word planes.now y turned.now word n }
 {
     let mut acc = word;
@@ -164,7 +162,7 @@ pub fn line_left<'a>(
 
 // Whether a transform fits at one of the origins `word` of row y.
 fn line_fits<'a>(planes: &'a [u64; 192], word: u64, y: usize, turned: &'a Turned, n: usize) -> bool
-    requires { (length planes.now ≡ 192) × (y < 32) × Raised turned.now n }
+    requires { (y < 32) × Raised turned.now n }
     ensures { result ≡ line_fits planes.now y turned.now n word }
 {
     line_left(planes, word, y, turned, n) != 0

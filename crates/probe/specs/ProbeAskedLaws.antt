@@ -1,30 +1,29 @@
 -- Laws of the probes of a board's groups: a part's length, and the cases of what is given.
-use Rattle.std.specs.Prelude.{◌≡◌, List, ℕ, ◌-◌, ◌+◌, ◌<◌, ◌≤◌, length, drop}
-use Rattle.std.proofs.Math.Path.{sym}
-use Rattle.std.proofs.Common.{◌∙◌, arith, ne_eqb, eq-eqb, le-leb, length-take, length-drop}
+use Rattle.std.specs.Prelude.{◌≡◌, List, [], ℕ, ◌-◌, ◌+◌, ◌<◌, ◌≤◌, length, drop, Result, Ok, Err}
+use Rattle.std.proofs.Common.{arith, ne_eqb, le-leb, length-take, length-drop}
 use Rattle.std.proofs.Math.Nat.{min-le_right}
 use Rattle.std.proofs.lemmas.Bool.{lt-leb}
 use Rattle.lists.specs.Sections.{section}
-use Rattle.board.specs.Board.{zero_board}
-use Rattle.board.proofs.FreshLaws.{zero-alien}
+use Rattle.board.specs.declared.Refusal.{Refusal}
+use Rattle.board.specs.declared.Refusal.TheVariants.{Alien}
+use Rattle.board.specs.Board.{refusal_number}
 use Rattle.groups.specs.declared.Kind.{Kind}
 use Rattle.groups.specs.declared.Kind.TheVariants as kind
 use Rattle.groups.specs.declared.Which.{Which}
 use Rattle.groups.specs.declared.Which.TheVariants.{Units, Potential}
 use Rattle.groups.specs.Asked.{asked_of}
-use Rattle.groups.specs.AskedLaws.{asked-alien}
 use Rattle.groups.specs.Grouping.{cells_in, start_in, group_cells}
 use Rattle.groups.specs.Parts.{part_from}
 use Rattle.image.specs.Image.{right_length, spelled_board}
 use Rattle.image.specs.RoundLaws.{long-is}
 use Rattle.reasons.specs.Memory.{WordsWritten}
-use Rattle.probe.specs.ProbeAsked.{asked_in, part_in, AskedTold}
+use Rattle.probe.specs.ProbeAsked.{asked_in, part_among, part_in, AskedTold}
 
 -- ---- the two cases of an image's length
 module _ (s : List ℕ) (k : Kind) where
-  pub asked-other : (length s ≡ 11082 → ⊥) → asked_of zero_board k ≡ asked_in s k
+  pub asked-other : (length s ≡ 11082 → ⊥) → Err Alien ≡ asked_in s k
   unfolding asked_in right_length
-  asked-other e = sym (asked-alien zero_board k zero-alien) ∙ rw (ne_eqb (length s) 11082 e)
+  asked-other e = rw (ne_eqb (length s) 11082 e)
 
   pub asked-right : length s ≡ 11082 → asked_of (spelled_board s) k ≡ asked_in s k
   unfolding asked_in
@@ -47,26 +46,43 @@ part-le grouping g =
 
 pub part-few : (s : List ℕ) (which : Which) (g : ℕ) → length (part_in s which g) ≤ 1024
 unfolding part_in part_from
-part-few s Units g = part-le (asked_in s kind.Units).groups g
-part-few s Potential g = part-le (asked_in s kind.Potential).groups g
+part-few s which g = go (asked_in s kind.Units) (asked_in s kind.Potential) which
+  where
+    go : (us ps : Result (List ℕ) Refusal) (w : Which) → length (part_among w g us ps) ≤ 1024
+    go (Ok us) (Ok ps) Units = part-le us g
+    go (Ok us) (Ok ps) Potential = part-le ps g
+    go (Ok us) (Err e) w = omega arith
+    go (Err e) ps w = omega arith
+
+-- a board that is refused has no part
+module _ (s : List ℕ) (which : Which) (g : ℕ) where
+  pub part-units : (e : Refusal) → Err e ≡ asked_in s kind.Units → [] ≡ part_in s which g
+  unfolding part_in
+  part-units e p = rw (← p)
+
+  pub part-potential : (us : List ℕ) (e : Refusal) → Ok us ≡ asked_in s kind.Units
+      → Err e ≡ asked_in s kind.Potential → [] ≡ part_in s which g
+  unfolding part_in
+  part-potential us e p q = rw (← p, ← q)
+
+  pub part-given : (us ps : List ℕ) → Ok us ≡ asked_in s kind.Units → Ok ps ≡ asked_in s kind.Potential
+      → part_from which (group_cells us g) (group_cells ps g) ≡ part_in s which g
+  unfolding part_in
+  part-given us ps p q = rw (← p, ← q)
 
 -- ---- the cases of what is given
-module _ {f n : ℕ} {m words : List ℕ} (e : n ≡ f) where
-  pub told-refusal : (n ≡ 0 → ⊥) → AskedTold f m words m n
-  told-refusal h =
-      let z = ne_eqb f 0 (λ q. h (e ∙ q)) in
-      record { memory = rw z; number = rw z e }
+module _ {m : List ℕ} where
+  pub told-refusal : (e : Refusal) {o : Result (List ℕ) Refusal} → Err e ≡ o → AskedTold o m m (refusal_number e)
+  told-refusal e p = record { memory = rw (← p); number = rw (← p) }
 
-  pub told-short : n ≡ 0 → length m < 16384 → AskedTold f m words m 65535
-  told-short h l =
-      let z = eq-eqb f 0 (sym e ∙ h) in
-      record { memory = rw (z, lt-leb 16384 (length m) l); number = rw (z, lt-leb 16384 (length m) l) }
+  module _ (words : List ℕ) {o : Result (List ℕ) Refusal} (p : Ok words ≡ o) where
+    pub told-short : length m < 16384 → AskedTold o m m 65535
+    told-short l = let z = lt-leb 16384 (length m) l in record { memory = rw (← p, z); number = rw (← p, z) }
 
-  pub told-words : {after : List ℕ} {r : ℕ} → n ≡ 0 → 16384 ≤ length m → WordsWritten m words after r
-      → AskedTold f m words after r
-  told-words h l w =
-      let z = eq-eqb f 0 (sym e ∙ h) in
-      record {
-        memory = rw (z, le-leb 16384 (length m) l) w.memory;
-        number = rw (z, le-leb 16384 (length m) l) w.count;
-      }
+    pub told-words : {after : List ℕ} {r : ℕ} → 16384 ≤ length m → WordsWritten m words after r → AskedTold o m after r
+    told-words l w =
+        let z = le-leb 16384 (length m) l in
+        record { memory = rw (← p, z) w.memory; number = rw (← p, z) w.count }
+
+    pub told-none : 16384 ≤ length m → words ≡ [] → AskedTold o m m 0
+    told-none l e = let z = le-leb 16384 (length m) l in record { memory = rw (← p, z, e); number = rw (← p, z, e) }

@@ -1,8 +1,10 @@
 -- Laws of the checks: one decide and one check more, and the two cases of the answer.
-use Rattle.std.specs.Prelude.{◌≡◌, refl, true, false, List, [], ◌∷◌, map, ℕ, zero, suc, ◌+◌, ◌<◌, ◌≤◌, eqb, ℤ, length}
+use Rattle.std.specs.Prelude.{◌≡◌, refl, true, false, cond, List, [], ◌∷◌, map, ℕ, zero, suc, ◌+◌, ◌/◌, ◌%◌, ◌<◌, ◌≤◌, eqb, ℤ, length}
 use Rattle.std.specs.Prelude.{get_or, drop}
-use Rattle.std.proofs.Common.{◌∙◌, drop_of_length-le, drop-cons}
+use Rattle.std.proofs.Common.{◌∙◌, ap, arith, drop_of_length-le, drop-cons}
 use Rattle.std.proofs.Math.Numerals.{add-one}
+use Rattle.rules.specs.declared.Side.{Side}
+use Rattle.rules.specs.declared.Side.TheVariants.{Wall, Open}
 use Rattle.rules.specs.declared.Literal.{Literal}
 use Rattle.rules.specs.declared.Call.TheVariants.{Check}
 use Rattle.board.specs.declared.Board.{Board}
@@ -12,8 +14,19 @@ use Rattle.calls.specs.Answers.{literal_of, answer_number, check_answer, check_m
 use Rattle.calls.specs.AnswerLaws.{length-check}
 use Rattle.calls.specs.NumberLaws.{InRange}
 use Rattle.calls.proofs.RangeLaws.{call-range}
+use Rattle.image.specs.Image.{side_of, decide_literal}
 use Rattle.probe.specs.ProbeChecks.{checks_number, checks_memory, decides_memory, made, board_in}
 use Rattle.probe.specs.ProbeChecks.{checked_number, checked_memory}
+
+-- ---- a literal's code
+side-last : (d : ℕ) → d < 2 → side_of d ≡ cond (eqb d 1) Wall Open
+side-last zero h = refl
+side-last (suc zero) h = refl
+side-last (suc (suc d)) h = absurd (omega arith)
+
+pub code-literal : (n : ℕ) → decide_literal (n / 2) (n % 2) ≡ literal_of n
+unfolding literal_of
+code-literal n = ap (λ (d : Side). record { border = n / 2; side = d }) (side-last (n % 2) (omega arith))
 
 -- ---- one check
 pub check-in-range : (b : Board) (m : List ℕ) → InRange (check_answer b (length m))

@@ -1,9 +1,13 @@
 -- Laws of the probes: the two cases of an image's length, the lengths of their arrays, what is handed out, a group, and
 -- the two cases of an answer.
 use Rattle.std.specs.Prelude.{◌≡◌, ◌⊎◌, Bool, true, false, ◌&&◌, cond, List, [], map, ℕ, ◌*◌, ◌<◌, ◌≤◌, leb, length}
-use Rattle.std.specs.Prelude.{take, replicate}
+use Rattle.std.specs.Prelude.{◌++◌, ◌-◌, min, get_or, take, drop, replicate}
 use Rattle.std.proofs.Math.Path.{refl}
-use Rattle.std.proofs.Common.{inl, inr, arith, leb-true, ne_eqb}
+use Rattle.std.proofs.Common.{inl, inr, ap, sym, ◌∙◌, arith, leb-true, ne_eqb, length-take-le, length-drop, length-append}
+use Rattle.std.proofs.Math.Decide.{dec_lt}
+use Rattle.std.proofs.Math.ListN.{get_or-append}
+use Rattle.std.proofs.lemmas.List.{get_or-take, get_or-drop, get_or_past, get_or-append_right, length-replicate}
+use Rattle.lists.specs.PaddedLaws.{zeros}
 use Rattle.rules.specs.declared.Side.{Side}
 use Rattle.rules.specs.declared.Side.TheVariants.{Wall, Open}
 use Rattle.rules.specs.declared.Literal.{Literal}
@@ -13,7 +17,7 @@ use Rattle.rules.specs.Codes.{literal_code, states_in, unclued}
 use Rattle.rules.specs.Check.{once}
 use Rattle.lists.specs.Lists.{flat_map}
 use Rattle.lists.specs.Arithmetic.{le-or-lt}
-use Rattle.lists.specs.TableLaws.{length-table}
+use Rattle.lists.specs.TableLaws.{length-table, table_is}
 use Rattle.rules.specs.Groups.{entry, group_count, members}
 use Rattle.rules.specs.Reasons.{inside, edge}
 use Rattle.laws.specs.FlatLaws.{counts}
@@ -49,6 +53,38 @@ from-right s e = rw (long-is s e)
 pub places-length : (n : ℕ) (l : List ℕ) → length (places_of n l) ≡ n
 unfolding places_of
 places-length n l = length-table n (entry l)
+
+-- the first n of the list, and 0 after them
+module _ (m : ℕ) (l : List ℕ) (n : ℕ) (e : n ≡ min (length l) m) where
+  abbrev front : List ℕ
+  front = take n l
+
+  abbrev back : List ℕ
+  back = drop n (replicate m 0)
+
+  front-long : length front ≡ n
+  front-long = length-take-le n l (omega arith)
+
+  back-long : length back ≡ m - n
+  back-long = length-drop n (replicate m 0) ∙ ap (λ k. k - n) (length-replicate {A = ℕ} m 0)
+
+  below : (i : ℕ) → i < n → get_or (front ++ back) i 0 ≡ entry l i
+  unfolding entry
+  below i k = get_or-append front back 0 i (omega (arith, front-long)) ∙ get_or-take n l i 0 k
+
+  beyond : (i : ℕ) → i < m → n ≤ i → get_or (front ++ back) i 0 ≡ entry l i
+  unfolding entry
+  beyond i h k =
+      get_or-append_right front back n i 0 front-long k
+      ∙ get_or-drop n (replicate m 0) (i - n) 0
+      ∙ zeros m _
+      ∙ sym (get_or_past l i 0 (omega arith))
+
+  pub places-filled : front ++ back ≡ places_of m l
+  unfolding places_of
+  places-filled =
+      table_is m (entry l) 0 (front ++ back) (omega (arith, length-append front back, front-long, back-long))
+      (λ i h. elim (dec_lt i n) [ yes k ↦ below i k | no k ↦ beyond i h (omega arith) ])
 
 -- a size that has cells is a page's
 pub sized_of : {h w : ℕ} → 1 ≤ cells_of h w → Sized h w

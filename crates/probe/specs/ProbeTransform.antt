@@ -1,6 +1,6 @@
 -- What the probe of a unit's transforms writes.
 --
---   counts_of a         an answer as four numbers: the refusal's number or 0, transforms, cells, connections
+--   counts_of a         an answer as four numbers: that of the refusal, or 0, transforms, cells, connections
 --   answer_in s u k n   the answer of the board that the image s spells; an image of another length is alien
 --   memory_in s u k m   the memory afterwards
 use Rattle.std.specs.Prelude.{◌≡◌, cond, List, [], ◌∷◌, ℕ, ℤ, length, Result, Ok, Err}
@@ -13,8 +13,8 @@ use Rattle.image.specs.RoundLaws.{long-is}
 use Rattle.transforms.specs.declared.Transformed.{Transformed}
 use Rattle.transforms.specs.Transforms.{transform_of, memory_after}
 
-unfoldable pub counts_of : Result Transformed Refusal → List ℕ
-counts_of (Ok t) = 0 ∷ t.listed ∷ t.cells ∷ t.connections ∷ []
+abbrev pub counts_of : Result Transformed Refusal → List ℕ
+counts_of (Ok a) = 0 ∷ a.listed ∷ a.cells ∷ a.connections ∷ []
 counts_of (Err e) = refusal_number e ∷ 0 ∷ 0 ∷ 0 ∷ []
 
 unfoldable pub answer_in : List ℕ → ℕ → ℕ → ℕ → Result Transformed Refusal

@@ -2,15 +2,14 @@
 // is given as an image; an image of another length is alien. As in lib.rt, words are written from the start of the
 // memory, and where it has under 16,384 places a call gives 65,535 and leaves it.
 ghost use Rattle.std.specs.Prelude.{◌≡◌, length};
-ghost use Rattle.board.specs.Board.{number_of};
 ghost use Rattle.groups.specs.Grouping.{group_cells};
 ghost use Rattle.groups.specs.Parts.{part_from};
 ghost use Rattle.probe.specs.Probe.{kind_of};
 ghost use Rattle.probe.specs.ProbeAsked.{which_of, asked_in, part_in, AskedTold};
 
 use crate::{ROOM, UNFIT, kind_of};
-use board::Board;
-use groups::{BoardGroups, Kind, Which};
+use board::Refusal;
+use groups::{Grouping, Kind, Which};
 use reasons::hand_out;
 
 // 0 is the unit list, any other number the potential list.
@@ -24,32 +23,28 @@ fn which_of(which: u32) -> Which
 }
 
 // What the board that the image s spells gives, asked for its groups of one kind.
-fn asked_in(s: &[u8], kind: Kind) -> BoardGroups
+fn asked_in(s: &[u8], kind: Kind) -> Result<Grouping, Refusal>
     ensures { result ≡ asked_in s.now kind }
 {
     if s.len() != image::LENGTH {
-        // the all-zero board is alien
-        return groups::asked(Board::zero(), kind);
+        return Err(Refusal::Alien);
     }
     groups::asked(image::reading::board(s), kind)
 }
 
 // The groups of one kind, as `probe_groups` writes them; of an alien image the refusal's number, and the memory stays.
 pub fn probe_asked(s: &[u8], kind: u32, memory: &mut [u16]) -> usize
-    ensures { AskedTold (number_of (asked_in s.now (kind_of kind)).outcome) memory.old
-        (asked_in s.now (kind_of kind)).groups memory.new result }
+    ensures { AskedTold (asked_in s.now (kind_of kind)) memory.old memory.new result }
 {
-    let a = asked_in(s, kind_of(kind));
-    let outcome = a.outcome;
-    let refusal = board::number(outcome) as usize;
-    if refusal != 0 {
-        return refusal;
+    match asked_in(s, kind_of(kind)) {
+        Err(refusal) => refusal.number() as usize,
+        Ok(grouping) => {
+            if memory.len() < ROOM {
+                return UNFIT;
+            }
+            hand_out(memory, &grouping)
+        }
     }
-    if memory.len() < ROOM {
-        return UNFIT;
-    }
-    let grouping = a.groups;
-    hand_out(memory, &grouping)
 }
 
 // The cells of group g of the units or of the potential units, each given as a grouping.
@@ -71,16 +66,16 @@ fn part_in<'a>(units: &'a [u16], potential: &'a [u16], which: Which, g: usize) -
 // The cells of group g, as the part of the chosen list. There are none where no group has the number, and so of an
 // alien image.
 pub fn probe_part(s: &[u8], which: u32, g: usize, memory: &mut [u16]) -> usize
-    ensures { AskedTold 0 memory.old (part_in s.now (which_of which) g) memory.new
-        result }
+    ensures { AskedTold (Ok (part_in s.now (which_of which) g)) memory.old memory.new result }
 {
     if memory.len() < ROOM {
         return UNFIT;
     }
-    let a = asked_in(s, Kind::Units);
-    let b = asked_in(s, Kind::Potential);
-    let units = a.groups;
-    let potential = b.groups;
-    let cells = part_in(&units, &potential, which_of(which), g);
-    hand_out(memory, cells)
+    let Ok(units) = asked_in(s, Kind::Units) else {
+        return 0;
+    };
+    let Ok(potential) = asked_in(s, Kind::Potential) else {
+        return 0;
+    };
+    hand_out(memory, part_in(&units, &potential, which_of(which), g))
 }

@@ -10,28 +10,14 @@ use crate::checks::{literal, number};
 use board::Board;
 use rules::Literal;
 
-// So many previews of a literal on one board, whose arrays are lent: the number of the last answer, 0 if there was
-// none.
-fn previews(board: Board, l: Literal, times: usize, memory: &mut [u16]) -> usize
-    ensures { (result ≡ previews_number board l (length memory.old) times)
-        × (memory.new ≡ previews_memory board l times memory.old) }
+// So many previews of a literal on one board: the number of the last answer, 0 if there was none.
+fn previews(board: &Board, l: Literal, times: usize, memory: &mut [u16]) -> usize
+    ensures { (result ≡ previews_number board.now l (length memory.old) times)
+        × (memory.new ≡ previews_memory board.now l times memory.old) }
 {
-    let tally = board.tally;
-    let mut last: usize = 0;
+    let mut last = 0;
     for _ in 0..times {
-        let a = calls::preview_lent(
-            board.height,
-            board.width,
-            &board.colours,
-            &board.clues,
-            &board.borders,
-            &board.stack,
-            board.count,
-            tally,
-            l,
-            memory,
-        );
-        last = number(a);
+        last = number(calls::preview_lent(board, l, memory));
     }
     last
 }
@@ -43,5 +29,5 @@ pub fn probe_previews(s: &[u8], code: usize, times: usize, memory: &mut [u16]) -
         × (memory.new ≡ previews_memory (board_from s.now) (literal_of code) times
         memory.old) }
 {
-    previews(board_from(s), literal(code), times, memory)
+    previews(&board_from(s), literal(code), times, memory)
 }

@@ -9,10 +9,8 @@ ghost use Rattle.probe.specs.ProbeRecords.{call_with, record_number, record_word
 
 use crate::board_from;
 use crate::checks::{literal, number};
+use board::Refusal;
 use rules::{Call, Tally};
-
-// The number of an alien record.
-const ALIEN: usize = 5;
 
 // 0 is a decide of the literal with this code, 1 an undo, 2 a check, any other number a preview of the literal.
 fn call_with(which: usize, code: usize) -> Call
@@ -54,19 +52,14 @@ pub fn probe_counted(
         words.old memory.old) }
 {
     if words.len() != 3 {
-        return ALIEN;
+        return Refusal::Alien.number() as usize;
     }
     let given = Tally {
         undecided: words[0],
         walls: words[1],
         opens: words[2],
     };
-    let board = board_from(s);
-    let asked = call_with(which, code);
-    let made = calls::call_by_value(board, asked, given, memory);
-    let t = made.tally;
-    put_tally(words, t);
-    let stepped = made.stepped;
-    let a = stepped.answer;
-    number(a)
+    let made = calls::call_by_value(board_from(s), call_with(which, code), given, memory);
+    put_tally(words, made.tally);
+    number(made.stepped.answer)
 }

@@ -1,5 +1,5 @@
 // For tests alone: the transforms of a board's units. The board is given as an image.
-ghost use Rattle.std.specs.Prelude.{◌≡◌, [], ◌∷◌, length, set};
+ghost use Rattle.std.specs.Prelude.{◌≡◌, length, set};
 ghost use Rattle.std.proofs.lemmas.List.Edits.{sets};
 ghost use Rattle.probe.specs.ProbeTransform.{counts_of, answer_in, memory_in};
 
@@ -15,30 +15,23 @@ fn put_count(counts: &mut [usize], i: usize, n: usize)
     }
 }
 
-// Stores a refusal's number, or 0, and three counts, from the start.
-fn put_four(
-    counts: &mut [usize],
-    number: usize,
-    listed: usize,
-    cells: usize,
-    connections: usize,
-)
-    ensures { counts.new ≡ sets counts.old 0 (number ∷ listed ∷ cells ∷ connections ∷ []) }
+// An answer as four numbers: that of the refusal, or 0, how many transforms the unit has, how many cells and how many
+// connections the one asked for has.
+fn counts_of(answer: Result<Transformed, Refusal>) -> [usize; 4]
+    ensures { result ≡ counts_of answer }
 {
-    put_count(counts, 0, number);
-    put_count(counts, 1, listed);
-    put_count(counts, 2, cells);
-    put_count(counts, 3, connections);
+    match answer {
+        Ok(a) => [0, a.listed, a.cells, a.connections],
+        Err(refusal) => [refusal.number() as usize, 0, 0, 0],
+    }
 }
 
-// Stores an answer: 0, how many transforms the unit has, how many cells and how many connections the one asked for has;
-// or a refusal's number, and no counts.
-fn put_counts(counts: &mut [usize], a: Result<Transformed, Refusal>)
-    ensures { counts.new ≡ sets counts.old 0 (counts_of a) }
+// Stores an answer's four numbers.
+fn put_counts(counts: &mut [usize], answer: Result<Transformed, Refusal>)
+    ensures { counts.new ≡ sets counts.old 0 (counts_of answer) }
 {
-    match a {
-        Ok(t) => put_four(counts, 0, t.listed, t.cells, t.connections),
-        Err(refusal) => put_four(counts, refusal.number() as usize, 0, 0, 0),
+    for (i, count) in counts_of(answer).iter().enumerate() {
+        put_count(counts, i, *count);
     }
 }
 
@@ -52,7 +45,6 @@ pub fn probe_transform(s: &[u8], u: usize, k: usize, counts: &mut [usize], memor
         put_counts(counts, Err(Refusal::Alien));
         return;
     }
-    let b = image::reading::board(s);
-    let a = transforms::transform(b, u, k, memory);
-    put_counts(counts, a);
+    let answer = transforms::transform(image::reading::board(s), u, k, memory);
+    put_counts(counts, answer);
 }

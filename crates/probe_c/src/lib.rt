@@ -6,7 +6,6 @@ ghost use Rattle.probe.specs.Probe.{kind_groups, ProbeAnswered, reason_words, pa
 ghost use Rattle.image.specs.Image.{side_of};
 ghost use Rattle.std.specs.Prelude.{◌≡◌, length};
 ghost use Rattle.probe.specs.ProbeChecks.{checked_number, checked_memory, checks_number, checks_memory};
-ghost use Rattle.board.specs.Board.{number_of};
 ghost use Rattle.probe.specs.ProbeAsked.{asked_in, AskedTold, which_of, part_in};
 ghost use Rattle.calls.specs.Answers.{literal_of};
 ghost use Rattle.probe.specs.ProbePreviews.{previews_number, previews_memory};
@@ -99,8 +98,7 @@ pub extern "C" fn probe_board_checks(s: &[u8], times: usize, memory: &mut [u16])
 // The groups of one kind, as `probe_groups` writes them; of an alien image the refusal's number, and the memory stays.
 #[unsafe(no_mangle)]
 pub extern "C" fn probe_asked(s: &[u8], kind: u32, memory: &mut [u16]) -> usize
-    ensures { AskedTold (number_of (asked_in s.now (kind_of kind)).outcome) memory.old
-        (asked_in s.now (kind_of kind)).groups memory.new result }
+    ensures { AskedTold (asked_in s.now (kind_of kind)) memory.old memory.new result }
 {
     probe::asked::probe_asked(s, kind, memory)
 }
@@ -109,8 +107,7 @@ pub extern "C" fn probe_asked(s: &[u8], kind: u32, memory: &mut [u16]) -> usize
 // alien image.
 #[unsafe(no_mangle)]
 pub extern "C" fn probe_part(s: &[u8], which: u32, g: usize, memory: &mut [u16]) -> usize
-    ensures { AskedTold 0 memory.old (part_in s.now (which_of which) g) memory.new
-        result }
+    ensures { AskedTold (Ok (part_in s.now (which_of which) g)) memory.old memory.new result }
 {
     probe::asked::probe_part(s, which, g, memory)
 }

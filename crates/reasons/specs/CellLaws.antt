@@ -1,6 +1,7 @@
 -- A part of a list of cells lies in the list, and each of its cells is on the page.
 use Rattle.std.specs.Prelude.{◌≡◌, List, ℕ, ◌+◌, ◌-◌, ◌*◌, ◌≤◌, ◌<◌, length, get_or, drop}
 use Rattle.std.proofs.Common.{arith, get_or-take, get_or-drop}
+use Rattle.std.proofs.Math.Seq.{take_all}
 use Rattle.lists.specs.Parts.{part}
 use Rattle.lists.specs.PartLaws.{part_length}
 use Rattle.reasons.specs.Arrays.{Cells}
@@ -19,3 +20,7 @@ module _ {h w : ℕ} {cells : List ℕ} {from to : ℕ} (p : Cells h w cells fro
   cells_at i a b =
       let e : from + (i - from) ≡ i = omega arith in
       rw e at (p.each (i - from) (omega arith))
+
+-- all the numbers of a list
+pub part_whole : (l : List ℕ) (i : ℕ) → length l ≤ i → part l 0 i ≡ l
+part_whole l i h = take_all (i - 0) l (omega arith)

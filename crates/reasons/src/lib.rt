@@ -51,8 +51,7 @@ fn code(literal: Literal) -> u16
     ensures { result ≡ literal_code literal }
 {
     let twice = (2 * literal.border) as u16;
-    let side = literal.side;
-    match side {
+    match literal.side {
         Side::Wall => twice + 1,
         Side::Open => twice,
     }
@@ -98,12 +97,8 @@ pub fn hand_out(memory: &mut [u16], words: &[u16]) -> usize
     requires { length words.now ≤ length memory.old }
     ensures { WordsWritten memory.old words.now memory.new result }
 {
-    let mut i = 0;
-    while i < words.len() {
-        memory[i] = words[i];
-        i += 1;
-    }
-    i
+    memory[..words.len()].copy_from_slice(words);
+    words.len()
 }
 
 // The neighbour of the cell c, which is (y,x), in a direction.
@@ -151,14 +146,14 @@ pub fn step(h: usize, w: usize, y: usize, x: usize, direction: Direction) -> Opt
 
 // Edge of the group g, from the place `start`; gives the next place. The flags are lent: all are 0, and so they are
 // again afterwards.
-pub fn edge<'a>(
+pub fn edge(
     memory: &mut [u16],
     start: usize,
     h: usize,
     w: usize,
-    colours: &'a [u8; 1024],
-    borders: &'a [u8; 1984],
-    grouping: &'a Grouping,
+    colours: &[u8; 1024],
+    borders: &[u8; 1984],
+    grouping: &Grouping,
     g: usize,
     flagged: &mut [u8; 1024],
 ) -> usize
@@ -176,13 +171,13 @@ pub fn edge<'a>(
 }
 
 // Inside of the group g, from the place `start`; gives the next place.
-pub fn inside<'a>(
+pub fn inside(
     memory: &mut [u16],
     start: usize,
     h: usize,
     w: usize,
-    borders: &'a [u8; 1984],
-    grouping: &'a Grouping,
+    borders: &[u8; 1984],
+    grouping: &Grouping,
     g: usize,
 ) -> usize
     requires { Sized h w × (length borders.now ≡ 1984) × GroupAt h w grouping.now g
@@ -190,14 +185,11 @@ pub fn inside<'a>(
     ensures { Wrote memory.old start (inside_in h w borders.now
         (numbers_in grouping.now) g) memory.new result }
 {
-    let from = grouping.start_of(g);
-    let count = grouping.start_of(g + 1) - from;
+    let cells = grouping.cells_of(g);
     let mut at = start;
-    let mut i = 0;
-    while i < count {
-        let c = grouping.cell_at(from + i);
+    for cell in cells {
+        let c = usize::from(*cell);
         at = open_cell(memory, at, h, w, borders, grouping, g, c);
-        i += 1;
     }
     at
 }

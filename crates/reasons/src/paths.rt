@@ -8,7 +8,7 @@ ghost use Rattle.reasons.specs.Arrays.{hop_at};
 ghost use Rattle.reasons.specs.Search.{path_in, Lined, Looked, Ended};
 
 use crate::{Direction, Neighbour, append, beside};
-use rules::{Literal, Side, index};
+use rules::{Literal, Side};
 
 // The search looks from the cell c, which is (y,x), in a direction: a neighbour over an open border that is not
 // found yet goes to the end of the queue. Gives the queue's new end.
@@ -154,20 +154,20 @@ fn hunt(
         if found[b] == 1 {
             return;
         }
-        let c = index(queue[head]);
+        let c = usize::from(queue[head]);
         tail = expand(queue, parent, over, found, tail, borders, h, w, c);
         head += 1;
     }
 }
 
 // The way back from b to a, written from the place `from`; nothing if b is not found. Gives the next place.
-fn trace_back<'a>(
+fn trace_back(
     memory: &mut [u16],
     from: usize,
-    parent: &'a [u16; 1024],
-    over: &'a [u16; 1024],
-    found: &'a [u8; 1024],
-    borders: &'a [u8; 1984],
+    parent: &[u16; 1024],
+    over: &[u16; 1024],
+    found: &[u8; 1024],
+    borders: &[u8; 1984],
     h: usize,
     w: usize,
     a: usize,
@@ -187,11 +187,11 @@ fn trace_back<'a>(
             memory,
             at,
             Literal {
-                border: index(over[c]),
+                border: usize::from(over[c]),
                 side: Side::Open,
             },
         );
-        c = index(parent[c]);
+        c = usize::from(parent[c]);
     }
     at
 }
@@ -210,10 +210,7 @@ pub fn path(
         × Spare memory.old from }
     ensures { Wrote memory.old from (path_in h w borders.now a b) memory.new result }
 {
-    if h * w <= a {
-        return from;
-    }
-    if h * w <= b {
+    if h * w <= a || h * w <= b {
         return from;
     }
     let mut queue = [0u16; 1024];

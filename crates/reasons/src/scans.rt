@@ -1,12 +1,13 @@
 // What Inside lists for a cell, and the walls of a group that a scan keeps: to groups that are not flagged.
-ghost use Rattle.std.specs.Prelude.{◌≡◌, ◌*◌, ◌<◌, length, IfSome};
+ghost use Rattle.std.specs.Prelude.{◌≡◌, Bool, ◌*◌, ◌<◌, length, IfSome};
 ghost use Rattle.std.specs.Bool.{beq};
 ghost use Rattle.rules.specs.Flat.{Sized, flat};
+ghost use Rattle.rules.specs.Page.{Hop};
 ghost use Rattle.rules.specs.Codes.{states_in, colours_in};
 ghost use Rattle.rules.specs.Groups.{entry};
 ghost use Rattle.rules.specs.Reasons.{gather, inside_at};
-ghost use Rattle.rules.specs.declared.Side.TheVariants.{Wall, Open};
 ghost use Rattle.groups.specs.Grouping.{numbers_in, group_cells};
+ghost use Rattle.reasons.specs.declared.Neighbour.{Neighbour};
 ghost use Rattle.reasons.specs.Memory.{Spare, Wrote};
 ghost use Rattle.reasons.specs.Arrays.{Arrays, GroupAt, InArrays, hop_of, hops_in, is_flagged};
 ghost use Rattle.reasons.specs.Arrays.{open_kept, wall_kept, scan_at, scan_of};
@@ -32,7 +33,7 @@ fn is_flagged(flagged: &[u8; 1024], group: usize) -> bool
 }
 
 // The border to the neighbour n is open, and n is in the group g.
-fn open_kept<'a>(borders: &'a [u8; 1984], grouping: &'a Grouping, g: usize, n: Neighbour) -> bool
+fn open_kept(borders: &[u8; 1984], grouping: &Grouping, g: usize, n: Neighbour) -> bool
     requires { Arrays borders.now (numbers_in grouping.now) × InArrays n }
     ensures { result ≡ open_kept (states_in borders.now) (entry (numbers_in grouping.now)) g (hop_of n) }
 {
@@ -42,12 +43,12 @@ fn open_kept<'a>(borders: &'a [u8; 1984], grouping: &'a Grouping, g: usize, n: N
 
 // The border to the neighbour n of the cell c is wall, n has the colour of c (or, if `same` is false, the other one),
 // and its group is not flagged.
-fn wall_kept<'a>(
-    colours: &'a [u8; 1024],
-    borders: &'a [u8; 1984],
-    grouping: &'a Grouping,
+fn wall_kept(
+    colours: &[u8; 1024],
+    borders: &[u8; 1984],
+    grouping: &Grouping,
     same: bool,
-    flagged: &'a [u8; 1024],
+    flagged: &[u8; 1024],
     c: usize,
     n: Neighbour,
 ) -> bool
@@ -60,74 +61,42 @@ fn wall_kept<'a>(
     wall && one_colour(colours, c, n.to) == same && !is_flagged(flagged, grouping.group_of(n.to))
 }
 
-// Writes the border to the neighbour, if there is one, the border is open, and the neighbour is in the group g.
-fn open_hop<'a>(
+// Writes the border to the neighbour, if there is one and it is kept. Gives the next place.
+fn append_kept<K: Fn(Neighbour) -> bool>(
     memory: &mut [u16],
-    from: usize,
-    borders: &'a [u8; 1984],
-    grouping: &'a Grouping,
-    g: usize,
+    at: usize,
+    side: Side,
     neighbour: Option<Neighbour>,
+    keeps: K,
 ) -> usize
-    requires { Arrays borders.now (numbers_in grouping.now) × IfSome neighbour InArrays
-        × Spare memory.old from }
-    ensures { Wrote memory.old from (gather Open (open_kept (states_in borders.now)
-        (entry (numbers_in grouping.now)) g) (hops_in neighbour)) memory.new result }
+    requires spare { Spare memory.old at }
+    requires near { IfSome neighbour InArrays }
+    requires callable { IfSome neighbour (λ n. K.pre keeps n) }
+    ensures { (test : Hop → Bool)
+        → ((n : Neighbour) (kept : Bool) → K.post keeps n kept → kept ≡ test (hop_of n))
+        → Wrote memory.old at (gather side test (hops_in neighbour)) memory.new result }
 {
     match neighbour {
-        Some(n) if open_kept(borders, grouping, g, n) => append(
+        Some(n) if keeps(n) => append(
             memory,
-            from,
+            at,
             Literal {
                 border: n.border,
-                side: Side::Open,
+                side,
             },
         ),
-        _ => from,
-    }
-}
-
-// Writes the border to the neighbour of the cell c, if there is one and the border is a wall that the scan keeps.
-fn wall_hop<'a>(
-    memory: &mut [u16],
-    from: usize,
-    colours: &'a [u8; 1024],
-    borders: &'a [u8; 1984],
-    grouping: &'a Grouping,
-    same: bool,
-    flagged: &'a [u8; 1024],
-    c: usize,
-    neighbour: Option<Neighbour>,
-) -> usize
-    requires { Arrays borders.now (numbers_in grouping.now) × (length colours.now ≡ 1024)
-        × (length flagged.now ≡ 1024)
-        × (c < 1024) × IfSome neighbour InArrays × Spare memory.old from }
-    ensures { Wrote memory.old from (gather Wall (wall_kept (colours_in colours.now)
-        (states_in borders.now) (entry (numbers_in grouping.now)) same
-        (is_flagged flagged.now) c)
-        (hops_in neighbour)) memory.new result }
-{
-    match neighbour {
-        Some(n) if wall_kept(colours, borders, grouping, same, flagged, c, n) => append(
-            memory,
-            from,
-            Literal {
-                border: n.border,
-                side: Side::Wall,
-            },
-        ),
-        _ => from,
+        _ => at,
     }
 }
 
 // Writes the open borders of the cell c into the group g: below, right.
-pub fn open_cell<'a>(
+pub fn open_cell(
     memory: &mut [u16],
     from: usize,
     h: usize,
     w: usize,
-    borders: &'a [u8; 1984],
-    grouping: &'a Grouping,
+    borders: &[u8; 1984],
+    grouping: &Grouping,
     g: usize,
     c: usize,
 ) -> usize
@@ -140,21 +109,22 @@ pub fn open_cell<'a>(
     let x = c % w;
     let below = beside(h, w, c, y, x, Direction::Below);
     let right = beside(h, w, c, y, x, Direction::Right);
-    let at = open_hop(memory, from, borders, grouping, g, below);
-    open_hop(memory, at, borders, grouping, g, right)
+    let keeps = |n: Neighbour| open_kept(borders, grouping, g, n);
+    let at = append_kept(memory, from, Side::Open, below, &keeps);
+    append_kept(memory, at, Side::Open, right, &keeps)
 }
 
 // Writes the walls of the cell c that the scan keeps: above, below, left, right.
-fn wall_cell<'a>(
+fn wall_cell(
     memory: &mut [u16],
     from: usize,
     h: usize,
     w: usize,
-    colours: &'a [u8; 1024],
-    borders: &'a [u8; 1984],
-    grouping: &'a Grouping,
+    colours: &[u8; 1024],
+    borders: &[u8; 1984],
+    grouping: &Grouping,
     same: bool,
-    flagged: &'a [u8; 1024],
+    flagged: &[u8; 1024],
     c: usize,
 ) -> usize
     requires { Sized h w × Arrays borders.now (numbers_in grouping.now) × (length colours.now ≡ 1024)
@@ -167,7 +137,9 @@ fn wall_cell<'a>(
     let mut at = from;
     for direction in Direction::ALL {
         let n = beside(h, w, c, y, x, direction);
-        at = wall_hop(memory, at, colours, borders, grouping, same, flagged, c, n);
+        at = append_kept(memory, at, Side::Wall, n, |n| {
+            wall_kept(colours, borders, grouping, same, flagged, c, n)
+        });
     }
     at
 }
@@ -175,17 +147,17 @@ fn wall_cell<'a>(
 // Writes the walls of the cells of the group g to cells of the same colour (of the other, if `same` is false) in groups
 // that are not flagged, from the place `start`; gives the next place. Step 3's last walls are those to the other
 // colour, with the potential units adjacent to P flagged.
-pub fn scan_walls<'a>(
+pub fn scan_walls(
     memory: &mut [u16],
     start: usize,
     h: usize,
     w: usize,
-    colours: &'a [u8; 1024],
-    borders: &'a [u8; 1984],
-    grouping: &'a Grouping,
+    colours: &[u8; 1024],
+    borders: &[u8; 1984],
+    grouping: &Grouping,
     g: usize,
     same: bool,
-    flagged: &'a [u8; 1024],
+    flagged: &[u8; 1024],
 ) -> usize
     requires { Sized h w × (length borders.now ≡ 1984) × (length colours.now ≡ 1024)
         × (length flagged.now ≡ 1024) × GroupAt h w grouping.now g × Spare memory.old start }
@@ -193,16 +165,13 @@ pub fn scan_walls<'a>(
         (numbers_in grouping.now) same flagged.now (group_cells grouping.now g))
         memory.new result }
 {
-    let from = grouping.start_of(g);
-    let count = grouping.start_of(g + 1) - from;
+    let cells = grouping.cells_of(g);
     let mut at = start;
-    let mut i = 0;
-    while i < count {
-        let c = grouping.cell_at(from + i);
+    for cell in cells {
+        let c = usize::from(*cell);
         at = wall_cell(
             memory, at, h, w, colours, borders, grouping, same, flagged, c,
         );
-        i += 1;
     }
     at
 }

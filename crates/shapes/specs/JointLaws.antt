@@ -1,6 +1,7 @@
 -- Connections written one after the other.
 use Rattle.std.specs.Prelude.{◌≡◌, refl, Bool, true, false, ◌&&◌, List, [], ◌∷◌, ◌++◌, ◌⊎◌, ℕ, ◌+◌, ◌*◌, ◌<◌, ◌≤◌, ◌/◌}
-use Rattle.std.specs.Prelude.{◌%◌, eqb, ltb, length, get_or, set, nat_abs}
+use Rattle.std.specs.Prelude.{◌%◌, eqb, ltb, length, get_or, set, nat_abs, Option, Some, IfSome}
+use Rattle.std.specs.Bool.{then_some}
 use Rattle.std.proofs.Common.{sym, ap, ap₂, ◌∙◌, subst, append_assoc, append-nil, inl, inr, arith, mod-lt}
 use Rattle.std.proofs.Common.{div-lt_iff_lt-mul, div-add-mod', length-set, length-append, get_or-set_same}
 use Rattle.std.proofs.Common.{get_or-set_other}
@@ -31,7 +32,7 @@ use Rattle.shapes.specs.Outlines.{rows_in, columns_in, down_in, across_in, cell_
 use Rattle.shapes.specs.Spots.{place_at, spots, joint_spot, joints, UnitAt}
 use Rattle.shapes.specs.SpotLaws.{spots-more, spots-cong, length-spots}
 use Rattle.shapes.specs.ConnectionLaws.{connections-at, unit_cells_lem}
-use Rattle.shapes.specs.Joints.{joint_if, JointRoom, Grown, Joining, OutlineJoined, JointIn}
+use Rattle.shapes.specs.Joints.{joint_if, joined, JointRoom, Grown, Joining, OutlineJoined, JointIn}
 
 pub grown-none : (o : List ℕ) (k : ℕ) → Grown o k [] o k
 grown-none o k = record { only = only_none 2048 6144 o; here = sym (append-nil (spots (down_in o) (across_in o) k)) }
@@ -95,19 +96,26 @@ joint-one true y x = omega arith
 joint-one false y x = omega arith
 
 -- the tests of the code, one law for each answer
-module _ (o : List ℕ) (k : ℕ) (on : Bool) (ids : List ℕ) (to g y x : ℕ) where
-  pub join-yes : {m : ℕ} → JointRoom o k → on ≡ true → m ≡ get_or ids to 0 → m ≡ g
-      → Grown o k (joint_if (on && eqb (entry ids to) g) y x) (noted o k y x) (k + 1)
+module _ (o : List ℕ) (k : ℕ) (ids : List ℕ) (g y x : ℕ) where
+  pub join-yes : (c : ℕ) {m : ℕ} → JointRoom o k → m ≡ get_or ids c 0 → m ≡ g
+      → Grown o k (joint_if (joined (entry ids) g (Some c)) y x) (noted o k y x) (k + 1)
   unfolding entry
-  join-yes {m} r a b c = rw (a, eq-eqb (get_or ids to 0) g (sym b ∙ c)) (grown-one o k y x r)
+  join-yes c {m} r a b = rw (eq-eqb (get_or ids c 0) g (sym a ∙ b)) (grown-one o k y x r)
 
-  pub join-no : {m : ℕ} → on ≡ true → m ≡ get_or ids to 0 → (m ≡ g → ⊥)
-      → Grown o k (joint_if (on && eqb (entry ids to) g) y x) o k
+  pub join-no : (c : ℕ) {m : ℕ} → m ≡ get_or ids c 0 → (m ≡ g → ⊥)
+      → Grown o k (joint_if (joined (entry ids) g (Some c)) y x) o k
   unfolding entry
-  join-no {m} a b c = rw (a, ne_eqb (get_or ids to 0) g (λ e. c (b ∙ e))) (grown-none o k)
+  join-no c {m} a b = rw (ne_eqb (get_or ids c 0) g (λ e. b (a ∙ e))) (grown-none o k)
 
-  pub join-off : on ≡ false → Grown o k (joint_if (on && eqb (entry ids to) g) y x) o k
-  join-off a = rw a (grown-none o k)
+-- a neighbour that a test gives
+joined-then : (number : ℕ → ℕ) (g : ℕ) (t : Bool) (c : ℕ) → joined number g (then_some t c) ≡ (t && eqb (number c) g)
+joined-then number g true c = refl
+joined-then number g false c = refl
+
+pub some-room : {to : Option ℕ} (t : Bool) (c : ℕ) → to ≡ then_some t c → (t ≡ true → c < 1024)
+    → IfSome to (λ n. n < 1024)
+some-room true c e h = rw e (h refl)
+some-room false c e h = rw e tt
 
 -- a cell and its neighbours below and right are among the 1,024 numbers
 pub cell_room : {h w y x : ℕ} → Sized h w → y < h → x < w
@@ -120,14 +128,20 @@ cell_room {h} {w} {y} {x} s a b =
       λ t. let l : x + 1 < w = ltb-true (x + 1) w t in omega (arith, p.beside l),
     )
 
-pub joints-are : {o o' o'' : List ℕ} {k l r : ℕ} (h w : ℕ) (number : ℕ → ℕ) (g y x : ℕ) → x < w
-    → Grown o k (joint_if (ltb (y + 1) h && eqb (number (y * w + x + w)) g) (2 * y + 1) (2 * x)) o' l
-    → Grown o' l (joint_if (ltb (x + 1) w && eqb (number (y * w + x + 1)) g) (2 * y) (2 * x + 1)) o'' r
+pub joints-are : {o o' o'' : List ℕ} {k l r : ℕ} {a b : Option ℕ} (h w : ℕ) (number : ℕ → ℕ) (g y x : ℕ) → x < w
+    → a ≡ then_some (ltb (y + 1) h) (y * w + x + w) → b ≡ then_some (ltb (x + 1) w) (y * w + x + 1)
+    → Grown o k (joint_if (joined number g a) (2 * y + 1) (2 * x)) o' l
+    → Grown o' l (joint_if (joined number g b) (2 * y) (2 * x + 1)) o'' r
     → Grown o k (connections_at (flat h w) number g (y * w + x)) o'' r
-joints-are {o} {o'' = o''} {k = k} {r = r} h w number g y x b p q =
-    subst (λ (js : List Point). Grown o k js o'' r) (sym (connections-at h w number g (y * w + x) y x refl b))
-    (grown-then (joint_if (ltb (y + 1) h && eqb (number (y * w + x + w)) g) (2 * y + 1) (2 * x))
-    (joint_if (ltb (x + 1) w && eqb (number (y * w + x + 1)) g) (2 * y) (2 * x + 1)) p q)
+joints-are {o} {o'' = o''} {k = k} {r = r} {a} {b} h w number g y x i d e p q =
+    let below = ltb (y + 1) h in
+    let right = ltb (x + 1) w in
+    subst (λ (js : List Point). Grown o k js o'' r)
+    (ap₂ (λ s t. joint_if s (2 * y + 1) (2 * x) ++ joint_if t (2 * y) (2 * x + 1))
+    (ap (joined number g) d ∙ joined-then number g below (y * w + x + w))
+    (ap (joined number g) e ∙ joined-then number g right (y * w + x + 1))
+    ∙ sym (connections-at h w number g (y * w + x) y x refl i))
+    (grown-then (joint_if (joined number g a) (2 * y + 1) (2 * x)) (joint_if (joined number g b) (2 * y) (2 * x + 1)) p q)
 
 -- the loop over the cells
 pub joining-none : (h w : ℕ) (number : ℕ → ℕ) (g : ℕ) (o : List ℕ) → Joining h w number g o o 0 0

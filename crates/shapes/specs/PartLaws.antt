@@ -1,23 +1,22 @@
 -- A unit's part of the list of cells: its entries, and from its places to the unit on the page.
 use Rattle.std.specs.Prelude.{◌≡◌, List, map, ℕ, ◌+◌, ◌-◌, ◌*◌, ◌/◌, ◌%◌, ◌<◌, ◌≤◌, eqb, nat_abs, length, set}
-use Rattle.std.proofs.Math.Path.{sym, ap₂}
+use Rattle.std.proofs.Math.Path.{refl, sym, ap₂}
 use Rattle.std.proofs.Common.{ap, ◌∙◌, subst, mod-lt, div-lt_iff_lt-mul, arith, get_or-set_same}
 use mathlib.Core.List.Memᴰ
 use Rattle.std.proofs.Math.ListN.{get_or, length-set}
-use Rattle.std.proofs.lemmas.List.{length-map}
+use Rattle.std.proofs.lemmas.List.{length-map, length-take, length-drop}
 use Rattle.lists.specs.Lists.{◌∈◌, filter, range}
 use Rattle.lists.specs.SectionLaws.{section-set, section-low, section-high, front-set}
 use Rattle.lists.specs.ListLaws.{filter-mem, map-find, get_d-mem}
-use Rattle.lists.specs.Table.{table}
 use Rattle.lists.specs.Ranges.{range-lt}
-use Rattle.lists.specs.TableLaws.{get_d-table, table-cong, table-part, map-table}
+use Rattle.lists.specs.TableLaws.{get_d-table, table-cong, table_is, map-table}
 use Rattle.lists.specs.Maps.{get_d_map}
 use Rattle.rules.specs.Page.{Point}
 use Rattle.rules.specs.Flat.{Sized, flat, flat_place}
 use Rattle.rules.specs.Groups.{entry, members}
 use Rattle.laws.specs.PointLaws.{origin}
 use Rattle.groups.specs.declared.Grouping.{Grouping}
-use Rattle.groups.specs.Grouping.{numbers_in, cells_in, start_in, group_cells}
+use Rattle.groups.specs.Grouping.{numbers_in, start_in, group_cells}
 use Rattle.shapes.specs.Outlines.{rows_in, columns_in, cell_count}
 use Rattle.shapes.specs.Spots.{place_at, spot_at, spots, cell_spot, cell_spots, places, UnitAt}
 use Rattle.shapes.specs.SpotLaws.{length-spots}
@@ -32,33 +31,34 @@ module _ (o : List ℕ) (i a b : ℕ) (h : i < 1024) where
   column-stored =
       section-set 1024 1024 (set o i a) i b h ∙ ap (λ (l : List ℕ). set l i b) (section-low 1024 1024 o i a h)
 
--- the outline as the loop leaves it, and then with the count of the cells
-module _ (units : Grouping) (g w from n i : ℕ) (o : List ℕ) (p : UnitPart units g w) (d : from ≡ start_in units g)
-    (c : n ≡ start_in units (g + 1) - start_in units g) (long : length o ≡ 6146) (m : n ≤ i)
-    (f : (j : ℕ) → j < i → get_or (rows_in o) j 0 ≡ get_or (cells_in units) (from + j) 0 / w)
-    (k : (j : ℕ) → j < i → get_or (columns_in o) j 0 ≡ get_or (cells_in units) (from + j) 0 % w) where
-  count-is : cell_count (set o 6144 n) ≡ n
-  count-is = get_or-set_same o 6144 n 0 (omega arith)
+-- how many cells the part has
+pub part-count : {units : Grouping} {g w : ℕ} → UnitPart units g w
+    → length (group_cells units g) ≡ start_in units (g + 1) - start_in units g
+part-count {units} {g} p = simp (length-take, length-drop) (omega (arith, p.order, p.long, p.inside))
 
-  pub placed-is : OutlinePlaced w (group_cells units g) (set o 6144 n)
+-- the outline as the loop leaves it, and then with the count of the cells
+module _ (w : ℕ) (L o : List ℕ) (long : length o ≡ 6146)
+    (f : (j : ℕ) → j < length L → get_or (rows_in o) j 0 ≡ get_or L j 0 / w)
+    (k : (j : ℕ) → j < length L → get_or (columns_in o) j 0 ≡ get_or L j 0 % w) where
+  pub placed-count : cell_count (set o 6144 (length L)) ≡ length L
+  placed-count = get_or-set_same o 6144 (length L) 0 (omega arith)
+
+  pub placed-is : OutlinePlaced w L (set o 6144 (length L))
   unfolding spots
   placed-is =
-      let L = cells_in units in
-      let e : group_cells units g ≡ table n (λ j. get_or L (from + j) 0) =
-      sym (table-part (start_in units g) (start_in units (g + 1) - start_in units g) 0 L
-      (omega (arith, p.order, p.long, p.inside)))
-      ∙ ap₂ (λ (k s : ℕ). table k (λ j. get_or L (s + j) 0)) (sym c) (sym d) in
+      let n = length L in
       record {
         long = length-set o 6144 n ∙ long;
         here =
-            rw (count-is, section-high 0 1024 o 6144 n (omega arith), section-high 1024 1024 o 6144 n (omega arith))
-            (table-cong n (cell_spot o) (λ j. place_of w (get_or L (from + j) 0))
-            (λ j l. ap₂ place_at (f j (omega arith)) (k j (omega arith)))
-            ∙ sym (ap (map (place_of w)) e ∙ map-table (place_of w) n (λ j. get_or L (from + j) 0)));
+            rw (
+              placed-count,
+              section-high 0 1024 o 6144 n (omega arith),
+              section-high 1024 1024 o 6144 n (omega arith),
+            )
+            (table-cong n (cell_spot o) (λ j. place_of w (get_or L j 0)) (λ j l. ap₂ place_at (f j l) (k j l))
+            ∙ sym (ap (map (place_of w)) (table_is n (λ j. get_or L j 0) 0 L refl (λ j l. refl))
+            ∙ map-table (place_of w) n (λ j. get_or L j 0)));
       }
-
-  pub placed-count : cell_count (set o 6144 n) ≡ start_in units (g + 1) - start_in units g
-  placed-count = count-is ∙ c
 
 spot_of : (R C : List ℕ) (n i : ℕ) → i < n → get_or (spots R C n) i origin ≡ spot_at R C i
 unfolding spots

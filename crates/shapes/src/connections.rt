@@ -1,5 +1,5 @@
 // A unit's cells and connections, and the connections of its images.
-ghost use Rattle.std.specs.Prelude.{◌≡◌, true, ◌&&◌, ◌+◌, ◌-◌, ◌*◌, ◌<◌, eqb, length};
+ghost use Rattle.std.specs.Prelude.{◌≡◌, ◌+◌, ◌-◌, ◌*◌, ◌<◌, length, IfSome};
 ghost use Rattle.rules.specs.Page.{◌⊕◌, opposite};
 ghost use Rattle.rules.specs.Flat.{Sized, flat};
 ghost use Rattle.rules.specs.Groups.{entry};
@@ -9,7 +9,7 @@ ghost use Rattle.groups.specs.Grouping.{numbers_in, start_in, group_cells};
 ghost use Rattle.shapes.specs.Rows.{turn_at};
 ghost use Rattle.shapes.specs.Outlines.{cell_count};
 ghost use Rattle.shapes.specs.Parts.{UnitPart, OutlinePlaced};
-ghost use Rattle.shapes.specs.Joints.{joint_if, JointRoom, Grown, OutlineJoined, JointIn};
+ghost use Rattle.shapes.specs.Joints.{joint_if, joined, JointRoom, Grown, OutlineJoined, JointIn};
 ghost use Rattle.shapes.specs.Pairs.{point_of, SmallPair};
 ghost use Rattle.shapes.specs.Spots.{joint_spot, UnitAt};
 
@@ -23,33 +23,33 @@ pub fn places(units: &Grouping, g: usize, w: usize, outline: &mut Outline)
         × (cell_count outline.new ≡ start_in units.now (g + 1) - start_in units.now g) }
 {
     let width = w as u16;
-    let from = units.start_of(g);
-    let n = units.start_of(g + 1) - from;
-    for i in 0..n {
-        let c = units.cells[from + i];
+    let cells = units.cells_of(g);
+    for (i, &c) in cells.iter().enumerate() {
         outline[i] = c / width;
         outline[1024 + i] = c % width;
     }
-    outline[6144] = n as u16;
+    outline[6144] = cells.len() as u16;
 }
 
-// Writes the doubled place (y,x) as connection `k` of the outline, if `on` and cell `to` is of unit `g`. Gives the next
-// number.
+// Writes the doubled place (y,x) as connection `k` of the outline, if there is a neighbour and it is of unit `g`. Gives
+// the next number.
 fn join(
     units: &Grouping,
     g: usize,
-    on: bool,
-    to: usize,
+    to: Option<usize>,
     y: u16,
     x: u16,
     outline: &mut Outline,
     k: usize,
 ) -> usize
-    requires { (length (numbers_in units.now) ≡ 1024) × (on ≡ true → to < 1024) × JointRoom outline.old k }
+    requires { (length (numbers_in units.now) ≡ 1024) × IfSome to (λ c. c < 1024) × JointRoom outline.old k }
     ensures { Grown outline.old k
-        (joint_if (on && eqb (entry (numbers_in units.now) to) g) y x) outline.new result }
+        (joint_if (joined (entry (numbers_in units.now)) g to) y x) outline.new result }
 {
-    if on && units.group_of(to) == g {
+    let Some(c) = to else {
+        return k;
+    };
+    if units.group_of(c) == g {
         outline[2048 + k] = y;
         outline[4096 + k] = x;
         k + 1
@@ -77,23 +77,13 @@ fn joints_at(
     let c = y * w + x;
     let row = 2 * y;
     let column = 2 * x;
-    let below = y + 1 < h;
-    let right = x + 1 < w;
-    let next = join(
-        units,
-        g,
-        below,
-        c + w,
-        (row + 1) as u16,
-        column as u16,
-        outline,
-        k,
-    );
+    let below = (y + 1 < h).then_some(c + w);
+    let right = (x + 1 < w).then_some(c + 1);
+    let next = join(units, g, below, (row + 1) as u16, column as u16, outline, k);
     join(
         units,
         g,
         right,
-        c + 1,
         row as u16,
         (column + 1) as u16,
         outline,

@@ -230,12 +230,12 @@ fn shift(m: Pair, y: u16, x: u16) -> Pair
 }
 
 // Whether every image of the outline's cells by a row, shifted by `v`, is a cell of unit `g`.
-fn within<'a>(
-    units: &'a Grouping,
+fn within(
+    units: &Grouping,
     h: usize,
     w: usize,
     g: usize,
-    outline: &'a Outline,
+    outline: &Outline,
     row: usize,
     v: Pair,
 ) -> bool
@@ -254,14 +254,7 @@ fn within<'a>(
 }
 
 // Whether a row leaves the shape of unit `g` as it is: every image, laid on the first cell, is a cell of it.
-pub fn fixes<'a>(
-    units: &'a Grouping,
-    h: usize,
-    w: usize,
-    g: usize,
-    outline: &'a Outline,
-    row: usize,
-) -> bool
+pub fn fixes(units: &Grouping, h: usize, w: usize, g: usize, outline: &Outline, row: usize) -> bool
     requires { (row < 8) × UnitAt h w units.now g outline.now }
     ensures { result ≡ fixes (shape_of (flat h w) (entry (numbers_in units.now)) g) row }
 {
@@ -271,7 +264,7 @@ pub fn fixes<'a>(
 }
 
 // Whether one of the four reflections leaves the shape of unit `g` as it is: then no flip is listed.
-fn flip_listed<'a>(units: &'a Grouping, h: usize, w: usize, g: usize, outline: &'a Outline) -> bool
+fn flip_listed(units: &Grouping, h: usize, w: usize, g: usize, outline: &Outline) -> bool
     requires { UnitAt h w units.now g outline.now }
     ensures { result ≡ flip_listed (shape_of (flat h w) (entry (numbers_in units.now)) g) }
 {
@@ -298,13 +291,7 @@ fn rows_by(half: bool, quarter: bool, listed: bool) -> &'static [u8]
 }
 
 // The rows by which the transforms of unit `g` are listed, in order.
-pub fn list_rows<'a>(
-    units: &'a Grouping,
-    h: usize,
-    w: usize,
-    g: usize,
-    outline: &'a Outline,
-) -> &'static [u8]
+pub fn list_rows(units: &Grouping, h: usize, w: usize, g: usize, outline: &Outline) -> &'static [u8]
     requires { UnitAt h w units.now g outline.now }
     ensures { result.now ≡ rows_of (shape_of (flat h w) (entry (numbers_in units.now)) g) }
 {

@@ -161,13 +161,13 @@ fn put_joints(memory: &mut [i32], start: usize, row: usize, outline: &Outline, m
 }
 
 // Writes the image of unit `g`, whose outline is given, by a row: its cells, then its connections.
-fn put_image<'a>(
+fn put_image(
     memory: &mut [i32],
-    units: &'a Grouping,
+    units: &Grouping,
     h: usize,
     w: usize,
     g: usize,
-    outline: &'a Outline,
+    outline: &Outline,
     row: usize,
 )
     requires { (row < 8) × UnitAt h w units.now g outline.now × OutlineJoined h w units.now g outline.now
@@ -192,14 +192,14 @@ fn none(listed: usize) -> Transformed
 }
 
 // Writes transform `k` of unit `g`, whose outline and whose listed rows are given.
-fn put_listed<'a>(
+fn put_listed(
     memory: &mut [i32],
-    units: &'a Grouping,
+    units: &Grouping,
     h: usize,
     w: usize,
     g: usize,
-    outline: &'a Outline,
-    listed: &'a [u8],
+    outline: &Outline,
+    listed: &[u8],
     k: usize,
 ) -> Transformed
     requires { UnitAt h w units.now g outline.now × OutlineJoined h w units.now g outline.now
@@ -221,12 +221,12 @@ fn put_listed<'a>(
 }
 
 // Writes transform `k` of unit `u` on a page of h rows and w columns.
-fn put_transform<'a>(
+fn put_transform(
     memory: &mut [i32],
     h: usize,
     w: usize,
-    colours: &'a [u8; Board::CELL_LIMIT],
-    borders: &'a [u8; Board::BORDER_LIMIT],
+    colours: &[u8; Board::CELL_LIMIT],
+    borders: &[u8; Board::BORDER_LIMIT],
     u: usize,
     k: usize,
 ) -> Transformed

@@ -27,7 +27,7 @@ pub struct Breach {
 }
 
 // The border to the neighbour n of the cell c is wall, and n is in the block of c.
-fn is_breach<'a>(borders: &'a [u8; 1984], blocks: &'a Grouping, c: usize, n: Neighbour) -> bool
+fn is_breach(borders: &[u8; 1984], blocks: &Grouping, c: usize, n: Neighbour) -> bool
     requires { Arrays borders.now (numbers_in blocks.now) × (c < 1024) × InArrays n }
     ensures { result ≡ is_breach (states_in borders.now) (entry (numbers_in blocks.now)) c (hop_of n) }
 {
@@ -35,9 +35,9 @@ fn is_breach<'a>(borders: &'a [u8; 1984], blocks: &'a Grouping, c: usize, n: Nei
 }
 
 // The breach over the border to the neighbour of the cell c, if there is one.
-fn hop_breach<'a>(
-    borders: &'a [u8; 1984],
-    blocks: &'a Grouping,
+fn hop_breach(
+    borders: &[u8; 1984],
+    blocks: &Grouping,
     c: usize,
     neighbour: Option<Neighbour>,
 ) -> Option<Breach>
@@ -54,11 +54,11 @@ fn hop_breach<'a>(
 }
 
 // The first breach at the cell (y,x), if there is one: below, then right.
-fn cell_breach<'a>(
+fn cell_breach(
     h: usize,
     w: usize,
-    borders: &'a [u8; 1984],
-    blocks: &'a Grouping,
+    borders: &[u8; 1984],
+    blocks: &Grouping,
     y: usize,
     x: usize,
 ) -> Option<Breach>
@@ -88,11 +88,11 @@ fn first_of<F: Fn(usize) -> Option<Breach>>(n: usize, at: F) -> Option<Breach>
 }
 
 // The first breach in the row y, if there is one.
-fn row_breach<'a>(
+fn row_breach(
     h: usize,
     w: usize,
-    borders: &'a [u8; 1984],
-    blocks: &'a Grouping,
+    borders: &[u8; 1984],
+    blocks: &Grouping,
     y: usize,
 ) -> Option<Breach>
     requires { Sized h w × Arrays borders.now (numbers_in blocks.now) × (y < h) }
@@ -106,20 +106,14 @@ fn row_breach<'a>(
 fn hit(state: u8, a: u16, b: u16) -> u16
     ensures { result ≡ bit (eqb state 1 && eqb a b) }
 {
-    if state != 1 {
-        return 0;
-    }
-    if a != b {
-        return 0;
-    }
-    1
+    u16::from(state == 1 && a == b)
 }
 
 // How many of the n borders from `at` on are walls between two cells of one block; the cells from c on stand before
 // them, those from d on behind them. There is no exit at the first: the loop then takes many at a time.
-fn count_hits<'a>(
-    borders: &'a [u8; 1984],
-    blocks: &'a Grouping,
+fn count_hits(
+    borders: &[u8; 1984],
+    blocks: &Grouping,
     at: usize,
     c: usize,
     d: usize,
@@ -129,17 +123,15 @@ fn count_hits<'a>(
     ensures { result ≡ 0 → Apart (states_in borders.now)
         (entry (numbers_in blocks.now)) at c d n }
 {
-    let mut hits: u16 = 0;
-    let mut i = 0;
-    while i < n {
+    let mut hits = 0;
+    for i in 0..n {
         hits += hit(borders[at + i], blocks.numbers[c + i], blocks.numbers[d + i]);
-        i += 1;
     }
     hits
 }
 
 // Whether there is no breach: none over the borders below, and none over those on the right of each row.
-fn is_clean<'a>(h: usize, w: usize, borders: &'a [u8; 1984], blocks: &'a Grouping) -> bool
+fn is_clean(h: usize, w: usize, borders: &[u8; 1984], blocks: &Grouping) -> bool
     requires { Sized h w × Arrays borders.now (numbers_in blocks.now) }
     ensures { result ≡ true → None ≡ first_breach (flat h w) (states_in borders.now)
         (entry (numbers_in blocks.now)) }
@@ -147,23 +139,16 @@ fn is_clean<'a>(h: usize, w: usize, borders: &'a [u8; 1984], blocks: &'a Groupin
     if count_hits(borders, blocks, h * (w - 1), 0, w, (h - 1) * w) != 0 {
         return false;
     }
-    let mut y = 0;
-    while y < h {
+    for y in 0..h {
         if count_hits(borders, blocks, y * (w - 1), y * w, y * w + 1, w - 1) != 0 {
             return false;
         }
-        y += 1;
     }
     true
 }
 
 // The first breach, row by row, if there is one.
-pub fn first_breach<'a>(
-    h: usize,
-    w: usize,
-    borders: &'a [u8; 1984],
-    blocks: &'a Grouping,
-) -> Option<Breach>
+pub fn first_breach(h: usize, w: usize, borders: &[u8; 1984], blocks: &Grouping) -> Option<Breach>
     requires { Sized h w × Arrays borders.now (numbers_in blocks.now) }
     ensures { result ≡ first_breach (flat h w) (states_in borders.now)
         (entry (numbers_in blocks.now)) }

@@ -34,7 +34,6 @@ returns-in_default c = (
   sym (fits-nowhere c.requires.0 c.args.u c.requires.1 (rw c.home_in-p.ensures at c.in_default.ensures.0)),
   c.near_mate.ensures.1,
   c.requires.3,
-  c.requires.4,
 )
 
 pub cells_of-requires : goal.cells_of-requires
@@ -58,7 +57,6 @@ unit_fits-requires c = (
   rw c.home_in-p.ensures (home_of c.requires.0 c.args.u c.requires.1),
   unit-in c.requires.0 c.args.u c.requires.1,
   c.requires.3,
-  c.requires.4,
 )
 
 -- a unit of one cell fits there, and the unit itself is the first of its transforms
@@ -82,7 +80,6 @@ returns-then-copy_fits_soon c =
       ],
       c.near_mate.ensures.1,
       c.requires.3,
-      c.requires.4,
     )
 
 pub returns-else-copy_fits_soon : goal.returns-else-copy_fits_soon
@@ -91,5 +88,4 @@ returns-else-copy_fits_soon c =
       rw c.home_in-p.ensures at e.0 ∙ fits_home c.requires.0 c.args.u c.requires.1,
       c.near_mate.ensures.1,
       e.1,
-      e.2,
     )

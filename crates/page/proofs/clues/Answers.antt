@@ -8,6 +8,6 @@ pub returns-then-p-le-SIDE_LIMIT : goal.returns-then-p-le-SIDE_LIMIT
 unfolding sheet_at clue_array
 returns-then-p-le-SIDE_LIMIT c = rw (le-leb _ _ c.if-p-le-SIDE_LIMIT.true) c.clues.ensures
 
-pub returns : goal.returns
+pub returns-else-p-le-SIDE_LIMIT : goal.returns-else-p-le-SIDE_LIMIT
 unfolding sheet_at clue_array
-returns c = rw (lt-leb _ _ c.if-p-le-SIDE_LIMIT.false)
+returns-else-p-le-SIDE_LIMIT c = rw (lt-leb _ _ c.if-p-le-SIDE_LIMIT.false)

@@ -16,7 +16,7 @@ use Rattle.planes.proofs.draw_mask.Goals as goal
 pub loop-mate-init : goal.loop-mate-init
 loop-mate-init c =
     mates-none c.args.w (cells_in c.args.potential.now) (starts_in c.args.potential.now) c.args.mates.now 0
-    (masked-none c.args.w (rw c.requires.2 at (c.fill.ensures.after (λ y e. e))))
+    (masked-none c.args.w (rw c.told-mask at (c.fill.ensures.after (λ y e. e))))
 
 -- the unit that is read is one of the list
 next : (c : In-loop-mate) → c.loop-mate.mate-index < mate_count c.args.mates.now
@@ -45,13 +45,12 @@ pub flag_group-requires : goal.flag_group-requires
 flag_group-requires c = (
   c.requires.0,
   rw c.cells_of.ensures (part-cells (group (goal.at.flag_group-requires c).After-from-in-loop-mate).1),
-  c.loop-mate.invariant.size,
 )
 
 pub loop-mate-preserved : goal.loop-mate-preserved
 unfolding part_of
 loop-mate-preserved c =
-    let f = c.flag_group.ensures.1 _ c.loop-mate.invariant in
+    let f = c.flag_group.ensures _ c.loop-mate.invariant in
     mates-more c.args.w (cells_in c.args.potential.now) (starts_in c.args.potential.now) c.args.mates.now 0
     c.loop-mate.mate-index (omega arith)
     (omega (arith, next (goal.at.loop-mate-preserved c).In-loop-mate, mates-reach c.requires.1))

@@ -1,13 +1,10 @@
 -- The loop's invariant: the cells before c are flagged.
-use mathlib.Core.Path.{◌≡◌}
 use mathlib.Core.List.{List, ◌++◌}
 use Prim.Native.Nat.{ℕ}
-use lib.ListN.{length}
 use Rattle.lists.specs.Parts.{part}
 use Rattle.planes.specs.Masks.{Masked}
 use Rattle.planes.proofs.flag_group.Given as goal
 
 abbrev pub invariant-loop-c : goal.invariant-loop-c
 invariant-loop-c l =
-    (length l.mask ≡ 33)
-    × ((xs : List ℕ) → Masked l.w xs l.initial.mask → Masked l.w (xs ++ part l.cells 0 l.c-index) l.mask)
+    (xs : List ℕ) → Masked l.w xs l.initial.mask → Masked l.w (xs ++ part l.cells 0 l.c-index) l.mask

@@ -23,7 +23,7 @@ returns-then-acc-eq0 c =
 -- the next connection is small
 small : (c : Else-acc-eq0)
     → RaisedAt c.args.turned.now c.loop-j.j
-small c = c.requires.2 c.loop-j.j c.loop-j-test.true
+small c = c.requires.1 c.loop-j.j c.loop-j-test.true
 
 -- the places read are those of its rows and columns
 down-at : (c : Else-acc-eq0) → let t = c.args.turned.now in
@@ -37,7 +37,6 @@ across-at c = section-at 2048 2048 _ _ (small c).place
 pub step-acc-requires : goal.step-acc-requires
 step-acc-requires c = (
   c.requires.0,
-  c.requires.1,
   rw (down-at (goal.at.step-acc-requires c).Else-acc-eq0) (small (goal.at.step-acc-requires c).Else-acc-eq0).row,
   rw (across-at (goal.at.step-acc-requires c).Else-acc-eq0) (small (goal.at.step-acc-requires c).Else-acc-eq0).column,
 )

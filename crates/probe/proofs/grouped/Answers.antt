@@ -4,4 +4,4 @@ use Rattle.probe.proofs.grouped.Goals as goal
 
 pub returns : goal.returns
 unfolding kind_groups
-returns c = rw (c.colours_in-c.ensures, c.borders_in-b.ensures, c.kind_of.ensures) at c.groups_of.ensures
+returns c = rw (c.places.ensures, c.places-2.ensures, c.kind_of.ensures) at c.groups_of.ensures

@@ -6,7 +6,7 @@ use Rattle.probe.specs.ProbeLaws.{places-length, path-held, literals}
 use Rattle.probe.proofs.put_path.Goals as goal
 
 pub path-n-requires : goal.path-n-requires
-path-n-requires c = (c.requires.0, rw c.borders_in-states.ensures (places-length 1984 _), spare-zeros)
+path-n-requires c = (c.requires.0, rw c.places-states.ensures (places-length 1984 _), spare-zeros)
 
 pub slice_bounds-hand_out-end : goal.slice_bounds-hand_out-end
 slice_bounds-hand_out-end c = front_length c.path-n.ensures
@@ -18,4 +18,4 @@ pub returns : goal.returns
 unfolding path_words
 returns c =
     literals _ (path-held c.requires.0 c.args.borders.now c.args.a c.args.b)
-    (rw c.borders_in-states.ensures at c.path-n.ensures) c.hand_out.ensures
+    (rw c.places-states.ensures at c.path-n.ensures) c.hand_out.ensures

@@ -1,5 +1,5 @@
 -- The loop's invariant: the blockers of the images by the listed rows passed are written.
-use mathlib.Core.Path.{◌≡◌, refl, ap, ◌∙◌}
+use mathlib.Core.Path.{◌≡◌, ap, ◌∙◌}
 use mathlib.Core.List.{List}
 use Prim.Native.Nat.{ℕ, zero}
 use native.Mathlib.Omega.{arith}
@@ -13,8 +13,6 @@ use Rattle.shapes.specs.Raising.{Raised, spelled}
 use Rattle.shapes.specs.Images.{image_joints}
 use Rattle.shapes.specs.Spots.{cell_spots, joint_spots}
 use Rattle.adjacent.specs.Mates.{mates_in}
-use Rattle.planes.specs.DrawLaws.{planes-long}
-use Rattle.stuck.specs.Survivors.{no_walls}
 use Rattle.stuck.specs.BlockLaws.{lain-rows, blocks-row}
 use Rattle.stuck.specs.Writing.{blocks_by, blocks_listed}
 use Rattle.stuck.proofs.block_rows.Goals.{After-turn_row, Start}
@@ -26,19 +24,6 @@ each s i =
     blocks_by (unclued s.args.h s.args.w s.args.colours.now) (states_in s.args.borders.now)
     (cells_in s.args.potential.now) (starts_in s.args.potential.now) (mates_in s.args.mates.now)
     (cell_spots s.args.outline.now) (joint_spots s.args.outline.now) (get_or s.args.listed.now i 0)
-
-pub draw_colours-requires : goal.draw_colours-requires
-draw_colours-requires c = (c.requires.1.sized, refl)
-
-pub draw_mask-requires : goal.draw_mask-requires
-draw_mask-requires c = (c.requires.1.sized, c.requires.4, length-replicate 33 zero)
-
-pub draw_places-requires : goal.draw_places-requires
-draw_places-requires c = (
-  c.requires.1.sized,
-  length-replicate 1024
-      zero,
-)
 
 pub loop-row-init : goal.loop-row-init
 loop-row-init c = (
@@ -57,23 +42,6 @@ image-spelled : (c : After-turn_row) → let a = c.args in
     (joint_spots a.outline.now)
 image-spelled c =
     rw (← c.from.ensures) (ap (spelled c.turn_row.new.turned) c.joint_count-k.ensures ∙ c.turn_row.ensures.1)
-
-pub turn_row-requires : goal.turn_row-requires
-turn_row-requires c =
-    (rw c.from.ensures (c.requires.0.low _ (omega arith)), c.requires.2, c.requires.3, c.loop-row.invariant.0)
-
-pub survivors-requires : goal.survivors-requires
-survivors-requires c = (
-  record {
-    tall = c.requires.1.sized.tall;
-    planes =
-        planes-long c.args.h c.args.w c.args.colours.now no_walls
-        c.draw_colours.ensures;
-    mask = c.draw_mask.ensures.0.size;
-  },
-  image-raised (goal.at.survivors-requires c).After-turn_row,
-  c.loop-row.invariant.1,
-)
 
 pub block_mates-at-requires : goal.block_mates-at-requires
 block_mates-at-requires c =
@@ -101,9 +69,6 @@ loop-row-preserved c =
           c.draw_mask.ensures.0 (image-spelled (goal.at.loop-row-preserved c).After-turn_row))
           at c.block_mates-at.ensures),
     )
-
-pub shape_of-memory : goal.shape_of-memory
-shape_of-memory c = c.loop-row.invariant.2.long
 
 pub returns : goal.returns
 unfolding blocks_listed

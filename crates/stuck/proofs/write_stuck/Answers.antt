@@ -52,9 +52,6 @@ joints-requires c =
     let e = c.places.ensures in
     unit-placed q.ready.drawn.sized (stuck-part q) e.0 e.1
 
-pub list_rows-listed-requires : goal.list_rows-listed-requires
-list_rows-listed-requires c = c.joints.ensures.0
-
 pub write_unit-requires : goal.write_unit-requires
 write_unit-requires c =
     let q = c.requires.0 in (

@@ -20,11 +20,6 @@ block_rows-blocked-requires c =
       c.requires.2,
     )
 
-pub inside-inner-requires : goal.inside-inner-requires
-inside-inner-requires c =
-    let a = c.requires.0 in
-    (a.drawn.sized, a.borders, a.unit, c.block_rows-blocked.ensures.spare)
-
 pub walls_of-requires : goal.walls_of-requires
 walls_of-requires c =
     let a = c.requires.0 in (

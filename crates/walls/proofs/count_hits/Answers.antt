@@ -41,7 +41,7 @@ none c e =
     (sym c.hit-hits.ensures ∙ e))
 
 pub loop-i-init : goal.loop-i-init
-loop-i-init c = (omega arith, omega arith, λ e j l. absurd (omega arith))
+loop-i-init c = (omega arith, λ e j l. absurd (omega arith))
 
 pub overflow_add-at : goal.overflow_add-at
 overflow_add-at c = omega (arith, c.requires)
@@ -68,18 +68,14 @@ pub bounds-blocks-d : goal.bounds-blocks-d
 bounds-blocks-d c = omega (arith, c.requires)
 
 pub overflow_add-hits : goal.overflow_add-hits
-overflow_add-hits c = omega (arith, one c, c.loop-i.invariant.1, c.requires)
-
-pub overflow_add-i : goal.overflow_add-i
-overflow_add-i c = omega (arith, c.requires)
+overflow_add-hits c = omega (arith, one c, c.loop-i.invariant.0, c.requires)
 
 pub loop-i-preserved : goal.loop-i-preserved
 loop-i-preserved c =
     let l = c.loop-i in (
-      omega arith,
-      omega (arith, one c, l.invariant.1),
-      λ e. below_more _ l.i (l.invariant.2 (omega (arith, e))) (none c (omega (arith, e))),
+      omega (arith, one c, l.invariant.0),
+      λ e. below_more _ l.i (l.invariant.1 (omega (arith, e))) (none c (omega (arith, e))),
     )
 
 pub returns : goal.returns
-returns c e j l = c.loop-i.invariant.2 e j (omega arith)
+returns c e j l = c.loop-i.invariant.1 e j (omega arith)

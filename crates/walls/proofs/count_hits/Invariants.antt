@@ -1,6 +1,6 @@
 -- `count_hits` meets its contract: as long as none is counted, the borders passed are no such walls.
 use mathlib.Core.Path.{◌≡◌}
-use Prim.Native.Nat.{◌≤◌, ◌-◌}
+use Prim.Native.Nat.{◌≤◌}
 use Rattle.rules.specs.Codes.{states_in}
 use Rattle.rules.specs.Groups.{entry}
 use Rattle.groups.specs.Grouping.{numbers_in}
@@ -9,8 +9,5 @@ use Rattle.walls.proofs.count_hits.Given as goal
 
 abbrev pub invariant-loop-i : goal.invariant-loop-i
 invariant-loop-i l =
-    (l.i ≤ l.n) × (l.hits ≤ l.i)
+    (l.hits ≤ l.i)
     × (l.hits ≡ 0 → Apart (states_in l.borders) (entry (numbers_in l.blocks)) l.at l.c l.d l.i)
-
-abbrev pub decreases-loop-i : goal.decreases-loop-i
-decreases-loop-i l = l.n - l.i

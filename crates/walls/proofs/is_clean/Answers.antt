@@ -46,7 +46,7 @@ pub returns-then-count_hits-ne0 : goal.returns-then-count_hits-ne0
 returns-then-count_hits-ne0 c e = let z : ◌≡◌ {A = ℕ} 0 1 = cc in absurd (omega arith)
 
 pub loop-y-init : goal.loop-y-init
-loop-y-init c = (omega arith, λ v l. absurd (omega arith))
+loop-y-init c v l = absurd (omega arith)
 
 pub overflow_sub-w-in-loop-y : goal.overflow_sub-w-in-loop-y
 overflow_sub-w-in-loop-y c = omega (arith, c.requires.0)
@@ -77,9 +77,6 @@ count_hits-requires-in-loop-y c = (
 pub returns-then-count_hits-ne0-2 : goal.returns-then-count_hits-ne0-2
 returns-then-count_hits-ne0-2 c e = let z : ◌≡◌ {A = ℕ} 0 1 = cc in absurd (omega arith)
 
-pub overflow_add-y-in-loop-y : goal.overflow_add-y-in-loop-y
-overflow_add-y-in-loop-y c = omega (arith, c.requires.0)
-
 pub loop-y-preserved : goal.loop-y-preserved
 loop-y-preserved c =
     let l = c.loop-y in
@@ -87,10 +84,10 @@ loop-y-preserved c =
     let s = states_in a.borders.now in
     let row : ℕ → Type 0 = λ v. Apart s (entry (numbers_in a.blocks.now)) (v * (a.w - 1)) (v * a.w) (v * a.w + 1)
     (a.w - 1) in
-    (omega arith, below_more row l.y l.invariant.1 (c.count_hits-in-loop-y.ensures c.if-count_hits-ne0-2.false))
+    below_more row l.y l.invariant (c.count_hits-in-loop-y.ensures c.if-count_hits-ne0-2.false)
 
 pub returns : goal.returns
 returns c e =
     let l = c.loop-y in
     page-clean _ _ _ _ (c.count_hits.ensures c.if-count_hits-ne0.false)
-    (λ y h. l.invariant.1 y (omega arith))
+    (λ y h. l.invariant y (omega arith))

@@ -1,5 +1,5 @@
 -- `is_clean` meets its contract: the borders below, and those on the right row by row.
-use Prim.Native.Nat.{ℕ, ◌≤◌, ◌<◌, ◌+◌, ◌-◌, ◌*◌}
+use Prim.Native.Nat.{ℕ, ◌<◌, ◌+◌, ◌-◌, ◌*◌}
 use Rattle.rules.specs.Codes.{states_in}
 use Rattle.rules.specs.Groups.{entry}
 use Rattle.groups.specs.Grouping.{numbers_in}
@@ -8,9 +8,5 @@ use Rattle.walls.proofs.is_clean.Given as goal
 
 abbrev pub invariant-loop-y : goal.invariant-loop-y
 invariant-loop-y l =
-    (l.y ≤ l.h)
-    × ((v : ℕ) → v < l.y
-    → Apart (states_in l.borders) (entry (numbers_in l.blocks)) (v * (l.w - 1)) (v * l.w) (v * l.w + 1) (l.w - 1))
-
-abbrev pub decreases-loop-y : goal.decreases-loop-y
-decreases-loop-y l = l.h - l.y
+    (v : ℕ) → v < l.y
+    → Apart (states_in l.borders) (entry (numbers_in l.blocks)) (v * (l.w - 1)) (v * l.w) (v * l.w + 1) (l.w - 1)

@@ -17,32 +17,25 @@ test s F i =
     F (image_joints i (cell_spots s.args.outline.now) (joint_spots s.args.outline.now))
 
 pub loop-row-init : goal.loop-row-init
-loop-row-init c = (c.requires.4, λ F a e. none_more 0 (test c F) (any_none (test c F)) e)
+loop-row-init c = λ F a e. none_more 0 (test c F) (any_none (test c F)) e
 
 pub row_fits-requires : goal.row_fits-requires
 row_fits-requires c =
-    (c.loop-row-test.true, c.requires.0, c.requires.1, c.requires.2, c.requires.3, c.loop-row.invariant.0)
+    (c.loop-row-test.true, c.requires.0, c.requires.1, c.requires.2, c.requires.3)
 
 pub returns-then-row_fits : goal.returns-then-row_fits
 returns-then-row_fits c =
-    let e = c.row_fits.ensures in (
-      λ F a z.
-          sym (any_some 8 (test (goal.at.returns-then-row_fits c).Start F) c.loop-row.row c.loop-row-test.true
-          (sym (e.0 F a) ∙ c.if-row_fits.true)),
-      e.1,
-    )
+    λ F a z.
+    sym (any_some 8 (test (goal.at.returns-then-row_fits c).Start F) c.loop-row.row c.loop-row-test.true
+    (sym (c.row_fits.ensures F a) ∙ c.if-row_fits.true))
 
 pub loop-row-preserved : goal.loop-row-preserved
 loop-row-preserved c =
-    let e = c.row_fits.ensures in (
-      e.1,
-      λ F a z. none_more c.loop-row.row (test (goal.at.loop-row-preserved c).Start F)
-          (c.loop-row.invariant.1 F a z) (sym (e.0 F a) ∙ c.if-row_fits.false),
-    )
+    λ F a z.
+    none_more c.loop-row.row (test (goal.at.loop-row-preserved c).Start F) (c.loop-row.invariant F a z)
+    (sym (c.row_fits.ensures F a) ∙ c.if-row_fits.false)
 
 pub returns : goal.returns
 returns c =
-    let e : c.loop-row.row ≡ 8 = omega (arith, c.loop-row-test.false) in (
-      λ F a z. sym (rw e at (c.loop-row.invariant.1 F a z)),
-      c.loop-row.invariant.0,
-    )
+    let e : c.loop-row.row ≡ 8 = omega (arith, c.loop-row-test.false) in
+    λ F a z. sym (rw e at (c.loop-row.invariant F a z))

@@ -27,16 +27,14 @@ pub mask_fits-requires : goal.mask_fits-requires
 mask_fits-requires c = (c.requires.0, search rules, rw c.joint_count.ensures c.requires.3)
 
 pub returns-then-mask_fits : goal.returns-then-mask_fits
-returns-then-mask_fits c = (
-  λ F a.
-      c.if-mask_fits.true
-      ∙ sym
-      (any_some 8 (test (goal.at.returns-then-mask_fits c).Start F) 0 (omega arith)
-      (sym (first (goal.at.returns-then-mask_fits c).After-mask_fits F a) ∙ c.if-mask_fits.true)),
-  c.requires.5,
-)
+returns-then-mask_fits c =
+    λ F a.
+    c.if-mask_fits.true
+    ∙ sym
+    (any_some 8 (test (goal.at.returns-then-mask_fits c).Start F) 0 (omega arith)
+    (sym (first (goal.at.returns-then-mask_fits c).After-mask_fits F a) ∙ c.if-mask_fits.true))
 
 pub returns-else-mask_fits : goal.returns-else-mask_fits
 returns-else-mask_fits c =
-    let o = c.others_fit.ensures in
-    (λ F a. o.0 F a (sym (first (goal.at.returns-else-mask_fits c).After-mask_fits F a) ∙ c.if-mask_fits.false), o.1)
+    λ F a.
+    c.others_fit.ensures F a (sym (first (goal.at.returns-else-mask_fits c).After-mask_fits F a) ∙ c.if-mask_fits.false)

@@ -13,7 +13,7 @@ use Rattle.adjacent.specs.HomeLaws.{unit-in, head-low, home_of}
 use Rattle.fitting.specs.ReadyLaws.{single-unit, sure-unit}
 use Rattle.fitting.specs.HeldLaws.{mate-found}
 use Rattle.fitting.specs.CopyLaws.{group-one}
-use Rattle.fitting.proofs.singles.single_fits.Goals.{Else-not-single}
+use Rattle.fitting.proofs.singles.single_fits.Goals.{Then-single}
 use Rattle.fitting.proofs.singles.single_fits.Goals as goal
 
 pub cells_of-requires : goal.cells_of-requires
@@ -21,8 +21,8 @@ cells_of-requires c =
     let u = unit-in c.requires.0 c.args.u c.requires.1 in
     (u.low, omega (arith, u.some), u.end)
 
-pub home_in-p-requires : goal.home_in-p-requires
-home_in-p-requires c =
+pub home_in-requires : goal.home_in-requires
+home_in-requires c =
     let u = unit-in c.requires.0 c.args.u c.requires.1 in
     (u.low, omega (arith, u.some, u.end), omega (arith, head-low c.requires.0 c.args.u c.requires.1, (counts c.requires.0.drawn.sized).cells))
 
@@ -31,21 +31,21 @@ moved : (f : ℕ → List ℕ) {p r : ℕ} → p ≡ r → (q : ℕ) × (q ∈ f
 moved f e m = rw e at m
 
 -- the unit has one cell
-one : (c : Else-not-single) → get_or (starts_in c.args.units.now) (c.args.u + 1) 0
+one : (c : Then-single) → get_or (starts_in c.args.units.now) (c.args.u + 1) 0
     ≡ get_or (starts_in c.args.units.now) c.args.u 0 + 1
 one c =
     group-one c.requires.0.drawn.sized (unit-in c.requires.0 c.args.u c.requires.1)
-    (rw c.cells_of.ensures at c.if-not-single.false)
+    (rw c.cells_of.ensures at c.if-single.true)
 
 pub near_mate-requires : goal.near_mate-requires
 near_mate-requires c = (
-  rw c.home_in-p.ensures (home_of c.requires.0 c.args.u c.requires.1),
+  rw c.home_in.ensures (home_of c.requires.0 c.args.u c.requires.1),
   c.requires.3,
 )
 
 pub returns-then-sure : goal.returns-then-sure
 returns-then-sure c = (
-  λ e. sure-unit c.requires.0 c.args.u c.requires.1 (one (goal.at.returns-then-sure c).Else-not-single)
+  λ e. sure-unit c.requires.0 c.args.u c.requires.1 (one (goal.at.returns-then-sure c).Then-single)
       (c.requires.2 c.if-sure.true),
   c.requires.3,
 )
@@ -53,8 +53,8 @@ returns-then-sure c = (
 pub returns-else-sure : goal.returns-else-sure
 returns-else-sure c = (
   λ e.
-      single-unit c.requires.0 c.args.u c.requires.1 (one (goal.at.returns-else-sure c).Else-not-single)
-      (moved (mates (unclued c.args.h c.args.w c.args.colours.now) (states_in c.args.borders.now)) c.home_in-p.ensures
+      single-unit c.requires.0 c.args.u c.requires.1 (one (goal.at.returns-else-sure c).Then-single)
+      (moved (mates (unclued c.args.h c.args.w c.args.colours.now) (states_in c.args.borders.now)) c.home_in.ensures
       (mate-found c.near_mate.result c.near_mate.ensures.0 (sym c.is_some.ensures ∙ e))).1,
   c.near_mate.ensures.1,
 )

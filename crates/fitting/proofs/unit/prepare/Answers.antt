@@ -31,7 +31,6 @@ draw_mask-requires c =
     let k = c.requires.0 in (
       k.drawn.sized,
       beside-gathered c.args.potential.now k.grouped k.known c.args.p c.mates_of.ensures,
-      c.requires.1.size,
     )
 
 pub returns : goal.returns

@@ -4,7 +4,7 @@ use Rattle.page.specs.FormLaws.{from-none, from_more}
 use Rattle.page.specs.Judge.{colour_array}
 use Rattle.page.specs.Many.{passes}
 use Rattle.page.specs.PageText.{row-takes}
-use Rattle.page.specs.Places.{got_row}
+use Rattle.page.specs.Places.{got_digits}
 use mathlib.Core.Path.{sym, ◌∙◌, refl}
 use Rattle.page.proofs.filling.colours.Goals as goal
 
@@ -13,13 +13,13 @@ unfolding colour_array
 loop-digits-init c = refl
 
 pub loop-digits-smaller : goal.loop-digits-smaller
-unfolding got_row
+unfolding got_digits
 loop-digits-smaller c =
     passes row-takes _ _ _ _
     (sym c.in-Some.ensures)
 
 pub loop-digits-preserved : goal.loop-digits-preserved
-unfolding got_row
+unfolding got_digits
 loop-digits-preserved c =
     c.loop-digits.invariant ∙
     rows_on (from_more row-takes _ _ _ _
@@ -27,5 +27,5 @@ loop-digits-preserved c =
     c.with_digits-laid.ensures
 
 pub returns : goal.returns
-unfolding got_row
+unfolding got_digits
 returns c = sym (c.loop-digits.invariant ∙ rows_end _ _ (from-none row-takes _ _ (sym c.in_default.ensures)))

@@ -1,13 +1,13 @@
 -- `line_end` meets its contract: the parser of the line's kind says what is left.
-use Rattle.page.specs.Places.{left_from, got_row, got, after_read, after_line}
+use Rattle.page.specs.Places.{left_from, got_digits, got, after_read, after_line}
 use Rattle.page.proofs.whole.line_end.Goals as goal
 
 pub returns-in_err-row_at-in-Row : goal.returns-in_err-row_at-in-Row
-unfolding left_from got_row after_read after_line
+unfolding left_from got_digits after_read after_line
 returns-in_err-row_at-in-Row c = rw (c.in-Row.is, c.from_residual.ensures, ← c.in_err-row_at-in-Row.ensures)
 
 pub returns-in_ok-row_at-in-Row : goal.returns-in_ok-row_at-in-Row
-unfolding left_from got_row after_read after_line
+unfolding left_from got_digits after_read after_line
 returns-in_ok-row_at-in-Row c = rw (c.in-Row.is, ← c.in_ok-row_at-in-Row.ensures)
 
 pub returns-in_err-clue_at-in-Clue : goal.returns-in_err-clue_at-in-Clue

@@ -1,12 +1,7 @@
--- Each return cites its test.
-use borrow.Author.Tests.{eq-eqb, ne_eqb}
-use Rattle.calls.specs.Answers.{literal_of}
+-- The side of a code is its last bit.
+use Rattle.std.proofs.Common.{◌∙◌}
+use Rattle.probe.specs.ProbeChecksLaws.{code-literal}
 use Rattle.probe.proofs.checks.literal.Goals as goal
 
-pub returns-then-n-eq1 : goal.returns-then-n-eq1
-unfolding literal_of
-returns-then-n-eq1 c = rw (eq-eqb _ _ c.if-n-eq1.true)
-
 pub returns : goal.returns
-unfolding literal_of
-returns c = rw (ne_eqb _ _ c.if-n-eq1.false)
+returns c = c.literal.ensures ∙ code-literal c.args.n

@@ -14,10 +14,11 @@ use Rattle.probe.proofs.records.probe_counted.Goals as goal
 pub returns-then-words-ne3 : goal.returns-then-words-ne3
 returns-then-words-ne3 c =
     let a = c.args in
-    record-other _ _ a.words.now a.memory.now c.if-words-ne3.true
+    let r = record-other _ _ a.words.now a.memory.now c.if-words-ne3.true in
+    (c.number.ensures ∙ r.0, r.1, r.2)
 
-pub number-requires : goal.number-requires
-number-requires c = rw c.call_by_value-made.ensures.0 (counted-range _ _ _ _)
+pub number-requires-2 : goal.number-requires-2
+number-requires-2 c = rw c.call_by_value-made.ensures.0 (counted-range _ _ _ _)
 
 pub returns : goal.returns
 returns c =
@@ -26,12 +27,12 @@ returns c =
     let m = a.memory.now in
     let g = record-three _ _ ws m c.if-words-ne3.false in
     let e = c.call_by_value-made.ensures in
-    let d = e.0 ∙ ap₂ (λ (x : Board) (y : Call). counted_of x y (tally_from ws) m) c.board_from-board.ensures
-    c.call_with-asked.ensures in (
-      c.number.ensures ∙ ap (λ (x : Counted). answer_number x.stepped.answer) d ∙ g.0,
+    let d = e.0 ∙ ap₂ (λ (x : Board) (y : Call). counted_of x y (tally_from ws) m) c.board_from.ensures
+    c.call_with.ensures in (
+      c.number-2.ensures ∙ ap (λ (x : Counted). answer_number x.stepped.answer) d ∙ g.0,
       c.put_tally.ensures ∙ ap (λ (x : Counted). sets ws 0 (tally_counts x.tally)) d ∙ g.1,
       e.1
-          ∙ ap₂ (λ (x : Board) (y : Call). counted_memory x y (tally_from ws) m) c.board_from-board.ensures
-          c.call_with-asked.ensures
+          ∙ ap₂ (λ (x : Board) (y : Call). counted_memory x y (tally_from ws) m) c.board_from.ensures
+          c.call_with.ensures
           ∙ g.2,
     )

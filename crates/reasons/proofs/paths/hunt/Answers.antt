@@ -51,7 +51,7 @@ pub expand-tail-requires : goal.expand-tail-requires
 expand-tail-requires c =
     let l = c.loop-head in
     let m = c.loop-head-test.true in
-    let e = c.index-c.ensures in (
+    let e = c.from-c.ensures in (
       c.requires.0,
       c.requires.1,
       rw e (l.invariant.lined.lined l.head m),
@@ -74,7 +74,7 @@ pub loop-head-preserved : goal.loop-head-preserved
 loop-head-preserved c =
     let l = c.loop-head in
     let m = c.loop-head-test.true in
-    let e = c.index-c.ensures in
+    let e = c.from-c.ensures in
     going_more l.invariant m (rw e at c.expand-tail.ensures)
 
 pub returns : goal.returns

@@ -4,7 +4,7 @@ use native.Mathlib.Omega.{arith}
 use Rattle.laws.specs.FlatLaws.{Counts, counts}
 use Rattle.reasons.proofs.MemoryLaws.{naming-none}
 use Rattle.reasons.proofs.PathLaws.{path-off-a, path-off-b}
-use Rattle.reasons.proofs.paths.path.Goals.{Start}
+use Rattle.reasons.proofs.paths.path.Goals.{Start, then-h-w-via-then-h-w, then-h-w-via-else-h-w+then-h-w-2}
 use Rattle.reasons.proofs.paths.path.Goals as goal
 
 few : (s : Start) → Counts s.args.h s.args.w
@@ -13,18 +13,18 @@ few s = counts s.requires.0
 pub overflow_mul-h : goal.overflow_mul-h
 overflow_mul-h c = omega (arith, few (goal.at.overflow_mul-h c).Start)
 
+pub overflow_mul-h-else-h-w : goal.overflow_mul-h-else-h-w
+overflow_mul-h-else-h-w c = omega (arith, few (goal.at.overflow_mul-h-else-h-w c).Start)
+
 pub returns-then-h-w : goal.returns-then-h-w
 returns-then-h-w c =
     let a = c.args in
-    rw (path-off-a a.h a.w a.borders.now a.a a.b c.if-h-w.true) (naming-none c.requires.2)
-
-pub overflow_mul-h-2 : goal.overflow_mul-h-2
-overflow_mul-h-2 c = omega (arith, few (goal.at.overflow_mul-h-2 c).Start)
-
-pub returns-then-h-w-2 : goal.returns-then-h-w-2
-returns-then-h-w-2 c =
-    let a = c.args in
-    rw (path-off-b a.h a.w a.borders.now a.a a.b c.if-h-w-2.true) (naming-none c.requires.2)
+    elim c.then-h-w.branch [
+      | then-h-w-via-then-h-w w ↦
+          rw (path-off-a a.h a.w a.borders.now a.a a.b w.if-h-w.true) (naming-none c.requires.2)
+      | then-h-w-via-else-h-w+then-h-w-2 w ↦
+          rw (path-off-b a.h a.w a.borders.now a.a a.b w.if-h-w-2.true) (naming-none c.requires.2)
+    ]
 
 pub hunt-requires : goal.hunt-requires
 hunt-requires c = (

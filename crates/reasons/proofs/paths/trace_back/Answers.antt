@@ -29,7 +29,7 @@ pub append-at-requires : goal.append-at-requires
 append-at-requires c =
     let t = c.loop-c.invariant in
     let ne = c.loop-c-test.true in
-    (t.wrote.spare, rw c.index.ensures (tracing-narrow t ne))
+    (t.wrote.spare, rw c.from.ensures (tracing-narrow t ne))
 
 pub offset_bounds-parent-c : goal.offset_bounds-parent-c
 offset_bounds-parent-c c = omega (arith, few (goal.at.offset_bounds-parent-c c).Start, c.loop-c.invariant.inside)
@@ -47,14 +47,14 @@ pub loop-c-smaller : goal.loop-c-smaller
 loop-c-smaller c =
     let t = c.loop-c.invariant in
     let ne = c.loop-c-test.true in
-    rw c.index-c.ensures (tracing-less t ne)
+    rw c.from-c.ensures (tracing-less t ne)
 
 pub loop-c-preserved : goal.loop-c-preserved
 loop-c-preserved c =
     let t = c.loop-c.invariant in
     let ne = c.loop-c-test.true in
-    let e = c.index.ensures in
-    rw c.index-c.ensures (tracing-more t ne (rw e at c.append-at.ensures))
+    let e = c.from.ensures in
+    rw c.from-c.ensures (tracing-more t ne (rw e at c.append-at.ensures))
 
 pub shape_of-memory : goal.shape_of-memory
 shape_of-memory c = c.loop-c.invariant.wrote.long

@@ -1,10 +1,13 @@
 -- One direction after another.
 use mathlib.Core.Path.{◌≡◌}
+use borrow.Author.Rules.{rules}
+use mathlib.Core.Bool.{Bool}
 use mathlib.Core.List.{List}
 use Prim.Native.Nat.{ℕ, ◌+◌, ◌*◌, ◌/◌, ◌%◌}
 use Rattle.lists.specs.UpTo.{up_to}
 use Rattle.rules.specs.declared.Side.TheVariants.{Open}
 use Rattle.rules.specs.declared.Literal.{Literal}
+use Rattle.rules.specs.Page.{Hop}
 use Rattle.rules.specs.Flat.{flat}
 use Rattle.rules.specs.Codes.{states_in}
 use Rattle.rules.specs.Groups.{entry}
@@ -16,7 +19,7 @@ use Rattle.reasons.specs.Arrays.{hop_at, direction_at, open_kept}
 use Rattle.reasons.proofs.MemoryLaws.{turns-none, turns_more}
 use Rattle.reasons.specs.StepLaws.{near-fits}
 use Rattle.reasons.specs.ScanLaws.{inside-hops}
-use Rattle.reasons.proofs.scans.open_cell.Goals.{Start}
+use Rattle.reasons.proofs.scans.open_cell.Goals.{Start, After-append_kept-at}
 use Rattle.reasons.proofs.scans.open_cell.Goals as goal
 
 row : (s : Start) → OnPage s.args.h s.args.w s.args.c
@@ -25,10 +28,13 @@ row s = row_of_lem _ _ _ s.requires.2
 abbrev number : Start → ℕ → ℕ
 number s = entry (numbers_in s.args.grouping.now)
 
+abbrev test : Start → Hop → Bool
+test s = open_kept (states_in s.args.borders.now) (number s) s.args.g
+
 abbrev at : Start → ℕ → List Literal
 at s i =
     let a = s.args in
-    gather Open (open_kept (states_in a.borders.now) (number s) a.g)
+    gather Open (test s)
     (hop_at a.h a.w (a.c / a.w) (a.c % a.w) (direction_at (2 * i + 1)))
 
 whole : (s : Start) → let a = s.args in
@@ -55,17 +61,27 @@ beside-right-requires c = (
   (row (goal.at.beside-right-requires c).Start).same,
 )
 
-pub open_hop-at-requires : goal.open_hop-at-requires
-open_hop-at-requires c = (c.requires.1, near-fits c.beside-below.ensures, c.requires.3)
+pub append_kept-at-requires-clause-near : goal.append_kept-at-requires-clause-near
+append_kept-at-requires-clause-near c = near-fits c.beside-below.ensures
 
-pub open_hop-requires : goal.open_hop-requires
-open_hop-requires c = (c.requires.1, near-fits c.beside-right.ensures, c.open_hop-at.ensures.spare)
+pub append_kept-requires-clause-near : goal.append_kept-requires-clause-near
+append_kept-requires-clause-near c = near-fits c.beside-right.ensures
+
+-- the first direction
+one : (c : After-append_kept-at) → let s = (goal.at.After-append_kept-at c).Start in
+    Wrote c.args.memory.now c.args.from (up_to (at s) 1) c.append_kept-at.new.memory c.append_kept-at.result
+unfolding direction_at
+one c =
+    let s = (goal.at.After-append_kept-at c).Start in
+    turns_more (at s) 0 (start s) (rw c.beside-below.ensures.is at c.append_kept-at.ensures (test s) (λ n k p. search rules))
+
+pub append_kept-requires-clause-spare : goal.append_kept-requires-clause-spare
+append_kept-requires-clause-spare c = (one (goal.at.append_kept-requires-clause-spare c).After-append_kept-at).spare
 
 pub returns : goal.returns
 unfolding direction_at
 returns c =
-    let one =
-    turns_more (at (goal.at.returns c).Start) 0 (start (goal.at.returns c).Start)
-    (rw c.beside-below.ensures.is at c.open_hop-at.ensures) in
-    rw (whole (goal.at.returns c).Start)
-    (turns_more (at (goal.at.returns c).Start) 1 one (rw c.beside-right.ensures.is at c.open_hop.ensures))
+    let s = (goal.at.returns c).Start in
+    rw (whole s)
+    (turns_more (at s) 1 (one (goal.at.returns c).After-append_kept-at)
+    (rw c.beside-right.ensures.is at c.append_kept.ensures (test s) (λ n k p. search rules)))

@@ -1,92 +1,50 @@
--- Cell by cell: `i` of the group's cells are written.
-use mathlib.Core.Path.{◌≡◌}
-use mathlib.Core.List.{List}
-use Prim.Native.Nat.{ℕ, ◌+◌, ◌-◌}
-use native.Mathlib.Omega.{arith}
-use lib.ListN.{get_or}
-use Rattle.lists.specs.UpTo.{up_to}
+-- Cell by cell.
+use Rattle.std.proofs.Common.{ℕ, List, ◌+◌, arith}
 use Rattle.rules.specs.declared.Literal.{Literal}
-use Rattle.groups.specs.Grouping.{numbers_in, cells_in, start_in, group_cells}
-use Rattle.reasons.specs.Arrays.{Cells, scan_at, scan_of}
-use Rattle.reasons.proofs.MemoryLaws.{turns-none, turns_more, turns-end}
-use Rattle.reasons.specs.ScanLaws.{part-cells, scan-part}
+use Rattle.groups.specs.Grouping.{numbers_in, cells_in, start_in}
+use Rattle.reasons.specs.Arrays.{Cells, scan_of, scan_at}
+use Rattle.reasons.specs.CellLaws.{part-cell, part_whole}
+use Rattle.reasons.specs.ScanLaws.{part-cells}
+use Rattle.reasons.proofs.MemoryLaws.{write-none, write-more}
 use Rattle.reasons.proofs.scans.scan_walls.Goals.{Start}
 use Rattle.reasons.proofs.scans.scan_walls.Goals as goal
 
 abbrev at : Start → ℕ → List Literal
-at s k =
-    let a = s.args in
-    scan_at a.h a.w a.colours.now a.borders.now (numbers_in a.grouping.now) a.same
-    a.flagged.now
-    (get_or (cells_in a.grouping.now) (start_in a.grouping.now a.g + k) 0)
+at s = let a = s.args in scan_at a.h a.w a.colours.now a.borders.now (numbers_in a.grouping.now) a.same a.flagged.now
 
 listed : (s : Start) → let a = s.args in
-    Cells a.h a.w (cells_in a.grouping.now) (start_in a.grouping.now a.g)
-    (start_in a.grouping.now (a.g + 1))
+    Cells a.h a.w (cells_in a.grouping.now) (start_in a.grouping.now a.g) (start_in a.grouping.now (a.g + 1))
 listed s = part-cells s.requires.4.is
 
-whole : (s : Start) → let a = s.args in
-    scan_of a.h a.w a.colours.now a.borders.now (numbers_in a.grouping.now) a.same
-    a.flagged.now (group_cells a.grouping.now a.g)
-    ≡ up_to (at s) (start_in a.grouping.now (a.g + 1) - start_in a.grouping.now a.g)
-whole s =
-    let a = s.args in
-    scan-part a.colours.now a.borders.now (numbers_in a.grouping.now) a.same a.flagged.now
-    (listed s)
+pub cells_of-cells-requires : goal.cells_of-cells-requires
+cells_of-cells-requires c = (c.requires.4.few, c.requires.4.is.order, c.requires.4.is.end)
 
-pub start_of-from-requires : goal.start_of-from-requires
-start_of-from-requires c = omega (arith, c.requires.4.few)
-
-pub overflow_add-g : goal.overflow_add-g
-overflow_add-g c = omega (arith, c.requires.4.few)
-
-pub start_of-requires : goal.start_of-requires
-start_of-requires c = omega (arith, c.requires.4.few)
-
-pub overflow_sub-count : goal.overflow_sub-count
-overflow_sub-count c =
-    omega (arith, listed (goal.at.overflow_sub-count c).Start, c.start_of-from.ensures, c.start_of.ensures)
-
-pub loop-i-init : goal.loop-i-init
-loop-i-init c = (omega arith, turns-none _ c.requires.5)
-
-pub overflow_add-from : goal.overflow_add-from
-overflow_add-from c =
-    omega (arith, listed (goal.at.overflow_add-from c).Start, c.start_of-from.ensures, c.start_of.ensures)
-
-pub cell_at-c-requires : goal.cell_at-c-requires
-cell_at-c-requires c =
-    omega (arith, listed (goal.at.cell_at-c-requires c).Start, c.start_of-from.ensures, c.start_of.ensures)
+pub loop-cell-init : goal.loop-cell-init
+loop-cell-init c = write-none (at (goal.at.loop-cell-init c).Start) c.cells_of-cells.result.now 0 c.requires.5
 
 pub wall_cell-at-requires : goal.wall_cell-at-requires
-wall_cell-at-requires c =
-    let f = c.start_of-from.ensures in (
-      c.requires.0,
-      record { borders = c.requires.1; numbers = c.requires.4.numbers },
-      c.requires.2,
-      c.requires.3,
-      rw (c.cell_at-c.ensures, f)
-          ((listed (goal.at.wall_cell-at-requires c).Start).each c.loop-i.i
-          (omega (arith, f, c.start_of.ensures, c.loop-i-test.true))),
-      c.loop-i.invariant.1.spare,
-    )
+wall_cell-at-requires c = (
+  c.requires.0,
+  record { borders = c.requires.1; numbers = c.requires.4.numbers },
+  c.requires.2,
+  c.requires.3,
+  rw (c.from-c.ensures, c.cells_of-cells.ensures)
+      (part-cell (listed (goal.at.wall_cell-at-requires c).Start) c.loop-cell.cell-index
+      (rw c.cells_of-cells.ensures at c.loop-cell-test.true)),
+  c.loop-cell.invariant.spare,
+)
 
-pub loop-i-preserved : goal.loop-i-preserved
-loop-i-preserved c =
-    let k = c.cell_at-c.ensures in (
-      omega (arith, c.loop-i-test.true),
-      turns_more (at (goal.at.loop-i-preserved c).Start) c.loop-i.i c.loop-i.invariant.1
-          (rw (k, c.start_of-from.ensures) at c.wall_cell-at.ensures),
-    )
+pub loop-cell-preserved : goal.loop-cell-preserved
+loop-cell-preserved c =
+    write-more (at (goal.at.loop-cell-preserved c).Start) c.cells_of-cells.result.now 0 c.loop-cell.cell-index
+    (omega arith) c.loop-cell.invariant c.loop-cell-test.true (rw c.from-c.ensures at c.wall_cell-at.ensures)
 
 pub shape_of-memory : goal.shape_of-memory
-shape_of-memory c = c.loop-i.invariant.1.long
+shape_of-memory c = c.loop-cell.invariant.long
 
 pub returns : goal.returns
+unfolding scan_of
 returns c =
-    let f = c.start_of-from.ensures in
-    let t = c.start_of.ensures in
-    rw (whole (goal.at.returns c).Start)
-    (turns-end (at (goal.at.returns c).Start) c.loop-i.i c.loop-i.invariant.1 _
-    (omega (arith, f, t, c.loop-i.invariant.0))
-    (omega (arith, f, t, c.loop-i-test.false)))
+    rw (← c.cells_of-cells.ensures)
+    (rw (part_whole c.cells_of-cells.result.now c.loop-cell.cell-index c.loop-cell-test.false) at
+    c.loop-cell.invariant)

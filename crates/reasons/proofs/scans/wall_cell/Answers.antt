@@ -1,14 +1,15 @@
 -- One direction after another: `d` of the four are written.
 use mathlib.Core.Path.{◌≡◌}
+use borrow.Author.Rules.{rules}
 use mathlib.Core.List.{List}
-use Prim.Native.Nat.{ℕ, ◌<◌}
+use Prim.Native.Nat.{ℕ}
 use native.Mathlib.Omega.{arith}
 use Rattle.lists.specs.UpTo.{up_to}
 use Rattle.rules.specs.declared.Literal.{Literal}
-use Rattle.laws.specs.FlatLaws.{counts, OnPage, row_of_lem}
+use Rattle.laws.specs.FlatLaws.{OnPage, row_of_lem}
 use Rattle.groups.specs.Grouping.{numbers_in}
-use Rattle.reasons.specs.Arrays.{direction_at, scan_to, scan_at}
-use Rattle.reasons.proofs.MemoryLaws.{turns-none, turns_more, turns-end}
+use Rattle.reasons.specs.Arrays.{direction_at, scan_test, scan_to, scan_at}
+use Rattle.reasons.proofs.MemoryLaws.{turns-none, turns_more}
 use Rattle.reasons.specs.StepLaws.{near-fits}
 use Rattle.reasons.specs.ScanLaws.{scan-hops}
 use Rattle.reasons.proofs.scans.wall_cell.Goals.{Start}
@@ -36,16 +37,20 @@ whole s =
 pub loop-direction-init : goal.loop-direction-init
 loop-direction-init c = turns-none _ c.requires.5
 
-pub wall_hop-at-requires : goal.wall_hop-at-requires
-wall_hop-at-requires c =
-    let few : c.args.c < 1024 = omega (arith, counts c.requires.0, c.requires.4) in
-    (c.requires.1, c.requires.2, c.requires.3, few, near-fits c.beside-n.ensures, c.loop-direction.invariant.spare)
+pub append_kept-at-requires-clause-near : goal.append_kept-at-requires-clause-near
+append_kept-at-requires-clause-near c = near-fits c.beside-n.ensures
+
+pub append_kept-at-requires-clause-spare : goal.append_kept-at-requires-clause-spare
+append_kept-at-requires-clause-spare c = c.loop-direction.invariant.spare
 
 pub loop-direction-preserved : goal.loop-direction-preserved
 unfolding direction_at
 loop-direction-preserved c =
+    let a = c.args in
     turns_more (at (goal.at.loop-direction-preserved c).Start) c.loop-direction.direction-index
-    c.loop-direction.invariant (rw c.beside-n.ensures.is at c.wall_hop-at.ensures)
+    c.loop-direction.invariant
+    (rw c.beside-n.ensures.is at c.append_kept-at.ensures
+    (scan_test a.colours.now a.borders.now (numbers_in a.grouping.now) a.same a.flagged.now a.c) (λ n k p. search rules))
 
 pub shape_of-memory : goal.shape_of-memory
 shape_of-memory c = c.loop-direction.invariant.long

@@ -10,7 +10,6 @@ use lib.ListN.{get_or}
 use Rattle.rules.specs.declared.Placement.{Placement}
 use Rattle.rules.specs.declared.Placement.TheVariants.{Fits, Blocked, Cannot}
 use Rattle.rules.specs.Page.{wall_at}
-use Rattle.laws.specs.FlatLaws.{counts}
 use Rattle.reasons.proofs.MemoryLaws.{naming-none}
 use Rattle.stuck.specs.Survivors.{placed_at, block_in}
 use Rattle.stuck.specs.PlacedLaws.{place-row, place-column, placed-within, block_one, block_none}
@@ -43,21 +42,6 @@ one : (c : In-Blocked) → block_in c.args.h c.args.w c.args.borders.now c.args.
     c.args.n c.args.o ≡ wall_at c.in-Blocked.border ∷ []
 one c = block_one c.args.h c.args.w c.args.borders.now c.args.rows.now c.args.turned.now
     c.args.n c.args.o (is (goal.at.In-Blocked c).After-placed) c.in-Blocked.is
-
-pub offset_bounds-places-o : goal.offset_bounds-places-o
-offset_bounds-places-o c = omega (arith, c.requires.4, (counts c.requires.0).cells)
-
-pub bounds-places-o : goal.bounds-places-o
-bounds-places-o c = omega (arith, c.requires.4, (counts c.requires.0).cells)
-
-pub placed-requires : goal.placed-requires
-placed-requires c = (
-  c.requires.0,
-  c.requires.1,
-  c.requires.2,
-  omega (arith, row (goal.at.placed-requires c).Start, low (goal.at.placed-requires c).Start),
-  omega (arith, column (goal.at.placed-requires c).Start, slim (goal.at.placed-requires c).Start),
-)
 
 -- a placement that is not blocked
 other : (p : Placement) → ((x : ℕ) → p ≡ Blocked x → ⊥) → (p ≡ Fits) ⊎ (p ≡ Cannot)

@@ -1,12 +1,9 @@
 -- The loop's invariant: the blockers at the cells before o are written.
-use mathlib.Core.Path.{◌≡◌}
 use mathlib.Core.List.{List}
 use Prim.Native.Nat.{ℕ}
 use native.Mathlib.Omega.{arith}
-use lib.ListN.{length}
 use Rattle.rules.specs.declared.Literal.{Literal}
 use Rattle.reasons.proofs.MemoryLaws.{write-none, write-more}
-use Rattle.planes.specs.MaskLaws.{part-all}
 use Rattle.stuck.specs.Survivors.{block_in}
 use Rattle.stuck.proofs.survivors.block_group.Goals.{Start}
 use Rattle.stuck.proofs.survivors.block_group.Goals as goal
@@ -20,26 +17,8 @@ each s o =
 pub loop-o-init : goal.loop-o-init
 loop-o-init c = write-none (each (goal.at.loop-o-init c).Start) c.args.cells.now 0 c.requires.5
 
-pub block_at-at-requires : goal.block_at-at-requires
-block_at-at-requires c = (
-  c.requires.0,
-  c.requires.1,
-  c.requires.2,
-  c.requires.3,
-  rw c.from.ensures (c.requires.4 c.loop-o.o-index c.loop-o-test.true),
-  c.loop-o.invariant.spare,
-)
-
 pub loop-o-preserved : goal.loop-o-preserved
 loop-o-preserved c =
     write-more (each (goal.at.loop-o-preserved c).Start) c.args.cells.now 0 c.loop-o.o-index (omega arith)
     c.loop-o.invariant c.loop-o-test.true
     (rw c.from.ensures at c.block_at-at.ensures)
-
-pub shape_of-memory : goal.shape_of-memory
-shape_of-memory c = c.loop-o.invariant.long
-
-pub returns : goal.returns
-returns c =
-    let e : c.loop-o.o-index ≡ length c.args.cells.now = omega arith in
-    rw (e, part-all c.args.cells.now) at c.loop-o.invariant

@@ -12,7 +12,7 @@ use Rattle.reasons.proofs.MemoryLaws.{write-none, write-more}
 use Rattle.adjacent.specs.Mates.{mate_count}
 use Rattle.reasons.specs.Arrays.{Cells}
 use Rattle.adjacent.specs.BesideLaws.{mates-reach}
-use Rattle.planes.specs.MaskLaws.{mate-listed, mate-read, mates-passed, part-cells}
+use Rattle.planes.specs.MaskLaws.{mate-listed, mate-read, part-cells}
 use Rattle.stuck.specs.Survivors.{block_in}
 use Rattle.stuck.proofs.survivors.block_mates.Goals.{In-loop-mate, After-from-in-loop-mate, Start}
 use Rattle.stuck.proofs.survivors.block_mates.Goals as goal
@@ -67,13 +67,3 @@ loop-mate-preserved c =
     (omega (arith, next (goal.at.loop-mate-preserved c).In-loop-mate, mates-reach c.requires.4))
     (rw (← mate (goal.at.loop-mate-preserved c).After-from-in-loop-mate)
     (rw c.cells_of.ensures at c.block_group-at.ensures))
-
-pub shape_of-memory : goal.shape_of-memory
-shape_of-memory c = c.loop-mate.invariant.long
-
-pub returns : goal.returns
-returns c =
-    let e : c.loop-mate.mate-index ≡ mate_count c.args.mates.now =
-    mates-passed c.args.mates.now c.loop-mate.mate-index (mates-reach c.requires.4)
-    (rw c.from.ensures at c.loop-mate.auto.mate-index-end) (rw c.from.ensures at c.loop-mate-test.false) in
-    rw e at c.loop-mate.invariant

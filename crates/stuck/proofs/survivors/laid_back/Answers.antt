@@ -1,5 +1,5 @@
 -- The loop's invariant: the connections from j on are no walls.
-use mathlib.Core.Path.{◌≡◌, refl, sym, ap, ◌∙◌}
+use mathlib.Core.Path.{◌≡◌, sym, ap, ◌∙◌}
 use Prim.Native.Nat.{ℕ, ◌+◌, ◌-◌, ◌*◌}
 use native.Mathlib.Omega.{arith}
 use lib.ListN.{get_or}
@@ -10,9 +10,6 @@ use Rattle.stuck.specs.PlacedLaws.{border-low, back_none, back-next, back-wall}
 use Rattle.stuck.specs.Survivors.{On, border_at}
 use Rattle.stuck.proofs.survivors.laid_back.Goals.{After-border_at-border, In-loop-j}
 use Rattle.stuck.proofs.survivors.laid_back.Goals as goal
-
-pub loop-j-init : goal.loop-j-init
-loop-j-init c = (omega arith, refl)
 
 -- the next connection is small, and on the page
 small : (c : In-loop-j)

@@ -54,9 +54,6 @@ loop-mate-preserved c =
       c.edge-at.ensures.1,
     )
 
-pub shape_of-memory : goal.shape_of-memory
-shape_of-memory c = c.loop-mate.invariant.0.long
-
 pub returns : goal.returns
 unfolding edges_in
 returns c =

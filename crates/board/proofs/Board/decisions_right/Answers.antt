@@ -7,18 +7,18 @@ use Rattle.board.specs.Alien.{decisions_in, decided_in}
 use Rattle.board.specs.Cases.{flagged-borders, decisions-are}
 use Rattle.board.specs.ConditionLaws.{entries-low}
 use Rattle.board.specs.NativeLaws.{has-decisions, walls-few, walls-tell}
-use Rattle.board.proofs.decisions_right.Goals.{then-total-count-via-then-total-count}
-use Rattle.board.proofs.decisions_right.Goals.{then-total-count-via-else-total-count+then-not-entries_right}
-use Rattle.board.proofs.decisions_right.Goals.{Joined-flag_stack, then-flag_stack, else-flag_stack, Then-borders_right}
-use Rattle.board.proofs.decisions_right.Goals as goal
+use Rattle.board.proofs.Board.decisions_right.Goals.{then-total-self-via-then-total-self}
+use Rattle.board.proofs.Board.decisions_right.Goals.{then-total-self-via-else-total-self+then-not-entries_right}
+use Rattle.board.proofs.Board.decisions_right.Goals.{Joined-flag_stack, then-flag_stack, else-flag_stack, Then-borders_right}
+use Rattle.board.proofs.Board.decisions_right.Goals as goal
 
-pub returns-then-total-count : goal.returns-then-total-count
+pub returns-then-total-self : goal.returns-then-total-self
 unfolding decided_in decisions_in
-returns-then-total-count c =
-    elim c.then-total-count.branch [
-      | then-total-count-via-then-total-count w ↦ rw (lt-leb _ _ w.if-total-count.true)
-      | then-total-count-via-else-total-count+then-not-entries_right w ↦
-          rw (le-leb _ _ w.if-total-count.false, sym w.entries_right.ensures ∙ w.if-not-entries_right.true)
+returns-then-total-self c =
+    elim c.then-total-self.branch [
+      | then-total-self-via-then-total-self w ↦ rw (lt-leb _ _ w.if-total-self.true)
+      | then-total-self-via-else-total-self+then-not-entries_right w ↦
+          rw (le-leb _ _ w.if-total-self.false, sym w.entries_right.ensures ∙ w.if-not-entries_right.true)
     ]
 
 pub flag_stack-requires : goal.flag_stack-requires
@@ -30,11 +30,11 @@ flag_stack-requires c = (
 
 -- what the first two tests say
 judged : (c : Joined-flag_stack)
-    → c.if-flag_stack.value ≡ decisions_in c.args.total c.args.borders.now c.args.stack.now c.args.count
+    → c.if-flag_stack.value ≡ decisions_in c.args.total c.args.self.now.borders c.args.self.now.stack c.args.self.now.count
 judged c =
     let t = c.flag_stack.ensures in
     let e =
-    decisions-are c.args.total c.args.borders.now c.args.stack.now c.args.count c.if-total-count.false
+    decisions-are c.args.total c.args.self.now.borders c.args.self.now.stack c.args.self.now.count c.if-total-self.false
     (sym c.entries_right.ensures ∙ c.if-not-entries_right.false) in
     elim c.if-flag_stack.branch [
       | then-flag_stack w ↦
@@ -46,12 +46,12 @@ judged c =
     ]
 
 right : (c : Then-borders_right)
-    → decisions_in c.args.total c.args.borders.now c.args.stack.now c.args.count ≡ true
+    → decisions_in c.args.total c.args.self.now.borders c.args.self.now.stack c.args.self.now.count ≡ true
 right c = sym (judged (goal.at.Then-borders_right c).Joined-flag_stack) ∙ c.if-borders_right.true
 
 pub tally_right-requires : goal.tally_right-requires
 tally_right-requires c =
-    let D = has-decisions _ _ _ _ (right c) in
+    let D = has-decisions _ _ _ _ (right (goal.at.tally_right-requires c).Then-borders_right) in
     (c.requires, D.few, walls-few _ _ _ _ D)
 
 pub returns-then-borders_right : goal.returns-then-borders_right

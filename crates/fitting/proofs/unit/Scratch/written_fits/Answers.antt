@@ -11,8 +11,8 @@ use Rattle.planes.specs.Placing.{bare}
 use Rattle.planes.specs.Laying.{fits_beside}
 use Rattle.fitting.specs.HeldLaws.{held_of, held-sizes, held-answers}
 use Rattle.fitting.specs.Fitting.{fits_rows}
-use Rattle.fitting.proofs.unit.written_fits.Goals.{Start}
-use Rattle.fitting.proofs.unit.written_fits.Goals as goal
+use Rattle.fitting.proofs.unit.Scratch.written_fits.Goals.{Start}
+use Rattle.fitting.proofs.unit.Scratch.written_fits.Goals as goal
 
 abbrev fits : Start → List Point → Bool
 fits s js =
@@ -22,7 +22,7 @@ fits s js =
     (mates page (states_in s.args.borders.now) s.args.p)
 
 pub turn_row-requires : goal.turn_row-requires
-turn_row-requires c = (omega arith, c.requires.1, c.requires.2, c.requires.4)
+turn_row-requires c = (omega arith, c.requires.1, c.requires.2, omega arith)
 
 pub prepare-requires : goal.prepare-requires
 prepare-requires c = (c.requires.0, c.requires.3)
@@ -35,7 +35,6 @@ some_row_fits-requires c =
       c.requires.2,
       e.0,
       e.1,
-      e.2,
     )
 
 pub returns : goal.returns
@@ -43,7 +42,6 @@ unfolding fits_rows
 returns c =
     let k = c.prepare.ensures in
     let e = c.some_row_fits.ensures in (
-      e.0 (fits (goal.at.returns c).Start) (held-answers k c.requires.0),
+      e (fits (goal.at.returns c).Start) (held-answers k c.requires.0),
       held_of k,
-      e.1,
     )
