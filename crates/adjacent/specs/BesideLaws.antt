@@ -6,10 +6,11 @@ use Rattle.lists.specs.ListLaws.{filter-mem, get_d-mem}
 use Rattle.lists.specs.Ranges.{range-lt}
 use Rattle.rules.specs.Codes.{states_in, unclued}
 use Rattle.rules.specs.Check.{mates}
+use Rattle.groups.specs.declared.Grouping.{Grouping}
 use Rattle.groups.specs.Grouping.{cells_in, starts_in}
 use Rattle.adjacent.specs.Mates.{Gathered, Grouped, Known, mate_count, Beside}
 
-pub mates-reach : {h w : ℕ} {potential mates : List ℕ} → Beside h w potential mates → mate_count mates ≤ length mates
+pub mates-reach : {h w : ℕ} {potential : Grouping} {mates : List ℕ} → Beside h w potential mates → mate_count mates ≤ length mates
 mates-reach p = omega (arith, p.end, p.long)
 
 -- the mates of p stand in the list
@@ -18,7 +19,7 @@ pub mates-low : {h w : ℕ} {cs bs cells offs : List ℕ} {count : ℕ} → Grou
 unfolding mates
 mates-low g p q m = rw g.all (range-lt _ (filter-mem _ _ m))
 
-module _ {h w : ℕ} {cs bs ids : List ℕ} (potential : List ℕ) {count : ℕ}
+module _ {h w : ℕ} {cs bs ids : List ℕ} (potential : Grouping) {count : ℕ}
     (g : Grouped h w cs bs (cells_in potential) (starts_in potential) count) (k : Known h w cs bs ids) where
   -- the mates of p stand from the start of a list
   module _ {list : List ℕ} (p : ℕ) (l : Gathered (mates (unclued h w cs) (states_in bs) p) list) where

@@ -16,6 +16,7 @@ use Rattle.rules.specs.Groups.{entry, numbers, members, unit_of, unit_count, pot
 use Rattle.rules.specs.Shapes.{shape_of, flat_transforms}
 use Rattle.rules.specs.Check.{transforms_of}
 use Rattle.laws.specs.FlatLaws.{counts}
+use Rattle.groups.specs.declared.Grouping.{Grouping}
 use Rattle.groups.specs.declared.Kind.TheVariants.{Units, Potential}
 use Rattle.groups.specs.Kinds.{link_of, joins_in}
 use Rattle.groups.specs.Parts.{Groups, groups_of, part_of}
@@ -47,7 +48,7 @@ module _ {h w : ℕ} (z : Sized h w) (link : ℕ → Bool) where
   part-is g = part-members (flat h w) link (cells-some z) (cells-few z) g
 
   -- a group's part of the list of cells
-  pub own-part : {us : List ℕ} → Filled L us → (g : ℕ) → g < L.count → UnitIn h w us g
+  pub own-part : {us : Grouping} → Filled L us → (g : ℕ) → g < L.count → UnitIn h w us g
   unfolding flat
   own-part f g l =
       record {
@@ -63,7 +64,7 @@ module _ {h w : ℕ} (z : Sized h w) (link : ℕ → Bool) where
       }
 
 -- what the unit's part gives to its places
-module _ {h w : ℕ} {us : List ℕ} {g : ℕ} (z : Sized h w) (u : UnitIn h w us g) where
+module _ {h w : ℕ} {us : Grouping} {g : ℕ} (z : Sized h w) (u : UnitIn h w us g) where
   pub unit-part : UnitPart us g w
   unit-part =
       record {
@@ -83,7 +84,7 @@ module _ {h w : ℕ} {us : List ℕ} {g : ℕ} (z : Sized h w) (u : UnitIn h w u
       (omega (arith, u.some, u.end, e))
 
 -- a potential unit that the arrays have
-module _ {h w : ℕ} {cs bs ps : List ℕ} {p : ℕ} (k : Home h w cs bs ps p) where
+module _ {h w : ℕ} {cs bs : List ℕ} {ps : Grouping} {p : ℕ} (k : Home h w cs bs ps p) where
   pub home-few : p < 1024
   home-few = omega (arith, k.low, k.known.few)
 
@@ -132,7 +133,7 @@ module _ {h w : ℕ} (z : Sized h w) (cs bs : List ℕ) where
       (ap (λ f. flat_transforms (shape_of (flat h w) f u)) (sym (kind-ids z cs (λ c. none) bs Units)))
 
 -- the arrays together
-module _ {h w : ℕ} {cs bs us ps : List ℕ} (r : Sorted h w cs bs us ps) where
+module _ {h w : ℕ} {cs bs : List ℕ} {us ps : Grouping} (r : Sorted h w cs bs us ps) where
   abbrev ids : List ℕ
   ids = numbers_in us
 

@@ -10,6 +10,7 @@ use Rattle.rules.specs.Flat.{Sized}
 use Rattle.rules.specs.Codes.{states_in, colours_in, clues_in, puzzle_in}
 use Rattle.rules.specs.Groups.{entry, block_count}
 use Rattle.rules.specs.Check.{inside_block, edge_of, block_hit}
+use Rattle.groups.specs.declared.Grouping.{Grouping}
 use Rattle.groups.specs.declared.Kind.TheVariants.{Blocks, Potential}
 use Rattle.groups.specs.Grouping.{Filled}
 use Rattle.groups.specs.Kinds.{joins_in}
@@ -30,12 +31,12 @@ module _ {h w : ℕ} (z : Sized h w) (cs : List ℕ) (ks : List ℤ) (bs : List 
 
   -- what is found is a block, and names a potential unit
   module _ (r : Faulty) (e : faulty_in ≡ Some r) where
-    pub block_at_lem : {blocks : List ℕ} → Filled (groups_in Blocks h w cs bs) blocks → GroupAt h w blocks r.block
+    pub block_at_lem : {blocks : Grouping} → Filled (groups_in Blocks h w cs bs) blocks → GroupAt h w blocks r.block
     block_at_lem f =
         group_at z (joins_in Blocks h w cs bs) f r.block
         (first-wrong (fault_in z cs ks bs) (groups_in Blocks h w cs bs).count r e).block
 
-    pub fault-unit-at : {potential : List ℕ} → Filled (groups_in Potential h w cs bs) potential
+    pub fault-unit-at : {potential : Grouping} → Filled (groups_in Potential h w cs bs) potential
         → GroupAt h w potential (fault_unit r.fault)
     unfolding entry
     fault-unit-at f =

@@ -7,7 +7,7 @@ ghost use Rattle.blocks.specs.Censuses.{clue_in, no_part, next_part, census_of};
 ghost use Rattle.blocks.specs.Arrays.{CellsListed};
 
 use crate::{Census, Part};
-use groups::{Grouping, group_of};
+use groups::Grouping;
 
 // The clue that a place of a board spells.
 pub fn clue_at(k: i32) -> Option<usize>
@@ -58,7 +58,7 @@ pub fn census(
     let mut first = None;
     for &c in cells {
         let c = usize::from(c);
-        let unit = group_of(potential, c);
+        let unit = potential.group_of(c);
         let clue = clue_at(clues[c]);
         first = first.or(clue);
         if colours[c] == 1 {

@@ -17,7 +17,7 @@ ghost use Rattle.blocks.specs.Looked.{kept_of, Shows};
 
 use crate::censuses::{census, clue_at};
 use crate::{Census, Fault, Faulty, Look, Part};
-use groups::{Grouping, cells_of, count_of, group_of, start_of};
+use groups::Grouping;
 
 impl Part {
     // What is wrong where this colour's potential unit, of `size` cells, is too small for the cells of the other.
@@ -76,7 +76,7 @@ fn size_of(potential: &Grouping, g: usize) -> usize
     requires { (g < 1024) × (get_or (starts_in potential.now) g 0 ≤ get_or (starts_in potential.now) (g + 1) 0) }
     ensures { result ≡ size_in (starts_in potential.now) g }
 {
-    start_of(potential, g + 1) - start_of(potential, g)
+    potential.start_of(g + 1) - potential.start_of(g)
 }
 
 // What is wrong with a block of the one cell c.
@@ -89,7 +89,7 @@ fn lone_fault(clues: &[i32; 1024], potential: &Grouping, c: usize) -> Option<Fau
     if n == 0 {
         return Some(Fault::Inside);
     }
-    let unit = group_of(potential, c);
+    let unit = potential.group_of(c);
     if n <= size_of(potential, unit) {
         return None;
     }
@@ -145,7 +145,7 @@ fn look(colours: &[u8; 1024], clues: &[i32; 1024], potential: &Grouping, cells: 
     let mut ones = 0;
     for &c in cells {
         let c = usize::from(c);
-        let unit = group_of(potential, c);
+        let unit = potential.group_of(c);
         let one = usize::from(colours[c] == 1);
         if own[one] != unit {
             if own[one] != 1024 {
@@ -215,8 +215,8 @@ pub fn first_faulty(
         (part_of (cells_in blocks.now) (starts_in blocks.now) B))
         (count_in blocks.now) }
 {
-    for block in 0..count_of(blocks) {
-        if let Some(fault) = block_fault(colours, clues, potential, cells_of(blocks, block)) {
+    for block in 0..blocks.count_of() {
+        if let Some(fault) = block_fault(colours, clues, potential, blocks.cells_of(block)) {
             return Some(Faulty { block, fault });
         }
     }

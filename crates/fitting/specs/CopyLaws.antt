@@ -30,6 +30,7 @@ use Rattle.rules.specs.Codes.{unclued}
 use Rattle.laws.specs.PointLaws.{point-eq, add_assoc, add_comm}
 use Rattle.laws.specs.GroupLaws.{members-lt}
 use Rattle.laws.specs.FlatLaws.{row_of_lem}
+use Rattle.groups.specs.declared.Grouping.{Grouping}
 use Rattle.groups.specs.Grouping.{numbers_in, cells_in, starts_in, start_in, group_cells}
 use Rattle.groups.specs.Parts.{part_of}
 use Rattle.reasons.specs.Arrays.{Cells}
@@ -92,7 +93,7 @@ module _ (h w : ℕ) (cs : List ℕ) (s : ℕ → State) (y x : ℕ) where
     pub copy-cell-no : {a : Bool} → a ≡ below → a ≡ false → false ≡ cell_clear h w cs s number g y x c
     copy-cell-no {a} d t = sym (cell-is ∙ ap (λ a. a && right) (sym d ∙ t))
 
-module _ {h w g : ℕ} {us : List ℕ} (z : Sized h w) (u : UnitIn h w us g) where
+module _ {h w g : ℕ} {us : Grouping} (z : Sized h w) (u : UnitIn h w us g) where
   abbrev ids : List ℕ
   ids = numbers_in us
 
@@ -236,7 +237,7 @@ module _ (Z : Puzzle) (s : ℕ → State) (cells offs : List ℕ) (t : Shape) wh
       (holds-any (λ q. fits_among Z s t (part_of cells offs q)) m (soon-group Q l e))
 
 -- the cells of a group as a list of their own
-module _ {h w : ℕ} {us : List ℕ} {g : ℕ} (z : Sized h w) (u : UnitIn h w us g) where
+module _ {h w : ℕ} {us : Grouping} {g : ℕ} (z : Sized h w) (u : UnitIn h w us g) where
   abbrev own : List ℕ
   own = group_cells us g
 

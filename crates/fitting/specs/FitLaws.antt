@@ -14,6 +14,7 @@ use Rattle.rules.specs.Groups.{entry}
 use Rattle.rules.specs.Check.{laid}
 use Rattle.rules.specs.Turns.{apply, half, quarter, flip}
 use Rattle.rules.specs.Shapes.{turned, same_shape, shape_of, with_half, with_quarter, with_flip, flat_transforms}
+use Rattle.groups.specs.declared.Grouping.{Grouping}
 use Rattle.groups.specs.Grouping.{numbers_in}
 use Rattle.shapes.specs.ListingLaws.{listed-low}
 use Rattle.shapes.specs.Rows.{image, rows_of}
@@ -45,7 +46,7 @@ own-listed t =
     kept false us m = Memᴰ.append_left us m
 
 module _ (Z : Puzzle) (s : ℕ → State) (cells offs : List ℕ) where
-  module _ (gs : List ℕ) {h w g : ℕ} {us o : List ℕ} (u : UnitAt h w us g o) (j : OutlineJoined h w us g o) where
+  module _ (gs : List ℕ) {h w g : ℕ} {us : Grouping} {o : List ℕ} (u : UnitAt h w us g o) (j : OutlineJoined h w us g o) where
     abbrev ids : List ℕ
     ids = numbers_in us
 

@@ -9,6 +9,7 @@ use Rattle.std.specs.Prelude.{◌≡◌, List, ℕ, ◌+◌, ◌<◌, length, ge
 use Rattle.lists.specs.Lists.{◌∈◌}
 use Rattle.rules.specs.Codes.{states_in, unclued}
 use Rattle.rules.specs.Check.{mates}
+use Rattle.groups.specs.declared.Grouping.{Grouping}
 use Rattle.groups.specs.Grouping.{cells_in, starts_in}
 use Rattle.planes.specs.Planes.{planes_of}
 use Rattle.planes.specs.Masks.{Masked, origins_in}
@@ -20,7 +21,7 @@ pub record Nearby (h w : ℕ) (cs bs near : List ℕ) : Type 0 where
 pub record Adjoined (h w : ℕ) (cs bs : List ℕ) (n : ℕ) : Type 0 where
   pub each : (p : ℕ) → p < n → (q : ℕ) × (q ∈ mates (unclued h w cs) (states_in bs) p)
 
-module _ (h w : ℕ) (cs bs ps : List ℕ) where
+module _ (h w : ℕ) (cs bs : List ℕ) (ps : Grouping) where
   pub record HeldOf (q : ℕ) (p m : List ℕ) : Type 0 where
     pub planes : p ≡ planes_of h w cs bs
     pub mask : Masked w (origins_in (cells_in ps) (starts_in ps) (mates (unclued h w cs) (states_in bs) q)) m

@@ -14,6 +14,7 @@ use Rattle.lists.specs.Arithmetic.{if-same}
 use Rattle.rules.specs.Check.{adjacent, mates}
 use Rattle.rules.specs.Codes.{states_in, unclued}
 use Rattle.rules.specs.Groups.{potential_count}
+use Rattle.groups.specs.declared.Grouping.{Grouping}
 use Rattle.groups.specs.Grouping.{cells_in, starts_in}
 use Rattle.reasons.specs.Arrays.{Cells}
 use Rattle.std.specs.Prelude.{true, Option, Some, None, MatchOption}
@@ -61,7 +62,7 @@ adjoined-more {n = n} k {q} m =
     record { each = λ p l. if-same p n (λ e. rw e (q, m)) (λ d. k.each p (omega arith)) }
 
 -- a potential unit that the arrays have
-module _ {h w : ℕ} {cs bs ps : List ℕ} {p : ℕ} (k : Home h w cs bs ps p) where
+module _ {h w : ℕ} {cs bs : List ℕ} {ps : Grouping} {p : ℕ} (k : Home h w cs bs ps p) where
   pub mate-few : {q : ℕ} → q ∈ mates (unclued h w cs) (states_in bs) p → q < 1024
   mate-few {q} m = omega (arith, mates-low k.grouped p q m, k.known.few)
 
@@ -104,7 +105,7 @@ module _ {h w : ℕ} {cs bs ps : List ℕ} {p : ℕ} (k : Home h w cs bs ps p) w
             ∙ (take-append-le n xs zs (omega arith) ∙ take-length xs));
       }
 
-module _ (h w : ℕ) (cs bs ps : List ℕ) where
+module _ (h w : ℕ) (cs bs : List ℕ) (ps : Grouping) where
   pub held_start : Held h w cs bs ps (replicate 192 0) (replicate 33 0)
   held_start =
       record {
@@ -117,7 +118,7 @@ module _ (h w : ℕ) (cs bs ps : List ℕ) where
       never : (q : ℕ) → ◌≡◌ {A = ℕ} (get_or (replicate 33 0) 32 0) (q + 1) → ⊥
       never q e = let z : ◌≡◌ {A = ℕ} 0 (q + 1) = e in omega arith
 
-module _ {h w : ℕ} {cs bs ps p m : List ℕ} where
+module _ {h w : ℕ} {cs bs : List ℕ} {ps : Grouping} {p m : List ℕ} where
   -- planes that are drawn stay
   pub held-planes : Held h w cs bs ps p m → (get_or m 32 0 ≡ 0 → ⊥) → p ≡ planes_of h w cs bs
   held-planes k e = (k.some (get_or m 32 0 - 1) (last (get_or m 32 0) e)).planes
@@ -126,7 +127,7 @@ module _ {h w : ℕ} {cs bs ps p m : List ℕ} where
       last zero f = absurd (f refl)
       last (suc n) f = omega arith
 
-module _ {h w : ℕ} {cs bs ps p m : List ℕ} {q : ℕ} (k : HeldOf h w cs bs ps q p m) where
+module _ {h w : ℕ} {cs bs : List ℕ} {ps : Grouping} {p m : List ℕ} {q : ℕ} (k : HeldOf h w cs bs ps q p m) where
   pub held_of : Held h w cs bs ps p m
   held_of =
       record {

@@ -11,6 +11,7 @@ use Rattle.rules.specs.Codes.{states_in, unclued}
 use Rattle.rules.specs.Groups.{entry, members, unit_of, potential_of}
 use Rattle.rules.specs.Shapes.{shape_of}
 use Rattle.rules.specs.Check.{laid, is_fit, mates, placements, transforms_of}
+use Rattle.groups.specs.declared.Grouping.{Grouping}
 use Rattle.groups.specs.Grouping.{numbers_in, cells_in, starts_in, count_in}
 use Rattle.groups.specs.Pages.{head_of}
 use Rattle.adjacent.specs.BesideLaws.{mates-low}
@@ -25,7 +26,7 @@ use Rattle.fitting.specs.FitLaws.{turned_none}
 use Rattle.fitting.specs.SingleLaws.{single-fits}
 use Rattle.fitting.specs.FirstStuck.{fits_on, fits_unit}
 
-module _ {h w : ℕ} {cs bs us ps : List ℕ} (r : Sorted h w cs bs us ps) where
+module _ {h w : ℕ} {cs bs : List ℕ} {us ps : Grouping} (r : Sorted h w cs bs us ps) where
   abbrev Z : Puzzle
   Z = unclued h w cs
 

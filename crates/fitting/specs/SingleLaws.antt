@@ -17,6 +17,7 @@ use Rattle.rules.specs.Check.{laid, judge}
 use Rattle.rules.specs.Shapes.{shape_of, normal, shift_by, connections_at}
 use Rattle.laws.specs.FlatLaws.{spot, row_of_lem}
 use Rattle.laws.specs.GroupLaws.{mem-members, members-lt}
+use Rattle.groups.specs.declared.Grouping.{Grouping}
 use Rattle.groups.specs.Grouping.{numbers_in, cells_in, starts_in}
 use Rattle.groups.specs.Parts.{part_of}
 use Rattle.adjacent.specs.Homes.{UnitIn}
@@ -91,7 +92,7 @@ module _ (Z : Puzzle) (s : ℕ → State) (cells offs : List ℕ) where
   bare-beside t e {q = q} {x = x} m n =
       holds-any (λ Q. any (fits_of Z s t) (part_of cells offs Q)) m (holds-any (fits_of Z s t) n (bare-fits t e x))
 
-  pub single-fits : {h w g : ℕ} {us : List ℕ} → UnitIn h w us g
+  pub single-fits : {h w g : ℕ} {us : Grouping} → UnitIn h w us g
       → get_or (starts_in us) (g + 1) 0 ≡ get_or (starts_in us) g 0 + 1 → {gs : List ℕ} {q x : ℕ} → q ∈ gs
       → x ∈ part_of cells offs q
       → fits_turned Z s cells offs gs (shape_of (flat h w) (entry (numbers_in us)) g) ≡ true

@@ -13,7 +13,7 @@ ghost use Rattle.planes.specs.Placing.{read_raised, reading_of, is_clear, fits_o
 ghost use Rattle.planes.specs.Laying.{fits_among};
 ghost use Rattle.fitting.specs.Copies.{Shift, soon_in, cell_clear};
 
-use groups::{Grouping, cells_of, group_of};
+use groups::Grouping;
 use planes::connection::{is_clear, read_place};
 
 // Whether the raised doubled place (y, x) is clear, if `on` and cell `to` is of unit `g`: then a connection is there.
@@ -34,7 +34,7 @@ fn joint_clear(
         (is_clear (reading_of (unclued h w colours.now) (states_in borders.now)
         (read_raised h w y x))) true }
 {
-    let joined = on && group_of(units, to) == g;
+    let joined = on && units.group_of(to) == g;
     !joined || is_clear(read_place(h, w, colours, borders, y, x))
 }
 
@@ -100,7 +100,7 @@ fn copy_fits(
     ensures { result ≡ fits_of (unclued h w colours.now) (states_in borders.now)
         (shape_of (flat h w) (entry (numbers_in units.now)) g) o }
 {
-    let cells = cells_of(units, g);
+    let cells = units.cells_of(g);
     let first = usize::from(cells[0]);
     let y = 2 * (o / w) + (64 - 2 * (first / w));
     let x = 2 * (o % w) + (64 - 2 * (first % w));
@@ -130,7 +130,7 @@ pub fn copy_fits_soon(
         (shape_of (flat h w) (entry (numbers_in units.now)) g)
         (soon_in (cells_in potential.now) (starts_in potential.now) q) }
 {
-    let cells = cells_of(potential, q);
+    let cells = potential.cells_of(q);
     for o in &cells[..cells.len().min(8)] {
         if copy_fits(h, w, colours, borders, units, g, usize::from(*o)) {
             return true;

@@ -16,7 +16,7 @@ ghost use Rattle.fitting.specs.FirstStuck.{Passed, fits_unit, first_fail};
 use crate::copies::copy_fits_soon;
 use crate::singles::after_singles;
 use crate::unit::{Scratch, home_in, near_mate};
-use groups::{Grouping, cells_of, count_of};
+use groups::Grouping;
 
 // Whether a placement of unit `u` fits: none does where its potential unit has no adjacent one; with one, a unit of one
 // cell fits, which has no connections. On most boards the unit itself, shifted, fits at one of the first cells of that
@@ -44,7 +44,7 @@ fn fits_at(
     let Some(q) = near_mate(h, w, colours, borders, potential, p, near) else {
         return false;
     };
-    let single = cells_of(units, u).len() == 1;
+    let single = units.cells_of(u).len() == 1;
     single
         || copy_fits_soon(h, w, colours, borders, units, u, potential, q)
         || scratch.unit_fits(h, w, colours, borders, units, u, potential, p)
@@ -73,7 +73,7 @@ fn stuck_from(
         planes: [0; 192],
         mask: [0; 33],
     };
-    for u in from..count_of(units) {
+    for u in from..units.count_of() {
         if !fits_at(
             h,
             w,
@@ -107,7 +107,7 @@ pub fn first_stuck(
 {
     let mut near = [0u16; 1024];
     let u = after_singles(h, w, colours, borders, units, potential, &mut near);
-    if count_of(units) <= u {
+    if units.count_of() <= u {
         return None;
     }
     stuck_from(h, w, colours, borders, units, potential, u, &mut near)

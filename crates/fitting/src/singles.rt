@@ -7,7 +7,7 @@ ghost use Rattle.fitting.specs.Held.{Nearby, Adjoined};
 ghost use Rattle.fitting.specs.FirstStuck.{Passed, fits_unit};
 
 use crate::unit::{all_near, home_in, near_mate};
-use groups::{Grouping, cells_of, count_of};
+use groups::Grouping;
 
 // Whether unit `u` has one cell, and its potential unit an adjacent one: then it fits. Where `sure`, every potential
 // unit is known to have one.
@@ -30,7 +30,7 @@ fn single_fits(
         → fits_unit (unclued h w colours.now) (states_in borders.now) u ≡ true)
         × Nearby h w colours.now borders.now near.new }
 {
-    let single = cells_of(units, u).len() == 1;
+    let single = units.cells_of(u).len() == 1;
     single
         && (sure
             || near_mate(
@@ -63,7 +63,7 @@ pub fn after_singles(
         × Nearby h w colours.now borders.now near.new }
 {
     let sure = all_near(h, w, colours, borders, potential, near);
-    let count = count_of(units);
+    let count = units.count_of();
     for u in 0..count {
         if !single_fits(h, w, colours, borders, units, potential, u, sure, near) {
             return u;

@@ -15,7 +15,7 @@ ghost use Rattle.fitting.specs.Held.{Nearby, Adjoined, Held, HeldOf};
 
 use crate::images::some_row_fits;
 use adjacent::{mates_of, some_mate};
-use groups::{Grouping, cell_at, count_of, group_of, start_of};
+use groups::Grouping;
 use planes::{draw_mask, draw_planes};
 use shapes::Outline;
 use shapes::connections::{joints, places};
@@ -27,7 +27,7 @@ pub fn home_in(units: &Grouping, potential: &Grouping, u: usize) -> usize
         × (get_or (cells_in units.now) (start_in units.now u) 0 < 1024) }
     ensures { result ≡ home_in units.now potential.now u }
 {
-    group_of(potential, cell_at(units, start_of(units, u)))
+    potential.group_of(units.cell_at(units.start_of(u)))
 }
 
 // One of the potential units adjacent to potential unit `p`, if there is one. `near` keeps it as a number, raised by 1
@@ -71,7 +71,7 @@ pub fn all_near(
         (count_in potential.now))
         × Nearby h w colours.now borders.now near.new }
 {
-    for p in 0..count_of(potential) {
+    for p in 0..potential.count_of() {
         if near_mate(h, w, colours, borders, potential, p, near).is_none() {
             return false;
         }

@@ -10,7 +10,7 @@ use Rattle.groups.specs.declared.Kind.{Kind}
 use Rattle.groups.specs.Kinds.{joins_in, link_of}
 use Rattle.groups.specs.KindLaws.{link-in}
 use Rattle.groups.specs.Parts.{groups_of}
-use Rattle.groups.specs.Grouping.{array_of}
+use Rattle.groups.specs.Grouping.{grouping_of}
 use Rattle.groups.specs.Asked.{asked_of}
 
 module _ (b : Board) (k : Kind) where
@@ -23,7 +23,7 @@ module _ (b : Board) (k : Kind) where
   board-link = link-in k (puzzle_of b) b.height b.width b.colours b.borders refl refl
 
   pub asked-done : is_alien b ≡ false
-      → Ok (array_of (groups_of (flat b.height b.width)
+      → Ok (grouping_of (groups_of (flat b.height b.width)
       (joins_in k b.height b.width b.colours b.borders))) ≡ asked_of b k
   unfolding asked_of puzzle_of
   asked-done e = rw (e, board-link)

@@ -6,9 +6,9 @@ ghost use Rattle.rules.specs.Groups.{entry, merge_if};
 ghost use Rattle.groups.specs.Kinds.{joins_by, joins_in};
 ghost use Rattle.groups.specs.Forests.{Forest, Rep, ForestLinked};
 ghost use Rattle.groups.specs.Ties.{tied_left, above_at, flag_at, TieFlags, Scanned, joined};
-ghost use Rattle.groups.specs.Grouping.{cells_in, Vacant};
+ghost use Rattle.groups.specs.Arrays.{Blank};
 
-use crate::{Grouping, Kind};
+use crate::Kind;
 use board::Board;
 
 // Whether a border with the number v joins its two cells, which have the colours a and b.
@@ -161,13 +161,12 @@ fn later_rows(
     n: usize,
     lefts: &[bool; Board::CELL_LIMIT],
     aboves: &[bool; Board::CELL_LIMIT],
-    grouping: &mut Grouping,
+    list: &mut [u16; Board::CELL_LIMIT],
 ) -> usize
-    requires { (1 ≤ w) × (w ≤ n) × (n ≤ 1024) × Forest p.old × Vacant n grouping.old
-        × Scanned w w (flag_at lefts.now) (flag_at aboves.now) p.old (cells_in grouping.old) 0 }
-    ensures { (result ≤ n) × Forest p.new × Vacant n grouping.new
-        × Scanned n w (flag_at lefts.now) (flag_at aboves.now) p.new
-        (cells_in grouping.new) result }
+    requires { (1 ≤ w) × (w ≤ n) × (n ≤ 1024) × Forest p.old × Blank 1024 n list.old
+        × Scanned w w (flag_at lefts.now) (flag_at aboves.now) p.old list.old 0 }
+    ensures { (result ≤ n) × Forest p.new × Blank 1024 n list.new
+        × Scanned n w (flag_at lefts.now) (flag_at aboves.now) p.new list.new result }
 {
     let mut k = 0;
     let mut root = p[w - 1];
@@ -175,7 +174,7 @@ fn later_rows(
         let left = lefts[c];
         let above = aboves[c];
         let over = p[c - w];
-        grouping[1024 + k] = c as u16;
+        list[k] = c as u16;
         k += usize::from(left & above & (root != over));
         let own = if left { root } else { c as u16 };
         root = if above { over } else { own };
@@ -185,22 +184,19 @@ fn later_rows(
 }
 
 // The trees of the first k cells of the list and of the cells left of them become one.
-fn settle(p: &mut [u16; Board::CELL_LIMIT], grouping: &Grouping, k: usize)
-    requires { (k ≤ 1024)
-        × ((i : ℕ) → i < k → (1 ≤ get_or (cells_in grouping.now) i 0) × (get_or (cells_in grouping.now) i 0 < 1024))
+fn settle(p: &mut [u16; Board::CELL_LIMIT], list: &[u16; Board::CELL_LIMIT], k: usize)
+    requires { (k ≤ 1024) × ((i : ℕ) → i < k → (1 ≤ get_or list.now i 0) × (get_or list.now i 0 < 1024))
         × Forest p.old }
-    ensures { Forest p.new × ((n : ℕ) (L : List ℕ) → n ≤ 1024
-        → ((i : ℕ) → i < k → get_or (cells_in grouping.now) i 0 < n) → Rep n p.old L
-        → Rep n p.new (joined L (entry (cells_in grouping.now)) k)) }
+    ensures { Forest p.new × ((n : ℕ) (L : List ℕ) → n ≤ 1024 → ((i : ℕ) → i < k → get_or list.now i 0 < n)
+        → Rep n p.old L → Rep n p.new (joined L (entry list.now) k)) }
 {
-    for &cell in &grouping[1024..1024 + k] {
+    for &cell in &list[..k] {
         let c = usize::from(cell);
         join(p, c - 1, c);
     }
 }
 
-// Each cell's parent, so that cells have one root where they are of one group; the cells of `grouping` are working
-// memory.
+// Each cell's parent, so that cells have one root where they are of one group; `list` is working memory.
 pub fn link(
     h: usize,
     w: usize,
@@ -208,17 +204,17 @@ pub fn link(
     borders: &[u8; Board::BORDER_LIMIT],
     kind: Kind,
     p: &mut [u16; Board::CELL_LIMIT],
-    grouping: &mut Grouping,
+    list: &mut [u16; Board::CELL_LIMIT],
 )
-    requires { Sized h w × Forest p.old × Vacant (h * w) grouping.old }
+    requires { Sized h w × Forest p.old × Blank 1024 (h * w) list.old }
     ensures { ForestLinked h w (joins_in kind h w colours.now borders.now) p.new
-        × Vacant (h * w) grouping.new }
+        × Blank 1024 (h * w) list.new }
 {
     let mut lefts = [false; Board::CELL_LIMIT];
     let mut aboves = [false; Board::CELL_LIMIT];
     across(kind, h, w, colours, borders, &mut lefts);
     down(kind, h, w, colours, borders, &mut aboves);
     first_row(p, w, &lefts);
-    let k = later_rows(p, w, h * w, &lefts, &aboves, grouping);
-    settle(p, grouping, k);
+    let k = later_rows(p, w, h * w, &lefts, &aboves, list);
+    settle(p, list, k);
 }

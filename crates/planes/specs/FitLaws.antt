@@ -21,6 +21,7 @@ use Rattle.rules.specs.declared.Placement.TheVariants.{Fits}
 use Rattle.rules.specs.Page.{Puzzle, State}
 use Rattle.rules.specs.Codes.{states_in, unclued}
 use Rattle.rules.specs.Check.{is_fit}
+use Rattle.groups.specs.declared.Grouping.{Grouping}
 use Rattle.groups.specs.Grouping.{cells_in, starts_in}
 use Rattle.groups.specs.Pages.{Drawn}
 use Rattle.groups.specs.Parts.{part_of}
@@ -161,7 +162,7 @@ mem-part l from to {x} m =
     sym (get_or-take (to - from) (drop from l) i 0 h ∙ get_or-drop from l i 0) ∙ r.2 in
     (from + i, omega arith, omega arith, e)
 
-module _ {h w : ℕ} {potential mates : List ℕ} (b : Beside h w potential mates) where
+module _ {h w : ℕ} {potential : Grouping} {mates : List ℕ} (b : Beside h w potential mates) where
   abbrev cells : List ℕ
   cells = cells_in potential
 

@@ -13,7 +13,7 @@ ghost use Rattle.planes.specs.Planes.{clear_at, clear_row, line_word, planes_of}
 ghost use Rattle.planes.specs.Masks.{Masked, Sizes, Span, origins_in, clear_word, line_fits, mask_fits};
 
 use adjacent::Mates;
-use groups::{Grouping, cells_of};
+use groups::Grouping;
 use shapes::turned::Turned;
 
 pub mod connection; // connection.rt: what one connection does to a placement
@@ -119,7 +119,7 @@ pub fn draw_mask(
 {
     mask.fill(0);
     for mate in &mates[..usize::from(mates[1024])] {
-        flag_group(h, w, cells_of(potential, usize::from(*mate)), mask);
+        flag_group(h, w, potential.cells_of(usize::from(*mate)), mask);
     }
     mask[32] = name;
 }

@@ -6,11 +6,13 @@
 --   probe_fits h w room   h and w are a page's, and the memory has 16,384 places
 --   kind_of k             the kind of groups with the number k: blocks, units, potential units
 --   kind_groups h w cs bs k  the groups of that kind, for lists of colours and borders
+--   words_in g            a grouping as words: the cells' numbers, the cells group by group, where each group's cells
+--                         start, and the count
 --   reason_words ..       Inside(G) (open) or Edge(G) (wall) of the group g, each literal once, as literal codes
 --   path_words ..         Path(a, b), each literal once, as literal codes
 --   ProbeAnswered h w m ws m' r  where the call fits, the words ws were written into the memory m from its start:
 --                         m' is the memory afterwards, and r their number; otherwise m' is m, and r is 65,535
-use Rattle.std.specs.Prelude.{◌≡◌, Bool, ◌&&◌, cond, List, map, ℕ, eqb, leb, length}
+use Rattle.std.specs.Prelude.{◌≡◌, Bool, ◌&&◌, cond, List, [], ◌∷◌, ◌++◌, map, ℕ, eqb, leb, length}
 use Rattle.std.proofs.lemmas.List.Edits.{sets}
 use Rattle.lists.specs.Table.{table}
 use Rattle.rules.specs.declared.Side.{Side}
@@ -21,8 +23,10 @@ use Rattle.rules.specs.Check.{once}
 use Rattle.board.specs.declared.Board.{Board}
 use Rattle.board.specs.Alien.{cells_of}
 use Rattle.board.specs.Board.{zero_board}
+use Rattle.groups.specs.declared.Grouping.{Grouping}
 use Rattle.groups.specs.declared.Kind.{Kind}
 use Rattle.groups.specs.declared.Kind.TheVariants.{Blocks, Units, Potential}
+use Rattle.groups.specs.Grouping.{numbers_in, cells_in, starts_in, count_in}
 use Rattle.groups.specs.Kinds.{joins_in}
 use Rattle.groups.specs.Parts.{Groups, groups_of}
 use Rattle.reasons.specs.Arrays.{group_reason}
@@ -49,6 +53,9 @@ module _ (h w : ℕ) (cs bs : List ℕ) (k : ℕ) where
   unfoldable pub reason_words : Side → ℕ → List ℕ
   reason_words side g =
       map literal_code (once (group_reason h w (places_of 1024 cs) (places_of 1984 bs) kind_groups.ids side g))
+
+abbrev pub words_in : Grouping → List ℕ
+words_in g = numbers_in g ++ (cells_in g ++ (starts_in g ++ (count_in g ∷ [])))
 
 unfoldable pub path_words : ℕ → ℕ → List ℕ → ℕ → ℕ → List ℕ
 path_words h w bs a b = map literal_code (once (path_in h w (places_of 1984 bs) a b))

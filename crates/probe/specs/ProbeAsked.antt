@@ -3,6 +3,7 @@
 --   which_of n          the list with the number n: 0 is the unit list, any other the potential list
 --   asked_in s k        what the board that the image s spells gives, asked for its groups of the kind k; an image of
 --                       another length is alien
+--   told_words o        the groups as words; a refusal as it is
 --   part_among which g us ps  the cells of the group g, as the part of the unit list or of the potential list, where
 --                       both are given; no cells where the board is refused
 --   part_in s which g   those of the board that the image s spells
@@ -15,6 +16,7 @@ use Rattle.std.proofs.lemmas.List.Edits.{sets}
 use Rattle.board.specs.declared.Refusal.{Refusal}
 use Rattle.board.specs.declared.Refusal.TheVariants.{Alien}
 use Rattle.board.specs.Board.{refusal_number}
+use Rattle.groups.specs.declared.Grouping.{Grouping}
 use Rattle.groups.specs.declared.Kind.{Kind}
 use Rattle.groups.specs.declared.Kind.TheVariants as kind
 use Rattle.groups.specs.declared.Which.{Which}
@@ -23,16 +25,21 @@ use Rattle.groups.specs.Grouping.{group_cells}
 use Rattle.groups.specs.Asked.{asked_of}
 use Rattle.groups.specs.Parts.{part_from}
 use Rattle.image.specs.Image.{right_length, spelled_board}
+use Rattle.probe.specs.Probe.{words_in}
 
 unfoldable pub which_of : ℕ → Which
 which_of n = cond (eqb n 0) Units Potential
 
 -- "Groups or transforms asked of an alien board give 5 and none"
-unfoldable pub asked_in : List ℕ → Kind → Result (List ℕ) Refusal
+unfoldable pub asked_in : List ℕ → Kind → Result Grouping Refusal
 asked_in s k = cond (right_length s) (asked_of (spelled_board s) k) (Err Alien)
 
+abbrev pub told_words : Result Grouping Refusal → Result (List ℕ) Refusal
+told_words (Ok g) = Ok (words_in g)
+told_words (Err e) = Err e
+
 -- "A group's cells are handed back as a part of the unit list or of the potential list"
-abbrev pub part_among : Which → ℕ → Result (List ℕ) Refusal → Result (List ℕ) Refusal → List ℕ
+abbrev pub part_among : Which → ℕ → Result Grouping Refusal → Result Grouping Refusal → List ℕ
 part_among which g (Ok us) (Ok ps) = part_from which (group_cells us g) (group_cells ps g)
 part_among which g (Ok us) (Err e) = []
 part_among which g (Err e) ps = []

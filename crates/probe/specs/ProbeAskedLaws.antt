@@ -1,18 +1,26 @@
 -- Laws of the probes of a board's groups: a part's length, and the cases of what is given.
-use Rattle.std.specs.Prelude.{◌≡◌, List, [], ℕ, ◌-◌, ◌+◌, ◌<◌, ◌≤◌, length, drop, Result, Ok, Err}
-use Rattle.std.proofs.Common.{arith, ne_eqb, le-leb, length-take, length-drop}
+use Rattle.std.specs.Prelude.{◌≡◌, refl, Bool, true, false, List, [], ℕ, ◌-◌, ◌+◌, ◌<◌, ◌≤◌, length, drop, Result, Ok, Err}
+use Rattle.std.proofs.Common.{subst, arith, ne_eqb, le-leb, length-take, length-drop}
 use Rattle.std.proofs.Math.Nat.{min-le_right}
 use Rattle.std.proofs.lemmas.Bool.{lt-leb}
-use Rattle.lists.specs.Sections.{section}
+use Rattle.rules.specs.Flat.{flat}
+use Rattle.laws.specs.FlatLaws.{Counts, counts}
+use Rattle.board.specs.declared.Board.{Board}
 use Rattle.board.specs.declared.Refusal.{Refusal}
 use Rattle.board.specs.declared.Refusal.TheVariants.{Alien}
+use Rattle.board.specs.Alien.{is_alien}
 use Rattle.board.specs.Board.{refusal_number}
+use Rattle.board.specs.NativeLaws.{native-has}
+use Rattle.groups.specs.declared.Grouping.{Grouping}
 use Rattle.groups.specs.declared.Kind.{Kind}
 use Rattle.groups.specs.declared.Kind.TheVariants as kind
 use Rattle.groups.specs.declared.Which.{Which}
 use Rattle.groups.specs.declared.Which.TheVariants.{Units, Potential}
 use Rattle.groups.specs.Asked.{asked_of}
+use Rattle.groups.specs.AskedLaws.{asked-alien, asked-done}
 use Rattle.groups.specs.Grouping.{cells_in, start_in, group_cells}
+use Rattle.groups.specs.Kinds.{joins_in}
+use Rattle.groups.specs.PartLaws.{cells-long}
 use Rattle.groups.specs.Parts.{part_from}
 use Rattle.image.specs.Image.{right_length, spelled_board}
 use Rattle.image.specs.RoundLaws.{long-is}
@@ -30,29 +38,50 @@ module _ (s : List ℕ) (k : Kind) where
   asked-right e = rw (long-is s e)
 
 -- ---- a part is no longer than its list
-part-le : (grouping : List ℕ) (g : ℕ) → length (group_cells grouping g) ≤ 1024
-unfolding section
-part-le grouping g =
+part-le : (grouping : Grouping) → length (cells_in grouping) ≡ 1024 → (g : ℕ)
+    → length (group_cells grouping g) ≤ 1024
+part-le grouping long g =
     let from = start_in grouping g in
     let n = start_in grouping (g + 1) - from in
     let rest = drop from (cells_in grouping) in
-    omega (
-      arith,
-      length-take n rest,
-      min-le_right n (length rest),
-      length-drop from (cells_in grouping),
-      length-take 1024 (drop 1024 grouping),
-    )
+    omega (arith, length-take n rest, min-le_right n (length rest), length-drop from (cells_in grouping), long)
+
+-- the groupings that a board gives have 1,024 places for cells
+abbrev Long : Result Grouping Refusal → Type 0
+Long (Ok grouping) = length (cells_in grouping) ≡ 1024
+Long (Err e) = Unit {0}
+
+board-long : (b : Board) (k : Kind) (a : Bool) → is_alien b ≡ a → Long (asked_of b k)
+board-long b k true e = subst Long (asked-alien b k e) tt
+board-long b k false e =
+    let z = (native-has b e).size in
+    let n = counts z in
+    subst Long (asked-done b k e)
+    (cells-long (flat b.height b.width) (joins_in k b.height b.width b.colours b.borders) (flat-some n) (flat-small n))
+  where
+    flat-some : Counts b.height b.width → 1 ≤ (flat b.height b.width).cells
+    unfolding flat
+    flat-some n = n.some
+    flat-small : Counts b.height b.width → (flat b.height b.width).cells ≤ 1024
+    unfolding flat
+    flat-small n = n.cells
+
+given-long : (s : List ℕ) (k : Kind) (r : Bool) → right_length s ≡ r → Long (asked_in s k)
+unfolding asked_in
+given-long s k true e = rw e (board-long (spelled_board s) k (is_alien (spelled_board s)) refl)
+given-long s k false e = rw e tt
 
 pub part-few : (s : List ℕ) (which : Which) (g : ℕ) → length (part_in s which g) ≤ 1024
 unfolding part_in part_from
-part-few s which g = go (asked_in s kind.Units) (asked_in s kind.Potential) which
+part-few s which g =
+    go (asked_in s kind.Units) (asked_in s kind.Potential) which (given-long s kind.Units (right_length s) refl)
+    (given-long s kind.Potential (right_length s) refl)
   where
-    go : (us ps : Result (List ℕ) Refusal) (w : Which) → length (part_among w g us ps) ≤ 1024
-    go (Ok us) (Ok ps) Units = part-le us g
-    go (Ok us) (Ok ps) Potential = part-le ps g
-    go (Ok us) (Err e) w = omega arith
-    go (Err e) ps w = omega arith
+    go : (us ps : Result Grouping Refusal) (w : Which) → Long us → Long ps → length (part_among w g us ps) ≤ 1024
+    go (Ok us) (Ok ps) Units u p = part-le us u g
+    go (Ok us) (Ok ps) Potential u p = part-le ps p g
+    go (Ok us) (Err e) w u p = omega arith
+    go (Err e) ps w u p = omega arith
 
 -- a board that is refused has no part
 module _ (s : List ℕ) (which : Which) (g : ℕ) where
@@ -60,12 +89,12 @@ module _ (s : List ℕ) (which : Which) (g : ℕ) where
   unfolding part_in
   part-units e p = rw (← p)
 
-  pub part-potential : (us : List ℕ) (e : Refusal) → Ok us ≡ asked_in s kind.Units
+  pub part-potential : (us : Grouping) (e : Refusal) → Ok us ≡ asked_in s kind.Units
       → Err e ≡ asked_in s kind.Potential → [] ≡ part_in s which g
   unfolding part_in
   part-potential us e p q = rw (← p, ← q)
 
-  pub part-given : (us ps : List ℕ) → Ok us ≡ asked_in s kind.Units → Ok ps ≡ asked_in s kind.Potential
+  pub part-given : (us ps : Grouping) → Ok us ≡ asked_in s kind.Units → Ok ps ≡ asked_in s kind.Potential
       → part_from which (group_cells us g) (group_cells ps g) ≡ part_in s which g
   unfolding part_in
   part-given us ps p q = rw (← p, ← q)

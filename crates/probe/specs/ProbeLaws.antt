@@ -28,6 +28,7 @@ use Rattle.board.specs.Alien.{size_right, cells_of}
 use Rattle.board.specs.Board.{zero_board}
 use Rattle.board.specs.ConditionLaws.{sized}
 use Rattle.groups.specs.Kinds.{joins_in}
+use Rattle.groups.specs.declared.Grouping.{Grouping}
 use Rattle.groups.specs.Grouping.{count_in, Filled}
 use Rattle.groups.specs.Parts.{groups_of}
 use Rattle.groups.specs.PartLaws.{ids-entry}
@@ -141,7 +142,7 @@ module _ {h w : ℕ} (z : Sized h w) (cs bs : List ℕ) (k : ℕ) where
   count-is = refl
 
   -- what reasons ask of a group
-  pub group-is : {grouping : List ℕ} → Filled (kind_groups h w cs bs k) grouping → (g : ℕ) → g < count_in grouping
+  pub group-is : {grouping : Grouping} → Filled (kind_groups h w cs bs k) grouping → (g : ℕ) → g < count_in grouping
       → GroupAt h w grouping g
   unfolding kind_groups
   group-is f g l = group_at z link f g (rw f.count at l)

@@ -1,13 +1,13 @@
 // For tests alone: the groups asked of a board, and a group's part of the unit list or of the potential list. The board
 // is given as an image; an image of another length is alien. As in lib.rt, words are written from the start of the
 // memory, and where it has under 16,384 places a call gives 65,535 and leaves it.
-ghost use Rattle.std.specs.Prelude.{◌≡◌, length};
+ghost use Rattle.std.specs.Prelude.{◌≡◌};
 ghost use Rattle.groups.specs.Grouping.{group_cells};
 ghost use Rattle.groups.specs.Parts.{part_from};
 ghost use Rattle.probe.specs.Probe.{kind_of};
-ghost use Rattle.probe.specs.ProbeAsked.{which_of, asked_in, part_in, AskedTold};
+ghost use Rattle.probe.specs.ProbeAsked.{which_of, asked_in, told_words, part_in, AskedTold};
 
-use crate::{ROOM, UNFIT, kind_of};
+use crate::{ROOM, UNFIT, hand_out_grouping, kind_of};
 use board::Refusal;
 use groups::{Grouping, Kind, Which};
 use reasons::hand_out;
@@ -34,7 +34,7 @@ fn asked_in(s: &[u8], kind: Kind) -> Result<Grouping, Refusal>
 
 // The groups of one kind, as `probe_groups` writes them; of an alien image the refusal's number, and the memory stays.
 pub fn probe_asked(s: &[u8], kind: u32, memory: &mut [u16]) -> usize
-    ensures { AskedTold (asked_in s.now (kind_of kind)) memory.old memory.new result }
+    ensures { AskedTold (told_words (asked_in s.now (kind_of kind))) memory.old memory.new result }
 {
     match asked_in(s, kind_of(kind)) {
         Err(refusal) => refusal.number() as usize,
@@ -42,22 +42,26 @@ pub fn probe_asked(s: &[u8], kind: u32, memory: &mut [u16]) -> usize
             if memory.len() < ROOM {
                 return UNFIT;
             }
-            hand_out(memory, &grouping)
+            hand_out_grouping(memory, &grouping)
         }
     }
 }
 
-// The cells of group g of the units or of the potential units, each given as a grouping.
-fn part_in<'a>(units: &'a [u16], potential: &'a [u16], which: Which, g: usize) -> &'a [u16]
-    requires { (length units.now ≡ 3074) × (length potential.now ≡ 3074) }
+// The cells of group g of the units or of the potential units.
+fn part_in<'a>(
+    units: &'a Grouping,
+    potential: &'a Grouping,
+    which: Which,
+    g: usize,
+) -> &'a [u16]
     ensures { result.now ≡ part_from which (group_cells units.now g)
         (group_cells potential.now g) }
 {
     groups::part(
-        &units[1024..2048],
-        &units[2048..3073],
-        &potential[1024..2048],
-        &potential[2048..3073],
+        &units.cells,
+        &units.starts,
+        &potential.cells,
+        &potential.starts,
         which,
         g,
     )

@@ -8,13 +8,13 @@ ghost use Rattle.std.specs.Prelude.{◌≡◌, ◌≤◌, length};
 ghost use Rattle.rules.specs.Flat.{Sized};
 ghost use Rattle.rules.specs.Groups.{entry};
 ghost use Rattle.groups.specs.Grouping.{array_of, Filled};
-ghost use Rattle.probe.specs.Probe.{board_from, places_of, probe_fits, kind_of, kind_groups};
+ghost use Rattle.probe.specs.Probe.{board_from, places_of, probe_fits, kind_of, kind_groups, words_in};
 ghost use Rattle.image.specs.Image.{side_of};
 ghost use Rattle.probe.specs.Probe.{reason_words, path_words, ProbeAnswered};
 ghost use Rattle.reasons.specs.Memory.{WordsWritten};
 
 use board::Board;
-use groups::{Grouping, Kind, count_of};
+use groups::{Grouping, Kind};
 use reasons::{WORK_LENGTH, hand_out};
 
 pub mod asked; // asked.rt: the groups asked of a board, and their parts
@@ -75,6 +75,19 @@ fn grouped(h: usize, w: usize, colours: &[u8], borders: &[u8], kind: u32) -> Gro
     groups::groups_of(h, w, &places(colours), &places(borders), kind_of(kind))
 }
 
+// Writes a grouping from the start of the memory: the cells' numbers, the cells group by group, where each group starts,
+// and the count.
+fn hand_out_grouping(memory: &mut [u16], grouping: &Grouping) -> usize
+    requires { 16384 ≤ length memory.old }
+    ensures { WordsWritten memory.old (words_in grouping.now) memory.new result }
+{
+    memory[..1024].copy_from_slice(&grouping.numbers);
+    memory[1024..2048].copy_from_slice(&grouping.cells);
+    memory[2048..3073].copy_from_slice(&grouping.starts);
+    memory[3073] = grouping.count;
+    3074
+}
+
 // Writes Inside (side 0) or Edge (any other side) of the group with that number, each border once.
 fn put_reason(
     memory: &mut [u16],
@@ -92,7 +105,7 @@ fn put_reason(
         (side_of side) group) memory.new result }
 {
     let grouping = grouped(h, w, colours, borders, kind);
-    if count_of(&grouping) <= group {
+    if grouping.count_of() <= group {
         return 0;
     }
     let b = places(borders);
@@ -135,7 +148,7 @@ pub fn probe_groups(
 {
     if fits(h, w, memory.len()) {
         let grouping = grouped(h, w, colours, borders, kind);
-        return hand_out(memory, &grouping);
+        return hand_out_grouping(memory, &grouping);
     }
     UNFIT
 }

@@ -6,7 +6,7 @@ ghost use Rattle.probe.specs.Probe.{kind_groups, ProbeAnswered, reason_words, pa
 ghost use Rattle.image.specs.Image.{side_of};
 ghost use Rattle.std.specs.Prelude.{◌≡◌, length};
 ghost use Rattle.probe.specs.ProbeChecks.{checked_number, checked_memory, checks_number, checks_memory};
-ghost use Rattle.probe.specs.ProbeAsked.{asked_in, AskedTold, which_of, part_in};
+ghost use Rattle.probe.specs.ProbeAsked.{asked_in, told_words, AskedTold, which_of, part_in};
 ghost use Rattle.calls.specs.Answers.{literal_of};
 ghost use Rattle.probe.specs.ProbePreviews.{previews_number, previews_memory};
 ghost use Rattle.probe.specs.ProbeRecords.{call_with, record_number, record_words, record_memory};
@@ -98,7 +98,7 @@ pub extern "C" fn probe_board_checks(s: &[u8], times: usize, memory: &mut [u16])
 // The groups of one kind, as `probe_groups` writes them; of an alien image the refusal's number, and the memory stays.
 #[unsafe(no_mangle)]
 pub extern "C" fn probe_asked(s: &[u8], kind: u32, memory: &mut [u16]) -> usize
-    ensures { AskedTold (asked_in s.now (kind_of kind)) memory.old memory.new result }
+    ensures { AskedTold (told_words (asked_in s.now (kind_of kind))) memory.old memory.new result }
 {
     probe::asked::probe_asked(s, kind, memory)
 }

@@ -11,6 +11,7 @@ use Rattle.rules.specs.Check.{inside_block, edge_of}
 use Rattle.laws.specs.FlatLaws.{counts}
 use Rattle.groups.specs.declared.Kind.TheVariants.{Blocks, Potential}
 use Rattle.groups.specs.Parts.{Groups, groups_of, part_of}
+use Rattle.groups.specs.declared.Grouping.{Grouping}
 use Rattle.groups.specs.Grouping.{Filled}
 use Rattle.groups.specs.PartLaws.{ids-entry, ids-length, groups-le, cells-long, part-members, cells-lt}
 use Rattle.groups.specs.Pages.{groups_in}
@@ -21,7 +22,7 @@ module _ {h w : ℕ} (z : Sized h w) (link : ℕ → Bool) where
   abbrev groups : Groups
   groups = groups_of (flat h w) link
 
-  pub group_at : {grouping : List ℕ} → Filled groups grouping → (g : ℕ) → g < groups.count → GroupAt h w grouping g
+  pub group_at : {grouping : Grouping} → Filled groups grouping → (g : ℕ) → g < groups.count → GroupAt h w grouping g
   unfolding part_of
   group_at f g l =
       record {

@@ -9,7 +9,7 @@ ghost use Rattle.reasons.specs.Memory.{named_in, naming, Spare, Wrote, WordsWrit
 ghost use Rattle.reasons.specs.Arrays.{GroupAt, Stepped, no_flags, inside_in, edge_in};
 
 use crate::scans::{open_cell, scan_walls};
-use groups::{Grouping, cells_of};
+use groups::Grouping;
 use rules::{Literal, Side};
 
 pub mod paths; // paths.rt: Path, by a search over open borders, and the reason of a wall
@@ -185,7 +185,7 @@ pub fn inside(
     ensures { Wrote memory.old start (inside_in h w borders.now
         (numbers_in grouping.now) g) memory.new result }
 {
-    let cells = cells_of(grouping, g);
+    let cells = grouping.cells_of(g);
     let mut at = start;
     for cell in cells {
         let c = usize::from(*cell);

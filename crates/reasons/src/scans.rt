@@ -13,7 +13,7 @@ ghost use Rattle.reasons.specs.Arrays.{Arrays, GroupAt, InArrays, hop_of, hops_i
 ghost use Rattle.reasons.specs.Arrays.{open_kept, wall_kept, scan_at, scan_of};
 
 use crate::{Direction, Neighbour, append, beside};
-use groups::{Grouping, cells_of, group_of};
+use groups::Grouping;
 use rules::{Literal, Side};
 
 // The cells c and to have one colour.
@@ -38,7 +38,7 @@ fn open_kept(borders: &[u8; 1984], grouping: &Grouping, g: usize, n: Neighbour) 
     ensures { result ≡ open_kept (states_in borders.now) (entry (numbers_in grouping.now)) g (hop_of n) }
 {
     let open = borders[n.border] == 2;
-    open && group_of(grouping, n.to) == g
+    open && grouping.group_of(n.to) == g
 }
 
 // The border to the neighbour n of the cell c is wall, n has the colour of c (or, if `same` is false, the other one),
@@ -58,7 +58,7 @@ fn wall_kept(
         (entry (numbers_in grouping.now)) same (is_flagged flagged.now) c (hop_of n) }
 {
     let wall = borders[n.border] == 1;
-    wall && one_colour(colours, c, n.to) == same && !is_flagged(flagged, group_of(grouping, n.to))
+    wall && one_colour(colours, c, n.to) == same && !is_flagged(flagged, grouping.group_of(n.to))
 }
 
 // Writes the border to the neighbour, if there is one and it is kept. Gives the next place.
@@ -165,7 +165,7 @@ pub fn scan_walls(
         (numbers_in grouping.now) same flagged.now (group_cells grouping.now g))
         memory.new result }
 {
-    let cells = cells_of(grouping, g);
+    let cells = grouping.cells_of(g);
     let mut at = start;
     for cell in cells {
         let c = usize::from(*cell);

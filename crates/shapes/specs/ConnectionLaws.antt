@@ -17,6 +17,7 @@ use Rattle.rules.specs.Flat.{flat, flat_place, cell_at, hop_if, hop_below, hop_r
 use Rattle.rules.specs.Groups.{entry, members}
 use Rattle.rules.specs.Shapes.{connections_at}
 use Rattle.laws.specs.PointLaws.{point-eq}
+use Rattle.groups.specs.declared.Grouping.{Grouping}
 use Rattle.groups.specs.Grouping.{numbers_in}
 use Rattle.shapes.specs.Outlines.{rows_in, columns_in, cell_count}
 use Rattle.shapes.specs.Spots.{place_at, spots, cell_spot, places, UnitAt}
@@ -99,7 +100,7 @@ unfolding flat_place
 cells-back h w [] = refl
 cells-back h w (c ∷ cs) = ap₂ (λ x xs. x ∷ xs) (div-add-mod' c w) (cells-back h w cs)
 
-pub unit_cells_lem : {h w : ℕ} {units : List ℕ} {g : ℕ} {o : List ℕ} → UnitAt h w units g o
+pub unit_cells_lem : {h w : ℕ} {units : Grouping} {g : ℕ} {o : List ℕ} → UnitAt h w units g o
     → members (flat h w) (entry (numbers_in units)) g
     ≡ table (cell_count o) (λ i. get_or (rows_in o) i 0 * w + get_or (columns_in o) i 0)
 unfolding places spots flat

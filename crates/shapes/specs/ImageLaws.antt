@@ -19,6 +19,7 @@ use Rattle.rules.specs.Flat.{flat}
 use Rattle.rules.specs.Groups.{entry}
 use Rattle.laws.specs.PointLaws.{point-eq}
 use Rattle.laws.specs.SortLaws.{sort-mem}
+use Rattle.groups.specs.declared.Grouping.{Grouping}
 use Rattle.groups.specs.Grouping.{numbers_in}
 use Rattle.shapes.specs.declared.Pair.{Pair}
 use Rattle.shapes.specs.declared.Signs.{Signs}
@@ -240,7 +241,7 @@ module _ (r : ℕ) (o : List ℕ) (s : Spotted o) (j : Jointed o) (p : Pair)
       ∙ sym (map-map (λ q. q ⊕ v) (apply (turn_at r)) (joint_spots o)))
 
 -- the connections of a unit's image
-pub image-is : {h w g : ℕ} {units o : List ℕ} → UnitAt h w units g o → OutlineJoined h w units g o
+pub image-is : {h w g : ℕ} {units : Grouping} {o : List ℕ} → UnitAt h w units g o → OutlineJoined h w units g o
     → (r : ℕ) → (image r (shape_of (flat h w) (entry (numbers_in units)) g)).connections
     ≡ image_joints r (cell_spots o) (joint_spots o)
 unfolding image_joints
@@ -251,5 +252,5 @@ image-is {h} {w} {g} {units} {o} u j r =
     ∙ ap (λ js. shift_by (opposite (least_image r P) ⊕ opposite (least_image r P)) (map (apply (turn_at r)) js))
     (sym j.here)
 
-pub jointed : {h w g : ℕ} {units o : List ℕ} → UnitAt h w units g o → OutlineJoined h w units g o → Jointed o
+pub jointed : {h w g : ℕ} {units : Grouping} {o : List ℕ} → UnitAt h w units g o → OutlineJoined h w units g o → Jointed o
 jointed u j = record { few = j.few; each = λ i l. joint-in i u.sized j l }

@@ -21,6 +21,7 @@ use Rattle.rules.specs.Groups.{entry, members}
 use Rattle.rules.specs.Flat.{Sized, flat}
 use Rattle.rules.specs.Shapes.{connections_at}
 use Rattle.laws.specs.FlatLaws.{counts, spot}
+use Rattle.groups.specs.declared.Grouping.{Grouping}
 use Rattle.groups.specs.Grouping.{numbers_in}
 use Rattle.shapes.specs.declared.Pair.{Pair}
 use Rattle.shapes.specs.PairLaws.{read_small}
@@ -183,7 +184,7 @@ module _ {o₀ o : List ℕ} (only : Only 2048 6144 o₀ o) (i : ℕ) (h : i < 1
       section-at 1024 1024 o i h ∙ ap (λ (l : List ℕ). get_or l i 0) (only-before only 1024 1024 (omega arith))
 
 -- the unit's cells stay as they were while its connections are written, and their count
-module _ {h w g : ℕ} {units o₀ o : List ℕ} (u : UnitAt h w units g o₀) (only : Only 2048 6144 o₀ o) (k : ℕ) where
+module _ {h w g : ℕ} {units : Grouping} {o₀ o : List ℕ} (u : UnitAt h w units g o₀) (only : Only 2048 6144 o₀ o) (k : ℕ) where
   abbrev ended : List ℕ
   ended = set o 6145 k
 
@@ -212,7 +213,7 @@ module _ {h w g : ℕ} {units o₀ o : List ℕ} (u : UnitAt h w units g o₀) (
         here = rw (rows_stay, columns-stay, count-stays) u.here;
       }
 
-pub joining-all : {units o₀ o : List ℕ} {h w g k i : ℕ} → UnitAt h w units g o₀ → i ≤ cell_count o₀ → cell_count o₀ ≤ i
+pub joining-all : {units : Grouping} {o₀ o : List ℕ} {h w g k i : ℕ} → UnitAt h w units g o₀ → i ≤ cell_count o₀ → cell_count o₀ ≤ i
     → Joining h w (entry (numbers_in units)) g o₀ o k i → OutlineJoined h w units g (set o 6145 k)
 unfolding joints
 joining-all {units} {o₀} {o} {h} {w} {g} {k} {i} u a b j =
@@ -268,7 +269,7 @@ near-joint h w number g y x Y X a b c m =
     go (inr n) = let e = joint-mem q (2 * y) (2 * x + 1) Y X n in
         (omega (arith, e.0), omega (arith, e.1), omega (arith, e.0, e.1))
 
-pub joint-in : {h w g : ℕ} {units o : List ℕ} (j : ℕ) → Sized h w → OutlineJoined h w units g o → j < joint_count o
+pub joint-in : {h w g : ℕ} {units : Grouping} {o : List ℕ} (j : ℕ) → Sized h w → OutlineJoined h w units g o → j < joint_count o
     → JointIn o j
 unfolding joints members flat
 joint-in {h} {w} {g} {units} {o} j s n l =

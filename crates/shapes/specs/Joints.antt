@@ -15,6 +15,7 @@ use Rattle.rules.specs.Flat.{flat}
 use Rattle.rules.specs.Groups.{entry}
 use Rattle.rules.specs.Shapes.{connections_at}
 use Rattle.rules.specs.Page.{Point}
+use Rattle.groups.specs.declared.Grouping.{Grouping}
 use Rattle.groups.specs.Grouping.{numbers_in}
 use Rattle.shapes.specs.Outlines.{rows_in, columns_in, down_in, across_in, joint_count}
 use Rattle.shapes.specs.Spots.{place_at, spots, joint_spots, joints}
@@ -35,7 +36,7 @@ pub record Grown (o : List ℕ) (k : ℕ) (js : List Point) (o' : List ℕ) (r :
   pub only : Only 2048 6144 o o'
   pub here : spots (down_in o') (across_in o') r ≡ spots (down_in o) (across_in o) k ++ js
 
-pub record OutlineJoined (h w : ℕ) (units : List ℕ) (g : ℕ) (o : List ℕ) : Type 0 where
+pub record OutlineJoined (h w : ℕ) (units : Grouping) (g : ℕ) (o : List ℕ) : Type 0 where
   pub few : joint_count o ≤ 2048
   pub here : joint_spots o ≡ joints h w (entry (numbers_in units)) g
 

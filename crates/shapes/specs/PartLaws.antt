@@ -15,6 +15,7 @@ use Rattle.rules.specs.Page.{Point}
 use Rattle.rules.specs.Flat.{Sized, flat, flat_place}
 use Rattle.rules.specs.Groups.{entry, members}
 use Rattle.laws.specs.PointLaws.{origin}
+use Rattle.groups.specs.declared.Grouping.{Grouping}
 use Rattle.groups.specs.Grouping.{numbers_in, start_in, group_cells}
 use Rattle.shapes.specs.Outlines.{rows_in, columns_in, cell_count}
 use Rattle.shapes.specs.Spots.{place_at, spot_at, spots, cell_spot, cell_spots, places, UnitAt}
@@ -31,7 +32,7 @@ module _ (o : List ℕ) (i a b : ℕ) (h : i < 1024) where
       section-set 1024 1024 (set o i a) i b h ∙ ap (λ (l : List ℕ). set l i b) (section-low 1024 1024 o i a h)
 
 -- how many cells the part has
-pub part-count : {units : List ℕ} {g w : ℕ} → UnitPart units g w
+pub part-count : {units : Grouping} {g w : ℕ} → UnitPart units g w
     → length (group_cells units g) ≡ start_in units (g + 1) - start_in units g
 part-count {units} {g} p = simp (length-take, length-drop) (omega (arith, p.order, p.long, p.inside))
 
@@ -68,7 +69,7 @@ mem-spots R C n i l =
     Memᴰ.cast (sym (spot_of R C n i l)) (get_d-mem (spots R C n) i origin (rw (length-spots R C n) l))
 
 -- the places of a group's part are the group's unit
-pub unit-at : (h w : ℕ) (units : List ℕ) (g : ℕ) (L o : List ℕ) → Sized h w → length (numbers_in units) ≡ 1024
+pub unit-at : (h w : ℕ) (units : Grouping) (g : ℕ) (L o : List ℕ) → Sized h w → length (numbers_in units) ≡ 1024
     → L ≡ members (flat h w) (entry (numbers_in units)) g → OutlinePlaced w L o → 1 ≤ cell_count o → cell_count o ≤ 1024
     → UnitAt h w units g o
 unfolding places members flat flat_place
@@ -111,7 +112,7 @@ unit-at h w units g L o s long e p some most =
         (subst (λ (M : List ℕ). get_or L i 0 ∈ M) e (get_d-mem L i 0 (omega (arith, count)))))
 
 -- each place of a unit is on the page
-pub unit-bounds : {h w : ℕ} {units : List ℕ} {g : ℕ} {o : List ℕ} (i : ℕ) → UnitAt h w units g o → i < cell_count o
+pub unit-bounds : {h w : ℕ} {units : Grouping} {g : ℕ} {o : List ℕ} (i : ℕ) → UnitAt h w units g o → i < cell_count o
     → (get_or (rows_in o) i 0 < h) × (get_or (columns_in o) i 0 < w)
 unfolding places members flat flat_place
 unit-bounds {h} {w} {units} {g} {o} i u l =

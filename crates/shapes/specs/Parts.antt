@@ -5,10 +5,11 @@
 --   OutlinePlaced w L o     the outline's cells are the places of the cells L
 use Rattle.std.specs.Prelude.{◌≡◌, List, map, ℕ, ◌+◌, ◌/◌, ◌%◌, ◌≤◌, ◌<◌, length}
 use Rattle.rules.specs.Page.{Point}
+use Rattle.groups.specs.declared.Grouping.{Grouping}
 use Rattle.groups.specs.Grouping.{cells_in, start_in}
 use Rattle.shapes.specs.Spots.{place_at, cell_spots}
 
-pub record UnitPart (units : List ℕ) (g w : ℕ) : Type 0 where
+pub record UnitPart (units : Grouping) (g w : ℕ) : Type 0 where
   pub group : g < 1024
   pub long : length (cells_in units) ≡ 1024
   pub order : start_in units g ≤ start_in units (g + 1)

@@ -29,6 +29,7 @@ use Rattle.rules.specs.Groups.{entry, members}
 use Rattle.rules.specs.Turns.{apply}
 use Rattle.rules.specs.Shapes.{connections_at}
 use Rattle.laws.specs.PointLaws.{origin}
+use Rattle.groups.specs.declared.Grouping.{Grouping}
 use Rattle.groups.specs.Grouping.{numbers_in}
 use Rattle.shapes.specs.Outlines.{rows_in, columns_in, down_in, across_in, cell_count, joint_count}
 use Rattle.shapes.specs.Rows.{turn_at}
@@ -110,7 +111,7 @@ pub record Spotted (o : List ℕ) : Type 0 where
   pub down : (i : ℕ) → i < cell_count o → get_or (rows_in o) i 0 < 32
   pub across : (i : ℕ) → i < cell_count o → get_or (columns_in o) i 0 < 32
 
-pub record UnitAt (h w : ℕ) (units : List ℕ) (g : ℕ) (o : List ℕ) : Type 0 where
+pub record UnitAt (h w : ℕ) (units : Grouping) (g : ℕ) (o : List ℕ) : Type 0 where
   pub sized : Sized h w
   pub long : length (numbers_in units) ≡ 1024
   pub spotted : Spotted o

@@ -25,6 +25,7 @@ use Rattle.laws.specs.PointLaws.{point-eq}
 use Rattle.laws.specs.ShapeLaws.{turned-keep}
 use Rattle.laws.specs.SortLaws.{Ascending}
 use Rattle.laws.proofs.FlatShapes.{members-ascend}
+use Rattle.groups.specs.declared.Grouping.{Grouping}
 use Rattle.groups.specs.Grouping.{numbers_in}
 use Rattle.shapes.specs.RowLaws.{transforms-rows}
 use Rattle.shapes.specs.FixLaws.{fixes-within, image-normal}
@@ -219,7 +220,7 @@ module _ (h w : ℕ) (ids : List ℕ) (g : ℕ) (o : List ℕ) (r : ℕ) (v : Po
   within_all e = e
 
 -- laid on the first cell: the row leaves the shape
-pub within-fixes : (h w : ℕ) (units : List ℕ) (g : ℕ) (o : List ℕ) (r : ℕ) (v : Point) → UnitAt h w units g o
+pub within-fixes : (h w : ℕ) (units : Grouping) (g : ℕ) (o : List ℕ) (r : ℕ) (v : Point) → UnitAt h w units g o
     → v ≡ opposite (least_image r (cell_spots o)) ⊕ cell_spot o 0
     → within h w (entry (numbers_in units)) g o r v ≡ fixes (shape_of (flat h w) (entry (numbers_in units)) g) r
 unfolding within onto_shift

@@ -14,7 +14,7 @@ ghost use Rattle.shapes.specs.Pairs.{point_of, SmallPair};
 ghost use Rattle.shapes.specs.Spots.{joint_spot, UnitAt};
 
 use crate::{Outline, Pair, apply, cell_count};
-use groups::{Grouping, cells_of, group_of};
+use groups::Grouping;
 
 // Writes the rows and columns of the cells of unit `g` into an outline, and how many there are.
 pub fn places(units: &Grouping, g: usize, w: usize, outline: &mut Outline)
@@ -23,7 +23,7 @@ pub fn places(units: &Grouping, g: usize, w: usize, outline: &mut Outline)
         × (cell_count outline.new ≡ start_in units.now (g + 1) - start_in units.now g) }
 {
     let width = w as u16;
-    let cells = cells_of(units, g);
+    let cells = units.cells_of(g);
     for (i, &c) in cells.iter().enumerate() {
         outline[i] = c / width;
         outline[1024 + i] = c % width;
@@ -49,7 +49,7 @@ fn join(
     let Some(c) = to else {
         return k;
     };
-    if group_of(units, c) == g {
+    if units.group_of(c) == g {
         outline[2048 + k] = y;
         outline[4096 + k] = x;
         k + 1

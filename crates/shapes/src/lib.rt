@@ -15,7 +15,7 @@ ghost use Rattle.shapes.specs.Outlines.{rows_in, columns_in, cell_count, joint_c
 ghost use Rattle.shapes.specs.Spots.{place_at, cell_spots, least_image, cell_in, has_cell, within, SpotIn, Spotted};
 ghost use Rattle.shapes.specs.Spots.{UnitAt};
 
-use groups::{Grouping, group_of};
+use groups::Grouping;
 use std::ops::{Add, Sub};
 
 pub mod connections; // connections.rt: a unit's cells and connections, and those of its images
@@ -198,7 +198,7 @@ fn cell_in(units: &Grouping, h: usize, w: usize, g: usize, y: usize, x: usize) -
     requires { Sized h w × (length (numbers_in units.now) ≡ 1024) }
     ensures { result ≡ cell_in h w (entry (numbers_in units.now)) g y x }
 {
-    y < h && x < w && group_of(units, y * w + x) == g
+    y < h && x < w && units.group_of(y * w + x) == g
 }
 
 // The same of signed coordinates.

@@ -18,6 +18,7 @@ use Rattle.argument.specs.Forms.{Forms, blocks-form, walls-form, units-form}
 use Rattle.argument.specs.Held.{held-forms}
 use Rattle.argument.specs.EarlyOnce.{NoTwice}
 use Rattle.argument.proofs.FlatDemand.{flat-blocks-once, flat-walls-once}
+use Rattle.groups.specs.declared.Grouping.{Grouping}
 use Rattle.groups.specs.declared.Kind.TheVariants.{Blocks, Potential}
 use Rattle.groups.specs.Parts.{groups_of}
 use Rattle.groups.specs.Grouping.{numbers_in, Filled, Vacant}
@@ -108,7 +109,8 @@ answers-kept none a = a.memory
 answers-kept (some r) a = absurd (none-some _ a.found)
 
 -- a grouping that holds the groups of a page: the length of its numbers, and it may be lent again
-module _ {h w : ℕ} (z : Sized h w) (link : ℕ → Bool) {g : List ℕ} (f : Filled (groups_of (flat h w) link) g) where
+module _ {h w : ℕ} (z : Sized h w) (link : ℕ → Bool) {g : Grouping}
+    (f : Filled (groups_of (flat h w) link) g) where
   one : 1 ≤ (flat h w).cells
   unfolding flat
   one = (counts z).some
@@ -123,7 +125,6 @@ module _ {h w : ℕ} (z : Sized h w) (link : ℕ → Bool) {g : List ℕ} (f : F
   pub vacant-of : Vacant (h * w) g
   unfolding flat
   vacant-of = record {
-    long = f.long;
     numbers = rw f.numbers (filled-ids (flat h w) link one few);
     cells = rw f.cells (filled-cells (flat h w) link one few);
     starts = rw f.starts (filled-offs (flat h w) link one few);
@@ -143,10 +144,10 @@ module _ {h w : ℕ} (z : Sized h w) (cs : List ℕ) (ks : List ℤ) (bs : List 
     blocks-fault = one_hit z cs ks bs r (sym is ∙ e)
 
     -- the block and the potential unit that a fault names have their parts
-    pub fault-block : {blocks : List ℕ} → Filled (groups_in Blocks h w cs bs) blocks → GroupAt h w blocks r.block
+    pub fault-block : {blocks : Grouping} → Filled (groups_in Blocks h w cs bs) blocks → GroupAt h w blocks r.block
     fault-block f = block_at_lem z cs ks bs r (sym is ∙ e) f
 
-    pub fault-unit : {potential : List ℕ} → Filled (groups_in Potential h w cs bs) potential
+    pub fault-unit : {potential : Grouping} → Filled (groups_in Potential h w cs bs) potential
         → GroupAt h w potential (fault_unit r.fault)
     fault-unit f = fault-unit-at z cs ks bs r (sym is ∙ e) f
 

@@ -11,6 +11,7 @@ use Rattle.rules.specs.Rules.{one_colour, joins_unit}
 use Rattle.rules.specs.Groups.{entry, joins_potential, potential_of}
 use Rattle.rules.specs.Shapes.{shape_of}
 use Rattle.rules.specs.Check.{mates, unit_reason}
+use Rattle.groups.specs.declared.Grouping.{Grouping}
 use Rattle.groups.specs.declared.Kind.TheVariants.{Potential}
 use Rattle.groups.specs.Kinds.{joins_in}
 use Rattle.groups.specs.Grouping.{numbers_in}
@@ -32,7 +33,7 @@ module _ (h w : ℕ) (cs : List ℕ) (c : ℕ → Option ℕ) (s : ℕ → State
   unfolding potential_in joins_unit joins_potential one_colour
   potential-clue u = refl
 
-module _ {h w : ℕ} {cs bs us ps : List ℕ} {u : ℕ} (q : StuckAt h w cs bs us ps u) where
+module _ {h w : ℕ} {cs bs : List ℕ} {us ps : Grouping} {u : ℕ} (q : StuckAt h w cs bs us ps u) where
   abbrev Z : Puzzle
   Z = unclued h w cs
 

@@ -3,6 +3,7 @@ use Rattle.std.specs.Prelude.{◌≡◌, List, ℕ}
 use Rattle.lists.specs.Lists.{flat_map}
 use Rattle.rules.specs.Codes.{states_in, unclued}
 use Rattle.rules.specs.Page.{Point}
+use Rattle.groups.specs.declared.Grouping.{Grouping}
 use Rattle.groups.specs.Grouping.{cells_in, starts_in}
 use Rattle.groups.specs.Pages.{Drawn}
 use Rattle.groups.specs.Parts.{part_of}
@@ -24,7 +25,7 @@ module _ {h w : ℕ} {cs : List ℕ} (d : Drawn h w cs) (bs ts : List ℕ) (n : 
   pub lain-rows : Lain h w rows ts n
   lain-rows = lain d bs ts n r survived
 
-  pub blocks-row : {potential mates : List ℕ} → Beside h w potential mates
+  pub blocks-row : {potential : Grouping} {mates : List ℕ} → Beside h w potential mates
       → Masked w (origins_in (cells_in potential) (starts_in potential) (mates_in mates)) m
       → {js : List Point} → spelled ts n ≡ js
       → flat_map (λ Q. flat_map (block_in h w bs rows ts n) (part_of (cells_in potential) (starts_in potential) Q))

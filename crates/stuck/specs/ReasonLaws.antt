@@ -16,6 +16,7 @@ use Rattle.rules.specs.Check.{laid, blockers, placements, transforms_of, inside_
 use Rattle.rules.specs.Check.{unit_reason}
 use Rattle.rules.specs.Check.{adjacent as is_adjacent}
 use Rattle.laws.specs.FlatReasons.{flat-edge-same, flat-inside-same, flat-members-same}
+use Rattle.groups.specs.declared.Grouping.{Grouping}
 use Rattle.groups.specs.Grouping.{numbers_in, cells_in, starts_in, group_cells}
 use Rattle.reasons.specs.Arrays.{GroupAt, inside_in, edge_in, is_flagged}
 use Rattle.reasons.specs.FarLaws.{far-walls}
@@ -34,7 +35,7 @@ use Rattle.stuck.specs.Writing.{Mated, flags_of, edges_in, far_in, walls_in, Arr
 use Rattle.stuck.specs.FlagLaws.{flagged-is}
 use Rattle.stuck.specs.ClueLaws.{reason-clue}
 
-module _ {h w : ℕ} {cs bs us ps list : List ℕ} {u p : ℕ} (a : Arranged h w cs bs us ps list u p) where
+module _ {h w : ℕ} {cs bs : List ℕ} {us ps : Grouping} {list : List ℕ} {u p : ℕ} (a : Arranged h w cs bs us ps list u p) where
   abbrev ids : List ℕ
   ids = numbers_in us
 

@@ -26,6 +26,7 @@ use Rattle.rules.specs.Page.{Puzzle, State, is_wall}
 use Rattle.rules.specs.Rules.{one_colour}
 use Rattle.rules.specs.Check.{laid, blockers}
 use Rattle.laws.specs.CodeLaws.{wall-state}
+use Rattle.groups.specs.declared.Grouping.{Grouping}
 use Rattle.groups.specs.Grouping.{cells_in, starts_in}
 use Rattle.groups.specs.Pages.{Drawn}
 use Rattle.groups.specs.Parts.{part_of}
@@ -282,7 +283,7 @@ blocker-is Z s (Blocked b) = refl
 
 -- the blockers at the origins of the groups beside a unit
 pub blocks-same : {h w : ℕ} {cs : List ℕ} → Drawn h w cs → (bs ts : List ℕ) (n : ℕ) → Raised ts n
-    → {potential mates : List ℕ} → Beside h w potential mates
+    → {potential : Grouping} {mates : List ℕ} → Beside h w potential mates
     → {m rows : List ℕ} → Masked w (origins_in (cells_in potential) (starts_in potential) (mates_in mates)) m
     → Survived (planes_of h w cs no_walls) m h ts n rows
     → flat_map (λ Q. flat_map (block_in h w bs rows ts n) (part_of (cells_in potential) (starts_in potential) Q))

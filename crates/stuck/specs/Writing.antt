@@ -22,6 +22,7 @@ use Rattle.rules.specs.Codes.{states_in, unclued}
 use Rattle.rules.specs.Groups.{entry, unit_of, potential_count}
 use Rattle.rules.specs.Shapes.{shape_of, flat_transforms}
 use Rattle.rules.specs.Check.{mates, transforms_of}
+use Rattle.groups.specs.declared.Grouping.{Grouping}
 use Rattle.groups.specs.Grouping.{numbers_in, cells_in, starts_in, count_in}
 use Rattle.groups.specs.Pages.{Drawn}
 use Rattle.reasons.specs.Arrays.{GroupAt, edge_in, scan_of}
@@ -39,7 +40,7 @@ pub record Low (mates : List ℕ) : Type 0 where
   pub end : mate_count mates ≤ 1024
   pub each : (i : ℕ) → i < mate_count mates → get_or mates i 0 < 1024
 
-pub record Mated (h w : ℕ) (potential mates : List ℕ) : Type 0 where
+pub record Mated (h w : ℕ) (potential : Grouping) (mates : List ℕ) : Type 0 where
   pub low : Low mates
   pub each : (i : ℕ) → i < mate_count mates → GroupAt h w potential (get_or mates i 0)
 
@@ -59,7 +60,7 @@ module _ (h w : ℕ) (cs bs ids : List ℕ) where
   unfoldable pub walls_in : ℕ → List ℕ → List ℕ → List Literal
   walls_in p gs xs = edge_in h w cs bs ids p ++ (edges_in gs ++ far_in gs xs)
 
-pub record Arranged (h w : ℕ) (cs bs us ps list : List ℕ) (u p : ℕ) : Type 0 where
+pub record Arranged (h w : ℕ) (cs bs : List ℕ) (us ps : Grouping) (list : List ℕ) (u p : ℕ) : Type 0 where
   pub drawn : Drawn h w cs
   pub colours : length cs ≡ 1024
   pub borders : length bs ≡ 1984
@@ -81,14 +82,14 @@ module _ (Z : Puzzle) (s : ℕ → State) (cells offs mates : List ℕ) where
   unfoldable pub blocks_listed : List Point → List Point → List ℕ → List Literal
   blocks_listed ps js rows = flat_map (blocks_by ps js) rows
 
-pub record Imaged (h w : ℕ) (cs bs us o l : List ℕ) (u : ℕ) : Type 0 where
+pub record Imaged (h w : ℕ) (cs bs : List ℕ) (us : Grouping) (o l : List ℕ) (u : ℕ) : Type 0 where
   pub cells : UnitAt h w us u o
   pub connections : OutlineJoined h w us u o
   pub rows : l ≡ rows_of (shape_of (flat h w) (entry (numbers_in us)) u)
   pub transforms : transforms_of (unclued h w cs) (states_in bs) u
       ≡ flat_transforms (shape_of (flat h w) (entry (numbers_in us)) u)
 
-pub record StuckAt (h w : ℕ) (cs bs us ps : List ℕ) (u : ℕ) : Type 0 where
+pub record StuckAt (h w : ℕ) (cs bs : List ℕ) (us ps : Grouping) (u : ℕ) : Type 0 where
   pub ready : Sorted h w cs bs us ps
   pub colours : length cs ≡ 1024
   pub borders : length bs ≡ 1984

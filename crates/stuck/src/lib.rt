@@ -18,7 +18,7 @@ use crate::survivors::{block_mates, draw_colours, draw_places, survivors};
 use crate::unit_walls::walls_of;
 use adjacent::{Mates, mates_of};
 use board::Board;
-use groups::{Grouping, cell_at, group_of, start_of};
+use groups::Grouping;
 use planes::draw_mask;
 use reasons::inside;
 use shapes::connections::{joints, places};
@@ -119,7 +119,7 @@ pub fn write_stuck(
         (potential_in (clued_by h w colours.now c) (states_in borders.now) u))
         memory.new result }
 {
-    let p = group_of(potential, cell_at(units, start_of(units, u)));
+    let p = potential.group_of(units.cell_at(units.start_of(u)));
     let mut mates = [0u16; 1025];
     mates_of(h, w, colours, borders, potential, p, &mut mates);
     let mut outline = [0u16; 6146];

@@ -15,7 +15,7 @@ ghost use Rattle.stuck.specs.Survivors.{On, Survived, Lain, PlacesDrawn, no_wall
 ghost use Rattle.stuck.specs.Survivors.{block_in};
 
 use adjacent::Mates;
-use groups::{Grouping, cells_of};
+use groups::Grouping;
 use planes::{draw_planes, line_left};
 use reasons::append;
 use rules::{Literal, Placement, Side};
@@ -246,7 +246,7 @@ pub fn block_mates(
             rows,
             turned,
             n,
-            cells_of(potential, usize::from(*mate)),
+            potential.cells_of(usize::from(*mate)),
         );
     }
     at

@@ -20,6 +20,7 @@ use Rattle.board.specs.declared.Board.{Board}
 use Rattle.board.specs.declared.Refusal.TheVariants.{Alien, Short}
 use Rattle.board.specs.Alien.{is_alien}
 use Rattle.board.specs.View.{puzzle_of, states_of}
+use Rattle.groups.specs.declared.Grouping.{Grouping}
 use Rattle.groups.specs.declared.Kind.TheVariants.{Units}
 use Rattle.groups.specs.Kinds.{joins_in}
 use Rattle.groups.specs.Parts.{groups_of}
@@ -83,7 +84,7 @@ module _ (h w : ℕ) (ids : List ℕ) (g : ℕ) (index : 1 ≤ w) {rows : List �
     listed-memory m e = e ∙ ap (λ s. sets m 0 (words s)) (sym kth-image)
 
 -- the units of a page
-module _ {h w : ℕ} (z : Sized h w) (cs bs : List ℕ) {units : List ℕ}
+module _ {h w : ℕ} (z : Sized h w) (cs bs : List ℕ) {units : Grouping}
     (all : Filled (groups_of (flat h w) (joins_in Units h w cs bs)) units) (u : ℕ) where
   -- "A unit number that no unit has gives no transforms"
   pub no-unit : count_in units ≤ u → transforms_of (unclued h w cs) (states_in bs) u ≡ []

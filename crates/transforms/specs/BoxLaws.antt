@@ -27,6 +27,7 @@ use Rattle.laws.specs.TurnLaws.{apply-compose, apply-keep}
 use Rattle.laws.specs.SortLaws.{Ascending, mem-sort, sort-mem, sort-ascends, ascending-distinct, ascending-same}
 use Rattle.laws.specs.SortLaws.{shift-ascends}
 use Rattle.laws.proofs.FlatShapes.{filter-ascends}
+use Rattle.groups.specs.declared.Grouping.{Grouping}
 use Rattle.groups.specs.Grouping.{numbers_in}
 use Rattle.shapes.specs.declared.Pair.{Pair}
 use Rattle.shapes.specs.declared.Signs.{Signs}
@@ -115,7 +116,7 @@ in-box p e n =
       point-eq (sym e) (rw (digits_div a.0 b.1) a.2) (rw (digits_mod a.0 b.1) b.2),
     )
 
-module _ {h w : ℕ} {units : List ℕ} {g : ℕ} {o : List ℕ} (u : UnitAt h w units g o) (r : ℕ) where
+module _ {h w : ℕ} {units : Grouping} {g : ℕ} {o : List ℕ} (u : UnitAt h w units g o) (r : ℕ) where
   abbrev number : ℕ → ℕ
   number = entry (numbers_in units)
 

@@ -16,6 +16,7 @@ use Rattle.rules.specs.Groups.{entry}
 use Rattle.rules.specs.Turns.{apply}
 use Rattle.rules.specs.Shapes.{sort, shift_by, shape_of}
 use Rattle.laws.specs.SortLaws.{length-sort, length_shift}
+use Rattle.groups.specs.declared.Grouping.{Grouping}
 use Rattle.groups.specs.Grouping.{numbers_in}
 use Rattle.shapes.specs.Rows.{turn_at, image}
 use Rattle.shapes.specs.Outlines.{rows_in, columns_in, down_in, across_in, cell_count, joint_count}
@@ -104,7 +105,7 @@ module _ (r : ℕ) (m : Point) (D A : List ℕ) where
   moved-room j k h x e = omega (arith, points-next x, wrote-length x, moved_length j)
 
 -- the image of a unit
-module _ {h w : ℕ} {units : List ℕ} {g : ℕ} {o : List ℕ} (u : UnitAt h w units g o) (r : ℕ) where
+module _ {h w : ℕ} {units : Grouping} {g : ℕ} {o : List ℕ} (u : UnitAt h w units g o) (r : ℕ) where
   abbrev shape : Shape
   shape = shape_of (flat h w) (entry (numbers_in units)) g
 

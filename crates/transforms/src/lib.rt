@@ -22,7 +22,7 @@ ghost use Rattle.transforms.specs.Transforms.{transform_of, memory_after};
 ghost use Rattle.transforms.specs.Box.{box_at, reversed, of_image, box_cell, sweep, moved_back};
 
 use board::{Board, Refusal};
-use groups::{Grouping, Kind, count_of, groups_of};
+use groups::{Grouping, Kind, groups_of};
 use shapes::connections::{joint, joints, places};
 use shapes::{
     Outline, Pair, Signs, cell_count, has_cell, joint_count, least, list_rows, signs_at, turn,
@@ -237,7 +237,7 @@ fn put_transform(
         (states_in borders.now) u) k memory.old) }
 {
     let units = groups_of(h, w, colours, borders, Kind::Units);
-    if count_of(&units) <= u {
+    if units.count_of() <= u {
         return none(0);
     }
     let mut outline = [0u16; 6146];

@@ -15,7 +15,7 @@ ghost use Rattle.walls.specs.WallCases.{breach_at};
 ghost use Rattle.walls.specs.Clean.{Apart};
 ghost use Rattle.walls.specs.Written.{breach_literals};
 
-use groups::{Grouping, group_of};
+use groups::Grouping;
 use reasons::{Direction, Neighbour, step};
 
 // A wall between two cells of one block: the cell, the wall and the neighbour over it.
@@ -31,7 +31,7 @@ fn is_breach(borders: &[u8; 1984], blocks: &Grouping, c: usize, n: Neighbour) ->
     requires { Arrays borders.now (numbers_in blocks.now) × (c < 1024) × InArrays n }
     ensures { result ≡ is_breach (states_in borders.now) (entry (numbers_in blocks.now)) c (hop_of n) }
 {
-    borders[n.border] == 1 && group_of(blocks, c) == group_of(blocks, n.to)
+    borders[n.border] == 1 && blocks.group_of(c) == blocks.group_of(n.to)
 }
 
 // The breach over the border to the neighbour of the cell c, if there is one.
@@ -125,7 +125,7 @@ fn count_hits(
 {
     let mut hits = 0;
     for i in 0..n {
-        hits += hit(borders[at + i], blocks[c + i], blocks[d + i]);
+        hits += hit(borders[at + i], blocks.numbers[c + i], blocks.numbers[d + i]);
     }
     hits
 }

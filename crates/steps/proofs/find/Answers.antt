@@ -7,12 +7,12 @@ use Rattle.steps.specs.LateLaws.{answers-hit}
 use Rattle.steps.proofs.find.Goals as goal
 
 pub fill-requires : goal.fill-requires
-fill-requires c = (c.requires.0.sized, vacant-zeros _, forest-zeros)
+fill-requires c = (c.requires.0.sized, rw c.empty-blocks.ensures (vacant-zeros _), forest-zeros)
 
 pub fill-requires-2 : goal.fill-requires-2
 fill-requires-2 c = (
   c.requires.0.sized,
-  vacant-zeros _,
+  rw c.empty-potential.ensures (vacant-zeros _),
   c.fill.ensures.1,
 )
 

@@ -11,7 +11,6 @@ use Rattle.rules.specs.Codes.{states_in}
 use Rattle.rules.specs.Groups.{entry}
 use Rattle.laws.specs.CodeLaws.{state-wall}
 use Rattle.groups.specs.Grouping.{numbers_in}
-use Rattle.groups.specs.GroupingLaws.{grouping-number}
 use Rattle.walls.specs.Breaches.{is_breach}
 use Rattle.walls.proofs.count_hits.Goals.{After-hit-hits}
 use Rattle.walls.proofs.count_hits.Goals as goal
@@ -21,7 +20,7 @@ one : (c : After-hit-hits) → c.hit-hits.result < 2
 one c =
     let a = c.args in
     let i = c.loop-i.i in
-    let ids = a.blocks.now in
+    let ids = numbers_in a.blocks.now in
     rw c.hit-hits.ensures
     (bit-under (eqb (get_or a.borders.now (a.at + i) 0) 1 && eqb (get_or ids (a.c + i) 0) (get_or ids (a.d + i) 0)))
 
@@ -36,14 +35,8 @@ unfolding is_breach entry
 none c e =
     let a = c.args in
     let i = c.loop-i.i in
-    let ids = a.blocks.now in
-    let p = c.requires in
-    rw (
-      state-wall,
-      ← grouping-number ids (a.c + i) (omega (arith, p)),
-      ← grouping-number ids (a.d + i)
-          (omega (arith, p)),
-    )
+    let ids = numbers_in a.blocks.now in
+    rw state-wall
     (no-bit (eqb (get_or a.borders.now (a.at + i) 0) 1 && eqb (get_or ids (a.c + i) 0) (get_or ids (a.d + i) 0))
     (sym c.hit-hits.ensures ∙ e))
 

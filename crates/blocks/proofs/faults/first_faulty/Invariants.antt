@@ -6,6 +6,7 @@ use lib.IntN.{ℤ}
 use Rattle.std.specs.Prelude.{Option}
 use Rattle.rules.specs.Codes.{colours_in, clues_in}
 use Rattle.rules.specs.Groups.{entry}
+use Rattle.groups.specs.declared.Grouping.{Grouping}
 use Rattle.groups.specs.Grouping.{numbers_in, cells_in, starts_in, count_in}
 use Rattle.groups.specs.Parts.{part_of}
 use Rattle.blocks.specs.declared.Fault.{Fault}
@@ -14,7 +15,7 @@ use Rattle.blocks.specs.Faults.{fault_on}
 use Rattle.blocks.specs.Faulty.{faulty_from, first_faulty}
 use Rattle.blocks.proofs.faults.first_faulty.Given as goal
 
-abbrev pub faults_of : List ℕ → List ℤ → List ℕ → List ℕ → ℕ → Option Fault
+abbrev pub faults_of : List ℕ → List ℤ → Grouping → Grouping → ℕ → Option Fault
 faults_of cs ks potential blocks B =
     fault_on (colours_in cs) (clues_in ks) (entry (numbers_in potential)) (size_in (starts_in potential))
     (part_of (cells_in blocks) (starts_in blocks) B)

@@ -11,13 +11,14 @@ use Rattle.rules.specs.Codes.{states_in, unclued}
 use Rattle.rules.specs.Flat.{flat}
 use Rattle.rules.specs.Groups.{entry}
 use Rattle.rules.specs.Shapes.{shape_of}
+use Rattle.groups.specs.declared.Grouping.{Grouping}
 use Rattle.groups.specs.Grouping.{numbers_in, cells_in, starts_in}
 use Rattle.planes.specs.Placing.{fits_of}
 use Rattle.planes.specs.Laying.{fits_among}
 use Rattle.fitting.specs.Copies.{soon_in}
 use Rattle.fitting.proofs.copies.copy_fits_soon.Given as goal
 
-abbrev pub fit : ℕ → ℕ → List ℕ → List ℕ → List ℕ → ℕ → ℕ → Bool
+abbrev pub fit : ℕ → ℕ → List ℕ → List ℕ → Grouping → ℕ → ℕ → Bool
 fit h w colours borders units g =
     fits_of (unclued h w colours) (states_in borders) (shape_of (flat h w) (entry (numbers_in units)) g)
 

@@ -9,11 +9,9 @@ use mir.Val.{bool_byte}
 use lib.Seq.{get_or-set_same}
 use Rattle.lists.specs.Count.{bit}
 use Rattle.lists.specs.CountLaws.{bit_le}
-use Rattle.lists.specs.SectionLaws.{section-set}
-use Rattle.groups.specs.Grouping.{cells_in}
 use Rattle.groups.specs.Ties.{flag_at}
 use Rattle.groups.specs.ForestLaws.{forest-set}
-use Rattle.groups.specs.GroupingLaws.{vacant-cell}
+use Rattle.groups.specs.NumberLaws.{blank-set}
 use Rattle.groups.specs.ScanLaws.{scan-next, pick_low}
 use Rattle.groups.proofs.linking.later_rows.Goals.{then-left, else-left, then-above, else-above}
 use Rattle.groups.proofs.linking.later_rows.Goals as goal
@@ -47,13 +45,13 @@ loop-c-preserved c =
     let low : v ≤ l.c = pick_low left above l.c a b (omega (arith, l.invariant.2.down (l.c - w)))
     (omega (arith, l.invariant.2.down (l.c - 1))) in
     let back : l.c + 1 - 1 ≡ l.c = omega arith in
-    rw (e, q, back, section-set 1024 1024 l.grouping l.k l.c (omega (arith, c.requires.2))) (
+    rw (e, q, back) (
       omega (arith, bit_le t),
       sym (get_or-set_same l.p l.c v 0 (omega (arith, l.invariant.2.long))),
       forest-set l.p l.c v l.invariant.2 room low,
-      vacant-cell c.args.n l.grouping c.requires.2 l.invariant.3 l.k l.c (omega arith),
-      scan-next w _ _ l.c l.p (cells_in l.grouping) l.k l.invariant.2 room l.invariant.4 c.requires.0 (omega arith)
-          (omega (arith, l.invariant.3.cells.long)) left above refl refl,
+      blank-set 1024 c.args.n l.k l.c l.list (omega arith) l.invariant.3,
+      scan-next w _ _ l.c l.p l.list l.k l.invariant.2 room l.invariant.4 c.requires.0 (omega arith)
+          (omega (arith, l.invariant.3.long)) left above refl refl,
     )
 
 pub returns : goal.returns

@@ -1,36 +1,26 @@
 -- The cells of the list are joined to those left of them. The loop has passed some of them.
-use mathlib.Core.Path.{◌≡◌, sym, ◌∙◌}
-use Prim.Native.Nat.{◌+◌, ◌-◌, ◌≤◌, ◌<◌}
+use mathlib.Core.Path.{◌≡◌, ◌∙◌}
+use Prim.Native.Nat.{◌≤◌, ◌<◌}
 use native.Mathlib.Numerals.{add-one}
 use native.Mathlib.Omega.{arith}
-use borrow.Rule.Slice.PartMut.{mid_len}
-use lib.ListN.{length, get_or, take, drop}
-use lib.Seq.{get_or-take}
-use Rattle.lists.specs.Sections.{section}
+use lib.ListN.{length, get_or, take}
+use lib.Seq.{get_or-take, length-take-le}
 use Rattle.rules.specs.Groups.{entry}
 use Rattle.groups.specs.Ties.{joined}
-use Rattle.groups.specs.Grouping.{cells_in}
 use Rattle.groups.proofs.linking.settle.Goals.{After-from-c, Start}
 use Rattle.groups.proofs.linking.settle.Goals as goal
 
 -- the list's length
-size : (c : Start) → let k = c.args.k in length (take (1024 + k - 1024) (drop 1024 c.args.grouping.now)) ≡ k
-size c =
-    let k = c.args.k in
-    let e : 1024 + k - 1024 ≡ k = omega arith in
-    mid_len 1024 (1024 + k) c.args.grouping.now (omega arith) ∙ e
+size : (c : Start) → let k = c.args.k in length (take k c.args.list.now) ≡ k
+size c = length-take-le c.args.k c.args.list.now (omega arith)
 
 -- the cell that the loop has come to
 is : (c : After-from-c) → let i = c.loop-cell.cell-index in
-    (i < c.args.k) × (c.from-c.result ≡ get_or (cells_in c.args.grouping.now) i 0)
-unfolding section
+    (i < c.args.k) × (c.from-c.result ≡ get_or c.args.list.now i 0)
 is c =
     let i = c.loop-cell.cell-index in
-    let l = drop 1024 c.args.grouping.now in
-    let h : i < c.args.k = omega (arith, size (goal.at.After-from-c c).Start, c.loop-cell-test.true) in (
-      h,
-      c.from-c.ensures ∙ get_or-take (1024 + c.args.k - 1024) l i 0 (omega arith) ∙ sym (get_or-take 1024 l i 0 (omega arith)),
-    )
+    let h : i < c.args.k = omega (arith, size (goal.at.After-from-c c).Start, c.loop-cell-test.true) in
+    (h, c.from-c.ensures ∙ get_or-take c.args.k c.args.list.now i 0 (omega arith))
 
 at : (c : After-from-c) → (1 ≤ c.from-c.result) × (c.from-c.result < 1024)
 at c = rw (is c).1 (c.requires.1 c.loop-cell.cell-index (is c).0)

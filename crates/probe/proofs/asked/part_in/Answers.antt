@@ -1,8 +1,7 @@
--- The parts of the two arrays are their lists of cells and of starts.
-use Rattle.lists.specs.Sections.{section}
+-- The parts of the two lists are those of the groupings.
 use Rattle.groups.specs.Parts.{part_of}
 use Rattle.probe.proofs.asked.part_in.Goals as goal
 
 pub returns : goal.returns
-unfolding section part_of
+unfolding part_of
 returns c = c.part.ensures
