@@ -200,7 +200,7 @@ module _ (colour_at : ℕ → Bool) (clue_at : ℕ → Maybe ℕ) (unit_at : ℕ
             (bit-cases (colour_at x) (colour_at y))
 
     -- the unit of the first cell of a colour, whatever cells ys follow
-    own_is : (ys : List ℕ) (c : Bool) → (length (those c xs) ≡ 0 → ⊥)
+    pub own_is : (ys : List ℕ) (c : Bool) → (length (those c xs) ≡ 0 → ⊥)
         → get_or own (bit c) None ≡ Some (colour_unit colour_at clue_at unit_at (xs ++ ys) c)
     unfolding colour_unit of_colour
     own_is ys c h =

@@ -35,7 +35,8 @@ use Rattle.board.proofs.ViewLaws.{states-literals, literals-length, decided-puzz
 use Rattle.board.proofs.LiteralLaws.{literals-decided}
 use Rattle.board.proofs.StepLaws.{decide-reply, undo-reply}
 use Rattle.calls.specs.declared.Answer.TheVariants.{Refused}
-use Rattle.calls.specs.Answers.{reason_in, told, memory_as, as_answer, written, check_answer, check_memory, then_answer, ended}
+use Rattle.calls.specs.Answers.{reason_in, told, memory_as, as_answer, written, check_answer}
+use Rattle.calls.specs.Answers.{check_memory, then_answer, ended}
 use Rattle.calls.specs.Answers.{preview_answer, preview_memory, call_of, call_memory}
 use Rattle.calls.specs.AnswerLaws.{reason-in, put-start, found-long, check-known}
 

@@ -59,7 +59,8 @@ use Rattle.demand3.specs.Runs.{next_board, board_after, run_from, memories}
 
 pub data Built (start : Board) : List Literal → Board → Type 0 where
   none : Built start [] start
-  more : {ls : List Literal} {b : Board} (l : Literal) (d : Board) → Built start ls b → decide_of b l ≡ returned (Ok tt) d
+  more : {ls : List Literal} {b : Board} (l : Literal) (d : Board) → Built start ls b
+      → decide_of b l ≡ returned (Ok tt) d
       → Built start (with_last ls l) d
 
 pub record Facts (start : Board) (ls : List Literal) (b : Board) : Type 0 where

@@ -1,5 +1,6 @@
 -- Laws of bytes: a number from its two or four bytes, the bytes of a number that was read, and signed numbers.
-use Rattle.std.specs.Prelude.{◌≡◌, refl, true, List, [], ◌∷◌, ◌++◌, ℕ, zero, suc, ◌+◌, ◌-◌, ◌*◌, ◌/◌, ◌%◌, ◌<◌, ◌≤◌, ℤ, pos}
+use Rattle.std.specs.Prelude.{◌≡◌, refl, true, List, [], ◌∷◌, ◌++◌, ℕ, zero, suc, ◌+◌, ◌-◌}
+use Rattle.std.specs.Prelude.{◌*◌, ◌/◌, ◌%◌, ◌<◌, ◌≤◌, ℤ, pos}
 use Rattle.std.specs.Prelude.{negsuc, length, take, drop}
 use Rattle.std.proofs.Math.Path.{ap, ap₂, sym}
 use Rattle.std.proofs.Common.{◌∙◌, lt-ltb, le-ltb, le-leb, leb-true, take-add, drop-drop}
@@ -46,7 +47,9 @@ four-le v =
 
 pub clue-le : (z : ℤ) → to_le_bytes w32 (cast_unsigned w32 z) ≡ clue_bytes z
 clue-le (pos n) = four-le n
-clue-le (negsuc n) = let e : 4294967296 - suc n ≡ 4294967295 - n = omega arith in four-le (4294967296 - suc n) ∙ ap four_bytes e
+clue-le (negsuc n) =
+    let e : 4294967296 - suc n ≡ 4294967295 - n = omega arith in
+    four-le (4294967296 - suc n) ∙ ap four_bytes e
 
 -- ---- a number from its bytes
 module _ (s : List ℕ) (k v : ℕ) where

@@ -3,7 +3,8 @@
 --   image-exactly    an image is not alien exactly if it is produced
 --   call-five        a decide or an undo answers 5 exactly if the image is not produced
 --   check-five       so does a check
-use Rattle.std.specs.Prelude.{◌≡◌, refl, Bool, true, false, cond, List, ◌↔◌, ℕ, ◌+◌, ◌<◌, eqb, ltb, length, get_or, Ok, Err}
+use Rattle.std.specs.Prelude.{◌≡◌, refl, Bool, true, false, cond, List, ◌↔◌, ℕ, ◌+◌, ◌<◌}
+use Rattle.std.specs.Prelude.{eqb, ltb, length, get_or, Ok, Err}
 use Rattle.std.proofs.Common.{ap, sym, ◌∙◌, arith}
 use Rattle.std.proofs.Math.Path.{transport}
 use Rattle.std.proofs.lemmas.Bool.{false≢true, eqb-false}

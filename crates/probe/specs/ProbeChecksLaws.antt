@@ -1,5 +1,6 @@
 -- Laws of the checks: one decide and one check more, and the two cases of the answer.
-use Rattle.std.specs.Prelude.{◌≡◌, refl, true, false, cond, List, [], ◌∷◌, map, ℕ, zero, suc, ◌+◌, ◌/◌, ◌%◌, ◌<◌, ◌≤◌, eqb, ℤ, length}
+use Rattle.std.specs.Prelude.{◌≡◌, refl, true, false, cond, List, [], ◌∷◌, map, ℕ, zero, suc, ◌+◌}
+use Rattle.std.specs.Prelude.{◌/◌, ◌%◌, ◌<◌, ◌≤◌, eqb, ℤ, length}
 use Rattle.std.specs.Prelude.{get_or, drop}
 use Rattle.std.proofs.Common.{◌∙◌, ap, arith, drop_of_length-le, drop-cons}
 use Rattle.std.proofs.Math.Numerals.{add-one}

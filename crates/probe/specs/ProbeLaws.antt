@@ -3,7 +3,8 @@
 use Rattle.std.specs.Prelude.{◌≡◌, ◌⊎◌, Bool, true, false, ◌&&◌, cond, List, [], map, ℕ, ◌*◌, ◌<◌, ◌≤◌, leb, length}
 use Rattle.std.specs.Prelude.{◌++◌, ◌-◌, min, get_or, take, drop, replicate}
 use Rattle.std.proofs.Math.Path.{refl}
-use Rattle.std.proofs.Common.{inl, inr, ap, sym, ◌∙◌, arith, leb-true, ne_eqb, length-take-le, length-drop, length-append}
+use Rattle.std.proofs.Common.{inl, inr, ap, sym, ◌∙◌, arith, leb-true}
+use Rattle.std.proofs.Common.{ne_eqb, length-take-le, length-drop, length-append}
 use Rattle.std.proofs.Math.Decide.{dec_lt}
 use Rattle.std.proofs.Math.ListN.{get_or-append}
 use Rattle.std.proofs.lemmas.List.{get_or-take, get_or-drop, get_or_past, get_or-append_right, length-replicate}

@@ -1,2 +1,3 @@
+pub mod CaseLaws
 pub mod MemoryLaws
 pub mod PathLaws

@@ -115,16 +115,16 @@ module _ (r : ℕ) {s : Signs} (e : s ≡ signs_of (turn_at r)) where
   turns-read y x = ap (λ q. point_of (turn_by q y x)) e ∙ row-turns r y x
 
 -- the order of two places, by the tests of the code
-less-test : (a b : ℤ) → lt_z a b ≡ lessℤ a b
+pub less-test : (a b : ℤ) → lt_z a b ≡ lessℤ a b
 less-test (pos a) (pos b) = refl
 less-test (pos a) (negsuc b) = refl
 less-test (negsuc a) (pos b) = refl
 less-test (negsuc a) (negsuc b) = refl
 
-before-yes : (y x b a : ℤ) → lessℤ y b ≡ true → before (point_at y x) (point_at b a) ≡ true
+pub before-yes : (y x b a : ℤ) → lessℤ y b ≡ true → before (point_at y x) (point_at b a) ≡ true
 before-yes y x b a e = rw e
 
-before-no : (y x b a : ℤ) → lessℤ y b ≡ false → lessℤ b y ≡ true → before (point_at y x) (point_at b a) ≡ false
+pub before-no : (y x b a : ℤ) → lessℤ y b ≡ false → lessℤ b y ≡ true → before (point_at y x) (point_at b a) ≡ false
 before-no y x b a e f = rw (e, different)
   where
     different : sameℤ y b ≡ false
@@ -132,7 +132,7 @@ before-no y x b a e f = rw (e, different)
         (λ t. let c : T (lessℤ b b) = subst (λ (z : ℤ). T (lessℤ b z)) (sameℤ→eq y b t) (rw f tt) in
         rw (less-irrefl b) at c) (λ t. absurd t)
 
-before-even : (y x b a : ℤ) → lessℤ y b ≡ false → lessℤ b y ≡ false
+pub before-even : (y x b a : ℤ) → lessℤ y b ≡ false → lessℤ b y ≡ false
     → before (point_at y x) (point_at b a) ≡ lessℤ x a
 before-even y x b a e f =
     let k : y ≡ b = less-total y b (rw e tt) (rw f tt) in

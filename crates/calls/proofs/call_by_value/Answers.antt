@@ -12,7 +12,8 @@ grouped : (x y z : Bool) → (x && y && z) ≡ (x && (y && z))
 grouped true y z = refl
 grouped false y z = refl
 
-compared : (t u : Tally) → same_tally t u ≡ (eqb t.undecided u.undecided && (eqb t.walls u.walls && eqb t.opens u.opens))
+compared : (t u : Tally)
+    → same_tally t u ≡ (eqb t.undecided u.undecided && (eqb t.walls u.walls && eqb t.opens u.opens))
 compared t u = grouped (eqb t.undecided u.undecided) (eqb t.walls u.walls) (eqb t.opens u.opens)
 
 pub returns-then-eq : goal.returns-then-eq

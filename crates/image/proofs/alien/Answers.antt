@@ -9,4 +9,5 @@ returns-then-image-ne-LENGTH c =
     rw (ne_eqb _ 11082 c.if-image-ne-LENGTH.true) (alien-length _ c.if-image-ne-LENGTH.true)
 
 pub returns-else-image-ne-LENGTH : goal.returns-else-image-ne-LENGTH
-returns-else-image-ne-LENGTH c = c.alien.ensures ∙ ap is_alien c.board.ensures ∙ alien-board _ c.if-image-ne-LENGTH.false
+returns-else-image-ne-LENGTH c =
+    c.alien.ensures ∙ ap is_alien c.board.ensures ∙ alien-board _ c.if-image-ne-LENGTH.false

@@ -1,7 +1,8 @@
 -- Memory that is too short, a board that is refused, or the cells of the group's part.
 use Rattle.std.proofs.Common.{◌≡◌, ◌∙◌, ap, sym, refl, arith, length, Ok}
 use Rattle.probe.specs.ProbeAsked.{which_of, part_in}
-use Rattle.probe.specs.ProbeAskedLaws.{part-few, part-units, part-potential, part-given, told-short, told-words, told-none}
+use Rattle.probe.specs.ProbeAskedLaws.{part-few, part-units, part-potential, part-given}
+use Rattle.probe.specs.ProbeAskedLaws.{told-short, told-words, told-none}
 use Rattle.probe.proofs.asked.probe_part.Goals.{After-part_in}
 use Rattle.probe.proofs.asked.probe_part.Goals as goal
 

@@ -1,0 +1,105 @@
+-- More laws of the definitions, by cases; no answer cites them.
+use Rattle.std.specs.Prelude.{◌≡◌, refl, Bool, true, false, ◌||◌, ℕ, ◌+◌, ◌<◌, ◌≤◌, ltb, ℤ, pos, negsuc, nat_abs}
+use Rattle.std.specs.Prelude.{Option, None, Some}
+use Rattle.std.specs.Option.{option_or, is_none, IfSome}
+use Rattle.std.specs.Int.Signed.{le_z}
+use Rattle.std.proofs.Common.{arith}
+use Rattle.std.proofs.Math.Option.{some, none}
+use borrow.Author.Tests.{ne_eqb, lt-ltb, le-ltb, le-leb}
+use Rattle.lists.specs.Booleans.{false-true}
+use Rattle.rules.specs.Page.{Puzzle, State}
+use Rattle.rules.specs.Codes.{clue_of}
+use Rattle.rules.specs.Check.{inside_block, edge_of}
+use Rattle.blocks.specs.declared.Part.{Part}
+use Rattle.blocks.specs.declared.Fault.{Fault}
+use Rattle.blocks.specs.declared.Fault.TheVariants.{InsideEdge, Inside, Edge, EdgeInside}
+use Rattle.blocks.specs.declared.Faulty.{Faulty}
+use Rattle.blocks.specs.declared.Look.{Look}
+use Rattle.blocks.specs.declared.Look.TheVariants.{Settled}
+use Rattle.blocks.specs.Censuses.{clue_in, next_part}
+use Rattle.blocks.specs.Faults.{small_fault, big_fault, clue_fault, fault_reason}
+use Rattle.blocks.specs.Faulty.{first_faulty}
+use Rattle.blocks.specs.Written.{fault_literals, fault_unit}
+use Rattle.blocks.specs.Bounds.{Under, first-wrong}
+use Rattle.blocks.specs.Looked.{Shows}
+
+-- BlockCases: a clue that was read
+pub clue-is : (z : ℤ) → le_z (pos 0) z ≡ true → Some (nat_abs z) ≡ clue_in (clue_of z)
+clue-is (pos n) e = refl
+clue-is (negsuc n) e = let z : ◌≡◌ {A = ℕ} 0 1 = cc in absurd (omega arith)
+
+pub clue-free : (z : ℤ) → le_z (pos 0) z ≡ false → None ≡ clue_in (clue_of z)
+clue-free (pos n) e =
+    let t : le_z (pos 0) (pos n) ≡ true = le-leb 0 n (omega arith) in
+    let z : ◌≡◌ {A = ℕ} 0 1 = cc in absurd (omega arith)
+clue-free (negsuc n) e = refl
+
+-- a part's first cell, and a later one
+module _ (p : Part) (u : ℕ) (k b : Bool) (e : b ≡ (p.clued || k)) where
+  pub part-first : p.size ≡ 0 → record { size = 1; unit = u; clued = b } ≡ next_part p u k
+  unfolding next_part
+  part-first h = rw (e, h)
+
+  pub part-later : (p.size ≡ 0 → ⊥) → record { size = p.size + 1; unit = p.unit; clued = b } ≡ next_part p u k
+  unfolding next_part
+  part-later h = rw (e, ne_eqb p.size 0 h)
+
+-- FaultCases: the first fault of two
+pub or-clear : (f g : Option Fault) → is_none f ≡ true → g ≡ option_or f g
+or-clear None g e = refl
+or-clear (Some f) g e = false-true refl e
+
+pub or-fault : (f g : Option Fault) → is_none f ≡ false → f ≡ option_or f g
+or-fault None g e = false-true e refl
+or-fault (Some f) g e = refl
+
+some_size : (n : ℕ) → (n ≡ 0 → ⊥) → ltb 0 n ≡ true
+some_size n h = lt-ltb 0 n (omega arith)
+
+pub small-hit : (mine other : Part) (size : ℕ) → (mine.size ≡ 0 → ⊥) → size < other.size
+    → Some (InsideEdge mine.unit) ≡ small_fault mine other size
+unfolding small_fault
+small-hit mine other size h k = rw (some_size mine.size h, lt-ltb size other.size k)
+
+module _ (n : ℕ) (p : Part) (size : ℕ) where
+  pub big-clued : (p.size ≡ 0 → ⊥) → size < n → p.clued ≡ true → Some (Edge p.unit) ≡ big_fault n p size
+  unfolding big_fault
+  big-clued h k e = rw (some_size p.size h, lt-ltb size n k, e)
+
+  pub big-bare : (p.size ≡ 0 → ⊥) → size < n → p.clued ≡ false → Some (EdgeInside p.unit) ≡ big_fault n p size
+  unfolding big_fault
+  big-bare h k e = rw (some_size p.size h, lt-ltb size n k, e)
+
+module _ (k : Option ℕ) (p q : Part) (a b : ℕ) where
+  pub clue-first : (n : ℕ) → k ≡ Some n → n < p.size → Some Inside ≡ clue_fault k p q a b
+  unfolding clue_fault
+  clue-first n e h = rw (e, lt-ltb n p.size h)
+
+  pub clue-second : (n : ℕ) → k ≡ Some n → p.size ≤ n → n < q.size → Some Inside ≡ clue_fault k p q a b
+  unfolding clue_fault
+  clue-second n e g h = rw (e, le-ltb n p.size g, lt-ltb n q.size h)
+
+-- Written, Faulty: the reason of a fault, and of none
+module _ (Z : Puzzle) (s : ℕ → State) where
+  pub fault-some : (B : ℕ) (f : Fault)
+      → fault_reason Z s B (Some f) ≡ some (fault_literals (inside_block Z s B) (edge_of Z s) f)
+  unfolding fault_reason
+  fault-some B f = refl
+
+  pub faultless-none : (B : ℕ) (f : Option Fault) → is_none f ≡ true → fault_reason Z s B f ≡ none
+  unfolding fault_reason
+  faultless-none B None e = refl
+  faultless-none B (Some f) e = false-true refl e
+
+-- Bounds: what is found names a potential unit below m, as every fault does
+pub first-under-all : (f : ℕ → Option Fault) (m n : ℕ) (low : 0 < m) → ((B : ℕ) → Under m low (f B))
+    → IfSome (first_faulty f n) (λ r. fault_unit r.fault < m)
+first-under-all f m n low u = go (first_faulty f n) refl
+  where
+    go : (o : Option Faulty) → first_faulty f n ≡ o → IfSome o (λ r. fault_unit r.fault < m)
+    go None e = tt
+    go (Some r) e = rw (first-wrong f n r e).fault at (u r.block)
+
+-- Looked: a look that settles it promises nothing else
+pub settles : (r : Look) {f g : Option Fault} (scan : Option Fault) → r ≡ Settled f → f ≡ g → Shows r g scan
+settles r scan e h = rw e h
