@@ -18,10 +18,10 @@ use Rattle.groups.specs.declared.Which.{Which}
 use Rattle.groups.specs.declared.Which.TheVariants.{Units, Potential}
 use Rattle.groups.specs.Asked.{asked_of}
 use Rattle.groups.specs.AskedLaws.{asked-alien, asked-done}
-use Rattle.groups.specs.Grouping.{cells_in, start_in, group_cells}
+use Rattle.groups.specs.Grouping.{cells_in, start_in, group_cells, grouping_of}
 use Rattle.groups.specs.Kinds.{joins_in}
 use Rattle.groups.specs.PartLaws.{cells-long}
-use Rattle.groups.specs.Parts.{part_from}
+use Rattle.groups.specs.Parts.{part_from, groups_of}
 use Rattle.image.specs.Image.{right_length, spelled_board}
 use Rattle.image.specs.RoundLaws.{long-is}
 use Rattle.reasons.specs.Memory.{WordsWritten}
@@ -51,20 +51,22 @@ abbrev Long : Result Grouping Refusal → Type 0
 Long (Ok grouping) = length (cells_in grouping) ≡ 1024
 Long (Err e) = Unit {0}
 
+flat-some : {h w : ℕ} → Counts h w → 1 ≤ (flat h w).cells
+unfolding flat
+flat-some n = n.some
+
+flat-small : {h w : ℕ} → Counts h w → (flat h w).cells ≤ 1024
+unfolding flat
+flat-small n = n.cells
+
 board-long : (b : Board) (k : Kind) (a : Bool) → is_alien b ≡ a → Long (asked_of b k)
+unfolding grouping_of groups_of
 board-long b k true e = subst Long (asked-alien b k e) tt
 board-long b k false e =
     let z = (native-has b e).size in
     let n = counts z in
     subst Long (asked-done b k e)
     (cells-long (flat b.height b.width) (joins_in k b.height b.width b.colours b.borders) (flat-some n) (flat-small n))
-  where
-    flat-some : Counts b.height b.width → 1 ≤ (flat b.height b.width).cells
-    unfolding flat
-    flat-some n = n.some
-    flat-small : Counts b.height b.width → (flat b.height b.width).cells ≤ 1024
-    unfolding flat
-    flat-small n = n.cells
 
 given-long : (s : List ℕ) (k : Kind) (r : Bool) → right_length s ≡ r → Long (asked_in s k)
 unfolding asked_in
