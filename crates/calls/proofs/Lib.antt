@@ -1,4 +1,5 @@
 pub mod CallLaws
+pub mod CaseLaws
 pub mod CountedLaws
 pub mod OnceLaws
 pub mod PreviewLaws
