@@ -10,7 +10,8 @@ use Rattle.groups.specs.declared.Grouping.{Grouping}
 use Rattle.groups.specs.Grouping.{cells_in, starts_in}
 use Rattle.adjacent.specs.Mates.{Gathered, Grouped, Known, mate_count, Beside}
 
-pub mates-reach : {h w : ℕ} {potential : Grouping} {mates : List ℕ} → Beside h w potential mates → mate_count mates ≤ length mates
+pub mates-reach : {h w : ℕ} {potential : Grouping} {mates : List ℕ} → Beside h w potential mates
+    → mate_count mates ≤ length mates
 mates-reach p = omega (arith, p.end, p.long)
 
 -- the mates of p stand in the list

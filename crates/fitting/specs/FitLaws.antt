@@ -46,7 +46,8 @@ own-listed t =
     kept false us m = Memᴰ.append_left us m
 
 module _ (Z : Puzzle) (s : ℕ → State) (cells offs : List ℕ) where
-  module _ (gs : List ℕ) {h w g : ℕ} {us : Grouping} {o : List ℕ} (u : UnitAt h w us g o) (j : OutlineJoined h w us g o) where
+  module _ (gs : List ℕ) {h w g : ℕ} {us : Grouping} {o : List ℕ} (u : UnitAt h w us g o)
+      (j : OutlineJoined h w us g o) where
     abbrev ids : List ℕ
     ids = numbers_in us
 

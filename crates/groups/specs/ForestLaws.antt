@@ -77,7 +77,8 @@ module _ (n : ℕ) (p L : List ℕ) (f : Forest p) (r : Rep n p L) (few : n ≤ 
   pub rep-one : u ≡ v → Rep n p (merge_if true (entry L a) (entry L b) L)
   rep-one e = rw (merge-same L a b (sym eu ∙ e ∙ ev)) r
 
-  pub rep-roots : (hi lo : ℕ) → hi ≡ max u v → lo ≡ min u v → Rep n (set p hi lo) (merge_if true (entry L a) (entry L b) L)
+  pub rep-roots : (hi lo : ℕ) → hi ≡ max u v → lo ≡ min u v
+      → Rep n (set p hi lo) (merge_if true (entry L a) (entry L b) L)
   rep-roots hi lo eh el =
       elim (dec_lt u v) [
         | yes h ↦ let i : hi ≡ v = omega arith in let j : lo ≡ u = omega arith in rw (i, j) (rep-earlier h)

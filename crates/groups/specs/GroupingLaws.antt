@@ -10,7 +10,8 @@ use Rattle.lists.specs.PaddedLaws.{zeros}
 use Rattle.groups.specs.declared.Grouping.{Grouping}
 use Rattle.groups.specs.Parts.{Groups}
 use Rattle.groups.specs.Arrays.{Blank, Stored}
-use Rattle.groups.specs.Grouping.{numbers_in, cells_in, starts_in, count_in, empty_grouping, grouping_of, array_of, Filled, Vacant}
+use Rattle.groups.specs.Grouping.{numbers_in, cells_in, starts_in, count_in, empty_grouping, grouping_of, array_of}
+use Rattle.groups.specs.Grouping.{Filled, Vacant}
 
 -- the first n places of a list are written
 module _ (n : ℕ) (l : List ℕ) (room : n ≤ length l) (new : List ℕ) where

@@ -42,9 +42,11 @@ pub tie-flags-put : (n k m : ℕ) (f : ℕ → Bool) (flags new : List Bool) →
     → TieFlags (n + m) f (put_mid n k flags new)
 tie-flags-put n k m f flags new h room e at s =
     record {
-      long = same_len_mid n k flags new (e ∙ sym (length-take-le k (drop n flags) (omega (arith, length-drop n flags, s.long)))) ∙ s.long;
+      long = same_len_mid n k flags new (e
+          ∙ sym (length-take-le k (drop n flags) (omega (arith, length-drop n flags, s.long)))) ∙ s.long;
       at = λ x l. elim (dec_lt x n) [
-        | yes i ↦ get_or-append (take n flags) _ false x (omega (arith, front)) ∙ get_or-take n flags x false i ∙ s.at x i
+        | yes i ↦ get_or-append (take n flags) _ false x (omega (arith, front)) ∙ get_or-take n flags x false i
+            ∙ s.at x i
         | no i ↦
             let j : n + (x - n) ≡ x = omega arith in
             get_or-append_right (take n flags) _ n x false front (omega arith)

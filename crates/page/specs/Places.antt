@@ -3,7 +3,7 @@
 --   digit_at s p        the value of the digit at place p
 --   digits_in s a e     the values of the digits from place a up to place e
 --   left_from s r       what is left at the place r
---   got s r             the value that was read, and what is left
+--   got_value s r       the value that was read, and what is left
 --   got_digits s r      the digits that were read, and what is left
 --   all_from r s p      what r reads, one value after the other, from place p on
 --   end_from r s p      what is left then
@@ -37,9 +37,9 @@ unfoldable pub left_from : List ℕ → Read ℕ → Option (List ℕ)
 left_from s (Some p) = some (rest s p)
 left_from s None = none
 
-unfoldable pub got : {A : Type 0} → List ℕ → Read (A × ℕ) → Option (A × List ℕ)
-got s (Some p) = some (p.0, rest s p.1)
-got s None = none
+unfoldable pub got_value : {A : Type 0} → List ℕ → Read (A × ℕ) → Option (A × List ℕ)
+got_value s (Some p) = some (p.0, rest s p.1)
+got_value s None = none
 
 unfoldable pub got_digits : List ℕ → Read (Span × ℕ) → Option (List ℕ × List ℕ)
 got_digits s (Some p) = some (digits_in s p.0.from p.0.to, rest s p.1)

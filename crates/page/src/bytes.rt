@@ -1,7 +1,7 @@
 // Words, numbers and digits at a place of the bytes.
 ghost use Rattle.std.specs.Prelude.{◌≡◌, ◌≤◌};
 ghost use Rattle.page.specs.Parsers.{rest, strip, number, number_on, digits};
-ghost use Rattle.page.specs.Places.{left_from, got, got_digits};
+ghost use Rattle.page.specs.Places.{left_from, got_value, got_digits};
 
 use crate::Span;
 
@@ -26,7 +26,7 @@ pub fn word_at(s: &[u8], at: usize, word: &[u8]) -> Option<usize>
 // The rest of a number that stood at `from`, up to the byte `stop`: the number and the place after that byte.
 fn number_on(s: &[u8], at: usize, stop: u8, from: usize) -> Option<(usize, usize)>
     requires { from ≤ 2147483647 }
-    ensures { got s.now result ≡ number_on stop from (rest s.now at) }
+    ensures { got_value s.now result ≡ number_on stop from (rest s.now at) }
 {
     let left = rest(s, at);
     let mut v = from;
@@ -50,7 +50,7 @@ fn number_on(s: &[u8], at: usize, stop: u8, from: usize) -> Option<(usize, usize
 
 // A number without leading zeros, at most 2147483647, and the place after the byte `stop` that follows it.
 pub fn number_at(s: &[u8], at: usize, stop: u8) -> Option<(usize, usize)>
-    ensures { got s.now result ≡ number stop (rest s.now at) }
+    ensures { got_value s.now result ≡ number stop (rest s.now at) }
 {
     let b = *s.get(at)?;
     if b.is_ascii_digit() {

@@ -2,7 +2,7 @@
 ghost use Rattle.std.specs.Prelude.{◌≡◌};
 ghost use Rattle.page.specs.Parsers.{rest};
 ghost use Rattle.page.specs.Grammar.{size, row, clue, side, decide_call, call};
-ghost use Rattle.page.specs.Places.{got, got_digits};
+ghost use Rattle.page.specs.Places.{got_value, got_digits};
 
 use crate::bytes::{digits_at, number_at, word_at};
 use crate::{Clue, Span};
@@ -10,7 +10,7 @@ use rules::{Call, Literal, Side};
 
 // `(size h w)`: the height and the width.
 pub fn size_at(s: &[u8], at: usize) -> Option<((usize, usize), usize)>
-    ensures { got s.now result ≡ size (rest s.now at) }
+    ensures { got_value s.now result ≡ size (rest s.now at) }
 {
     let a = word_at(s, at, b"(size ")?;
     let (h, b) = number_at(s, a, b' ')?;
@@ -31,7 +31,7 @@ pub fn row_at(s: &[u8], at: usize) -> Option<(Span, usize)>
 
 // `(clue y x n)`
 pub fn clue_at(s: &[u8], at: usize) -> Option<(Clue, usize)>
-    ensures { got s.now result ≡ clue (rest s.now at) }
+    ensures { got_value s.now result ≡ clue (rest s.now at) }
 {
     let a = word_at(s, at, b"(clue ")?;
     let (y, b) = number_at(s, a, b' ')?;
@@ -43,7 +43,7 @@ pub fn clue_at(s: &[u8], at: usize) -> Option<(Clue, usize)>
 
 // The side of a decide, to the end of its line.
 fn side_at(s: &[u8], at: usize) -> Option<(Side, usize)>
-    ensures { got s.now result ≡ side (rest s.now at) }
+    ensures { got_value s.now result ≡ side (rest s.now at) }
 {
     if let Some(next) = word_at(s, at, b"1)\n") {
         return Some((Side::Wall, next));
@@ -54,7 +54,7 @@ fn side_at(s: &[u8], at: usize) -> Option<(Side, usize)>
 
 // `(decide b s)`
 fn decide_at(s: &[u8], at: usize) -> Option<(Call, usize)>
-    ensures { got s.now result ≡ decide_call (rest s.now at) }
+    ensures { got_value s.now result ≡ decide_call (rest s.now at) }
 {
     let a = word_at(s, at, b"(decide ")?;
     let (border, b) = number_at(s, a, b' ')?;
@@ -64,7 +64,7 @@ fn decide_at(s: &[u8], at: usize) -> Option<(Call, usize)>
 
 // A call's line: `(undo)`, `(check)` or a decide.
 pub fn call_at(s: &[u8], at: usize) -> Option<(Call, usize)>
-    ensures { got s.now result ≡ call (rest s.now at) }
+    ensures { got_value s.now result ≡ call (rest s.now at) }
 {
     if let Some(next) = word_at(s, at, b"(undo)\n") {
         return Some((Call::Undo, next));

@@ -138,9 +138,9 @@ pub part-all : {A : Type 0} (l : List A) → part l 0 (length l) ≡ l
 part-all l = take_all (length l - 0) l (omega arith)
 
 -- each cell of a part of a list of cells is on the page
-pub part-cells : {h w : ℕ} {cells : List ℕ} {from to : ℕ} → Cells h w cells from to
+pub listed-cells : {h w : ℕ} {cells : List ℕ} {from to : ℕ} → Cells h w cells from to
     → (i : ℕ) → i < length (part cells from to) → get_or (part cells from to) i 0 < h * w
-part-cells {h} {w} {cells} {from} {to} p i l =
+listed-cells {h} {w} {cells} {from} {to} p i l =
     let m : i < to - from = omega (arith, part_length cells from to) in
     rw (get_or-take (to - from) (drop from cells) i 0 m, get_or-drop from cells i 0) (p.each i m)
 

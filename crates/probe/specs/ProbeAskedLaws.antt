@@ -1,5 +1,6 @@
 -- Laws of the probes of a board's groups: a part's length, and the cases of what is given.
-use Rattle.std.specs.Prelude.{◌≡◌, refl, Bool, true, false, List, [], ℕ, ◌-◌, ◌+◌, ◌<◌, ◌≤◌, length, drop, Result, Ok, Err}
+use Rattle.std.specs.Prelude.{◌≡◌, refl, Bool, true, false, List, [], ℕ, ◌-◌, ◌+◌, ◌<◌, ◌≤◌, length, drop, Result, Ok}
+use Rattle.std.specs.Prelude.{Err}
 use Rattle.std.proofs.Common.{subst, arith, ne_eqb, le-leb, length-take, length-drop}
 use Rattle.std.proofs.Math.Nat.{min-le_right}
 use Rattle.std.proofs.lemmas.Bool.{lt-leb}
@@ -87,14 +88,14 @@ part-few s which g =
 
 -- a board that is refused has no part
 module _ (s : List ℕ) (which : Which) (g : ℕ) where
-  pub part-units : (e : Refusal) → Err e ≡ asked_in s kind.Units → [] ≡ part_in s which g
+  pub refused-units : (e : Refusal) → Err e ≡ asked_in s kind.Units → [] ≡ part_in s which g
   unfolding part_in
-  part-units e p = rw (← p)
+  refused-units e p = rw (← p)
 
-  pub part-potential : (us : Grouping) (e : Refusal) → Ok us ≡ asked_in s kind.Units
+  pub refused-potential : (us : Grouping) (e : Refusal) → Ok us ≡ asked_in s kind.Units
       → Err e ≡ asked_in s kind.Potential → [] ≡ part_in s which g
   unfolding part_in
-  part-potential us e p q = rw (← p, ← q)
+  refused-potential us e p q = rw (← p, ← q)
 
   pub part-given : (us ps : Grouping) → Ok us ≡ asked_in s kind.Units → Ok ps ≡ asked_in s kind.Potential
       → part_from which (group_cells us g) (group_cells ps g) ≡ part_in s which g

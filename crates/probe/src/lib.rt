@@ -75,8 +75,8 @@ fn grouped(h: usize, w: usize, colours: &[u8], borders: &[u8], kind: u32) -> Gro
     groups::groups_of(h, w, &places(colours), &places(borders), kind_of(kind))
 }
 
-// Writes a grouping from the start of the memory: the cells' numbers, the cells group by group, where each group starts,
-// and the count.
+// Writes a grouping from the start of the memory: the cells' numbers, the cells group by group, where each group
+// starts, and the count.
 fn hand_out_grouping(memory: &mut [u16], grouping: &Grouping) -> usize
     requires { 16384 ≤ length memory.old }
     ensures { WordsWritten memory.old (words_in grouping.now) memory.new result }

@@ -4,7 +4,8 @@ ghost use Rattle.rules.specs.Page.{wall_at};
 ghost use Rattle.rules.specs.Flat.{Sized, flat};
 ghost use Rattle.rules.specs.Groups.{entry};
 ghost use Rattle.reasons.specs.Memory.{Spare, Wrote};
-ghost use Rattle.reasons.specs.Arrays.{hop_at};
+ghost use Rattle.lists.specs.UpTo.{up_to};
+ghost use Rattle.reasons.specs.Arrays.{direction_at, hop_at};
 ghost use Rattle.reasons.specs.Search.{path_in, Lined, Looked, Ended};
 
 use crate::{Direction, Neighbour, append, beside};
@@ -49,6 +50,57 @@ fn visit(
     tail + 1
 }
 
+// The search looks from the cell c above and below. Gives the queue's new end.
+fn expand_rows(
+    queue: &mut [u16; 1024],
+    parent: &mut [u16; 1024],
+    over: &mut [u16; 1024],
+    found: &mut [u8; 1024],
+    tail: usize,
+    borders: &[u8; 1984],
+    h: usize,
+    w: usize,
+    c: usize,
+) -> usize
+    requires { Sized h w × (length borders.now ≡ 1984) × (c < h * w) × (get_or found.old c 0 ≡ 1)
+        × Lined (h * w) queue.old parent.old over.old found.old tail }
+    ensures { Looked h w borders.now c (up_to (λ i. hop_at h w (c / w) (c % w) (direction_at i)) 2) queue.old
+        parent.old over.old found.old tail queue.new parent.new
+        over.new found.new result }
+{
+    // a call for each direction and no loop, here and below, so that each is compiled for its direction
+    let y = c / w;
+    let x = c % w;
+    let above = visit(
+        queue,
+        parent,
+        over,
+        found,
+        tail,
+        borders,
+        h,
+        w,
+        c,
+        y,
+        x,
+        Direction::Above,
+    );
+    visit(
+        queue,
+        parent,
+        over,
+        found,
+        above,
+        borders,
+        h,
+        w,
+        c,
+        y,
+        x,
+        Direction::Below,
+    )
+}
+
 // The search looks from the cell c above, below, left, right. Gives the queue's new end.
 fn expand(
     queue: &mut [u16; 1024],
@@ -67,37 +119,9 @@ fn expand(
         parent.old over.old found.old tail queue.new parent.new
         over.new found.new result }
 {
-    // four calls and no loop, so that each is compiled for its direction
     let y = c / w;
     let x = c % w;
-    let above = visit(
-        queue,
-        parent,
-        over,
-        found,
-        tail,
-        borders,
-        h,
-        w,
-        c,
-        y,
-        x,
-        Direction::Above,
-    );
-    let below = visit(
-        queue,
-        parent,
-        over,
-        found,
-        above,
-        borders,
-        h,
-        w,
-        c,
-        y,
-        x,
-        Direction::Below,
-    );
+    let below = expand_rows(queue, parent, over, found, tail, borders, h, w, c);
     let left = visit(
         queue,
         parent,
@@ -150,6 +174,7 @@ fn hunt(
     found[a] = 1;
     let mut head = 0;
     let mut tail = 1;
+    // a while, since the queue grows as it is read
     while head < tail {
         if found[b] == 1 {
             return;

@@ -1,4 +1,4 @@
-// The types that the definitions and the code share, and numbers as indices; specs/ has 01's definitions of the rules,
+// The types that the definitions and the code share; specs/ has 01's definitions of the rules,
 // the numbering, Check and the book.
 #![tactic(auto)]
 
@@ -55,18 +55,4 @@ pub enum Placement {
     Fits,
     Blocked(usize),
     Cannot,
-}
-
-// A number of 16 bits as an index.
-pub fn index(x: u16) -> usize
-    ensures { result ≡ x }
-{
-    x as usize
-}
-
-// A byte as an index.
-pub fn index_byte(x: u8) -> usize
-    ensures { result ≡ x }
-{
-    x as usize
 }

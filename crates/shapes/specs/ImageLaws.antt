@@ -252,5 +252,6 @@ image-is {h} {w} {g} {units} {o} u j r =
     ∙ ap (λ js. shift_by (opposite (least_image r P) ⊕ opposite (least_image r P)) (map (apply (turn_at r)) js))
     (sym j.here)
 
-pub jointed : {h w g : ℕ} {units : Grouping} {o : List ℕ} → UnitAt h w units g o → OutlineJoined h w units g o → Jointed o
+pub jointed : {h w g : ℕ} {units : Grouping} {o : List ℕ} → UnitAt h w units g o → OutlineJoined h w units g o
+    → Jointed o
 jointed u j = record { few = j.few; each = λ i l. joint-in i u.sized j l }

@@ -32,7 +32,7 @@ use Rattle.shapes.specs.Outlines.{rows_in, columns_in, down_in, across_in, cell_
 use Rattle.shapes.specs.Spots.{place_at, spots, joint_spot, joints, UnitAt}
 use Rattle.shapes.specs.SpotLaws.{spots-more, spots-cong, length-spots}
 use Rattle.shapes.specs.ConnectionLaws.{connections-at, unit_cells_lem}
-use Rattle.shapes.specs.Joints.{joint_if, joined, JointRoom, Grown, Joining, OutlineJoined, JointIn}
+use Rattle.shapes.specs.Joints.{joint_if, joined_to, JointRoom, Grown, Joining, OutlineJoined, JointIn}
 
 pub grown-none : (o : List ℕ) (k : ℕ) → Grown o k [] o k
 grown-none o k = record { only = only_none 2048 6144 o; here = sym (append-nil (spots (down_in o) (across_in o) k)) }
@@ -98,17 +98,17 @@ joint-one false y x = omega arith
 -- the tests of the code, one law for each answer
 module _ (o : List ℕ) (k : ℕ) (ids : List ℕ) (g y x : ℕ) where
   pub join-yes : (c : ℕ) {m : ℕ} → JointRoom o k → m ≡ get_or ids c 0 → m ≡ g
-      → Grown o k (joint_if (joined (entry ids) g (Some c)) y x) (noted o k y x) (k + 1)
+      → Grown o k (joint_if (joined_to (entry ids) g (Some c)) y x) (noted o k y x) (k + 1)
   unfolding entry
   join-yes c {m} r a b = rw (eq-eqb (get_or ids c 0) g (sym a ∙ b)) (grown-one o k y x r)
 
   pub join-no : (c : ℕ) {m : ℕ} → m ≡ get_or ids c 0 → (m ≡ g → ⊥)
-      → Grown o k (joint_if (joined (entry ids) g (Some c)) y x) o k
+      → Grown o k (joint_if (joined_to (entry ids) g (Some c)) y x) o k
   unfolding entry
   join-no c {m} a b = rw (ne_eqb (get_or ids c 0) g (λ e. b (a ∙ e))) (grown-none o k)
 
 -- a neighbour that a test gives
-joined-then : (number : ℕ → ℕ) (g : ℕ) (t : Bool) (c : ℕ) → joined number g (then_some t c) ≡ (t && eqb (number c) g)
+joined-then : (number : ℕ → ℕ) (g : ℕ) (t : Bool) (c : ℕ) → joined_to number g (then_some t c) ≡ (t && eqb (number c) g)
 joined-then number g true c = refl
 joined-then number g false c = refl
 
@@ -130,18 +130,19 @@ cell_room {h} {w} {y} {x} s a b =
 
 pub joints-are : {o o' o'' : List ℕ} {k l r : ℕ} {a b : Option ℕ} (h w : ℕ) (number : ℕ → ℕ) (g y x : ℕ) → x < w
     → a ≡ then_some (ltb (y + 1) h) (y * w + x + w) → b ≡ then_some (ltb (x + 1) w) (y * w + x + 1)
-    → Grown o k (joint_if (joined number g a) (2 * y + 1) (2 * x)) o' l
-    → Grown o' l (joint_if (joined number g b) (2 * y) (2 * x + 1)) o'' r
+    → Grown o k (joint_if (joined_to number g a) (2 * y + 1) (2 * x)) o' l
+    → Grown o' l (joint_if (joined_to number g b) (2 * y) (2 * x + 1)) o'' r
     → Grown o k (connections_at (flat h w) number g (y * w + x)) o'' r
 joints-are {o} {o'' = o''} {k = k} {r = r} {a} {b} h w number g y x i d e p q =
     let below = ltb (y + 1) h in
     let right = ltb (x + 1) w in
     subst (λ (js : List Point). Grown o k js o'' r)
     (ap₂ (λ s t. joint_if s (2 * y + 1) (2 * x) ++ joint_if t (2 * y) (2 * x + 1))
-    (ap (joined number g) d ∙ joined-then number g below (y * w + x + w))
-    (ap (joined number g) e ∙ joined-then number g right (y * w + x + 1))
+    (ap (joined_to number g) d ∙ joined-then number g below (y * w + x + w))
+    (ap (joined_to number g) e ∙ joined-then number g right (y * w + x + 1))
     ∙ sym (connections-at h w number g (y * w + x) y x refl i))
-    (grown-then (joint_if (joined number g a) (2 * y + 1) (2 * x)) (joint_if (joined number g b) (2 * y) (2 * x + 1)) p q)
+    (grown-then (joint_if (joined_to number g a) (2 * y + 1) (2 * x))
+        (joint_if (joined_to number g b) (2 * y) (2 * x + 1)) p q)
 
 -- the loop over the cells
 pub joining-none : (h w : ℕ) (number : ℕ → ℕ) (g : ℕ) (o : List ℕ) → Joining h w number g o o 0 0
@@ -184,7 +185,8 @@ module _ {o₀ o : List ℕ} (only : Only 2048 6144 o₀ o) (i : ℕ) (h : i < 1
       section-at 1024 1024 o i h ∙ ap (λ (l : List ℕ). get_or l i 0) (only-before only 1024 1024 (omega arith))
 
 -- the unit's cells stay as they were while its connections are written, and their count
-module _ {h w g : ℕ} {units : Grouping} {o₀ o : List ℕ} (u : UnitAt h w units g o₀) (only : Only 2048 6144 o₀ o) (k : ℕ) where
+module _ {h w g : ℕ} {units : Grouping} {o₀ o : List ℕ} (u : UnitAt h w units g o₀) (only : Only 2048 6144 o₀ o)
+    (k : ℕ) where
   abbrev ended : List ℕ
   ended = set o 6145 k
 
@@ -213,7 +215,8 @@ module _ {h w g : ℕ} {units : Grouping} {o₀ o : List ℕ} (u : UnitAt h w un
         here = rw (rows_stay, columns-stay, count-stays) u.here;
       }
 
-pub joining-all : {units : Grouping} {o₀ o : List ℕ} {h w g k i : ℕ} → UnitAt h w units g o₀ → i ≤ cell_count o₀ → cell_count o₀ ≤ i
+pub joining-all : {units : Grouping} {o₀ o : List ℕ} {h w g k i : ℕ} → UnitAt h w units g o₀ → i ≤ cell_count o₀
+    → cell_count o₀ ≤ i
     → Joining h w (entry (numbers_in units)) g o₀ o k i → OutlineJoined h w units g (set o 6145 k)
 unfolding joints
 joining-all {units} {o₀} {o} {h} {w} {g} {k} {i} u a b j =
@@ -269,7 +272,8 @@ near-joint h w number g y x Y X a b c m =
     go (inr n) = let e = joint-mem q (2 * y) (2 * x + 1) Y X n in
         (omega (arith, e.0), omega (arith, e.1), omega (arith, e.0, e.1))
 
-pub joint-in : {h w g : ℕ} {units : Grouping} {o : List ℕ} (j : ℕ) → Sized h w → OutlineJoined h w units g o → j < joint_count o
+pub joint-in : {h w g : ℕ} {units : Grouping} {o : List ℕ} (j : ℕ) → Sized h w → OutlineJoined h w units g o
+    → j < joint_count o
     → JointIn o j
 unfolding joints members flat
 joint-in {h} {w} {g} {units} {o} j s n l =

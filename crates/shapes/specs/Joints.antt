@@ -1,13 +1,14 @@
 -- A unit's connections as written to the lent outline.
 --
 --   joint_if b y x      the doubled place (y,x), if b
---   joined number g to  the neighbour, if there is one, is a cell of group g
+--   joined_to number g to  the neighbour, if there is one, is a cell of group g
 --   JointRoom o k       the outline has a place for connection k
 --   Grown o k js o' r   o' is the outline o with js written after its first k connections: r connections
 --   OutlineJoined h w units g o  the outline's connections are those of group g
 --   Joining h w number g o₀ o k i  o is the outline o₀ with the k connections of its first i cells
 --   JointIn o j         the doubled place of connection j is on the largest page, and lies between two cells
-use Rattle.std.specs.Prelude.{◌≡◌, Bool, true, false, List, [], ◌∷◌, ◌++◌, ℕ, ◌+◌, ◌*◌, ◌%◌, ◌<◌, ◌≤◌, eqb, length, get_or, Option, Some, None}
+use Rattle.std.specs.Prelude.{◌≡◌, Bool, true, false, List, [], ◌∷◌, ◌++◌, ℕ, ◌+◌, ◌*◌, ◌%◌, ◌<◌, ◌≤◌, eqb, length}
+use Rattle.std.specs.Prelude.{get_or, Option, Some, None}
 use Rattle.lists.specs.Lists.{flat_map}
 use Rattle.lists.specs.Sections.{Only}
 use Rattle.lists.specs.Table.{table}
@@ -24,9 +25,9 @@ abbrev pub joint_if : Bool → ℕ → ℕ → List Point
 joint_if true y x = place_at y x ∷ []
 joint_if false y x = []
 
-abbrev pub joined : (ℕ → ℕ) → ℕ → Option ℕ → Bool
-joined number g (Some c) = eqb (number c) g
-joined number g None = false
+abbrev pub joined_to : (ℕ → ℕ) → ℕ → Option ℕ → Bool
+joined_to number g (Some c) = eqb (number c) g
+joined_to number g None = false
 
 pub record JointRoom (o : List ℕ) (k : ℕ) : Type 0 where
   pub long : length o ≡ 6146

@@ -9,7 +9,7 @@ ghost use Rattle.groups.specs.Grouping.{numbers_in, start_in, group_cells};
 ghost use Rattle.shapes.specs.Rows.{turn_at};
 ghost use Rattle.shapes.specs.Outlines.{cell_count};
 ghost use Rattle.shapes.specs.Parts.{UnitPart, OutlinePlaced};
-ghost use Rattle.shapes.specs.Joints.{joint_if, joined, JointRoom, Grown, OutlineJoined, JointIn};
+ghost use Rattle.shapes.specs.Joints.{joint_if, joined_to, JointRoom, Grown, OutlineJoined, JointIn};
 ghost use Rattle.shapes.specs.Pairs.{point_of, SmallPair};
 ghost use Rattle.shapes.specs.Spots.{joint_spot, UnitAt};
 
@@ -44,7 +44,7 @@ fn join(
 ) -> usize
     requires { (length (numbers_in units.now) ≡ 1024) × IfSome to (λ c. c < 1024) × JointRoom outline.old k }
     ensures { Grown outline.old k
-        (joint_if (joined (entry (numbers_in units.now)) g to) y x) outline.new result }
+        (joint_if (joined_to (entry (numbers_in units.now)) g to) y x) outline.new result }
 {
     let Some(c) = to else {
         return k;

@@ -35,7 +35,8 @@ use Rattle.stuck.specs.Writing.{Mated, flags_of, edges_in, far_in, walls_in, Arr
 use Rattle.stuck.specs.FlagLaws.{flagged-is}
 use Rattle.stuck.specs.ClueLaws.{reason-clue}
 
-module _ {h w : ℕ} {cs bs : List ℕ} {us ps : Grouping} {list : List ℕ} {u p : ℕ} (a : Arranged h w cs bs us ps list u p) where
+module _ {h w : ℕ} {cs bs : List ℕ} {us ps : Grouping} {list : List ℕ} {u p : ℕ}
+    (a : Arranged h w cs bs us ps list u p) where
   abbrev ids : List ℕ
   ids = numbers_in us
 

@@ -1,7 +1,8 @@
 -- Case laws of step 2's definitions: one for each way a function of walls.rt returns.
 --
 --   breach_at h w bs ids c  the first breach at cell c, over arrays
-use Rattle.std.specs.Prelude.{◌≡◌, List, [], ◌∷◌, ◌++◌, ℕ, zero, suc, ◌+◌, ◌-◌, ◌*◌, ◌<◌, Option, Some, None, MatchOption, is_some, true, false}
+use Rattle.std.specs.Prelude.{◌≡◌, List, [], ◌∷◌, ◌++◌, ℕ, zero, suc, ◌+◌, ◌-◌, ◌*◌, ◌<◌, Option, Some, None}
+use Rattle.std.specs.Prelude.{MatchOption, is_some, true, false}
 use Rattle.lists.specs.Booleans.{false-true}
 use Rattle.std.specs.Bool.{then_some}
 use Rattle.std.specs.Option.{option_or}
@@ -38,7 +39,8 @@ or-missed None b e = refl
 or-missed (Some x) b e = false-true e refl
 
 -- what `or_else` gives
-pub or_else-is : {A : Type 0} (a b : Option A) {r : Option A} → MatchOption a (r ≡ b) (λ x. r ≡ Some x) → r ≡ option_or a b
+pub or_else-is : {A : Type 0} (a b : Option A) {r : Option A} → MatchOption a (r ≡ b) (λ x. r ≡ Some x)
+    → r ≡ option_or a b
 or_else-is None b h = h
 or_else-is (Some x) b h = h
 
@@ -60,7 +62,8 @@ module _ (s : ℕ → State) (block : ℕ → ℕ) (c : ℕ) where
   hop-some n = sym (or_none _)
 
 -- below, then right
-module _ (h w y x : ℕ) (hy : y < h) (hx : x < w) (bs ids : List ℕ) (n k : Option Neighbour) (p : Stepped h w y x Below n)
+module _ (h w y x : ℕ) (hy : y < h) (hx : x < w) (bs ids : List ℕ) (n k : Option Neighbour)
+    (p : Stepped h w y x Below n)
     (q : Stepped h w y x Right k) where
   abbrev on : Option Neighbour → Option Breach
   on r = breach_on (states_in bs) (entry ids) (y * w + x) (hops_in r)

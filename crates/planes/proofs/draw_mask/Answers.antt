@@ -9,7 +9,7 @@ use Rattle.reasons.specs.Arrays.{Cells}
 use Rattle.adjacent.specs.Mates.{mate_count}
 use Rattle.adjacent.specs.BesideLaws.{mates-reach}
 use Rattle.planes.specs.MaskLaws.{masked-none, mates-none, mates-more}
-use Rattle.planes.specs.MaskLaws.{mate-listed, mate-read, part-cells}
+use Rattle.planes.specs.MaskLaws.{mate-listed, mate-read, listed-cells}
 use Rattle.planes.proofs.draw_mask.Goals.{In-loop-mate, After-from-in-loop-mate}
 use Rattle.planes.proofs.draw_mask.Goals as goal
 
@@ -44,7 +44,7 @@ cells_of-requires c = let g = group c in (g.0, g.1.order, g.1.end)
 pub flag_group-requires : goal.flag_group-requires
 flag_group-requires c = (
   c.requires.0,
-  rw c.cells_of.ensures (part-cells (group (goal.at.flag_group-requires c).After-from-in-loop-mate).1),
+  rw c.cells_of.ensures (listed-cells (group (goal.at.flag_group-requires c).After-from-in-loop-mate).1),
 )
 
 pub loop-mate-preserved : goal.loop-mate-preserved

@@ -10,7 +10,8 @@ use Rattle.blocks.specs.declared.Fault.TheVariants.{InsideEdge}
 use Rattle.blocks.specs.BlockCases.{clue-read}
 use Rattle.blocks.specs.Looks.{ClueKept}
 use Rattle.blocks.specs.Looked.{byte-bit, look_none, look-more, looked-few, zero-parted, one-parted, kept-clue}
-use Rattle.blocks.specs.Looked.{kept-none, kept-clash, looked-stray, looked-clash, looked-scan, looked-clear, CellsLooked}
+use Rattle.blocks.specs.Looked.{kept-none, kept-clash, looked-stray, looked-clash, looked-scan, looked-clear}
+use Rattle.blocks.specs.Looked.{CellsLooked}
 use Rattle.blocks.specs.Looked.{kept_of, kept-long, OwnPut, kept-at, other-kept, same-kept, own-set}
 use Rattle.blocks.specs.Censuses.{option_of}
 use Rattle.rules.specs.Check.{clash}

@@ -1,5 +1,5 @@
 -- `number_on` meets its contract: the number read so far goes on at i as the whole did.
-use Rattle.page.specs.Places.{got}
+use Rattle.page.specs.Places.{got_value}
 use Rattle.page.specs.ParserLaws.{length_rest, rest_all, rest-next, digit-told, may-not, may-zero, may-large, may}
 use Rattle.page.specs.ParserLaws.{on-past, on-stop, on-not, on-more}
 use borrow.Author.Rules.{rules}
@@ -18,27 +18,27 @@ pub overflow_add-result-then-b-stop : goal.overflow_add-result-then-b-stop
 overflow_add-result-then-b-stop c = omega (arith, ap length c.rest-left.ensures, length_rest c.args.s.now c.args.at)
 
 pub returns-then-b-stop : goal.returns-then-b-stop
-unfolding got
+unfolding got_value
 returns-then-b-stop c =
     rw (← rest-next _ _ _ _ c.rest-left.ensures, ← c.rest-left.ensures)
     (sym (c.loop-i.invariant.0 ∙ on-stop _ _ _ _ c.loop-i-test.true c.if-b-stop.true))
 
 pub returns-then-not-is_ascii_digit : goal.returns-then-not-is_ascii_digit
-unfolding got
+unfolding got_value
 returns-then-not-is_ascii_digit c =
     rw (← c.rest-left.ensures)
     (sym (c.loop-i.invariant.0 ∙ on-not _ _ _ _ c.loop-i-test.true c.if-b-stop.false
     (may-not _ _ (digit-told _ c.is_ascii_digit.ensures.value c.if-not-is_ascii_digit.true))))
 
 pub returns-then-v-eq0 : goal.returns-then-v-eq0
-unfolding got
+unfolding got_value
 returns-then-v-eq0 c =
     rw (← c.rest-left.ensures)
     (sym (c.loop-i.invariant.0 ∙ on-not _ _ _ _ c.loop-i-test.true c.if-b-stop.false
     (may-zero _ _ (digit-told _ c.is_ascii_digit.ensures.value c.if-not-is_ascii_digit.false) c.if-v-eq0.true)))
 
 pub returns-then-v-gt2147483647 : goal.returns-then-v-gt2147483647
-unfolding got
+unfolding got_value
 returns-then-v-gt2147483647 c =
     rw (← c.rest-left.ensures)
     (sym (c.loop-i.invariant.0 ∙ on-not _ _ _ _ c.loop-i-test.true c.if-b-stop.false
@@ -55,5 +55,5 @@ loop-i-preserved c = (
 )
 
 pub returns : goal.returns
-unfolding got
+unfolding got_value
 returns c = rw (← c.rest-left.ensures) (sym (c.loop-i.invariant.0 ∙ on-past _ _ _ _ c.loop-i-test.false))

@@ -3,7 +3,7 @@ use Rattle.page.specs.Filling.{placed-none, placed-more, placed_off, Stores, sto
 use Rattle.page.specs.FormLaws.{from-none, from_more}
 use Rattle.page.specs.Many.{passes}
 use Rattle.page.specs.PageText.{clue-takes}
-use Rattle.page.specs.Places.{got}
+use Rattle.page.specs.Places.{got_value}
 use borrow.Author.Rules.{rules}
 use lib.ListN.{length-set}
 use mathlib.Core.Path.{sym, ◌∙◌, refl}
@@ -15,7 +15,7 @@ use Rattle.page.proofs.filling.clues.Goals as goal
 
 fits : (c : In-Some)
     → Stores c.args.w c.in-Some.c
-unfolding got
+unfolding got_value
 fits c =
     stores _ _ _ _ c.requires
     (sym c.in-Some.ensures)
@@ -33,13 +33,13 @@ pub overflow_cast-out : goal.overflow_cast-out
 overflow_cast-out c = let f = fits (goal.at.overflow_cast-out c).In-Some in record { sfits = omega arith }
 
 pub loop-c-smaller-then-cell-lt-CELL_LIMIT : goal.loop-c-smaller-then-cell-lt-CELL_LIMIT
-unfolding got
+unfolding got_value
 loop-c-smaller-then-cell-lt-CELL_LIMIT c =
     passes clue-takes _ _ _ _
     (sym c.in-Some.ensures)
 
 pub loop-c-preserved-then-cell-lt-CELL_LIMIT : goal.loop-c-preserved-then-cell-lt-CELL_LIMIT
-unfolding got
+unfolding got_value
 loop-c-preserved-then-cell-lt-CELL_LIMIT c =
     let f = fits (goal.at.loop-c-preserved-then-cell-lt-CELL_LIMIT c).In-Some in (
       simp length-set c.loop-c.invariant.0,
@@ -50,13 +50,13 @@ loop-c-preserved-then-cell-lt-CELL_LIMIT c =
     )
 
 pub loop-c-smaller : goal.loop-c-smaller
-unfolding got
+unfolding got_value
 loop-c-smaller c =
     passes clue-takes _ _ _ _
     (sym c.in-Some.ensures)
 
 pub loop-c-preserved : goal.loop-c-preserved
-unfolding got
+unfolding got_value
 loop-c-preserved c = (
   search rules,
   c.loop-c.invariant.1
@@ -65,5 +65,5 @@ loop-c-preserved c = (
 )
 
 pub returns : goal.returns
-unfolding got
+unfolding got_value
 returns c = sym (c.loop-c.invariant.1 ∙ placed-none _ _ (from-none clue-takes _ _ (sym c.in_default.ensures)))

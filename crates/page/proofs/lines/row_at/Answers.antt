@@ -14,7 +14,8 @@ returns-in_err-digits c = rw (c.from_residual-in_err-digits.ensures, ← c.in_ok
 
 pub returns-in_err-next : goal.returns-in_err-next
 unfolding row lead followed give onto also got_digits left_from
-returns-in_err-next c = rw (c.from_residual-in_err-next.ensures, ← c.in_ok-a.ensures, ← c.in_ok-digits.ensures, ← c.in_err-next.ensures)
+returns-in_err-next c = rw
+    (c.from_residual-in_err-next.ensures, ← c.in_ok-a.ensures, ← c.in_ok-digits.ensures, ← c.in_err-next.ensures)
 
 pub returns : goal.returns
 unfolding row lead followed give onto also got_digits left_from

@@ -1,6 +1,6 @@
 -- `form_of` meets its contract: the words and the lines read are what the parsers read there.
 use Rattle.page.specs.FormLaws.{Body, too_long, no-page, no_size, no_end, more_left, misfit, good}
-use Rattle.page.specs.Places.{form_of, left_from, got, end_of, sheet_at}
+use Rattle.page.specs.Places.{form_of, left_from, got_value, end_of, sheet_at}
 use Rattle.page.specs.ParserLaws.{rest_all}
 use borrow.Author.Rules.{rules}
 use mathlib.Core.Path.{sym, ◌∙◌}
@@ -14,7 +14,7 @@ body : (c : After-lines_end-end)
     → Body c.args.s.now
     c.in_ok-height.height c.in_ok-height.width c.in_ok-height.rows
     c.lines_end-clues.result c.lines_end-calls.result c.lines_end-end.result
-unfolding left_from got end_of
+unfolding left_from got_value end_of
 body c =
     record {
       short = c.if-s-gt65536.false;
@@ -37,7 +37,7 @@ returns-in_err-a c =
     (sym (no-page _ c.if-s-gt65536.false (rw rest_all at (sym c.in_err-a.ensures))))
 
 pub returns-in_err-height : goal.returns-in_err-height
-unfolding form_of left_from got
+unfolding form_of left_from got_value
 returns-in_err-height c =
     rw c.from_residual-in_err-height.ensures
     (sym (no_size _ c.if-s-gt65536.false _ (rw rest_all at (sym c.in_ok-a.ensures)) (sym c.in_err-height.ensures)))

@@ -1,7 +1,7 @@
 -- Memory that is too short, a board that is refused, or the cells of the group's part.
 use Rattle.std.proofs.Common.{◌≡◌, ◌∙◌, ap, sym, refl, arith, length, Ok}
 use Rattle.probe.specs.ProbeAsked.{which_of, part_in}
-use Rattle.probe.specs.ProbeAskedLaws.{part-few, part-units, part-potential, part-given}
+use Rattle.probe.specs.ProbeAskedLaws.{part-few, refused-units, refused-potential, part-given}
 use Rattle.probe.specs.ProbeAskedLaws.{told-short, told-words, told-none}
 use Rattle.probe.proofs.asked.probe_part.Goals.{After-part_in}
 use Rattle.probe.proofs.asked.probe_part.Goals as goal
@@ -20,13 +20,13 @@ returns-then-memory-lt-ROOM c = told-short _ refl c.if-memory-lt-ROOM.true
 pub returns-in_default : goal.returns-in_default
 returns-in_default c =
     told-none _ refl c.if-memory-lt-ROOM.false
-    (sym (part-units c.args.s.now _ _ c.in_default.field-0 (sym c.in_default.is ∙ c.asked_in.ensures)))
+    (sym (refused-units c.args.s.now _ _ c.in_default.field-0 (sym c.in_default.is ∙ c.asked_in.ensures)))
 
 pub returns-in_default-asked_in : goal.returns-in_default-asked_in
 returns-in_default-asked_in c =
     told-none _ refl c.if-memory-lt-ROOM.false
     (sym
-    (part-potential c.args.s.now _ _ c.in-Ok.units c.in_default-asked_in.field-0
+    (refused-potential c.args.s.now _ _ c.in-Ok.units c.in_default-asked_in.field-0
     (sym c.in-Ok.is ∙ c.asked_in.ensures) (sym c.in_default-asked_in.is ∙ c.asked_in-2.ensures)))
 
 pub hand_out-requires : goal.hand_out-requires

@@ -6,7 +6,7 @@ use Rattle.rules.specs.Page.{Hop}
 use Rattle.laws.specs.FlatLaws.{OnPage, row_of_lem}
 use Rattle.reasons.specs.Arrays.{hop_at, direction_at}
 use Rattle.reasons.specs.StepLaws.{around-is}
-use Rattle.reasons.specs.SearchLaws.{looked-none, looked-more}
+use Rattle.reasons.specs.SearchLaws.{looked-more}
 use Rattle.reasons.proofs.paths.expand.Goals.{Start}
 use Rattle.reasons.proofs.paths.expand.Goals as goal
 
@@ -16,16 +16,10 @@ row s = row_of_lem _ _ _ s.requires.2
 abbrev hops : Start → ℕ → List Hop
 hops s i = let a = s.args in hop_at a.h a.w (a.c / a.w) (a.c % a.w) (direction_at i)
 
-pub visit-above-requires : goal.visit-above-requires
-visit-above-requires c = (c.requires.0, c.requires.1, c.requires.2, c.requires.3, c.requires.4, refl, refl)
-
-pub visit-below-requires : goal.visit-below-requires
-visit-below-requires c =
-    (c.requires.0, c.requires.1, c.requires.2, c.visit-above.ensures.old, c.visit-above.ensures.lined, refl, refl)
-
 pub visit-left-requires : goal.visit-left-requires
 visit-left-requires c =
-    (c.requires.0, c.requires.1, c.requires.2, c.visit-below.ensures.old, c.visit-below.ensures.lined, refl, refl)
+    let b = c.expand_rows-below.ensures in
+    (c.requires.0, c.requires.1, c.requires.2, b.old, b.lined, refl, refl)
 
 pub visit-requires : goal.visit-requires
 visit-requires c =
@@ -35,7 +29,5 @@ pub returns : goal.returns
 unfolding direction_at
 returns c =
     let f = hops (goal.at.returns c).Start in
-    let above = looked-more f 0 (looked-none f c.requires.4 c.requires.3) c.visit-above.ensures in
-    let below = looked-more f 1 above c.visit-below.ensures in
-    let left = looked-more f 2 below c.visit-left.ensures in
+    let left = looked-more f 2 c.expand_rows-below.ensures c.visit-left.ensures in
     rw (around-is c.args.h c.args.w c.args.c) (looked-more f 3 left c.visit.ensures)

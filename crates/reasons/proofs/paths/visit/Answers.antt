@@ -44,7 +44,8 @@ returns-then-seen c =
     (stepped (goal.at.returns-then-seen c).In-Some) c.if-seen.true
 
 pub offset_bounds-queue-tail : goal.offset_bounds-queue-tail
-offset_bounds-queue-tail c = omega (arith, room (goal.at.offset_bounds-queue-tail c).Else-seen, few (goal.at.offset_bounds-queue-tail c).Start)
+offset_bounds-queue-tail c = omega
+    (arith, room (goal.at.offset_bounds-queue-tail c).Else-seen, few (goal.at.offset_bounds-queue-tail c).Start)
 
 pub bounds-queue-tail : goal.bounds-queue-tail
 bounds-queue-tail c =

@@ -6,7 +6,7 @@ use native.Mathlib.Omega.{arith}
 use Rattle.rules.specs.Groups.{entry}
 use Rattle.groups.specs.Grouping.{numbers_in}
 use Rattle.shapes.specs.JointLaws.{cell_room, grown-count, joint-one, joints-are, some-room}
-use Rattle.shapes.specs.Joints.{joined}
+use Rattle.shapes.specs.Joints.{joined_to}
 use Rattle.shapes.proofs.connections.joints_at.Goals as goal
 
 pub join-next-requires : goal.join-next-requires
@@ -30,7 +30,7 @@ join-requires c =
               arith,
               c.requires.4.space,
               grown-count j,
-              joint-one (joined number c.args.g c.then_some-below.result) (2 * c.args.y + 1) (2 * c.args.x),
+              joint-one (joined_to number c.args.g c.then_some-below.result) (2 * c.args.y + 1) (2 * c.args.x),
             );
       },
     )
