@@ -48,12 +48,7 @@ pub fn probe_asked(s: &[u8], kind: u32, memory: &mut [u16]) -> usize
 }
 
 // The cells of group g of the units or of the potential units.
-fn part_in<'a>(
-    units: &'a Grouping,
-    potential: &'a Grouping,
-    which: Which,
-    g: usize,
-) -> &'a [u16]
+fn part_in<'a>(units: &'a Grouping, potential: &'a Grouping, which: Which, g: usize) -> &'a [u16]
     ensures { result.now ≡ part_from which (group_cells units.now g)
         (group_cells potential.now g) }
 {

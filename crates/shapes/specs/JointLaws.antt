@@ -142,7 +142,7 @@ joints-are {o} {o'' = o''} {k = k} {r = r} {a} {b} h w number g y x i d e p q =
     (ap (joined_to number g) e ∙ joined-then number g right (y * w + x + 1))
     ∙ sym (connections-at h w number g (y * w + x) y x refl i))
     (grown-then (joint_if (joined_to number g a) (2 * y + 1) (2 * x))
-        (joint_if (joined_to number g b) (2 * y) (2 * x + 1)) p q)
+    (joint_if (joined_to number g b) (2 * y) (2 * x + 1)) p q)
 
 -- the loop over the cells
 pub joining-none : (h w : ℕ) (number : ℕ → ℕ) (g : ℕ) (o : List ℕ) → Joining h w number g o o 0 0

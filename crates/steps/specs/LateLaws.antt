@@ -36,7 +36,7 @@ module _ {h w : ℕ} (z : Sized h w) (cs : List ℕ) (bs : List ℕ) {o : Option
     pub units-stuck : {u : ℕ} → o ≡ Some u
         → units_hit (puzzle_in h w cs ks) (states_in bs)
         ≡ some (unit_reason (puzzle_in h w cs ks) (states_in bs) u
-            (potential_in (puzzle_in h w cs ks) (states_in bs) u))
+        (potential_in (puzzle_in h w cs ks) (states_in bs) u))
     unfolding stuck_hit
     units-stuck e = units-are ∙ rw e
 

@@ -125,7 +125,11 @@ fn count_hits(
 {
     let mut hits = 0;
     for i in 0..n {
-        hits += hit(borders[at + i], blocks.numbers[c + i], blocks.numbers[d + i]);
+        hits += hit(
+            borders[at + i],
+            blocks.numbers[c + i],
+            blocks.numbers[d + i],
+        );
     }
     hits
 }

@@ -30,15 +30,15 @@ returns c =
     let r = c.copy_from_slice-3.new.self in
     let room : 16384 ≤ length m = c.requires in
     let one : p ++ drop 1024 m ≡ sets m 0 g.numbers =
-        ap (λ l. l ++ drop 1024 m) c.copy_from_slice.ensures.after
-        ∙ rw n at (stored-front m g.numbers (omega (arith, n, room))) in
+    ap (λ l. l ++ drop 1024 m) c.copy_from_slice.ensures.after
+    ∙ rw n at (stored-front m g.numbers (omega (arith, n, room))) in
     let s = sets m 0 g.numbers in
     let long : length s ≡ length m = length-sets m 0 g.numbers in
     let two = part-stored 1024 1024 s q g.cells c.copy_from_slice-2.ensures.after k (omega (arith, long, room)) in
     let t = sets s 1024 g.cells in
     let more : length t ≡ length s = length-sets s 1024 g.cells in
     let three = part-stored 2048 1025 t r g.starts c.copy_from_slice-3.ensures.after o
-        (omega (arith, more, long, room)) in
+    (omega (arith, more, long, room)) in
     record {
       memory = rw (one, two, three) (four-parts m g.numbers g.cells g.starts g.count n k o);
       count = four-length g.numbers g.cells g.starts g.count n k o;

@@ -25,7 +25,7 @@ pub returns-in-Left : goal.returns-in-Left
 returns-in-Left c =
     rw (c.in-Left.is, c.requires.3)
     (left-some (few (goal.at.returns-in-Left c).Start) (at (goal.at.returns-in-Left c).Start) c.if-x-gt0.true
-        c.requires.2)
+    c.requires.2)
 
 pub returns-in-Right : goal.returns-in-Right
 returns-in-Right c =
@@ -46,7 +46,7 @@ pub returns-in_default-3 : goal.returns-in_default-3
 returns-in_default-3 c =
     rw c.in-Left.is
     (left-none (few (goal.at.returns-in_default-3 c).Start) (at (goal.at.returns-in_default-3 c).Start)
-        c.if-x-gt0.false)
+    c.if-x-gt0.false)
 
 pub returns-in_default-4 : goal.returns-in_default-4
 returns-in_default-4 c =

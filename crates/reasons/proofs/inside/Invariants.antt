@@ -13,4 +13,4 @@ abbrev pub invariant-loop-cell : goal.invariant-loop-cell
 invariant-loop-cell l =
     Wrote l.initial.memory l.start
     (flat_map (inside_at (flat l.h l.w) (states_in l.borders) (entry (numbers_in l.grouping)) l.g)
-        (part l.cells 0 l.cell-index)) l.memory l.at
+    (part l.cells 0 l.cell-index)) l.memory l.at

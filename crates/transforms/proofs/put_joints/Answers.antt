@@ -10,15 +10,18 @@ pub loop-j-init : goal.loop-j-init
 loop-j-init c = let o = c.args.outline.now in moved-start _ _ (down_in o) (across_in o) _ _
 
 pub joint-requires : goal.joint-requires
-joint-requires c = (c.requires.0, c.requires.1.each c.loop-j.j (omega (arith, c.joint_count-j-end.ensures)),
-    c.requires.2)
+joint-requires c = (
+  c.requires.0,
+  c.requires.1.each c.loop-j.j (omega (arith, c.joint_count-j-end.ensures)),
+  c.requires.2,
+)
 
 pub put-at-requires : goal.put-at-requires
 put-at-requires c =
     let o = c.args.outline.now in
     let l = c.loop-j in
     moved-room _ _ (down_in o) (across_in o) l.j (joint_count o) (omega (arith, c.joint_count-j-end.ensures))
-        l.invariant
+    l.invariant
     c.requires.3
 
 pub loop-j-preserved : goal.loop-j-preserved

@@ -29,9 +29,12 @@ returns-then-listed-k c =
     )
 
 pub put_image-requires : goal.put_image-requires
-put_image-requires c =
-    (rw c.from.ensures ((rows (goal.at.put_image-requires c).Start).low c.args.k (search rules)), c.requires.0,
-        c.requires.1, c.requires.3)
+put_image-requires c = (
+  rw c.from.ensures ((rows (goal.at.put_image-requires c).Start).low c.args.k (search rules)),
+  c.requires.0,
+  c.requires.1,
+  c.requires.3,
+)
 
 pub returns : goal.returns
 returns c =

@@ -32,7 +32,14 @@ returns c =
     (λ i l.
     let j : s.w + i ≡ i + s.w = omega arith in
     c.tie.ensures.1 i (omega (arith, size))
-    ∙ rw (k, p, ← section-at b n s.borders.now i l, ← front_at n s.colours.now i l, ← section-at s.w n s.colours.now
-        i l, j)
+    ∙ rw (
+      k,
+      p,
+      ← section-at b n s.borders.now i l,
+      ← front_at n s.colours.now i l,
+      ← section-at s.w n s.colours.now
+          i l,
+      j,
+    )
     (sym (above_at_lem s.h s.w link i ∙ joins-below s.h s.w i s.kind s.colours.now s.borders.now)))
     t)

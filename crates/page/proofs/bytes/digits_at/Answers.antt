@@ -21,13 +21,13 @@ unfolding got_digits
 returns-then-not-is_ascii_digit c =
     sym (digits-not c.args.s.now c.args.at _ (ltb-true _ _ (sym c.in_ok-get.ensures.lookup.0))
     (ap digit (sym (get_or_read c.args.s.now _ _ (ltb-true _ _ (sym c.in_ok-get.ensures.lookup.0))
-        c.in_ok-get.ensures.lookup.1 0)) ∙ digit-told _ c.is_ascii_digit.ensures.value c.if-not-is_ascii_digit.true))
+    c.in_ok-get.ensures.lookup.1 0)) ∙ digit-told _ c.is_ascii_digit.ensures.value c.if-not-is_ascii_digit.true))
 
 pub loop-i-init : goal.loop-i-init
 loop-i-init c =
     rw add-zero (digits-first c.args.s.now c.args.at _ (ltb-true _ _ (sym c.in_ok-get.ensures.lookup.0))
     (ap digit (sym (get_or_read c.args.s.now _ _ (ltb-true _ _ (sym c.in_ok-get.ensures.lookup.0))
-        c.in_ok-get.ensures.lookup.1 0)) ∙ digit-told _ c.is_ascii_digit.ensures.value c.if-not-is_ascii_digit.false))
+    c.in_ok-get.ensures.lookup.1 0)) ∙ digit-told _ c.is_ascii_digit.ensures.value c.if-not-is_ascii_digit.false))
 
 pub returns-then-b-stop : goal.returns-then-b-stop
 unfolding got_digits
@@ -41,7 +41,7 @@ returns-then-not-is_ascii_digit-2 c =
     sym (c.loop-i.invariant ∙ digits-bad _ _ _ _ (rest-in _ _ _ _ c.rest-left.ensures c.loop-i-test.true)
     (λ q. c.if-b-stop.false (rest-get _ _ _ _ c.rest-left.ensures ∙ q))
     (ap digit (sym (rest-get _ _ _ _ c.rest-left.ensures))
-        ∙ digit-told _ c.is_ascii_digit-in-loop-i.ensures.value c.if-not-is_ascii_digit-2.true))
+    ∙ digit-told _ c.is_ascii_digit-in-loop-i.ensures.value c.if-not-is_ascii_digit-2.true))
 
 pub loop-i-preserved : goal.loop-i-preserved
 loop-i-preserved c =
@@ -50,7 +50,7 @@ loop-i-preserved c =
     (c.loop-i.invariant ∙ digits_more _ _ _ _ (omega arith) (rest-in _ _ _ _ c.rest-left.ensures c.loop-i-test.true)
     (λ q. c.if-b-stop.false (rest-get _ _ _ _ c.rest-left.ensures ∙ q))
     (ap digit (sym (rest-get _ _ _ _ c.rest-left.ensures))
-        ∙ digit-told _ c.is_ascii_digit-in-loop-i.ensures.value c.if-not-is_ascii_digit-2.false))
+    ∙ digit-told _ c.is_ascii_digit-in-loop-i.ensures.value c.if-not-is_ascii_digit-2.false))
 
 pub returns : goal.returns
 unfolding got_digits

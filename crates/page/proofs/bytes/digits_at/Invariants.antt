@@ -9,4 +9,4 @@ use Rattle.page.proofs.bytes.digits_at.Given as goal
 abbrev pub invariant-loop-i : goal.invariant-loop-i
 invariant-loop-i l =
     digits l.stop (rest l.s l.at)
-        ≡ after_digits (digits_in l.s l.at (l.at + 1 + l.i)) (digits_on l.stop (rest l.s (l.at + 1 + l.i)))
+    ≡ after_digits (digits_in l.s l.at (l.at + 1 + l.i)) (digits_on l.stop (rest l.s (l.at + 1 + l.i)))

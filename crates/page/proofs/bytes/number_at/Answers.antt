@@ -15,15 +15,18 @@ returns-in_err-b c =
 pub returns-then-is_ascii_digit : goal.returns-then-is_ascii_digit
 returns-then-is_ascii_digit c =
     c.number_on.ensures
-    ∙ rw (c.from.ensures, (get_or_read c.args.s.now _ _ (ltb-true _ _ (sym c.in_ok-b.ensures.lookup.0))
-        c.in_ok-b.ensures.lookup.1 0))
+    ∙ rw (
+      c.from.ensures,
+      (get_or_read c.args.s.now _ _ (ltb-true _ _ (sym c.in_ok-b.ensures.lookup.0))
+          c.in_ok-b.ensures.lookup.1 0),
+    )
     (sym (parse-number-first c.args.s.now c.args.at _ (ltb-true _ _ (sym c.in_ok-b.ensures.lookup.0))
     (ap digit (sym (get_or_read c.args.s.now _ _ (ltb-true _ _ (sym c.in_ok-b.ensures.lookup.0))
-        c.in_ok-b.ensures.lookup.1 0)) ∙ digit-told _ c.is_ascii_digit.ensures.value c.if-is_ascii_digit.true)))
+    c.in_ok-b.ensures.lookup.1 0)) ∙ digit-told _ c.is_ascii_digit.ensures.value c.if-is_ascii_digit.true)))
 
 pub returns-else-is_ascii_digit : goal.returns-else-is_ascii_digit
 unfolding got_value
 returns-else-is_ascii_digit c =
     sym (number-not c.args.s.now c.args.at _ (ltb-true _ _ (sym c.in_ok-b.ensures.lookup.0))
     (ap digit (sym (get_or_read c.args.s.now _ _ (ltb-true _ _ (sym c.in_ok-b.ensures.lookup.0))
-        c.in_ok-b.ensures.lookup.1 0)) ∙ digit-told _ c.is_ascii_digit.ensures.value c.if-is_ascii_digit.false))
+    c.in_ok-b.ensures.lookup.1 0)) ∙ digit-told _ c.is_ascii_digit.ensures.value c.if-is_ascii_digit.false))

@@ -5,9 +5,13 @@ use Rattle.std.proofs.Common.{ap, arith, length}
 use Rattle.page.proofs.bytes.word_at.Goals as goal
 
 pub overflow_add-result : goal.overflow_add-result
-overflow_add-result c = omega
-    (arith, c.starts_with.ensures.bound c.if-starts_with.true, ap length c.rest.ensures, length_rest c.args.s.now
-    c.args.at)
+overflow_add-result c = omega (
+  arith,
+  c.starts_with.ensures.bound c.if-starts_with.true,
+  ap length c.rest.ensures,
+  length_rest c.args.s.now
+      c.args.at,
+)
 
 pub returns-then-starts_with : goal.returns-then-starts_with
 unfolding left_from

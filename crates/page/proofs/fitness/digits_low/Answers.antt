@@ -11,7 +11,7 @@ loop-p-init c = low-none _ _
 pub returns-then-digit_at-gt1 : goal.returns-then-digit_at-gt1
 returns-then-digit_at-gt1 c =
     sym (low-fails c.args.s.now c.args.digits.from c.loop-p.p c.args.digits.to (search rules) (search rules)
-        (omega (arith, c.digit_at.ensures)))
+    (omega (arith, c.digit_at.ensures)))
 
 pub loop-p-preserved : goal.loop-p-preserved
 loop-p-preserved c = low-more _ _ c.loop-p.p (search rules) (omega (arith, c.digit_at.ensures)) c.loop-p.invariant

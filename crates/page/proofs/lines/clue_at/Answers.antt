@@ -14,21 +14,40 @@ returns-in_err-y c = rw (c.from_residual-in_err-y.ensures, ← c.in_ok-a.ensures
 
 pub returns-in_err-x : goal.returns-in_err-x
 unfolding clue map_r lead both followed give onto also got_value left_from
-returns-in_err-x c = rw (c.from_residual-in_err-x.ensures, ← c.in_ok-a.ensures, ← c.in_ok-y.ensures,
-    ← c.in_err-x.ensures)
+returns-in_err-x c = rw (
+  c.from_residual-in_err-x.ensures,
+  ← c.in_ok-a.ensures,
+  ← c.in_ok-y.ensures,
+  ← c.in_err-x.ensures,
+)
 
 pub returns-in_err-n : goal.returns-in_err-n
 unfolding clue map_r lead both followed give onto also got_value left_from
-returns-in_err-n c = rw (c.from_residual-in_err-n.ensures, ← c.in_ok-a.ensures, ← c.in_ok-y.ensures,
-    ← c.in_ok-x.ensures, ← c.in_err-n.ensures)
+returns-in_err-n c = rw (
+  c.from_residual-in_err-n.ensures,
+  ← c.in_ok-a.ensures,
+  ← c.in_ok-y.ensures,
+  ← c.in_ok-x.ensures,
+  ← c.in_err-n.ensures,
+)
 
 pub returns-in_err-next : goal.returns-in_err-next
 unfolding clue map_r lead both followed give onto also got_value left_from
-returns-in_err-next c = rw
-    (c.from_residual-in_err-next.ensures, ← c.in_ok-a.ensures, ← c.in_ok-y.ensures, ← c.in_ok-x.ensures,
-    ← c.in_ok-n.ensures, ← c.in_err-next.ensures)
+returns-in_err-next c = rw (
+  c.from_residual-in_err-next.ensures,
+  ← c.in_ok-a.ensures,
+  ← c.in_ok-y.ensures,
+  ← c.in_ok-x.ensures,
+  ← c.in_ok-n.ensures,
+  ← c.in_err-next.ensures,
+)
 
 pub returns : goal.returns
 unfolding clue map_r lead both followed give onto also got_value left_from
-returns c = rw (← c.in_ok-a.ensures, ← c.in_ok-y.ensures, ← c.in_ok-x.ensures, ← c.in_ok-n.ensures,
-    ← c.in_ok-next.ensures)
+returns c = rw (
+  ← c.in_ok-a.ensures,
+  ← c.in_ok-y.ensures,
+  ← c.in_ok-x.ensures,
+  ← c.in_ok-n.ensures,
+  ← c.in_ok-next.ensures,
+)

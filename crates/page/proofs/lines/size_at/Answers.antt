@@ -14,14 +14,22 @@ returns-in_err-h c = rw (c.from_residual-in_err-h.ensures, ← c.in_ok-a.ensures
 
 pub returns-in_err-w : goal.returns-in_err-w
 unfolding size lead both followed give onto also got_value left_from
-returns-in_err-w c = rw (c.from_residual-in_err-w.ensures, ← c.in_ok-a.ensures, ← c.in_ok-h.ensures,
-    ← c.in_err-w.ensures)
+returns-in_err-w c = rw (
+  c.from_residual-in_err-w.ensures,
+  ← c.in_ok-a.ensures,
+  ← c.in_ok-h.ensures,
+  ← c.in_err-w.ensures,
+)
 
 pub returns-in_err-next : goal.returns-in_err-next
 unfolding size lead both followed give onto also got_value left_from
-returns-in_err-next c = rw
-    (c.from_residual-in_err-next.ensures, ← c.in_ok-a.ensures, ← c.in_ok-h.ensures, ← c.in_ok-w.ensures,
-    ← c.in_err-next.ensures)
+returns-in_err-next c = rw (
+  c.from_residual-in_err-next.ensures,
+  ← c.in_ok-a.ensures,
+  ← c.in_ok-h.ensures,
+  ← c.in_ok-w.ensures,
+  ← c.in_err-next.ensures,
+)
 
 pub returns : goal.returns
 unfolding size lead both followed give onto also got_value left_from

@@ -7,8 +7,11 @@ use Rattle.reasons.proofs.scans.append_kept.Goals as goal
 
 pub returns-in-Some : goal.returns-in-Some
 returns-in-Some g c test e =
-    rw (c.in-Some.is, gather-kept c.args.side test c.in-Some.n (sym c.if-keeps.true
-        ∙ e c.in-Some.n c.keeps.result c.keeps.ensures))
+    rw (
+      c.in-Some.is,
+      gather-kept c.args.side test c.in-Some.n (sym c.if-keeps.true
+          ∙ e c.in-Some.n c.keeps.result c.keeps.ensures),
+    )
     c.append.ensures
 
 pub returns : goal.returns

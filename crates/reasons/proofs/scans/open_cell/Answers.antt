@@ -47,7 +47,7 @@ unfolding direction_at
 one c =
     let s = (goal.at.After-append_kept-at c).Start in
     turns_more (at s) 0 (start s)
-        (rw c.beside-below.ensures.is at c.append_kept-at.ensures (test s) (λ n k p. search rules))
+    (rw c.beside-below.ensures.is at c.append_kept-at.ensures (test s) (λ n k p. search rules))
 
 pub append_kept-requires-clause-spare : goal.append_kept-requires-clause-spare
 append_kept-requires-clause-spare c = (one (goal.at.append_kept-requires-clause-spare c).After-append_kept-at).spare

@@ -10,4 +10,4 @@ abbrev pub invariant-loop-cell : goal.invariant-loop-cell
 invariant-loop-cell l =
     Wrote l.initial.memory l.start
     (flat_map (scan_at l.h l.w l.colours l.borders (numbers_in l.grouping) l.same l.flagged)
-        (part l.cells 0 l.cell-index)) l.memory l.at
+    (part l.cells 0 l.cell-index)) l.memory l.at

@@ -40,7 +40,7 @@ loop-direction-preserved c =
     c.loop-direction.invariant
     (rw c.beside-n.ensures.is at c.append_kept-at.ensures
     (scan_test a.colours.now a.borders.now (numbers_in a.grouping.now) a.same a.flagged.now a.c)
-        (λ n k p. search rules))
+    (λ n k p. search rules))
 
 pub returns : goal.returns
 returns c =
