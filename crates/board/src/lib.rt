@@ -58,7 +58,7 @@ impl Refusal {
 }
 
 // The number of a refusal; 0 where the call is done.
-pub fn number(outcome: Result<(), Refusal>) -> u32
+pub fn outcome_number(outcome: Result<(), Refusal>) -> u32
     ensures { result ≡ number_of outcome }
 {
     match outcome {

@@ -56,7 +56,7 @@ pub fn dbchoco_decide(image: &mut [u8], border: u32, side: u32) -> u32
     if alien(image) {
         return Refusal::Alien.number();
     }
-    board::number(series::decided(image, border, side))
+    board::outcome_number(series::decided(image, border, side))
 }
 
 // Takes the last decision of the image back. The refusal's number, or 0.
@@ -67,7 +67,7 @@ pub fn dbchoco_undo(image: &mut [u8]) -> u32
     if alien(image) {
         return Refusal::Alien.number();
     }
-    board::number(series::undone(image))
+    board::outcome_number(series::undone(image))
 }
 
 // The number of a check's answer of a board that is not alien; a reason's literals are written to the codes, and from
