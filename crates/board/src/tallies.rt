@@ -22,7 +22,8 @@ pub fn more(mut t: Tally, v: u8) -> Tally
     t
 }
 
-// The tally with one border less decided, which had the code v.
+// The tally with one border less decided, which had the code v. It stands beside `more`: told by a parameter which way
+// to count, one function for both would be no plainer.
 pub fn less(mut t: Tally, v: u8) -> Tally
     requires { (t.undecided ≤ 1984) × (0 < side_count t (side_in v)) }
     ensures { result ≡ tally_less t (side_in v) }

@@ -31,6 +31,7 @@ fn find(p: &[u16; Board::CELL_LIMIT], a: usize) -> usize
         × ((n : ℕ) (L : List ℕ) → a < n → Rep n p.now L → result ≡ get_or L a 0) }
 {
     let mut x = a;
+    // a while, since it follows parents
     while usize::from(p[x]) != x {
         x = usize::from(p[x]);
     }

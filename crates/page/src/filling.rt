@@ -8,7 +8,7 @@ ghost use Rattle.page.specs.Filling.{Lays};
 use crate::{Span, fitness, lines};
 use board::Board;
 
-// The colours laid so far, and the next place.
+// The colours laid so far, and the next place: there is no heap.
 #[derive(Clone, Copy)]
 pub struct Laid {
     pub cells: [u8; Board::CELL_LIMIT],

@@ -12,7 +12,7 @@ ghost use Rattle.print.specs.Answers.{answers_word, conflict_word, show_reply, c
 ghost use Rattle.print.specs.Lines.{start, Longer, LineHolds, Written};
 ghost use Rattle.print.specs.Chunks.{Put};
 
-// The bytes of a line, or of a part of one, and how many they are.
+// The bytes of a line, or of a part of one, and how many they are: there is no heap.
 #[derive(Clone, Copy)]
 pub struct Line {
     pub bytes: [u8; 32],

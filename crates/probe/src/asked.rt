@@ -12,7 +12,7 @@ use board::Refusal;
 use groups::{Grouping, Kind, Which};
 use reasons::hand_out;
 
-// 0 is the unit list, any other number the potential list.
+// 0 is the unit list, any other number the potential list. C gives the number.
 fn which_of(which: u32) -> Which
     ensures { result ≡ which_of which }
 {

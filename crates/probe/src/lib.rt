@@ -56,7 +56,7 @@ fn fits(h: usize, w: usize, room: usize) -> bool
     board::cell_count(h, w) >= 1 && room >= ROOM
 }
 
-// 0 is blocks, 1 units, any other number potential units.
+// 0 is blocks, 1 units, any other number potential units. C gives the number.
 fn kind_of(kind: u32) -> Kind
     ensures { result ≡ kind_of kind }
 {

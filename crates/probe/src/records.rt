@@ -12,7 +12,8 @@ use crate::checks::{literal, number};
 use board::Refusal;
 use rules::{Call, Tally};
 
-// 0 is a decide of the literal with this code, 1 an undo, 2 a check, any other number a preview of the literal.
+// 0 is a decide of the literal with this code, 1 an undo, 2 a check, any other number a preview of the literal. C gives
+// the number.
 fn call_with(which: usize, code: usize) -> Call
     ensures { result ≡ call_with which (literal_of code) }
 {
