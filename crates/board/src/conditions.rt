@@ -82,9 +82,9 @@ fn border_right(v: u8, on: bool) -> bool
 }
 
 // Whether the first n borders are right, by the flags of those on the stack.
-pub fn borders_right<'a>(
-    borders: &'a [u8; Board::BORDER_LIMIT],
-    seen: &'a [bool; Board::BORDER_LIMIT],
+pub fn borders_right(
+    borders: &[u8; Board::BORDER_LIMIT],
+    seen: &[bool; Board::BORDER_LIMIT],
     n: usize,
 ) -> bool
     requires { n ≤ 1984 }

@@ -26,7 +26,8 @@ pub fn decide_refusal(total: usize, borders: &[u8], n: usize) -> Result<(), Refu
     requires { total ≤ length borders.now }
     ensures { result ≡ decide_refusal total borders.now n }
 {
-    if total <= n {
+    let beyond = total <= n;
+    if beyond {
         return Err(Refusal::Border);
     }
     if borders[n] != 0 {
@@ -39,7 +40,8 @@ pub fn decide_refusal(total: usize, borders: &[u8], n: usize) -> Result<(), Refu
 pub fn undo_refusal(count: usize) -> Result<(), Refusal>
     ensures { result ≡ undo_refusal count }
 {
-    if count == 0 {
+    let bare = count == 0;
+    if bare {
         return Err(Refusal::Bare);
     }
     Ok(())

@@ -59,12 +59,12 @@ fn step(returned: Returned) -> Stepped
 
 // What a check answers of a board that is not alien, with a place in the memory for each border. The number after a
 // pass is the stored one.
-pub fn answer_known<'a>(
+pub fn answer_known(
     h: usize,
     w: usize,
-    colours: &'a [u8; Board::CELL_LIMIT],
-    clues: &'a [i32; Board::CELL_LIMIT],
-    borders: &'a [u8; Board::BORDER_LIMIT],
+    colours: &[u8; Board::CELL_LIMIT],
+    clues: &[i32; Board::CELL_LIMIT],
+    borders: &[u8; Board::BORDER_LIMIT],
     undecided: usize,
     memory: &mut [u16],
 ) -> Answer
@@ -81,12 +81,12 @@ pub fn answer_known<'a>(
 }
 
 // What a check answers of a board that is not alien: refused where the memory is short, else as above.
-fn answer_tested<'a>(
+fn answer_tested(
     h: usize,
     w: usize,
-    colours: &'a [u8; Board::CELL_LIMIT],
-    clues: &'a [i32; Board::CELL_LIMIT],
-    borders: &'a [u8; Board::BORDER_LIMIT],
+    colours: &[u8; Board::CELL_LIMIT],
+    clues: &[i32; Board::CELL_LIMIT],
+    borders: &[u8; Board::BORDER_LIMIT],
     undecided: usize,
     memory: &mut [u16],
 ) -> Answer

@@ -72,12 +72,12 @@ pub fn dbchoco_undo(image: &mut [u8]) -> u32
 
 // The number of a check's answer of a board that is not alien; a reason's literals are written to the codes, and from
 // there to the memory's bytes.
-fn answered<'a>(
+fn answered(
     h: usize,
     w: usize,
-    colours: &'a [u8; Board::CELL_LIMIT],
-    clues: &'a [i32; Board::CELL_LIMIT],
-    borders: &'a [u8; Board::BORDER_LIMIT],
+    colours: &[u8; Board::CELL_LIMIT],
+    clues: &[i32; Board::CELL_LIMIT],
+    borders: &[u8; Board::BORDER_LIMIT],
     undecided: usize,
     codes: &mut [u16],
     memory: &mut [u8],

@@ -37,11 +37,13 @@ fn number_on(s: &[u8], at: usize, stop: u8, from: usize) -> Option<(usize, usize
         if !b.is_ascii_digit() {
             return None;
         }
-        if v == 0 {
+        let leading = v == 0;
+        if leading {
             return None;
         }
         v = v * 10 + usize::from(*b - b'0');
-        if 2147483647 < v {
+        let large = 2147483647 < v;
+        if large {
             return None;
         }
     }

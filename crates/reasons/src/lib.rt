@@ -185,7 +185,7 @@ pub fn inside(
     ensures { Wrote memory.old start (inside_in h w borders.now
         (numbers_in grouping.now) g) memory.new result }
 {
-    // a loop of its own: one scan for Inside and Edge, told which borders to keep, was a third slower
+    // a loop of its own: one scan for Inside and Edge, told which borders to keep, takes a third more time
     let cells = grouping.cells_of(g);
     let mut at = start;
     for cell in cells {

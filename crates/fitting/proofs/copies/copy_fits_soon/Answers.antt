@@ -8,7 +8,7 @@ use Rattle.lists.specs.Lists.{any}
 use Rattle.lists.specs.PartLaws.{any-done, any_found, any_next}
 use Rattle.groups.specs.Grouping.{cells_in, start_in}
 use Rattle.reasons.specs.CellLaws.{cells-reach}
-use Rattle.planes.specs.MaskLaws.{part-cells}
+use Rattle.planes.specs.MaskLaws.{listed-cells}
 use Rattle.planes.specs.Laying.{fits_among}
 use Rattle.fitting.specs.Copies.{soon_in}
 use Rattle.fitting.specs.CopyLaws.{part-soon}
@@ -37,7 +37,7 @@ copy_fits-requires c =
       c.requires.0,
       c.requires.1,
       rw (c.from.ensures, get_or-take c.min.result cells c.loop-o.o-index 0 l, c.cells_of-cells.ensures)
-          (part-cells c.requires.3 c.loop-o.o-index (rw c.cells_of-cells.ensures at m)),
+          (listed-cells c.requires.3 c.loop-o.o-index (rw c.cells_of-cells.ensures at m)),
     )
 
 pub loop-o-preserved : goal.loop-o-preserved

@@ -30,16 +30,16 @@ returns-then-not-is_ascii_digit c =
     (sym (c.loop-i.invariant.0 ∙ on-not _ _ _ _ c.loop-i-test.true c.if-b-stop.false
     (may-not _ _ (digit-told _ c.is_ascii_digit.ensures.value c.if-not-is_ascii_digit.true))))
 
-pub returns-then-v-eq0 : goal.returns-then-v-eq0
+pub returns-then-leading : goal.returns-then-leading
 unfolding got_value
-returns-then-v-eq0 c =
+returns-then-leading c =
     rw (← c.rest-left.ensures)
     (sym (c.loop-i.invariant.0 ∙ on-not _ _ _ _ c.loop-i-test.true c.if-b-stop.false
-    (may-zero _ _ (digit-told _ c.is_ascii_digit.ensures.value c.if-not-is_ascii_digit.false) c.if-v-eq0.true)))
+    (may-zero _ _ (digit-told _ c.is_ascii_digit.ensures.value c.if-not-is_ascii_digit.false) c.if-leading.true)))
 
-pub returns-then-v-gt2147483647 : goal.returns-then-v-gt2147483647
+pub returns-then-large : goal.returns-then-large
 unfolding got_value
-returns-then-v-gt2147483647 c =
+returns-then-large c =
     rw (← c.rest-left.ensures)
     (sym (c.loop-i.invariant.0 ∙ on-not _ _ _ _ c.loop-i-test.true c.if-b-stop.false
     (may-large _ _ (digit-told _ c.is_ascii_digit.ensures.value c.if-not-is_ascii_digit.false)

@@ -12,7 +12,7 @@ use Rattle.reasons.proofs.MemoryLaws.{write-none, write-more}
 use Rattle.adjacent.specs.Mates.{mate_count}
 use Rattle.reasons.specs.Arrays.{Cells}
 use Rattle.adjacent.specs.BesideLaws.{mates-reach}
-use Rattle.planes.specs.MaskLaws.{mate-listed, mate-read, part-cells}
+use Rattle.planes.specs.MaskLaws.{mate-listed, mate-read, listed-cells}
 use Rattle.stuck.specs.Survivors.{block_in}
 use Rattle.stuck.proofs.survivors.block_mates.Goals.{In-loop-mate, After-from-in-loop-mate, Start}
 use Rattle.stuck.proofs.survivors.block_mates.Goals as goal
@@ -55,7 +55,7 @@ block_group-at-requires c = (
   c.requires.1,
   c.requires.2,
   c.requires.3,
-  rw c.cells_of.ensures (part-cells (group (goal.at.block_group-at-requires c).After-from-in-loop-mate).1),
+  rw c.cells_of.ensures (listed-cells (group (goal.at.block_group-at-requires c).After-from-in-loop-mate).1),
   c.loop-mate.invariant.spare,
 )
 
