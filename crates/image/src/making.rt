@@ -11,6 +11,16 @@ use crate::writing::put_two;
 use crate::{CLUES, COLOURS, LENGTH, TALLY};
 use board::{Board, Refusal};
 
+// Stores the colours at their places. It is a loop: `copy_from_slice` of two lent slices needs `memmove` from outside.
+fn put_colours(s: &mut [u8], colours: &[u8])
+    requires { 2 + length colours.now ≤ length s.old }
+    ensures { s.new ≡ sets s.old 2 colours.now }
+{
+    for (i, colour) in colours.iter().enumerate() {
+        s[COLOURS + i] = *colour;
+    }
+}
+
 // Stores the clues at their places, each low byte first, two's complement.
 fn put_clues(s: &mut [u8], clues: &[i32])
     requires { 1026 + 4 * length clues.now ≤ length s.old }
@@ -33,7 +43,7 @@ fn put_fresh(s: &mut [u8], height: u8, width: u8, colours: &[u8], clues: &[i32])
     put_two(s, TALLY, total);
     s[0] = height;
     s[1] = width;
-    s[COLOURS..COLOURS + colours.len()].copy_from_slice(colours);
+    put_colours(s, colours);
     put_clues(s, clues);
 }
 

@@ -92,12 +92,15 @@ pub fn append(memory: &mut [u16], at: usize, literal: Literal) -> usize
     at
 }
 
-// Writes the words from the start of the lent memory, and nothing beyond; gives how many they are.
+// Writes the words from the start of the lent memory, and nothing beyond; gives how many they are. It is a loop:
+// `copy_from_slice` of two lent slices needs `memmove` from outside.
 pub fn hand_out(memory: &mut [u16], words: &[u16]) -> usize
     requires { length words.now ≤ length memory.old }
     ensures { WordsWritten memory.old words.now memory.new result }
 {
-    memory[..words.len()].copy_from_slice(words);
+    for (i, word) in words.iter().enumerate() {
+        memory[i] = *word;
+    }
     words.len()
 }
 
