@@ -35,7 +35,7 @@ use Rattle.page.specs.Grammar.{Sheet, end_word, call}
 use Rattle.page.specs.Judge.{Judgement, rejected, accepted, judgement_of, colours_of, clues_of, colour_array}
 use Rattle.page.specs.Judge.{clue_array}
 use Rattle.page.specs.Many.{show_all}
-use Rattle.page.specs.Places.{all_from, unfit_number}
+use Rattle.page.specs.Places.{all_from}
 use Rattle.print.specs.Answers.{answers_word, conflict_word, show_reply, code_text}
 use Rattle.transcript.specs.declared.Stage.{Stage}
 use Rattle.transcript.specs.declared.Stage.TheVariants.{Begin, Refused, Calls, Reason, Last, Over}
@@ -88,7 +88,7 @@ first_run = record { board = zero_board; at = 0; stage = Begin; count = 0 }
 
 abbrev pub goes_on : Stage → Bool
 goes_on Begin = true
-goes_on (Refused u) = true
+goes_on (Refused n) = true
 goes_on Calls = true
 goes_on (Reason a e) = true
 goes_on Last = true
@@ -101,7 +101,7 @@ module _ (s : List ℕ) where
 
   unfoldable pub left_at : Stage → Board → ℕ → List ℕ → List ℕ
   left_at Begin b at m = answers_word ++ judged_text m (judgement_of s)
-  left_at (Refused u) b at m = show_reply (refused (unfit_number u)) ++ end_word
+  left_at (Refused n) b at m = show_reply (refused n) ++ end_word
   left_at Calls b at m = lines_from b at m
   left_at (Reason a e) b at m = literals_text m a e ++ (end_word ++ lines_from b at m)
   left_at Last b at m = end_word
@@ -113,7 +113,7 @@ module _ (s : List ℕ) where
   -- a call takes a byte or more of the page, and a reason has at most 1,984 literals
   unfoldable pub steps_at : Stage → ℕ → ℕ
   steps_at Begin at = length s * 2000 + 3
-  steps_at (Refused u) at = 2
+  steps_at (Refused n) at = 2
   steps_at Calls at = (length s - at) * 2000 + 2
   steps_at (Reason a e) at = (length s - at) * 2000 + 3 + (e - a)
   steps_at Last at = 1
@@ -125,7 +125,7 @@ module _ (s : List ℕ) where
   -- only the line of a call makes one
   unfoldable pub memory_at : Stage → Board → ℕ → List ℕ → List ℕ
   memory_at Begin b at m = m
-  memory_at (Refused u) b at m = m
+  memory_at (Refused n) b at m = m
   memory_at Calls b at m = first_memory b m (all_from call s at)
   memory_at (Reason a e) b at m = m
   memory_at Last b at m = m

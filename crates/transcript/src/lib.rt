@@ -16,7 +16,7 @@ ghost use Rattle.transcript.specs.Left.{stage_of, left_at, steps_at, first_memor
 
 use board::{Board, Refusal};
 use calls::Answer;
-use page::{Parts, Unfit};
+use page::Parts;
 use print::Line;
 
 // What is printed next: the first line; the refusal of the page; the line of the next call; the literals of the memory
@@ -24,7 +24,7 @@ use print::Line;
 #[derive(Clone, Copy)]
 pub enum Stage {
     Begin,
-    Refused(Unfit),
+    Refused(usize),
     Calls,
     Reason(usize, usize),
     Last,
@@ -84,7 +84,7 @@ fn begin(s: &[u8], out: &mut [u8]) -> Run
             count,
         },
         Err(unfit) => Run {
-            stage: Stage::Refused(unfit),
+            stage: Stage::Refused(unfit.number()),
             count,
             ..first()
         },
@@ -190,7 +190,7 @@ pub fn next(s: &[u8], run: Run, memory: &mut [u16], out: &mut [u8]) -> Run
     }
     match run.stage {
         Stage::Begin => begin(s, out),
-        Stage::Refused(unfit) => put(out, print::refused_line(unfit.number()), run, Stage::Last),
+        Stage::Refused(n) => put(out, print::refused_line(n), run, Stage::Last),
         Stage::Calls => turn(s, run, memory, out),
         Stage::Reason(from, to) => reason(run, memory, out, from, to),
         Stage::Last => put(out, print::end_line(), run, Stage::Over),

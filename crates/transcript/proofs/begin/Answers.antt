@@ -20,7 +20,7 @@ returns-in-Err c =
     put-goes _ _ c.answers_line.ensures
     c.put_line-count.ensures (search rules)
     (ap (λ (t : List ℕ). answers_word ++ t)
-    (refused-left _ m _ (sym c.in-Err.ensures)))
+    (rw c.number.ensures (refused-left _ m _ (sym c.in-Err.ensures))))
     (omega arith)
 
 pub returns-in-Ok : goal.returns-in-Ok

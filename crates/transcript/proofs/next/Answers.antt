@@ -27,7 +27,7 @@ unfolding left_at steps_at memory_at
 returns-in-Refused c =
     next-goes _ _ _ _ (Refused _) c.in-Refused.is
     (search rules) refl
-    (c.put.ensures _ _ _ (rw c.number.ensures at c.refused_line.ensures))
+    (c.put.ensures _ _ _ c.refused_line.ensures)
 
 pub returns-in-Calls : goal.returns-in-Calls
 unfolding left_at steps_at memory_at
