@@ -1,9 +1,9 @@
 -- More laws of the definitions, by cases; no answer cites them.
 use Rattle.std.specs.Prelude.{◌≡◌, refl, Bool, true, false, ◌||◌, ℕ, ◌+◌, ◌<◌, ◌≤◌, ltb, ℤ, pos, negsuc, nat_abs}
-use Rattle.std.specs.Prelude.{Option, None, Some}
+use Rattle.std.specs.Prelude.{Option, None, Some, MatchOption, List, length, take, get_or, ◌-◌, eqb}
 use Rattle.std.specs.Option.{option_or, is_none, IfSome}
 use Rattle.std.specs.Int.Signed.{le_z}
-use Rattle.std.proofs.Common.{arith}
+use Rattle.std.proofs.Common.{arith, sym, ◌∙◌, take_all, length-take, get_or-take}
 use Rattle.std.proofs.Math.Option.{some, none}
 use borrow.Author.Tests.{ne_eqb, lt-ltb, le-ltb, le-leb}
 use Rattle.lists.specs.Booleans.{false-true}
@@ -21,7 +21,17 @@ use Rattle.blocks.specs.Faults.{small_fault, big_fault, clue_fault, fault_reason
 use Rattle.blocks.specs.Faulty.{first_faulty}
 use Rattle.blocks.specs.Written.{fault_literals, fault_unit}
 use Rattle.blocks.specs.Bounds.{Under, first-wrong}
-use Rattle.blocks.specs.Looked.{Shows}
+use Rattle.std.proofs.lemmas.List.{take-take}
+use Rattle.lists.specs.Count.{bit}
+use Rattle.blocks.specs.Looked.{Shows, CellsLooked}
+use Rattle.blocks.specs.Looked.{looked-scan, zero-parted, one-parted, looked-clear, looked-stray, looked-clash}
+use Rattle.blocks.specs.Arrays.{Parted, size_in}
+use Rattle.blocks.specs.Looks.{Roomy}
+use Rattle.blocks.specs.Censuses.{option_of}
+use Rattle.blocks.specs.Faults.{scan_on, fault_on}
+use Rattle.rules.specs.Codes.{colours_in, clues_in}
+use Rattle.rules.specs.Groups.{entry}
+use Rattle.rules.specs.Check.{clash}
 
 -- BlockCases: a clue that was read
 pub clue-is : (z : ℤ) → le_z (pos 0) z ≡ true → Some (nat_abs z) ≡ clue_in (clue_of z)
@@ -103,3 +113,49 @@ first-under-all f m n low u = go (first_faulty f n) refl
 -- Looked: a look that settles it promises nothing else
 pub settles : (r : Look) {f g : Option Fault} (scan : Option Fault) → r ≡ Settled f → f ≡ g → Shows r g scan
 settles r scan e h = rw e h
+
+-- Looked, at any cell: the first i cells are a list of their own, and so are the first of a longer part
+module _ {cs : List ℕ} {ks : List ℤ} {ids cells : List ℕ} {i : ℕ} {own : List (Option ℕ)} {k : Option ℕ} {n : ℕ}
+    (s : CellsLooked cs ks ids cells i own k n) where
+  pub looked-front : CellsLooked cs ks ids (take i cells) (length (take i cells)) own k n
+  looked-front =
+      record { two = s.two; seen = rw (take_all (length (take i cells)) (take i cells) (omega arith)) s.seen }
+
+  pub scan-front : scan_on (colours_in cs) (clues_in ks) (entry ids) (take i cells) ≡ None
+  scan-front = looked-scan looked-front
+
+  pub zero-front : (offs : List ℕ) → Parted ids offs
+      → MatchOption (get_or own 0 None) (length (take i cells) - n ≡ 0)
+      (λ u. (u < 1024) × (get_or offs u 0 ≤ get_or offs (u + 1) 0))
+  zero-front = zero-parted looked-front
+
+  pub one-front : (offs : List ℕ) → Parted ids offs
+      → MatchOption (get_or own 1 None) (n ≡ 0) (λ u. (u < 1024) × (get_or offs u 0 ≤ get_or offs (u + 1) 0))
+  one-front = one-parted looked-front
+
+  pub clear-front : (offs : List ℕ) → Roomy (length (take i cells) - n) n k (get_or own 0 None) (size_in offs)
+      → Roomy n (length (take i cells) - n) k (get_or own 1 None) (size_in offs)
+      → None ≡ fault_on (colours_in cs) (clues_in ks) (entry ids) (size_in offs) (take i cells)
+  clear-front = looked-clear looked-front
+
+  pub looked-within : (to : ℕ) → i ≤ to → CellsLooked cs ks ids (take to cells) i own k n
+  looked-within to h = record { two = s.two; seen = rw (take-take i to cells h) s.seen }
+
+  module _ (c to : ℕ) (h : i < to) (l : to ≤ length cells) (e : c ≡ get_or cells i 0) (offs : List ℕ) where
+    here : i < length (take to cells)
+    here = simp length-take (omega arith)
+
+    same : c ≡ get_or (take to cells) i 0
+    same = e ∙ sym (get_or-take to cells i 0 h)
+
+    pub stray-within :
+        clash (option_of (get_or own (bit (eqb (get_or cs c 0) 1)) None)) (option_of (Some (get_or ids c 0))) ≡ true
+        → Some (InsideEdge (get_or ids c 0))
+        ≡ fault_on (colours_in cs) (clues_in ks) (entry ids) (size_in offs) (take to cells)
+    stray-within p = looked-stray (looked-within to (omega arith)) c here same offs p
+
+    pub clash-within :
+        clash (option_of (get_or own (bit (eqb (get_or cs c 0) 1)) None)) (option_of (Some (get_or ids c 0))) ≡ false
+        → clash (option_of k) (clues_in ks c) ≡ true
+        → Some Inside ≡ fault_on (colours_in cs) (clues_in ks) (entry ids) (size_in offs) (take to cells)
+    clash-within p f = looked-clash (looked-within to (omega arith)) c here same offs p f

@@ -1,8 +1,9 @@
 -- Looks: one look at a block's cells, which ends at the first cell at which something is wrong.
 --
 --   ClueKept k o after  the clue k, or the clue o after none; the two do not clash
---   ColourRoom m o k a  m cells of one colour fit o of the other and the clue k, where their potential unit has a
+--   RoomFor m o k a     m cells of one colour fit o of the other and the clue k, where their potential unit has a
 --                       cells
+--   ColourRoom m o k a  the same, or there are no such cells
 --   Roomy m o k q f     the same, where q is the potential unit and f gives its size; with none there are no such cells
 --   Owned xs own        own has the potential unit of each colour of the cells xs, and none for a colour of none
 --   Seen xs own k n     what was seen of the cells xs, at which nothing is wrong: own is theirs, k is their clue, n of
@@ -53,11 +54,15 @@ bit-cases false false = inl refl
 abbrev pub ClueKept : Option ℕ → Maybe ℕ → Option ℕ → Type 0
 ClueKept k o after = (after ≡ option_or k (clue_in o)) × (clash (option_of k) o ≡ false)
 
+abbrev pub RoomFor : ℕ → ℕ → Option ℕ → ℕ → Type 0
+RoomFor m o k a = (o ≤ a) × IfSome k (λ n. (m ≤ n) × (n ≤ a))
+
+-- with none of its colour, a cell asks nothing
 abbrev pub ColourRoom : ℕ → ℕ → Option ℕ → ℕ → Type 0
-ColourRoom m o k a = (o ≤ a) × IfSome k (λ n. (m ≤ n) × (n ≤ a))
+ColourRoom m o k a = (m ≡ 0) ⊎ RoomFor m o k a
 
 abbrev pub Roomy : ℕ → ℕ → Option ℕ → Option ℕ → (ℕ → ℕ) → Type 0
-Roomy m o k q f = MatchOption q (m ≡ 0) (λ u. ColourRoom m o k (f u))
+Roomy m o k q f = MatchOption q (m ≡ 0) (λ u. RoomFor m o k (f u))
 
 -- a number that does not differ from the one that is kept is that one
 pub same_kept : (u v : ℕ) → clash (some u) (some v) ≡ false → u ≡ v
@@ -73,21 +78,21 @@ same_kept u v e =
 
 -- one colour of a census has none, or its potential unit has room
 module _ (p : Part) (o : ℕ) (k : Option ℕ) (a : ℕ) where
-  small-clear : (q : Part) → q.size ≡ o → (p.size ≡ 0) ⊎ ColourRoom p.size o k a → None ≡ small_fault p q a
+  small-clear : (q : Part) → q.size ≡ o → ColourRoom p.size o k a → None ≡ small_fault p q a
   small-clear q e (inl h) = small-none p q a h
   small-clear q e (inr r) = small-fits p q a (omega (arith, r.0))
 
-  big-clear : (n : ℕ) → k ≡ Some n → (p.size ≡ 0) ⊎ ColourRoom p.size o k a → None ≡ big_fault n p a
+  big-clear : (n : ℕ) → k ≡ Some n → ColourRoom p.size o k a → None ≡ big_fault n p a
   big-clear n e (inl h) = big-none n p a h
   big-clear n e (inr r) = let b = rw e at r.1 in big-fits n p a b.1
 
-  below-clue : (n : ℕ) → k ≡ Some n → (p.size ≡ 0) ⊎ ColourRoom p.size o k a → p.size ≤ n
+  below-clue : (n : ℕ) → k ≡ Some n → ColourRoom p.size o k a → p.size ≤ n
   below-clue n e (inl h) = omega arith
   below-clue n e (inr r) = let b = rw e at r.1 in b.0
 
 -- a census whose two colours have room
-census-clear : (t : Census) (a b : ℕ) → (t.zero.size ≡ 0) ⊎ ColourRoom t.zero.size t.one.size t.clue a
-    → (t.one.size ≡ 0) ⊎ ColourRoom t.one.size t.zero.size t.clue b → None ≡ census_fault t a b
+census-clear : (t : Census) (a b : ℕ) → ColourRoom t.zero.size t.one.size t.clue a
+    → ColourRoom t.one.size t.zero.size t.clue b → None ≡ census_fault t a b
 unfolding census_fault
 census-clear t a b r s =
     rw (← small-clear t.zero _ t.clue a t.one refl r, ← small-clear t.one _ t.clue b t.zero refl s)
@@ -326,12 +331,12 @@ module _ (colour_at : ℕ → Bool) (clue_at : ℕ → Maybe ℕ) (unit_at : ℕ
         go (Some i) e f = rw (clue-kept (x ∷ ys) i e) f
 
     room-own : (size_at : ℕ → ℕ) (c : Bool) (m o : ℕ) → Roomy m o k (get_or own (bit c) None) size_at
-        → (m ≡ 0) ⊎ ColourRoom m o (clue_in (block_clue clue_at xs)) (size_at
+        → ColourRoom m o (clue_in (block_clue clue_at xs)) (size_at
         (colour_unit colour_at clue_at unit_at xs c))
     room-own size_at c m o r = rw (← s.clue) (go (get_or own (bit c) None) refl r)
       where
         go : (q : Option ℕ) → get_or own (bit c) None ≡ q → Roomy m o k q size_at
-            → (m ≡ 0) ⊎ ColourRoom m o k (size_at (colour_unit colour_at clue_at unit_at xs c))
+            → ColourRoom m o k (size_at (colour_unit colour_at clue_at unit_at xs c))
         go None e h = inl h
         go (Some u) e h = inr (rw (rw (append-nil xs) at (own-found s.owned [] c u e)) h)
 

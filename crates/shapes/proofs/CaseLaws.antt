@@ -1,6 +1,6 @@
 -- More laws of the definitions, by cases; no answer cites them.
 use Rattle.std.specs.Prelude.{◌≡◌, refl, Bool, true, false, cond, ℕ, ◌<◌, ℤ, pos, negsuc, neg_ℤ, ◌+ℤ◌, ◌-ℤ◌, T}
-use Rattle.std.specs.Prelude.{List, ◌&&◌, eqb}
+use Rattle.std.specs.Prelude.{List, ◌&&◌, eqb, length, set, get_or, ◌-◌, ◌+◌, ◌/◌, ◌%◌}
 use Rattle.std.proofs.Common.{sym, ap, ap₂, ◌∙◌, arith, SFits, to_z, of_z, to_z-of_z}
 use Rattle.std.proofs.Math.IntN.{neg_ℤ-+ℤ}
 use Rattle.std.specs.Int.Signed.{mag, lt_z, non_neg}
@@ -16,6 +16,11 @@ use Rattle.shapes.specs.Rows.{fixes, flip_listed}
 use Rattle.shapes.specs.RowLaws.{flip-some}
 use Rattle.shapes.specs.Joints.{joint_if, Grown}
 use Rattle.shapes.specs.JointLaws.{grown-none}
+use Rattle.groups.specs.declared.Grouping.{Grouping}
+use Rattle.groups.specs.Grouping.{start_in, group_cells}
+use Rattle.shapes.specs.Outlines.{cell_count, rows_in, columns_in}
+use Rattle.shapes.specs.Parts.{UnitPart}
+use Rattle.shapes.specs.PartLaws.{part-count, placed-count}
 
 -- PairLaws: a test of the code, on numbers read back from their bits
 pub less-known : {y b : ℤ} {t : Bool} → SFits w32 y → SFits w32 b
@@ -104,3 +109,11 @@ join-off o k on ids to g y x a = rw a (grown-none o k)
 pub non-neg : (y : ℤ) → lessℤ y (pos 0) ≡ false → T (non_neg y)
 non-neg (pos y) e = tt
 non-neg (negsuc y) e = false-true e refl
+
+-- PartLaws: the count of the cells that are placed, by the starts of the groups
+pub placed-starts : (units : Grouping) (g w : ℕ) → UnitPart units g w → (L o : List ℕ) → L ≡ group_cells units g
+    → length o ≡ 6146
+    → ((j : ℕ) → j < length L → get_or (rows_in o) j 0 ≡ get_or L j 0 / w)
+    → ((j : ℕ) → j < length L → get_or (columns_in o) j 0 ≡ get_or L j 0 % w)
+    → cell_count (set o 6144 (length L)) ≡ start_in units (g + 1) - start_in units g
+placed-starts units g w p L o e long f k = placed-count w L o long f k ∙ (ap length e ∙ part-count p)
