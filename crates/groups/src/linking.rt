@@ -170,16 +170,17 @@ fn later_rows(
         × Scanned n w (flag_at lefts.now) (flag_at aboves.now) p.new list.new result }
 {
     let mut k = 0;
-    let mut root = p[w - 1];
+    // a usize: of a u16 the compiler would choose the parent above by a jump
+    let mut root = usize::from(p[w - 1]);
     for c in w..n {
         let left = lefts[c];
-        let above = aboves[c];
-        let over = p[c - w];
+        let over = usize::from(p[c - w]);
+        let own = if left { root } else { c };
+        root = if aboves[c] { over } else { own };
+        p[c] = root as u16;
+        // joined to the left one, it gets another parent than that one's only from the cell above it
         list[k] = c as u16;
-        k += usize::from(left & above & (root != over));
-        let own = if left { root } else { c as u16 };
-        root = if above { over } else { own };
-        p[c] = root;
+        k += usize::from(left & (own != root));
     }
     k
 }
