@@ -1,9 +1,13 @@
 -- More laws of the definitions, by cases; no answer cites them.
 use Rattle.std.specs.Prelude.{◌≡◌, refl, Bool, true, false, ◌||◌, ℕ, ◌+◌, ◌<◌, ◌≤◌, ltb, ℤ, pos, negsuc, nat_abs}
-use Rattle.std.specs.Prelude.{Option, None, Some, MatchOption, List, length, take, get_or, ◌-◌, eqb}
+use Rattle.std.specs.Prelude.{Option, None, Some, MatchOption, List, [], ◌∷◌, length, take, get_or, ◌-◌, eqb, T}
+use Rattle.std.specs.Bool.{beq}
+use mathlib.Core.List.Memᴰ
+use Rattle.lists.specs.Lists.{◌∈◌}
+use Rattle.lists.specs.ListLaws.{mem-filter}
 use Rattle.std.specs.Option.{option_or, is_none, IfSome}
 use Rattle.std.specs.Int.Signed.{le_z}
-use Rattle.std.proofs.Common.{arith, sym, ◌∙◌, take_all, length-take, get_or-take}
+use Rattle.std.proofs.Common.{arith, inl, inr, sym, ◌∙◌, take_all, length-take, get_or-take}
 use Rattle.std.proofs.Math.Option.{some, none}
 use borrow.Author.Tests.{ne_eqb, lt-ltb, le-ltb, le-leb}
 use Rattle.lists.specs.Booleans.{false-true}
@@ -26,8 +30,8 @@ use Rattle.lists.specs.Count.{bit}
 use Rattle.blocks.specs.Looked.{Shows, CellsLooked}
 use Rattle.blocks.specs.Looked.{looked-scan, zero-parted, one-parted, looked-clear, looked-stray, looked-clash}
 use Rattle.blocks.specs.Arrays.{Parted, size_in}
-use Rattle.blocks.specs.Looks.{Roomy}
-use Rattle.blocks.specs.Censuses.{option_of}
+use Rattle.blocks.specs.Looks.{Roomy, ColourRoom, zeros-are}
+use Rattle.blocks.specs.Censuses.{option_of, of_colour}
 use Rattle.blocks.specs.Faults.{scan_on, fault_on}
 use Rattle.rules.specs.Codes.{colours_in, clues_in}
 use Rattle.rules.specs.Groups.{entry}
@@ -137,6 +141,44 @@ module _ {cs : List ℕ} {ks : List ℤ} {ids cells : List ℕ} {i : ℕ} {own :
       → Roomy n (length (take i cells) - n) k (get_or own 1 None) (size_in offs)
       → None ≡ fault_on (colours_in cs) (clues_in ks) (entry ids) (size_in offs) (take i cells)
   clear-front = looked-clear looked-front
+
+  -- a colour that has a potential unit has cells, so that one with room or without cells has room
+  some-cells : (c : Bool) (u : ℕ) → get_or own (bit c) None ≡ Some u
+      → length (of_colour (colours_in cs) (clues_in ks) (entry ids) c (take i cells)) ≡ 0 → ⊥
+  unfolding of_colour
+  some-cells c u e z =
+      let r = s.seen.owned.firsts c u e in
+      not-none _ r.0 (mem-filter (λ x. beq (colours_in cs x) c) (take i cells) r.1 (rw r.2 (itself c))) z
+    where
+      not-none : (ys : List ℕ) (y : ℕ) → y ∈ ys → length ys ≡ 0 → ⊥
+      not-none [] y m e = Memᴰ.not-nil m
+      not-none (x ∷ xs) y m e = omega arith
+
+      itself : (b : Bool) → T (beq b b)
+      itself true = tt
+      itself false = tt
+
+  room-front : (offs : List ℕ) (c : Bool) (m o : ℕ)
+      → m ≡ length (of_colour (colours_in cs) (clues_in ks) (entry ids) c (take i cells))
+      → MatchOption (get_or own (bit c) None) (m ≡ 0) (λ u. ColourRoom m o k (size_in offs u))
+      → Roomy m o k (get_or own (bit c) None) (size_in offs)
+  room-front offs c m o e r = go (get_or own (bit c) None) refl r
+    where
+      go : (q : Option ℕ) → get_or own (bit c) None ≡ q
+          → MatchOption q (m ≡ 0) (λ u. ColourRoom m o k (size_in offs u)) → Roomy m o k q (size_in offs)
+      go None f r = r
+      go (Some u) f (inl z) = absurd (some-cells c u f (sym e ∙ z))
+      go (Some u) f (inr r) = r
+
+  pub clear-room : (offs : List ℕ)
+      → MatchOption (get_or own 0 None) (length (take i cells) - n ≡ 0)
+      (λ u. ColourRoom (length (take i cells) - n) n k (size_in offs u))
+      → MatchOption (get_or own 1 None) (n ≡ 0) (λ u. ColourRoom n (length (take i cells) - n) k (size_in offs u))
+      → None ≡ fault_on (colours_in cs) (clues_in ks) (entry ids) (size_in offs) (take i cells)
+  clear-room offs r q =
+      clear-front offs
+      (room-front offs false _ _ (zeros-are (colours_in cs) (clues_in ks) (entry ids) s.seen) r)
+      (room-front offs true _ _ s.seen.count q)
 
   pub looked-within : (to : ℕ) → i ≤ to → CellsLooked cs ks ids (take to cells) i own k n
   looked-within to h = record { two = s.two; seen = rw (take-take i to cells h) s.seen }

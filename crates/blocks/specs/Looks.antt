@@ -4,7 +4,7 @@
 --   RoomFor m o k a     m cells of one colour fit o of the other and the clue k, where their potential unit has a
 --                       cells
 --   ColourRoom m o k a  the same, or there are no such cells
---   Roomy m o k q f     the same, where q is the potential unit and f gives its size; with none there are no such cells
+--   Roomy m o k q f     RoomFor, where q is the potential unit and f gives its size; with none there are no such cells
 --   Owned xs own        own has the potential unit of each colour of the cells xs, and none for a colour of none
 --   Seen xs own k n     what was seen of the cells xs, at which nothing is wrong: own is theirs, k is their clue, n of
 --                       them have colour 1
